@@ -1,0 +1,10 @@
+# Two commands do all on a machine with the kit: `make demo` and `make test`.
+PREFIX ?= /usr/local
+
+.PHONY: build demo test install clean
+
+build:
+	@true
+
+test:
+	rt ci

@@ -1,0 +1,17 @@
+-- Numbers as little-endian bytes, read from the front of a list.
+use Rattle.std.specs.Prelude.{ℕ, ◌<◌, List, length, get_or, take, drop, Option, Some, None, nat_lt, if◌then◌else◌}
+use Rattle.std.specs.Int.{Width, byte_len, from_le_bytes}
+
+-- each element is a byte
+abbrev pub IsBytes : List ℕ → Type 0
+IsBytes bytes = (i : ℕ) → get_or bytes i 0 < 256
+
+-- what a reader goes on with, where the step before it found something
+infixl 10 ◌>>=◌
+abbrev pub ◌>>=◌ : {A B : Type 0} → Option A → (A → Option B) → Option B
+(Some x) >>= f = f x
+None >>= f = None
+
+-- the number at the front, and the bytes after it
+abbrev pub number_at : Width → List ℕ → Option (ℕ × List ℕ)
+number_at w bytes = if nat_lt (length bytes) (byte_len w) then None else Some (from_le_bytes w (take (byte_len w) bytes), drop (byte_len w) bytes)

@@ -1,0 +1,3 @@
+pub mod Area
+pub mod Site
+pub mod Stream

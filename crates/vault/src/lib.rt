@@ -1,0 +1,11 @@
+//! The outside: areas of files, a site that hands them out, a source, a sink and a clock. Each is
+//! a trait with a written meaning and a count of faults that never falls.
+#![tactic(auto)]
+
+mod area;
+mod site;
+mod stream;
+
+pub use area::Vault;
+pub use site::Site;
+pub use stream::{Clock, Sink, Source};
