@@ -1,5 +1,5 @@
 -- The header of a page (PostgreSQL manual, Database Page Layout), and the hole in its middle.
-use Rattle.std.specs.Prelude.{◌≡◌, ℕ, ◌+◌, ◌-◌, ◌*◌, ◌/◌, ◌%◌, ◌^◌, ◌≤◌, List, ◌++◌, length, get_or, take, drop, replicate, Option, Some, None, nat_lt, if◌then◌else◌}
+use Rattle.std.specs.Prelude.{◌≡◌, ℕ, ◌+◌, ◌-◌, ◌*◌, ◌/◌, ◌%◌, ◌^◌, ◌≤◌, List, ◌++◌, length, get_or, replicate, Option, Some, None, nat_lt, if◌then◌else◌}
 use Rattle.std.specs.Int.{w16, w32, to_le_bytes}
 use Rattle.byte_words.specs.Pieces.{overwritten}
 
@@ -44,9 +44,13 @@ hole_of page = if nat_lt (lower_of page) (upper_of page) then Some (lower_of pag
 unfoldable pub hole_zeroed : List ℕ → List ℕ
 hole_zeroed page = overwritten page (lower_of page) (replicate (upper_of page - lower_of page) 0)
 
+-- the bytes of pd_lsn
+unfoldable pub lsn_field : ℕ → List ℕ
+lsn_field at = to_le_bytes w32 (at / 2 ^ 32) ++ to_le_bytes w32 (at % 2 ^ 32)
+
 -- the page with another pd_lsn
 unfoldable pub with_lsn : ℕ → List ℕ → List ℕ
-with_lsn at page = overwritten page 0 (to_le_bytes w32 (at / 2 ^ 32) ++ to_le_bytes w32 (at % 2 ^ 32))
+with_lsn at page = overwritten page 0 (lsn_field at)
 
 -- a page made from nothing: `fill` outside the header and the hole, all else zero but the header's places
 unfoldable pub made_page : ℕ → ℕ → ℕ → List ℕ

@@ -1,5 +1,5 @@
 -- Full-page images: a page without its hole, and the page again.
-use Rattle.std.specs.Prelude.{ℕ, ◌-◌, List, [], ◌++◌, length, take, drop, replicate, Option, Some, None}
+use Rattle.std.specs.Prelude.{ℕ, ◌-◌, List, ◌++◌, length, take, drop, replicate, Option, Some, None}
 use Rattle.pg_page.specs.Header.{hole_of}
 
 -- a page without the bytes from one place to another

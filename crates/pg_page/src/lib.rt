@@ -1,6 +1,8 @@
 //! Pages of 8192 bytes, their header and their hole (PostgreSQL manual, Database Page Layout).
 #![tactic(auto)]
 
+mod image;
 mod page;
 
-pub use page::Page;
+pub use image::restored_page;
+pub use page::{Page, zero_page};

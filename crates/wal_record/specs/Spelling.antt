@@ -43,13 +43,14 @@ blocks_of (Shutdown redo) = []
 blocks_of (Create fork) = []
 blocks_of (Generic blocks) = blocks
 
-abbrev pub image_head_of : List ℕ → Option (ℕ × ℕ) → ImageHead
-image_head_of page None = record { len = 8192; offset = 0; info = 2 }
-image_head_of page (Some hole) = record { len = 8192 - (hole.1 - hole.0); offset = hole.0; info = 3 }
+-- the head of a page's image, by the page's hole
+abbrev pub image_head_of : Option (ℕ × ℕ) → ImageHead
+image_head_of None = record { len = 8192; offset = 0; info = 2 }
+image_head_of (Some hole) = record { len = 8192 - (hole.1 - hole.0); offset = hole.0; info = 3 }
 
 -- the head and the bytes of a block's body
 abbrev pub body_image : Body → Option ImageHead
-body_image (Image page) = Some (image_head_of page (hole_of page))
+body_image (Image page) = Some (image_head_of (hole_of page))
 
 abbrev pub body_flag : Body → ℕ
 body_flag (Image page) = 0x10

@@ -3,6 +3,7 @@
 #![tactic(auto)]
 
 mod decode;
+mod fields;
 mod record;
 
 pub use decode::decode_record;

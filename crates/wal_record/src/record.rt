@@ -1,11 +1,11 @@
 //! What an entry of the WAL is.
 
-ghost use Rattle.std.specs.Prelude.{◌≡◌};
+ghost use Rattle.std.specs.Prelude.{◌≡◌, [], ◌∷◌, IfOk};
 ghost use Rattle.wal_record.specs.declared.record.RecordFault.TheVariants.{NoMemory};
 
 use lsn_core::{BlockId, ForkId, Lsn};
 use pg_page::Page;
-use std::alloc::{AllocError, AllocFailed};
+use std::alloc::{AllocError, AllocFailed, Global};
 use std::marker::Model;
 
 /// An entry of the WAL: where it stands, where the entry before it starts (0 for the first one),
@@ -51,6 +51,15 @@ impl Blocks {
         ensures { result ≡ list.items }
     {
         Blocks { list }
+    }
+
+    /// One block with what it says of it.
+    pub fn one(alloc: Global, at: BlockId, body: Body) -> Result<Blocks, AllocError>
+        ensures { IfOk result (λ b. b ≡ record { at = at; body = body } ∷ []) }
+    {
+        let mut list = Vec::new(alloc);
+        list.push(BlockRef { at, body })?;
+        Ok(Blocks { list })
     }
 
     /// The blocks.
