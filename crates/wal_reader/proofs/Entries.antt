@@ -1,11 +1,13 @@
 -- The entry that stands at a place is the one that its own bytes spell.
 use Rattle.std.proofs.Common.{◌≡◌, ℕ, ◌+◌, ◌-◌, ◌*◌, ◌/◌, ◌<◌, ◌≤◌, min, List, length, take, drop, get_or, Some, Result, Ok, Err, refl, sym, ap, subst, ◌∙◌, arith}
 use Rattle.std.proofs.lemmas.List.{length-take, length-drop, get_or-drop, get_or-take}
+use Rattle.byte_words.proofs.Fields.{number_is}
 use Rattle.byte_words.specs.Numbers.{u16_in, u32_in}
 use Rattle.lsn_core.specs.declared.lsn.Lsn.{Lsn}
 use Rattle.lsn_core.specs.declared.lsn.Place.{Place}
 use Rattle.wal_record.specs.declared.record.Record.{Record}
 use Rattle.wal_record.specs.Spelling.{IsEntry}
+use Rattle.wal_record.proofs.Entries.{entry_once, entry_total}
 use Rattle.wal_reader.specs.Head.{origin}
 use Rattle.wal_reader.specs.Archive.{StandsAt, place_of, raised, IsAllowed}
 use Rattle.wal_record.specs.declared.record.RecordFault.{RecordFault}
@@ -13,13 +15,11 @@ use Rattle.wal_record.specs.declared.record.RecordFault.TheVariants.{Form, NoMem
 use Rattle.wal_reader.specs.Entry.{IsOwn, IsCutOff, EntryAnswer, fault_at}
 use Rattle.wal_reader.specs.Cursor.{IsGiven}
 
--- ---- what the crate below is to give
-
 pub sized : {bytes : List ℕ} {place : Place} {r : Record} (prev : ℕ) → IsEntry bytes place (Some (record { 0 = prev })) r → (u32_in bytes 0 ≡ length bytes) × (24 ≤ length bytes)
-sized prev e = ?
+sized {bytes} {place} {r} prev e = let t = entry_total bytes place (Some (record { 0 = prev })) r e in (number_is bytes (length bytes) (drop 4 bytes) t.read, t.least)
 
 pub same_entry : {bytes : List ℕ} {place : Place} {r q : Record} (prev : ℕ) → IsEntry bytes place (Some (record { 0 = prev })) r → IsEntry bytes place (Some (record { 0 = prev })) q → r ≡ q
-same_entry prev e f = ?
+same_entry {bytes} {place} {r} {q} prev e f = entry_once bytes place (Some (record { 0 = prev })) r q e f
 
 -- ---- the size of an entry stands in the page
 
@@ -58,7 +58,8 @@ as_own mib page start prev bytes own r s =
     let h = has_size mib page start prev r s in
     let same : bytes ≡ take s.size (drop (start - origin mib) page) = own.bytes_are ∙ ap (λ (n : ℕ). take n (drop (start - origin mib) page)) h.size_is in
     let len : length bytes ≡ s.size = ap length same ∙ omega (arith, length-take s.size (drop (start - origin mib) page), length-drop (start - origin mib) page, s.whole) in
-    ?
+    subst (λ (bs : List ℕ). IsEntry bs (place_of start (length bytes)) (Some (record { 0 = prev })) r) (sym same)
+    (subst (λ (n : ℕ). IsEntry (take s.size (drop (start - origin mib) page)) (place_of start n) (Some (record { 0 = prev })) r) (sym len) s.entry)
 
 -- no entry stands where its own bytes spell none that is allowed
 pub none_allowed : (mib : ℕ) (page : List ℕ) (start prev : ℕ) (bytes : List ℕ) → IsOwn page (start - origin mib) bytes
