@@ -1,3 +1,4 @@
 pub mod Area
+pub mod Fails
 pub mod Site
 pub mod Stream

@@ -3,6 +3,7 @@
 #![tactic(auto)]
 
 mod area;
+mod fails;
 mod site;
 mod stream;
 
