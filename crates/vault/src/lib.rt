@@ -4,9 +4,11 @@
 
 mod area;
 mod fails;
+mod lending;
 mod site;
 mod stream;
 
 pub use area::Vault;
+pub use lending::{TakeFault, give_two, take_two};
 pub use site::Site;
 pub use stream::{Clock, Sink, Source};
