@@ -1,1 +1,3 @@
 pub mod LentAreas
+pub mod Printed
+pub mod Reading

@@ -3,3 +3,4 @@ pub mod Fails
 pub mod Lending
 pub mod Site
 pub mod Stream
+pub mod Whole

@@ -1,7 +1,8 @@
-//! Two areas of a site, taken and given back together.
+//! Areas of a site, one or two, taken and given back.
 
 ghost use Rattle.std.specs.Prelude.{◌≡◌, ◌≢◌, ◌≤◌, true, IfOk, IfErr, OnOk, OnErr};
-ghost use Rattle.vault.specs.Site.{at_home, set_at};
+ghost use Rattle.lsn_core.specs.Causes.{HasCause};
+ghost use Rattle.vault.specs.Site.{at_home, away, set_at};
 ghost use Rattle.vault.specs.Lending.{both_out, IsOut, TakesCause};
 
 use crate::area::Vault;
@@ -17,9 +18,35 @@ pub enum TakeFault {
     Second(AreaFault),
 }
 
+/// Takes an area from its home, as `Site::take`, and says that it can be given back.
+pub fn take_one<S: Site>(site: &mut S, name: &[u8]) -> Result<S::Area, AreaFault>
+    requires { (S.areas site.old name.now).home ≡ true }
+    ensures taken { IfOk result (λ area. at_home (S.Area.files area) (S.Area.faults area) ≡ S.areas site.old name.now) }
+    ensures away { OnOk result (S.areas site.new ≡ set_at (S.areas site.old) name.now (away (S.areas site.old name.now))) }
+    ensures out { IfOk result (λ area. IsOut (S.areas site.new) name.now (S.Area.faults area)) }
+    ensures same { OnErr result (S.areas site.new ≡ S.areas site.old) }
+    ensures cause { HasCause (S.own site.old) (S.own site.new) result }
+{
+    let area = site.take(name)?;
+    Ok(area)
+}
+
+/// Puts an area back that was taken under this name. It can't fail.
+pub fn give_one<S: Site>(site: &mut S, name: &[u8], area: S::Area)
+    requires { IsOut (S.areas site.old) name.now (S.Area.faults area) }
+    ensures areas { S.areas site.new ≡ set_at (S.areas site.old) name.now (at_home (S.Area.files area) (S.Area.faults area)) }
+    ensures own { S.own site.new ≡ S.own site.old }
+{
+    site.give(name, area);
+}
+
 /// Takes two areas from their homes. After an error both are at home as before, and `Failed` comes
 /// only where the site's own count of faults rose.
-pub fn take_two<S: Site>(site: &mut S, first: &[u8], second: &[u8]) -> Result<(S::Area, S::Area), TakeFault>
+pub fn take_two<S: Site>(
+    site: &mut S,
+    first: &[u8],
+    second: &[u8],
+) -> Result<(S::Area, S::Area), TakeFault>
     requires other { second.now ≢ first.now }
     requires first { (S.areas site.old first.now).home ≡ true }
     requires second { (S.areas site.old second.now).home ≡ true }

@@ -5,10 +5,14 @@
 mod area;
 mod fails;
 mod lending;
+mod printing;
 mod site;
 mod stream;
+mod whole;
 
 pub use area::Vault;
-pub use lending::{TakeFault, give_two, take_two};
+pub use lending::{TakeFault, give_one, give_two, take_one, take_two};
+pub use printing::print;
 pub use site::Site;
 pub use stream::{Clock, Sink, Source};
+pub use whole::{read_in, read_whole, write_in};

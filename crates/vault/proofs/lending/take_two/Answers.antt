@@ -1,4 +1,4 @@
-use Rattle.std.proofs.Common.{◌∙◌, ◌≢◌, List, ℕ, sym}
+use Rattle.std.proofs.Common.{◌∙◌, sym}
 use Rattle.vault.proofs.LentAreas.{stays, put_back, out_of, out_still, out_both}
 use Rattle.vault.proofs.lending.take_two.Goals as goal
 
