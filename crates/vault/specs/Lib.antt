@@ -1,4 +1,5 @@
 pub mod Area
 pub mod Fails
+pub mod Memory
 pub mod Site
 pub mod Stream

@@ -4,9 +4,11 @@
 
 mod area;
 mod fails;
+mod memory;
 mod site;
 mod stream;
 
 pub use area::Vault;
+pub use memory::MemVault;
 pub use site::Site;
 pub use stream::{Clock, Sink, Source};
