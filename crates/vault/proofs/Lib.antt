@@ -1,3 +1,5 @@
 pub mod LentAreas
+pub mod MemoryFiles
 pub mod Printed
 pub mod Reading
+pub mod Written

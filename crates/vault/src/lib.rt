@@ -5,6 +5,7 @@
 mod area;
 mod fails;
 mod lending;
+mod memory;
 mod printing;
 mod site;
 mod stream;
@@ -12,6 +13,7 @@ mod whole;
 
 pub use area::Vault;
 pub use lending::{TakeFault, give_one, give_two, take_one, take_two};
+pub use memory::MemVault;
 pub use printing::print;
 pub use site::Site;
 pub use stream::{Clock, Sink, Source};
