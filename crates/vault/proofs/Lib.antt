@@ -1,2 +1,3 @@
 pub mod MemoryFiles
+mod MemorySlots
 pub mod Written

@@ -5,10 +5,12 @@
 mod area;
 mod fails;
 mod memory;
+mod memory_site;
 mod site;
 mod stream;
 
 pub use area::Vault;
 pub use memory::MemVault;
+pub use memory_site::MemSite;
 pub use site::Site;
 pub use stream::{Clock, Sink, Source};
