@@ -10,6 +10,7 @@ use Rattle.lsn_core.specs.declared.fault.NoMemory.{NoMemory}
 use Rattle.vault.specs.declared.memory_site.Slot.{Slot}
 use Rattle.vault.specs.Site.{AreaState, Areas, AllHome, set_at}
 use Rattle.vault.specs.Memory.{MemoryArea}
+use Rattle.vault.proofs.LentAreas.{each_of_one}
 use Rattle.vault.specs.MemorySite.{new_state, state_of, areas_in}
 
 abbrev has_name : List ℕ → Slot → Bool
@@ -120,9 +121,7 @@ has_slot name slots None e out = absurd (cc (ap (λ (a : AreaState). a.home) (ar
 
 -- all areas are at home after one was placed
 pub home_placed : (old new : Areas) (name : List ℕ) (x : AreaState) → new ≡ set_at old name x → x.home ≡ true → AllHome old → AllHome new
-unfolding set_at
-home_placed old new name x e home all n =
-    subst (λ (f : Areas). (f n).home ≡ true) (sym e) (elim (bytes_eq n name) as (λ b. (cond b x (old n)).home ≡ true) [ true ↦ home | false ↦ all n ])
+home_placed old new name x e home all n = each_of_one (λ a b. a.home ≡ true → b.home ≡ true) old new name x e (λ _. home) (λ _ h. h) n (all n)
 
 pub home_added : (r : Result (Unit {0}) NoMemory) (old new : List Slot) (name : List ℕ) (x : AreaState) → OnOk r (areas_in new ≡ set_at (areas_in old) name x) → OnErr r (new ≡ old) → x.home ≡ true → AllHome (areas_in old) → AllHome (areas_in new)
 home_added (Ok done) old new name x placed same home all = home_placed (areas_in old) (areas_in new) name x placed home all
