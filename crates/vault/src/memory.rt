@@ -49,6 +49,13 @@ impl MemVault {
         })
     }
 
+    /// How many calls failed.
+    pub(crate) fn faults(&self) -> u64
+        ensures { result ≡ self.now.faults }
+    {
+        self.fails.faults()
+    }
+
     /// Counts a call, which fails where that is wanted.
     fn begin(&mut self) -> Result<(), AreaFault>
         ensures call { IsCall self.old self.new result }
