@@ -45,10 +45,10 @@ with_zeros : (size lower upper : ℕ) (page : List ℕ) → lower ≤ upper → 
     → take lower (take lower page ++ drop upper page) ++ (replicate (size - length (take lower page ++ drop upper page)) 0 ++ drop lower (take lower page ++ drop upper page)) ≡ page
 with_zeros size lower upper page order within whole zeroed =
     with_zeros_parts (size - length (take lower page ++ drop upper page)) (upper - lower) lower upper (take lower page) (drop upper page) page
-      (length-take-le lower page (omega arith))
-      (omega (arith, length-append (take lower page) (drop upper page), length-take-le lower page (omega arith), length-drop upper page))
-      refl
-      (omega (arith, length-replicate {A = ℕ} (upper - lower) 0))
+    (length-take-le lower page (omega arith))
+    (omega (arith, length-append (take lower page) (drop upper page), length-take-le lower page (omega arith), length-drop upper page))
+    refl
+    (omega (arith, length-replicate {A = ℕ} (upper - lower) 0))
     ∙ zeroed
 
 -- a part of zeros between two parts: written over by zeros, and left out

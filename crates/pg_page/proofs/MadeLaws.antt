@@ -1,5 +1,5 @@
 -- A page made from nothing.
-use Rattle.std.proofs.Common.{◌≡◌, ℕ, ◌+◌, ◌-◌, ◌^◌, ◌<◌, ◌≤◌, List, [], ◌++◌, length, replicate, refl, sym, ap, subst, ◌∙◌, arith}
+use Rattle.std.proofs.Common.{◌≡◌, ℕ, ◌+◌, ◌-◌, ◌≤◌, List, [], ◌++◌, length, replicate, refl, sym, ap, ◌∙◌, arith}
 use Rattle.std.proofs.lemmas.List.{length-append, length-replicate, append-nil, append_assoc, replicate-append-replicate}
 use Rattle.byte_words.specs.Pieces.{overwritten}
 use Rattle.byte_words.proofs.Overwritten.{overwritten_between}
@@ -41,18 +41,18 @@ thrice a b c d e f b' d' f' first head last at1 len1 at2 len2 at3 len3 =
 -- zeros written over in the header's places, and from the header's end and the hole's end on
 pub written_thrice : (size first gap head lower upper fill : ℕ) (fields : List ℕ) → head ≡ first + length fields + gap → head ≤ lower → lower ≤ upper → upper ≤ size
     → overwritten (overwritten (overwritten (replicate size 0) first fields) head (replicate (lower - head) fill)) upper (replicate (size - upper) fill)
-      ≡ replicate first 0 ++ (fields ++ (replicate gap 0 ++ (replicate (lower - head) fill ++ (replicate (upper - lower) 0 ++ replicate (size - upper) fill))))
+    ≡ replicate first 0 ++ (fields ++ (replicate gap 0 ++ (replicate (lower - head) fill ++ (replicate (upper - lower) 0 ++ replicate (size - upper) fill))))
 written_thrice size first gap head lower upper fill fields places least order most =
     let len : (n x : ℕ) → length (replicate n x) ≡ n = λ n x. length-replicate n x in
     ap (λ (l : List ℕ). overwritten (overwritten (overwritten l first fields) head (replicate (lower - head) fill)) upper (replicate (size - upper) fill))
-      (zeros_in_parts first (length fields) gap (lower - head) (upper - lower) (size - upper) size (omega arith))
+    (zeros_in_parts first (length fields) gap (lower - head) (upper - lower) (size - upper) size (omega arith))
     ∙ thrice (zeros first) (zeros (length fields)) (zeros gap) (zeros (lower - head)) (zeros (upper - lower)) (zeros (size - upper)) fields (replicate (lower - head) fill) (replicate (size - upper) fill) first head upper
-      (len first 0)
-      (sym (len (length fields) 0))
-      (omega (arith, len first 0, len gap 0, length-append (zeros first) (fields ++ zeros gap), length-append fields (zeros gap)))
-      (len (lower - head) fill ∙ sym (len (lower - head) 0))
-      (omega (arith, len first 0, len gap 0, len (lower - head) fill, len (upper - lower) 0, length-append (zeros first) (fields ++ zeros gap), length-append fields (zeros gap), length-append (zeros first ++ (fields ++ zeros gap)) (replicate (lower - head) fill ++ zeros (upper - lower)), length-append (replicate (lower - head) fill) (zeros (upper - lower))))
-      (len (size - upper) fill ∙ sym (len (size - upper) 0))
+    (len first 0)
+    (sym (len (length fields) 0))
+    (omega (arith, len first 0, len gap 0, length-append (zeros first) (fields ++ zeros gap), length-append fields (zeros gap)))
+    (len (lower - head) fill ∙ sym (len (lower - head) 0))
+    (omega (arith, len first 0, len gap 0, len (lower - head) fill, len (upper - lower) 0, length-append (zeros first) (fields ++ zeros gap), length-append fields (zeros gap), length-append (zeros first ++ (fields ++ zeros gap)) (replicate (lower - head) fill ++ zeros (upper - lower)), length-append (replicate (lower - head) fill) (zeros (upper - lower))))
+    (len (size - upper) fill ∙ sym (len (size - upper) 0))
 
 length-made_fields : (lower upper : ℕ) → length (made_fields lower upper) ≡ 8
 unfolding made_fields
