@@ -2,6 +2,8 @@
 //! changes it.
 #![tactic(auto)]
 
+mod applying;
 mod page_map;
 
+pub use applying::{ApplyFault, apply};
 pub use page_map::PageMap;
