@@ -1,13 +1,9 @@
-// A library with one function.
+//! What the entries of a WAL mean: the acts that they are, a store of pages, and how an act
+//! changes it.
 #![tactic(auto)]
 
-ghost use Rattle.std.specs.Prelude.{◌≡◌};
-ghost use Rattle.history.specs.Echo.{echo_of};
+mod applying;
+mod page_map;
 
-// The `ensures` clause is the contract: what `echo` returns is `echo_of` of its argument, a definition
-// in `specs/Echo.antt`, which a caller's clause can cite too.
-pub fn echo(x: usize) -> usize
-    ensures { result ≡ echo_of x }
-{
-    x
-}
+pub use applying::{ApplyFault, apply};
+pub use page_map::PageMap;

@@ -33,19 +33,22 @@ written_parts size first offset image e within fits =
     subst (λ (n : ℕ). overwritten (overwritten (replicate size 0) first (take offset image)) (size - length (drop offset image)) (drop offset image) ≡ take offset image ++ (replicate (size - n) 0 ++ drop offset image))
     whole (zeros_between size first (take offset image) (drop offset image) e (omega arith))
 
+with_zeros_parts : (k n lower upper : ℕ) (front back page : List ℕ) → length front ≡ lower → k ≡ n → back ≡ drop upper page → lower + length (replicate {A = ℕ} n 0) ≡ upper
+    → take lower (front ++ back) ++ (replicate k 0 ++ drop lower (front ++ back)) ≡ front ++ (replicate n 0 ++ drop (lower + length (replicate {A = ℕ} n 0)) page)
+with_zeros_parts k n lower upper front back page len out behind place =
+    ap (λ (l : List ℕ). l ++ (replicate k 0 ++ drop lower (front ++ back))) (take_at front back lower len)
+    ∙ ap (λ n. front ++ (replicate n 0 ++ drop lower (front ++ back))) out
+    ∙ ap (λ (l : List ℕ). front ++ (replicate n 0 ++ l)) (drop_at front back lower len ∙ behind ∙ ap (λ m. drop m page) (sym place))
+
 -- a page without a part of zeros, and with it again
 with_zeros : (size lower upper : ℕ) (page : List ℕ) → lower ≤ upper → upper ≤ size → length page ≡ size → overwritten page lower (replicate (upper - lower) 0) ≡ page
     → take lower (take lower page ++ drop upper page) ++ (replicate (size - length (take lower page ++ drop upper page)) 0 ++ drop lower (take lower page ++ drop upper page)) ≡ page
 with_zeros size lower upper page order within whole zeroed =
-    let front : List ℕ = take lower page in
-    let back : List ℕ = drop upper page in
-    let len : length front ≡ lower = length-take-le lower page (omega arith) in
-    let out : size - length (front ++ back) ≡ upper - lower = omega (arith, length-append front back, length-drop upper page) in
-    let behind : lower + length (replicate (upper - lower) 0) ≡ upper = omega (arith, length-replicate {A = ℕ} (upper - lower) 0) in
-    ap (λ (l : List ℕ). l ++ (replicate (size - length (front ++ back)) 0 ++ drop lower (front ++ back))) (take_at front back lower len)
-    ∙ ap (λ n. front ++ (replicate n 0 ++ drop lower (front ++ back))) out
-    ∙ ap (λ (l : List ℕ). front ++ (replicate (upper - lower) 0 ++ l)) (drop_at front back lower len)
-    ∙ ap (λ n. front ++ (replicate (upper - lower) 0 ++ drop n page)) (sym behind)
+    with_zeros_parts (size - length (take lower page ++ drop upper page)) (upper - lower) lower upper (take lower page) (drop upper page) page
+    (length-take-le lower page (omega arith))
+    (omega (arith, length-append (take lower page) (drop upper page), length-take-le lower page (omega arith), length-drop upper page))
+    refl
+    (omega (arith, length-replicate {A = ℕ} (upper - lower) 0))
     ∙ zeroed
 
 -- a part of zeros between two parts: written over by zeros, and left out

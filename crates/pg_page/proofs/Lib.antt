@@ -1,2 +1,3 @@
 pub mod HeaderLaws
 pub mod ImageLaws
+pub mod MadeLaws

@@ -52,11 +52,15 @@ lsn_field at = to_le_bytes w32 (at / 2 ^ 32) ++ to_le_bytes w32 (at % 2 ^ 32)
 unfoldable pub with_lsn : ℕ → List ℕ → List ℕ
 with_lsn at page = overwritten page 0 (lsn_field at)
 
+-- the header's places of a page made from nothing, with no special space
+unfoldable pub made_fields : ℕ → ℕ → List ℕ
+made_fields lower upper = to_le_bytes w16 lower ++ (to_le_bytes w16 upper ++ (to_le_bytes w16 8192 ++ to_le_bytes w16 8196))
+
 -- a page made from nothing: `fill` outside the header and the hole, all else zero but the header's places
 unfoldable pub made_page : ℕ → ℕ → ℕ → List ℕ
 made_page lower upper fill =
-    replicate 12 0 ++ (to_le_bytes w16 lower ++ (to_le_bytes w16 upper ++ (to_le_bytes w16 8192 ++ (to_le_bytes w16 8196 ++ (replicate 4 0
-    ++ (replicate (lower - 24) fill ++ (replicate (upper - lower) 0 ++ replicate (8192 - upper) fill)))))))
+    replicate 12 0 ++ (made_fields lower upper ++ (replicate 4 0
+    ++ (replicate (lower - 24) fill ++ (replicate (upper - lower) 0 ++ replicate (8192 - upper) fill))))
 
 -- a page of zeros, as an added block is
 unfoldable pub zero_page : List ℕ

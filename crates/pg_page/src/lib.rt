@@ -2,7 +2,12 @@
 #![tactic(auto)]
 
 mod image;
+mod make;
 mod page;
 
 pub use image::restored_page;
+pub use make::make_page;
 pub use page::{Page, zero_page};
+
+#[cfg(test)]
+mod tests;

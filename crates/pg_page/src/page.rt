@@ -40,6 +40,14 @@ impl Page {
         }
     }
 
+    /// The page of bytes with a good header.
+    pub(crate) fn from_good(bytes: [u8; 8192]) -> Page
+        requires { IsGood bytes }
+        ensures { result ≡ bytes }
+    {
+        Page { bytes }
+    }
+
     /// The page's bytes.
     pub fn bytes(&self) -> &[u8; 8192]
         ensures bytes { result.now ≡ self.now }
@@ -85,7 +93,7 @@ impl Page {
     {
         let lower = usize::from(u16_in(&self.bytes, 12));
         let upper = usize::from(u16_in(&self.bytes, 14));
-        clear(&mut self.bytes, lower, upper);
+        fill_between(&mut self.bytes, lower, upper, 0);
     }
 }
 
@@ -123,11 +131,11 @@ fn lsn_field(at: u64) -> [u8; 8]
     [a, b, c, d, e, f, g, h]
 }
 
-// writes zeros from one place to another
-fn clear(bytes: &mut [u8], from: usize, to: usize)
+/// Writes a value into all bytes from one place to another.
+pub(crate) fn fill_between(bytes: &mut [u8], from: usize, to: usize, value: u8)
     requires order { from ≤ to }
     requires within { to ≤ length bytes.old }
-    ensures { bytes.new ≡ overwritten bytes.old from (replicate (to - from) 0) }
+    ensures { bytes.new ≡ overwritten bytes.old from (replicate (to - from) value) }
 {
-    bytes[from..to].fill(0);
+    bytes[from..to].fill(value);
 }
