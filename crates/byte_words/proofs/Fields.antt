@@ -4,7 +4,7 @@ use Rattle.std.specs.Int.{Width, w8, w16, w32, w64, byte_len, from_le_bytes, to_
 use Rattle.std.proofs.lemmas.Bool.{cases_lt, ltb-false, le-ltb}
 use Rattle.std.proofs.lemmas.List.{take_at, drop_at, take-append-drop, length-append, length-take, get_or-drop, get_or-take, get_or_past}
 use Rattle.std.proofs.lemmas.Nat.{le_bytes_2, le_bytes_4, le_bytes_8, from_le_bytes-to_le_bytes_2, from_le_bytes-to_le_bytes_4, from_le_bytes-to_le_bytes_8}
-use Rattle.byte_words.specs.Numbers.{IsBytes, ◌>>=◌, number_at}
+use Rattle.byte_words.specs.Numbers.{IsBytes, ◌>>=◌, number_at, u32_in}
 
 pub IsBytes-drop : (n : ℕ) (bytes : List ℕ) → IsBytes bytes → IsBytes (drop n bytes)
 IsBytes-drop n bytes h i = rw get_or-drop (h (n + i))
@@ -112,3 +112,16 @@ step_again w limit wide bytes n rest f y e lt go = ap (λ (l : List ℕ). number
 -- a number in front of bytes that are these
 pub put_front : (w : Width) (n m : ℕ) (bytes rest more : List ℕ) → n ≡ m → bytes ≡ to_le_bytes w n ++ rest → rest ≡ more → bytes ≡ to_le_bytes w m ++ more
 put_front w n m bytes rest more same e tail = subst (λ (k : ℕ). bytes ≡ to_le_bytes w k ++ more) same (subst (λ (l : List ℕ). bytes ≡ to_le_bytes w n ++ l) tail e)
+
+-- the number at the front is the one at place 0
+front_number : (bytes : List ℕ) → from_le_bytes w32 (take 4 bytes) ≡ u32_in bytes 0
+front_number [] = omega arith
+front_number (a ∷ []) = omega arith
+front_number (a ∷ (b ∷ [])) = omega arith
+front_number (a ∷ (b ∷ (c ∷ []))) = omega arith
+front_number (a ∷ (b ∷ (c ∷ (d ∷ bytes)))) = omega arith
+
+pub number_is : (bytes : List ℕ) (n : ℕ) (rest : List ℕ) → number_at w32 bytes ≡ Some (n, rest) → u32_in bytes 0 ≡ n
+number_is bytes n rest e =
+    let g = guard_some (ltb (length bytes) (byte_len w32)) (from_le_bytes w32 (take 4 bytes), drop 4 bytes) (n, rest) e in
+    sym (front_number bytes) ∙ ap (λ (p : ℕ × List ℕ). p.0) g.1

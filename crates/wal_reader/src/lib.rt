@@ -1,13 +1,12 @@
-// A library with one function.
+//! The archive of WAL: a cursor that gives its entries in order, and says where it ends and where
+//! it is damaged. So far it reads the entries of the first page.
 #![tactic(auto)]
 
-ghost use Rattle.std.specs.Prelude.{◌≡◌};
-ghost use Rattle.wal_reader.specs.Echo.{echo_of};
+mod cursor;
+mod entry;
+mod fault;
+mod head;
+mod page;
 
-// The `ensures` clause is the contract: what `echo` returns is `echo_of` of its argument, a definition
-// in `specs/Echo.antt`, which a caller's clause can cite too.
-pub fn echo(x: usize) -> usize
-    ensures { result ≡ echo_of x }
-{
-    x
-}
+pub use cursor::{WalCursor, read_settings};
+pub use fault::{Damage, WalFault};

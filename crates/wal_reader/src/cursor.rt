@@ -1,0 +1,149 @@
+//! A cursor over the archive.
+
+ghost use Rattle.std.specs.Prelude.{◌≡◌, ◌+◌, ◌≤◌, ◌↔◌, length, IsTrue, IfSome, IfOk};
+ghost use Rattle.lsn_core.specs.Causes.{HasCause};
+ghost use Rattle.wal_reader.specs.Head.{origin};
+ghost use Rattle.wal_reader.specs.Archive.{held_bytes, first_page, EndsAt};
+ghost use Rattle.wal_reader.specs.Entry.{FollowAnswer};
+ghost use Rattle.wal_reader.specs.Cursor.{at_start, NextAnswer, SettingsAnswer, FoundAnswer};
+
+use crate::entry::entry_at;
+use crate::fault::{Damage, WalFault};
+use crate::head::is_head;
+use crate::page::{is_zero_from, page_of};
+use lsn_core::{AreaFault, Lsn, SegSize, Settings, WalTip, segment_name};
+use std::alloc::Global;
+use std::marker::Model;
+use vault::Vault;
+use wal_record::Record;
+
+const HEAD: u64 = 40;
+
+/// The settings of a WAL: segments of 16 MiB and 131072 blocks a segment of a fork. `NotInit`
+/// exactly where the file of segment 1 isn't there.
+pub fn read_settings<V: Vault>(alloc: Global, area: &mut V) -> Result<Settings, WalFault>
+    ensures answer { SettingsAnswer (V.files area.old) (V.faults area.old) (V.faults area.new) result }
+    ensures same { V.files area.new ≡ V.files area.old }
+    ensures later { V.faults area.old ≤ V.faults area.new }
+{
+    let segment = SegSize::standard();
+    let name = segment_name(alloc, 1, segment)?;
+    match area.size(name.as_bytes())? {
+        Some(_) => Ok(Settings { segment, relseg: 131_072 }),
+        None => Err(WalFault::NotInit),
+    }
+}
+
+/// A cursor over the archive, which holds nothing of the area. Contracts see where it stands.
+#[derive(Debug, Drop)]
+pub struct WalCursor {
+    segment: SegSize,
+    at: u64,
+    prev: u64,
+    fault: Option<WalFault>,
+}
+
+impl Model for WalCursor {
+    ghost use Rattle.std.specs.Prelude.{ℕ};
+    ghost use Rattle.wal_reader.specs.Cursor.{Reading, IsOnPage};
+
+    ghost Value = { Reading };
+
+    ghost view = { λ c. record { mib = c.segment; at = c.at; prev = c.prev; fault = c.fault } };
+
+    ghost invariant = { λ c. IsOnPage (record { mib = c.segment; at = c.at; prev = c.prev; fault = c.fault }) };
+}
+
+impl WalCursor {
+    /// A cursor at the start of the archive.
+    pub fn first(settings: &Settings) -> WalCursor
+        ensures { result ≡ at_start settings.now.segment }
+    {
+        let segment = settings.segment;
+        WalCursor { segment, at: segment.bytes(), prev: 0, fault: None }
+    }
+
+    /// Where the last entry that it gave ends and starts; before the first one, where the archive
+    /// begins, and 0.
+    pub fn tip(&self) -> WalTip
+        ensures end { result.end.0 ≡ self.now.at }
+        ensures prev { result.prev.0 ≡ self.now.prev }
+    {
+        WalTip { end: Lsn(self.at), prev: Lsn(self.prev) }
+    }
+
+    /// The next entry, in order. None exactly at the archive's end. After a fault other than
+    /// `Failed` it answers the same fault again; after `Failed` it stands as before the call.
+    pub fn next<V: Vault>(&mut self, alloc: Global, area: &mut V) -> Result<Option<Record>, WalFault>
+        ensures answer { NextAnswer self.old.fault self.old self.new (V.files area.old) (V.faults area.old) (V.faults area.new) result }
+        ensures same { V.files area.new ≡ V.files area.old }
+        ensures later { V.faults area.old ≤ V.faults area.new }
+    {
+        if let Some(fault) = self.fault {
+            return Err(fault);
+        }
+        let answer = found(alloc, area, self.segment, self.at, self.prev);
+        match &answer {
+            Ok(Some(record)) => {
+                self.at = record.end.0;
+                self.prev = record.start.0;
+            }
+            Ok(None) | Err(WalFault::Failed) => {}
+            Err(fault) => self.fault = Some(*fault),
+        }
+        answer
+    }
+}
+
+/// Whether the archive ends at a place, by its first page and by what is zero.
+fn is_end<V: Vault>(alloc: Global, area: &mut V, segment: SegSize, at: u64, page: &[u8]) -> Result<bool, AreaFault>
+    requires least { origin segment ≤ at }
+    requires most { at ≤ origin segment + 8192 }
+    requires page { IfSome (V.files area.old) (λ m. page.now ≡ first_page (held_bytes segment m)) }
+    ensures end { IfOk result (λ end. IfSome (V.files area.old) (λ m. IsTrue end ↔ EndsAt segment (held_bytes segment m) at)) }
+    ensures same { V.files area.new ≡ V.files area.old }
+    ensures cause { HasCause (V.faults area.old) (V.faults area.new) result }
+{
+    let origin = segment.bytes();
+    if is_zero_from(alloc, area, segment, at - origin)? {
+        return Ok(true);
+    }
+    if at > origin || !is_head(page, segment) {
+        return Ok(false);
+    }
+    is_zero_from(alloc, area, segment, HEAD)
+}
+
+/// What follows a place of the first page, where the archive goes on.
+fn follows(alloc: Global, page: &[u8], segment: SegSize, at: u64, prev: u64) -> Result<Record, WalFault>
+    requires least { origin segment ≤ at }
+    requires most { at ≤ origin segment + 8192 }
+    requires page { length page.now ≤ 8192 }
+    ensures { FollowAnswer segment page.now at prev result }
+{
+    if at == segment.bytes() {
+        if !is_head(page, segment) {
+            return Err(WalFault::Damaged(Lsn(at), Damage::Form));
+        }
+        return entry_at(alloc, page, segment, at + HEAD, prev);
+    }
+    entry_at(alloc, page, segment, at, prev)
+}
+
+/// What stands after a place.
+fn found<V: Vault>(alloc: Global, area: &mut V, segment: SegSize, at: u64, prev: u64) -> Result<Option<Record>, WalFault>
+    requires least { origin segment ≤ at }
+    requires most { at ≤ origin segment + 8192 }
+    ensures answer { FoundAnswer segment at prev (V.files area.old) (V.faults area.old) (V.faults area.new) result }
+    ensures same { V.files area.new ≡ V.files area.old }
+    ensures later { V.faults area.old ≤ V.faults area.new }
+{
+    let page = page_of(alloc, area, segment)?;
+    if is_end(alloc, area, segment, at, &page)? {
+        return Ok(None);
+    }
+    match follows(alloc, &page, segment, at, prev) {
+        Ok(record) => Ok(Some(record)),
+        Err(fault) => Err(fault),
+    }
+}

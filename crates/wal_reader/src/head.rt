@@ -1,0 +1,26 @@
+//! The head of the archive's first page.
+
+ghost use Rattle.std.specs.Prelude.{◌≡◌, ◌↔◌, IsTrue};
+ghost use Rattle.wal_reader.specs.Head.{IsHead};
+
+use byte_words::{u16_in, u32_in, u64_in};
+use lsn_core::SegSize;
+
+const MAGIC: u16 = 0xD116;
+
+/// Whether a page begins with the long header of the start of segment 1, with no entry continued.
+pub fn is_head(page: &[u8], size: SegSize) -> bool
+    ensures { IsTrue result ↔ IsHead size page.now }
+{
+    if page.len() < 40 {
+        return false;
+    }
+    let info = u16_in(page, 2);
+    u16_in(page, 0) == MAGIC
+        && (info == 2 || info == 6)
+        && u32_in(page, 4) == 1
+        && u64_in(page, 8) == size.bytes()
+        && u32_in(page, 16) == 0
+        && u64::from(u32_in(page, 32)) == size.bytes()
+        && u32_in(page, 36) == 8192
+}
