@@ -35,6 +35,9 @@ record LeftOut (bytes : List ℕ) (page : List ℕ) : Type 0 where
   image : bytes ≡ image_of page
   zeroed : hole_zeroed page ≡ page
 
+moved_hole : (hole : Option (ℕ × ℕ)) (lower from upper to : ℕ) → hole ≡ Some (lower, upper) → lower ≡ from → upper ≡ to → hole ≡ Some (from, to)
+moved_hole hole lower from upper to e first second = e ∙ ap (λ (n : ℕ). Some (n, upper)) first ∙ ap (λ (n : ℕ). Some (from, n)) second
+
 left_out_by : (bytes : List ℕ) (offset : ℕ) (h : Option (ℕ × ℕ)) → hole_of (restored offset bytes) ≡ h → IsGood (restored offset bytes) → length bytes ≡ (image_head_of h).len → offset ≡ (image_head_of h).offset → offset ≤ length bytes → LeftOut bytes (restored offset bytes)
 left_out_by bytes offset None e good len at within = record {
   image = sym (restored_whole offset bytes len) ∙ sym (image_of-None (restored offset bytes) e);
@@ -44,7 +47,7 @@ left_out_by bytes offset (Some (lower, upper)) e good len at within =
     let b = hole_bounds (restored offset bytes) lower upper good e in
     let lower-is : lower ≡ offset = sym at in
     let upper-is : upper ≡ offset + (8192 - length bytes) = omega (arith, len, at, b.order, b.most) in
-    let told : hole_of (restored offset bytes) ≡ Some (offset, offset + (8192 - length bytes)) = e ∙ ap (λ (n : ℕ). Some (n, upper)) lower-is ∙ ap (λ (n : ℕ). Some (offset, n)) upper-is in
+    let told = moved_hole (hole_of (restored offset bytes)) lower offset upper (offset + (8192 - length bytes)) e lower-is upper-is in
     record {
       image = sym (restored_left_out bytes offset within) ∙ sym (image_of-Some (restored offset bytes) offset (offset + (8192 - length bytes)) told);
       zeroed = restored_zeroed bytes offset within told;

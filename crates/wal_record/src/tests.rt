@@ -148,4 +148,5 @@ fn length_and_previous_link_are_exact(rt: HostRuntime) {
         form
     );
     assert_eq!(rt; decode_record(rt.alloc(), &[], PLACE, None).err(), form);
+    assert_eq!(rt; Blocks::from_vec(Vec::new(rt.alloc())).as_slice().len(), 0);
 }
