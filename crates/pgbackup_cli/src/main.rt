@@ -1,0 +1,4 @@
+//! `pgbackup`: PostgreSQL's incremental physical backup as one program.
+#![tactic(auto)]
+
+fn main() {}
