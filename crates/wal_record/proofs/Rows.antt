@@ -1,15 +1,13 @@
 -- Worked examples of the written form.
-use Rattle.std.proofs.Common.{◌≡◌, ℕ, ◌+◌, List, [], ◌∷◌, ◌++◌, length, replicate, take, drop, refl}
-use Rattle.std.specs.Int.{w8, w16, w32, w64, to_le_bytes}
+use Rattle.std.proofs.Common.{◌≡◌, [], ◌∷◌, length, replicate, take, drop, refl}
 use Rattle.lsn_core.specs.declared.ids.ForkKind.TheVariants.{Main, Init}
-use Rattle.lsn_core.specs.declared.lsn.Lsn.{Lsn}
-use Rattle.pg_page.specs.Header.{made_page, made_fields, hole_of, hole_zeroed}
-use Rattle.pg_page.specs.Image.{image_of, without_hole}
+use Rattle.pg_page.specs.Header.{made_page, made_fields}
+use Rattle.pg_page.specs.Image.{without_hole}
 use Rattle.wal_record.specs.declared.record.Record.{Record}
 use Rattle.wal_record.specs.declared.record.Kind.{Kind}
 use Rattle.wal_record.specs.declared.record.Kind.TheVariants.{Shutdown, Generic, Create}
 use Rattle.wal_record.specs.declared.record.Body.TheVariants.{Image}
-use Rattle.wal_record.specs.Spelling.{spelling, total_of, front_of, body_of, IsEntry}
+use Rattle.wal_record.specs.Spelling.{spelling, total_of, body_of}
 
 -- the first entry of an archive that begins at 0/100000: it ends at 0/100060, 56 bytes of room for 50
 first_entry : Record
