@@ -1,4 +1,3 @@
-mod MemorySlots
 pub mod LentAreas
 pub mod MemoryFiles
 pub mod Printed
