@@ -1,6 +1,7 @@
 //! `pgbackup`: PostgreSQL's incremental physical backup as one program.
 #![tactic(auto)]
 
+mod answer;
 mod files;
 mod replay;
 mod words;
