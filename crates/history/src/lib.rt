@@ -7,3 +7,6 @@ mod page_map;
 
 pub use applying::{ApplyFault, apply};
 pub use page_map::PageMap;
+
+#[cfg(test)]
+mod tests;

@@ -1,5 +1,5 @@
 -- Areas that were taken from a site and are given back.
-use Rattle.std.proofs.Common.{◌≡◌, ◌≢◌, ℕ, ◌≤◌, Bool, true, false, List, refl, sym, arith, inl, inr, ◌⊎◌, ◌∙◌, Option, Result}
+use Rattle.std.proofs.Common.{◌≡◌, ◌≢◌, ℕ, ◌≤◌, Bool, true, false, List, refl, sym, arith, inl, inr, ◌⊎◌, ◌∙◌, Option, Result, Ok, Err, OnOk, OnErr, ap}
 use Rattle.std.specs.Str.{bytes_eq}
 use Rattle.std.proofs.lemmas.Slice.Eq.{bytes_eq-Decides}
 use Rattle.std.proofs.Math.Path.{fun_ext}
@@ -161,3 +161,17 @@ one_cause f h g a p q start mid end result same back rises stops cause = record 
   later = omega arith;
   failed = λ e. inr (rw (stands h g a q back, ← same) (cause.failed e));
 }
+
+-- all areas are at home after one was placed there, or none
+pub home_after : {E : Type 0} (r : Result (Unit {0}) E) (old new : Areas) (name : List ℕ) (x : AreaState) → OnOk r (new ≡ set_at old name x) → OnErr r (new ≡ old) → x.home ≡ true → AllHome old → AllHome new
+home_after (Ok done) old new name x placed same home all n = each_of_one (λ a b. a.home ≡ true → b.home ≡ true) old new name x placed (λ _. home) (λ _ h. h) n (all n)
+home_after (Err e) old new name x placed same home all n = rw (ap (λ (f : Areas). f n) same) (all n)
+
+-- a new area that was taken
+pub out_new : (f h g : Areas) (name : List ℕ) (x : AreaState) → h ≡ f → f name ≡ x → g ≡ set_at h name (away x) → g ≡ set_at f name (away (f name))
+out_new f h g name x same new out = rw (out, same, new) refl
+
+-- what holds, holds after an error
+pub after_error : {T E : Type 0} (r : Result T E) (P : Type 0) → P → OnErr r P
+after_error (Ok v) P holds = tt
+after_error (Err e) P holds = holds

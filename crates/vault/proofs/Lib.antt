@@ -1,6 +1,6 @@
 pub mod LentAreas
 pub mod MemoryFiles
-mod MemorySlots
 pub mod Printed
 pub mod Reading
+pub mod Slots
 pub mod Written

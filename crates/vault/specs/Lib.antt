@@ -4,6 +4,7 @@ pub mod Lending
 pub mod Memory
 pub mod MemorySite
 pub mod MemoryStreams
+pub mod Shelf
 pub mod Site
 pub mod Stream
 pub mod Whole

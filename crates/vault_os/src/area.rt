@@ -41,6 +41,13 @@ impl OsVault {
         }
     }
 
+    /// How often a call failed.
+    pub(crate) fn faults(&self) -> u64
+        ensures { result ≡ self.now.faults }
+    {
+        self.faults
+    }
+
     fn path(&self, name: &[u8]) -> io::Result<Option<String>> {
         path_below(self.rt.alloc(), self.folder.as_str(), name)
     }

@@ -1,9 +1,9 @@
 use crate::area::OsVault;
-use crate::{OsClock, OsSink, OsSource};
+use crate::{OsClock, OsSink, OsSite, OsSource};
 use lsn_core::AreaFault;
 use std::fs;
 use std::test::Fail;
-use vault::{Clock, Sink, Source, Vault};
+use vault::{Clock, Sink, Site, Source, Vault, read_in, write_in};
 
 #[test]
 fn an_area_is_a_folder(rt: HostRuntime) -> Result<(), Fail> {
@@ -47,6 +47,20 @@ fn an_area_is_a_folder(rt: HostRuntime) -> Result<(), Fail> {
     assert_eq!(rt; area.size(b"base/5/1")?, None);
     assert_eq!(rt; area.write_at(b"../x", 0, b"y"), Err(AreaFault::Failed));
     area.sync()?;
+    Ok(())
+}
+
+#[test]
+fn a_site_is_the_working_directory(rt: HostRuntime) -> Result<(), Fail> {
+    let mut site = OsSite::new(rt.clone()?);
+    write_in(&mut site, b"o/out", b"label", b"text")?;
+    assert_eq!(rt;
+        fs::read(&rt, "o/out/label")?.as_slice(),
+        b"text".as_slice()
+    );
+    let read = read_in(rt.alloc(), &mut site, b"o/out", b"label")?;
+    assert_eq!(rt; read.as_slice(), b"text".as_slice());
+    assert!(rt; site.take(b"../out").is_err());
     Ok(())
 }
 

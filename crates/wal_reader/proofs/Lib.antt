@@ -1,3 +1,4 @@
 pub mod Zeros
 pub mod Entries
 pub mod Steps
+pub mod Passing

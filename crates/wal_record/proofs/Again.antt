@@ -1,17 +1,16 @@
 -- What is spelled is read again, part by part.
-use Rattle.std.proofs.Common.{◌≡◌, ℕ, ◌+◌, ◌-◌, ◌*◌, ◌^◌, ◌<◌, ◌≤◌, Bool, true, false, cond, List, [], ◌∷◌, ◌++◌, length, replicate, Option, Some, None, refl, sym, ap, subst, ◌∙◌, arith}
-use Rattle.std.specs.Prelude.{nat_eq, nat_lt, nat_le, ◌==◌, ◌&&◌}
+use Rattle.std.proofs.Common.{◌≡◌, ℕ, ◌+◌, ◌^◌, ◌<◌, Bool, true, cond, List, [], ◌++◌, length, Option, Some, refl, arith}
+use Rattle.std.specs.Prelude.{nat_eq, nat_lt, ◌==◌, ◌&&◌}
 use Rattle.std.specs.Int.{w8, w16, w32, w64, to_le_bytes}
 use Rattle.std.proofs.lemmas.Bool.{and_from, eq-eqb, lt-ltb}
-use Rattle.byte_words.specs.Numbers.{◌>>=◌, number_at}
+use Rattle.byte_words.specs.Numbers.{◌>>=◌}
 use Rattle.byte_words.proofs.Fields.{wide8, wide16, wide32, wide64, step_again}
 use Rattle.lsn_core.specs.Relation.{Relation}
 use Rattle.lsn_core.specs.declared.ids.ForkKind.{ForkKind}
 use Rattle.lsn_core.specs.declared.ids.ForkKind.TheVariants.{Main, Init}
 use Rattle.lsn_core.specs.declared.ids.ForkId.{ForkId}
 use Rattle.lsn_core.specs.declared.lsn.Lsn.{Lsn}
-use Rattle.wal_record.specs.declared.record.Kind.{Kind}
-use Rattle.wal_record.specs.declared.record.Kind.TheVariants.{Shutdown, Generic, Create}
+use Rattle.wal_record.specs.declared.record.Kind.TheVariants.{Shutdown, Create}
 use Rattle.wal_record.specs.declared.fields.Front.{Front}
 use Rattle.wal_record.specs.declared.fields.Extent.{Extent}
 use Rattle.wal_record.specs.declared.fields.Announced.{Announced}

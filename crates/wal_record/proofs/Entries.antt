@@ -1,17 +1,17 @@
 -- What an entry is read as is the entry that the bytes are the written form of, and no other.
-use Rattle.std.proofs.Common.{◌≡◌, ℕ, ◌+◌, ◌-◌, ◌*◌, ◌^◌, ◌<◌, ◌≤◌, Bool, true, false, cond, ◌⊎◌, List, [], ◌∷◌, ◌++◌, length, replicate, take, drop, Option, Some, None, Result, Ok, Err, IfOk, IfSome, refl, sym, ap, subst, ◌∙◌, arith, inl, inr}
-use Rattle.std.specs.Prelude.{nat_lt, nat_le, ◌==◌, ◌&&◌}
+use Rattle.std.proofs.Common.{◌≡◌, ℕ, ◌+◌, ◌^◌, ◌<◌, ◌≤◌, Bool, true, false, cond, List, [], ◌∷◌, ◌++◌, length, drop, Option, Some, None, Result, Ok, Err, IfOk, IfSome, refl, sym, ap, subst, ◌∙◌, arith}
+use Rattle.std.specs.Prelude.{◌==◌}
 use Rattle.std.specs.Option.{option_map}
 use Rattle.std.specs.Int.{w8, w16, w32, w64, to_le_bytes}
-use Rattle.std.proofs.lemmas.Bool.{and_parts, and_from, eq-eqb, eqb-true}
-use Rattle.std.proofs.lemmas.List.{length-append, append-nil}
-use Rattle.byte_words.specs.Numbers.{IsBytes, ◌>>=◌, number_at}
+use Rattle.std.proofs.lemmas.Bool.{and_parts, eq-eqb, eqb-true}
+use Rattle.std.proofs.lemmas.List.{append-nil}
+use Rattle.byte_words.specs.Numbers.{IsBytes, number_at}
 use Rattle.byte_words.proofs.Fields.{wide32, number_again}
 use Rattle.lsn_core.specs.declared.ids.BlockId.{BlockId}
 use Rattle.lsn_core.specs.declared.ids.ForkId.{ForkId}
 use Rattle.lsn_core.specs.declared.lsn.Lsn.{Lsn}
 use Rattle.lsn_core.specs.declared.lsn.Place.{Place}
-use Rattle.pg_page.specs.Header.{IsGood, hole_of, hole_zeroed}
+use Rattle.pg_page.specs.Header.{hole_of}
 use Rattle.pg_page.specs.Image.{image_of}
 use Rattle.wal_record.specs.declared.record.Record.{Record}
 use Rattle.wal_record.specs.declared.record.Kind.{Kind}
@@ -20,15 +20,15 @@ use Rattle.wal_record.specs.declared.record.BlockRef.{BlockRef}
 use Rattle.wal_record.specs.declared.record.Body.{Body}
 use Rattle.wal_record.specs.declared.record.Body.TheVariants.{Image}
 use Rattle.wal_record.specs.declared.record.RecordFault.{RecordFault}
-use Rattle.wal_record.specs.declared.record.RecordFault.TheVariants.{Form, NoMemory}
+use Rattle.wal_record.specs.declared.record.RecordFault.TheVariants.{Form}
 use Rattle.wal_record.specs.declared.fields.Front.{Front}
 use Rattle.wal_record.specs.declared.fields.Extent.{Extent}
 use Rattle.wal_record.specs.declared.fields.Announced.{Announced}
 use Rattle.wal_record.specs.Heads.{rel_bytes}
-use Rattle.wal_record.specs.Spelling.{fork_number, rel_name, image_head_of, manager_of, info_of, body_of, total_of, front_of, spelling, IsWritable, IsWritableBlock, IsEntry}
-use Rattle.wal_record.specs.Reading.{Answers, front_at, announced_at, extent_of, page_at, shutdown_at, create_at, block_at, kind_at, is_linked, record_at}
-use Rattle.wal_record.proofs.Taken.{passed, passed_on, took, FrontTaken, front_takes, ShutdownTaken, shutdown_takes, CreateTaken, create_takes, AnnouncedTaken, announced_takes}
-use Rattle.wal_record.proofs.Images.{PageTaken, page_takes, page_again, ImageFits, image_fits}
+use Rattle.wal_record.specs.Spelling.{fork_number, rel_name, manager_of, info_of, body_of, total_of, spelling, IsWritable, IsWritableBlock, IsEntry}
+use Rattle.wal_record.specs.Reading.{Answers, extent_of, block_at, kind_at, is_linked, record_at}
+use Rattle.wal_record.proofs.Taken.{passed_on, took, FrontTaken, front_takes, shutdown_takes, create_takes, announced_takes}
+use Rattle.wal_record.proofs.Images.{page_takes, page_again, image_fits}
 use Rattle.wal_record.proofs.Again.{passes, takes_again, front_again, shutdown_again, create_again, announced_again}
 
 -- the announcement of a block with an image, and what stands behind it
@@ -83,21 +83,21 @@ unfolding kind_at
 kind_takes manager info bytes kind fits e =
     let P : Type 0 = KindTaken manager info bytes kind in
     chose _ _ _ kind P e
-      (λ t g. mapped _ _ kind P g (λ redo h same.
-        let both = and_parts (manager == 0) (info == 0) t in
-        let s = shutdown_takes bytes redo fits h in
-        subst (KindTaken manager info bytes) same (record { manager-is = eqb-true _ _ both.0; info-is = eqb-true _ _ both.1; spelled = s.spelled; writable = s.writable })))
-      (λ rest. chose _ _ _ kind P rest
-        (λ t g. mapped _ _ kind P g (λ fork h same.
-          let both = and_parts (manager == 2) (info == 0x11) t in
-          let s = create_takes bytes fork fits h in
-          subst (KindTaken manager info bytes) same (record { manager-is = eqb-true _ _ both.0; info-is = eqb-true _ _ both.1; spelled = s.spelled; writable = s.writable })))
-        (λ last. chose _ _ _ kind P last
-          (λ t g. mapped _ _ kind P g (λ b h same.
-            let both = and_parts (manager == 20) (info == 0) t in
-            let s = block_takes bytes b fits h in
-            subst (KindTaken manager info bytes) same (record { manager-is = eqb-true _ _ both.0; info-is = eqb-true _ _ both.1; spelled = s.spelled; writable = s.writable })))
-          (λ none. absurd cc)))
+    (λ t g. mapped _ _ kind P g (λ redo h same.
+    let both = and_parts (manager == 0) (info == 0) t in
+    let s = shutdown_takes bytes redo fits h in
+    subst (KindTaken manager info bytes) same (record { manager-is = eqb-true _ _ both.0; info-is = eqb-true _ _ both.1; spelled = s.spelled; writable = s.writable })))
+    (λ rest. chose _ _ _ kind P rest
+    (λ t g. mapped _ _ kind P g (λ fork h same.
+    let both = and_parts (manager == 2) (info == 0x11) t in
+    let s = create_takes bytes fork fits h in
+    subst (KindTaken manager info bytes) same (record { manager-is = eqb-true _ _ both.0; info-is = eqb-true _ _ both.1; spelled = s.spelled; writable = s.writable })))
+    (λ last. chose _ _ _ kind P last
+    (λ t g. mapped _ _ kind P g (λ b h same.
+    let both = and_parts (manager == 20) (info == 0) t in
+    let s = block_takes bytes b fits h in
+    subst (KindTaken manager info bytes) same (record { manager-is = eqb-true _ _ both.0; info-is = eqb-true _ _ both.1; spelled = s.spelled; writable = s.writable })))
+    (λ none. absurd cc)))
 
 linked_told : (prev : Option Lsn) (at : ℕ) → is_linked prev at ≡ true → IfSome prev (λ p. record { 0 = at } ≡ p)
 linked_told None at e = tt
@@ -142,11 +142,11 @@ record_takes bytes place prev r fits e =
       crc = f.crc;
       crc_fits = f.crc_fits;
       spelled = fields
-        ∙ ap (λ (n : ℕ). entry_bytes n front.0.xid front.0.prev front.0.info front.0.manager f.crc front.1) total
-        ∙ ap (λ (n : ℕ). entry_bytes (total_of kind) front.0.xid front.0.prev n front.0.manager f.crc front.1) k.info-is
-        ∙ ap (λ (n : ℕ). entry_bytes (total_of kind) front.0.xid front.0.prev (info_of kind) n f.crc front.1) k.manager-is
-        ∙ ap (entry_bytes (total_of kind) front.0.xid front.0.prev (info_of kind) (manager_of kind) f.crc) k.spelled
-        ∙ sym (spelling_fields f.crc got);
+          ∙ ap (λ (n : ℕ). entry_bytes n front.0.xid front.0.prev front.0.info front.0.manager f.crc front.1) total
+          ∙ ap (λ (n : ℕ). entry_bytes (total_of kind) front.0.xid front.0.prev n front.0.manager f.crc front.1) k.info-is
+          ∙ ap (λ (n : ℕ). entry_bytes (total_of kind) front.0.xid front.0.prev (info_of kind) n f.crc front.1) k.manager-is
+          ∙ ap (entry_bytes (total_of kind) front.0.xid front.0.prev (info_of kind) (manager_of kind) f.crc) k.spelled
+          ∙ sym (spelling_fields f.crc got);
       start = refl;
       end = refl;
       prev_fits = f.prev_fits;
@@ -162,7 +162,7 @@ block_read_again at page w =
     let head : Announced = record { at = at; extent = extent_of (hole_of page) } in
     ap block_at (block_body at page)
     ∙ takes_again _ _ (head, image_of page) _ (announced_again head (image_of page) w.number w.rel w.rel_fits fits.len fits.offset fits.info)
-      (takes_again _ _ page _ (page_again page w.body.0 w.body.1) refl)
+    (takes_again _ _ page _ (page_again page w.body.0 w.body.1) refl)
 
 block_again : (at : BlockId) (body : Body) → IsWritableBlock (record { at = at; body = body }) → block_at (body_of (Generic (record { at = at; body = body } ∷ []))) ≡ Some (record { at = at; body = body })
 block_again at (Image page) w = block_read_again at page w
@@ -219,11 +219,11 @@ record_again bytes place prev r e =
     let most = body_most r.kind e.kind in
     let short : length bytes < 2 ^ 32 = omega (arith, total_is bytes place prev r e, most) in
     takes_again _ _ (front, body_of r.kind) _
-      (front_again bytes front e.crc (body_of r.kind) (entry_fields bytes place prev r e) short e.xid_fits e.prev_fits (info_fits r.kind) (manager_fits r.kind) e.crc_fits)
-      (passes (is_linked prev r.prev.0) _ _ (linked_again prev r.prev e.linked)
-      ∙ takes_again _ _ r.kind _ (kind_again r.kind e.kind)
-        (ap (λ (at : Lsn). let x : Option Record = Some (record { start = at; end = place.end; prev = r.prev; xid = r.xid; kind = r.kind }) in x) (sym e.start)
-        ∙ ap (λ (at : Lsn). let x : Option Record = Some (record { start = r.start; end = at; prev = r.prev; xid = r.xid; kind = r.kind }) in x) (sym e.end)))
+    (front_again bytes front e.crc (body_of r.kind) (entry_fields bytes place prev r e) short e.xid_fits e.prev_fits (info_fits r.kind) (manager_fits r.kind) e.crc_fits)
+    (passes (is_linked prev r.prev.0) _ _ (linked_again prev r.prev e.linked)
+    ∙ takes_again _ _ r.kind _ (kind_again r.kind e.kind)
+    (ap (λ (at : Lsn). let x : Option Record = Some (record { start = at; end = place.end; prev = r.prev; xid = r.xid; kind = r.kind }) in x) (sym e.start)
+    ∙ ap (λ (at : Lsn). let x : Option Record = Some (record { start = r.start; end = at; prev = r.prev; xid = r.xid; kind = r.kind }) in x) (sym e.end)))
 
 -- bytes are the written form of one entry at most
 pub entry_once : (bytes : List ℕ) (place : Place) (prev : Option Lsn) (r q : Record) → IsEntry bytes place prev r → IsEntry bytes place prev q → r ≡ q

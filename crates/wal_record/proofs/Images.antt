@@ -1,11 +1,10 @@
 -- The page that an image is read as, and the image of a page.
-use Rattle.std.proofs.Common.{◌≡◌, ℕ, ◌+◌, ◌-◌, ◌^◌, ◌<◌, ◌≤◌, Bool, true, false, cond, List, length, Option, Some, None, refl, sym, ap, subst, ◌∙◌, arith}
+use Rattle.std.proofs.Common.{◌≡◌, ℕ, ◌+◌, ◌-◌, ◌^◌, ◌<◌, ◌≤◌, true, List, length, Option, Some, None, refl, sym, ap, subst, ◌∙◌, arith}
 use Rattle.std.specs.Prelude.{nat_le, ◌==◌, ◌&&◌}
 use Rattle.std.proofs.lemmas.Bool.{and_parts, and_from, eqb-true, leb-true, eq-eqb, le-leb}
-use Rattle.byte_words.specs.Numbers.{◌>>=◌}
 use Rattle.pg_page.specs.Header.{IsGood, lower_of, upper_of, special_of, version_of, hole_of, hole_zeroed}
-use Rattle.pg_page.specs.Image.{restored, without_hole, image_of}
-use Rattle.pg_page.proofs.ImageLaws.{restored_image, restored_whole, hole_zeroed-None, image_of-Some, image_of-None, length-image_of-Some, length-image_of-None, HoleBounds, hole_bounds, restored_zeroed, restored_left_out}
+use Rattle.pg_page.specs.Image.{restored, image_of}
+use Rattle.pg_page.proofs.ImageLaws.{restored_image, restored_whole, hole_zeroed-None, image_of-Some, image_of-None, length-image_of-Some, length-image_of-None, hole_bounds, restored_zeroed, restored_left_out}
 use Rattle.wal_record.specs.declared.fields.Extent.{Extent}
 use Rattle.wal_record.specs.Spelling.{image_head_of}
 use Rattle.wal_record.specs.Reading.{is_good, good_page, extent_of, is_same_extent, page_at}
@@ -36,6 +35,9 @@ record LeftOut (bytes : List ℕ) (page : List ℕ) : Type 0 where
   image : bytes ≡ image_of page
   zeroed : hole_zeroed page ≡ page
 
+moved_hole : (hole : Option (ℕ × ℕ)) (lower from upper to : ℕ) → hole ≡ Some (lower, upper) → lower ≡ from → upper ≡ to → hole ≡ Some (from, to)
+moved_hole hole lower from upper to e first second = e ∙ ap (λ (n : ℕ). Some (n, upper)) first ∙ ap (λ (n : ℕ). Some (from, n)) second
+
 left_out_by : (bytes : List ℕ) (offset : ℕ) (h : Option (ℕ × ℕ)) → hole_of (restored offset bytes) ≡ h → IsGood (restored offset bytes) → length bytes ≡ (image_head_of h).len → offset ≡ (image_head_of h).offset → offset ≤ length bytes → LeftOut bytes (restored offset bytes)
 left_out_by bytes offset None e good len at within = record {
   image = sym (restored_whole offset bytes len) ∙ sym (image_of-None (restored offset bytes) e);
@@ -45,7 +47,7 @@ left_out_by bytes offset (Some (lower, upper)) e good len at within =
     let b = hole_bounds (restored offset bytes) lower upper good e in
     let lower-is : lower ≡ offset = sym at in
     let upper-is : upper ≡ offset + (8192 - length bytes) = omega (arith, len, at, b.order, b.most) in
-    let told : hole_of (restored offset bytes) ≡ Some (offset, offset + (8192 - length bytes)) = e ∙ ap (λ (n : ℕ). Some (n, upper)) lower-is ∙ ap (λ (n : ℕ). Some (offset, n)) upper-is in
+    let told = moved_hole (hole_of (restored offset bytes)) lower offset upper (offset + (8192 - length bytes)) e lower-is upper-is in
     record {
       image = sym (restored_left_out bytes offset within) ∙ sym (image_of-Some (restored offset bytes) offset (offset + (8192 - length bytes)) told);
       zeroed = restored_zeroed bytes offset within told;
@@ -71,18 +73,18 @@ page_takes extent bytes page e =
     took _ _ page P g (λ p e1 g1.
     passed _ _ p P e1 (λ good same1.
     passed _ _ page P g1 (λ s same2.
-      let own : is_same_extent extent (extent_of (hole_of read)) ≡ true = subst (λ (q : List ℕ). is_same_extent extent (extent_of (hole_of q)) ≡ true) (sym same1) s in
-      let x = and_parts (extent.len == (image_head_of (hole_of read)).len) _ own in
-      let y = and_parts (extent.offset == (image_head_of (hole_of read)).offset) (extent.info == (image_head_of (hole_of read)).info) x.1 in
-      let out = left_out_by bytes extent.offset (hole_of read) refl (good_told read good) (len ∙ eqb-true _ _ x.0) (eqb-true _ _ y.0) (omega (arith, len, leb-true _ _ more.0)) in
-      subst (PageTaken extent bytes) (same1 ∙ same2) (record {
-        image = out.image;
-        good = good_told read good;
-        zeroed = out.zeroed;
-        len = eqb-true _ _ x.0;
-        offset = eqb-true _ _ y.0;
-        info = eqb-true _ _ y.1;
-      })))))
+    let own : is_same_extent extent (extent_of (hole_of read)) ≡ true = subst (λ (q : List ℕ). is_same_extent extent (extent_of (hole_of q)) ≡ true) (sym same1) s in
+    let x = and_parts (extent.len == (image_head_of (hole_of read)).len) _ own in
+    let y = and_parts (extent.offset == (image_head_of (hole_of read)).offset) (extent.info == (image_head_of (hole_of read)).info) x.1 in
+    let out = left_out_by bytes extent.offset (hole_of read) refl (good_told read good) (len ∙ eqb-true _ _ x.0) (eqb-true _ _ y.0) (omega (arith, len, leb-true _ _ more.0)) in
+    subst (PageTaken extent bytes) (same1 ∙ same2) (record {
+      image = out.image;
+      good = good_told read good;
+      zeroed = out.zeroed;
+      len = eqb-true _ _ x.0;
+      offset = eqb-true _ _ y.0;
+      info = eqb-true _ _ y.1;
+    })))))
 
 -- an image is restored to its page
 record Again (page : List ℕ) (h : Option (ℕ × ℕ)) : Type 0 where
@@ -118,8 +120,8 @@ pub page_again : (page : List ℕ) → IsGood page → hole_zeroed page ≡ page
 page_again page good zeroed =
     let a = again_by page (hole_of page) refl good zeroed in
     read_again (extent_of (hole_of page)) (image_of page) page
-      (and_from _ _ (eq-eqb _ _ a.len) (and_from _ _ (le-leb _ _ a.within) (le-leb _ _ a.most)))
-      a.back (good_tested page good) (same_extent (extent_of (hole_of page)))
+    (and_from _ _ (eq-eqb _ _ a.len) (and_from _ _ (le-leb _ _ a.within) (le-leb _ _ a.most)))
+    a.back (good_tested page good) (same_extent (extent_of (hole_of page)))
 
 info_most : (h : Option (ℕ × ℕ)) → (image_head_of h).info < 2 ^ 8
 info_most None = omega arith

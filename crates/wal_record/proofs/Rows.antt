@@ -1,15 +1,13 @@
 -- Worked examples of the written form.
-use Rattle.std.proofs.Common.{◌≡◌, ℕ, ◌+◌, List, [], ◌∷◌, ◌++◌, length, replicate, take, drop, refl}
-use Rattle.std.specs.Int.{w8, w16, w32, w64, to_le_bytes}
+use Rattle.std.proofs.Common.{◌≡◌, [], ◌∷◌, length, replicate, take, drop, refl}
 use Rattle.lsn_core.specs.declared.ids.ForkKind.TheVariants.{Main, Init}
-use Rattle.lsn_core.specs.declared.lsn.Lsn.{Lsn}
-use Rattle.pg_page.specs.Header.{made_page, hole_of, hole_zeroed}
-use Rattle.pg_page.specs.Image.{image_of, without_hole}
+use Rattle.pg_page.specs.Header.{made_page, made_fields}
+use Rattle.pg_page.specs.Image.{without_hole}
 use Rattle.wal_record.specs.declared.record.Record.{Record}
 use Rattle.wal_record.specs.declared.record.Kind.{Kind}
 use Rattle.wal_record.specs.declared.record.Kind.TheVariants.{Shutdown, Generic, Create}
 use Rattle.wal_record.specs.declared.record.Body.TheVariants.{Image}
-use Rattle.wal_record.specs.Spelling.{spelling, total_of, front_of, body_of, IsEntry}
+use Rattle.wal_record.specs.Spelling.{spelling, total_of, body_of}
 
 -- the first entry of an archive that begins at 0/100000: it ends at 0/100060, 56 bytes of room for 50
 first_entry : Record
@@ -44,13 +42,13 @@ image_of_page : Kind
 image_of_page = Generic (record { at = record { fork = record { rel = record { db = 5; rel = 16384 }; kind = Main }; block = 7 }; body = Image (made_page 32 8160 65) } ∷ [])
 
 image_total : total_of image_of_page ≡ 113
-unfolding image_of_page made_page without_hole
+unfolding image_of_page made_page made_fields without_hole
 image_total = refl
 
 image_heads : take 25 (body_of image_of_page) ≡ 0x00 ∷ 0x10 ∷ 0x00 ∷ 0x00 ∷ 0x40 ∷ 0x00 ∷ 0x20 ∷ 0x00 ∷ 0x03 ∷ 0x7f ∷ 0x06 ∷ 0x00 ∷ 0x00 ∷ 0x05 ∷ 0x00 ∷ 0x00 ∷ 0x00 ∷ 0x00 ∷ 0x40 ∷ 0x00 ∷ 0x00 ∷ 0x07 ∷ 0x00 ∷ 0x00 ∷ 0x00 ∷ []
-unfolding image_of_page made_page without_hole
+unfolding image_of_page made_page made_fields without_hole
 image_heads = refl
 
 image_front : take 18 (spelling 7 (record first_entry { kind = image_of_page; prev = record { 0 = 0x1000060 } })) ≡ 0x71 ∷ 0x00 ∷ 0x00 ∷ 0x00 ∷ 0x00 ∷ 0x00 ∷ 0x00 ∷ 0x00 ∷ 0x60 ∷ 0x00 ∷ 0x00 ∷ 0x01 ∷ 0x00 ∷ 0x00 ∷ 0x00 ∷ 0x00 ∷ 0x00 ∷ 0x14 ∷ []
-unfolding image_of_page made_page without_hole spelling first_entry
+unfolding image_of_page made_page made_fields without_hole spelling first_entry
 image_front = refl

@@ -1,20 +1,18 @@
 -- What is read is spelled so, part by part.
-use Rattle.std.proofs.Common.{◌≡◌, ℕ, ◌+◌, ◌-◌, ◌*◌, ◌^◌, ◌<◌, ◌≤◌, Bool, true, false, cond, ltb, eqb, List, [], ◌∷◌, ◌++◌, length, replicate, Option, Some, None, refl, sym, ap, subst, ◌∙◌, arith}
-use Rattle.std.specs.Prelude.{nat_lt, nat_le, ◌==◌, ◌&&◌}
-use Rattle.std.specs.Option.{option_map}
+use Rattle.std.proofs.Common.{◌≡◌, ℕ, ◌+◌, ◌^◌, ◌<◌, Bool, true, false, cond, List, [], ◌++◌, length, Option, Some, None, refl, ap, subst, ◌∙◌}
+use Rattle.std.specs.Prelude.{nat_lt, ◌==◌, ◌&&◌}
 use Rattle.std.specs.Int.{w8, w16, w32, w64, to_le_bytes}
-use Rattle.std.proofs.lemmas.Bool.{and_parts, eqb-true, ltb-true, leb-true}
-use Rattle.std.proofs.lemmas.List.{nil_from_length, append-nil}
+use Rattle.std.proofs.lemmas.Bool.{and_parts, eqb-true, ltb-true}
+use Rattle.std.proofs.lemmas.List.{nil_from_length}
 use Rattle.std.proofs.lemmas.Option.{cond_some}
-use Rattle.byte_words.specs.Numbers.{IsBytes, ◌>>=◌, number_at}
+use Rattle.byte_words.specs.Numbers.{IsBytes, ◌>>=◌}
 use Rattle.byte_words.proofs.Fields.{wide8, wide16, wide32, wide64, bind_some, step, put_front}
 use Rattle.lsn_core.specs.Relation.{Relation}
 use Rattle.lsn_core.specs.declared.ids.ForkKind.{ForkKind}
 use Rattle.lsn_core.specs.declared.ids.ForkKind.TheVariants.{Main, Init}
 use Rattle.lsn_core.specs.declared.ids.ForkId.{ForkId}
 use Rattle.lsn_core.specs.declared.lsn.Lsn.{Lsn}
-use Rattle.wal_record.specs.declared.record.Kind.{Kind}
-use Rattle.wal_record.specs.declared.record.Kind.TheVariants.{Shutdown, Generic, Create}
+use Rattle.wal_record.specs.declared.record.Kind.TheVariants.{Shutdown, Create}
 use Rattle.wal_record.specs.declared.fields.Front.{Front}
 use Rattle.wal_record.specs.declared.fields.Extent.{Extent}
 use Rattle.wal_record.specs.declared.fields.Announced.{Announced}
@@ -55,19 +53,19 @@ front_takes bytes x fits e =
     step w16 (2 ^ 16) wide16 r5 _ x P f5 g5 (λ zeros r6 e6 f6 g6 b6.
     step w32 (2 ^ 32) wide32 r6 _ x P f6 g6 (λ crc r7 e7 f7 g7 b7.
     passed _ _ x P g7 (λ t same.
-      let tests = and_parts (total == length bytes) (zeros == 0) t in
-      let total-is : total ≡ length bytes = eqb-true _ _ tests.0 in
-      let zeros-is : zeros ≡ 0 = eqb-true _ _ tests.1 in
-      subst (λ (y : Front × List ℕ). FrontTaken bytes y.0 y.1) same (record {
-        crc = crc;
-        crc_fits = b7;
-        spelled =
+    let tests = and_parts (total == length bytes) (zeros == 0) t in
+    let total-is : total ≡ length bytes = eqb-true _ _ tests.0 in
+    let zeros-is : zeros ≡ 0 = eqb-true _ _ tests.1 in
+    subst (λ (y : Front × List ℕ). FrontTaken bytes y.0 y.1) same (record {
+      crc = crc;
+      crc_fits = b7;
+      spelled =
           put_front w32 total (length bytes) bytes r1 _ total-is e1 (put_front w32 xid xid r1 r2 _ refl e2 (put_front w64 prev prev r2 r3 _ refl e3 (put_front w8 info info r3 r4 _ refl e4
           (put_front w8 manager manager r4 r5 _ refl e5 (put_front w16 zeros 0 r5 r6 _ zeros-is e6 e7)))));
-        fits = f7;
-        xid_fits = b2;
-        prev_fits = b3;
-      })))))))))
+      fits = f7;
+      xid_fits = b2;
+      prev_fits = b3;
+    })))))))))
 
 pub record MainTaken (len : ℕ) (bytes more : List ℕ) : Type 0 where
   pub spelled : bytes ≡ to_le_bytes w8 255 ++ (to_le_bytes w8 len ++ more)
@@ -80,11 +78,11 @@ main_takes len bytes more fits e =
     step w8 (2 ^ 8) wide8 bytes _ more P fits e (λ id r1 e1 f1 g1 b1.
     step w8 (2 ^ 8) wide8 r1 _ more P f1 g1 (λ n r2 e2 f2 g2 b2.
     passed _ _ more P g2 (λ t same.
-      let tests = and_parts (id == 255) (n == len) t in
-      subst (MainTaken len bytes) same (record {
-        spelled = put_front w8 id 255 bytes r1 _ (eqb-true _ _ tests.0) e1 (put_front w8 n len r1 r2 _ (eqb-true _ _ tests.1) e2 refl);
-        fits = f2;
-      }))))
+    let tests = and_parts (id == 255) (n == len) t in
+    subst (MainTaken len bytes) same (record {
+      spelled = put_front w8 id 255 bytes r1 _ (eqb-true _ _ tests.0) e1 (put_front w8 n len r1 r2 _ (eqb-true _ _ tests.1) e2 refl);
+      fits = f2;
+    }))))
 
 pub record RelTaken (bytes : List ℕ) (rel : Relation) (more : List ℕ) : Type 0 where
   pub spelled : bytes ≡ rel_bytes (Some (rel_name rel)) more
@@ -100,14 +98,14 @@ rel_takes bytes x fits e =
     step w32 (2 ^ 32) wide32 r1 _ x P f1 g1 (λ db r2 e2 f2 g2 b2.
     step w32 (2 ^ 32) wide32 r2 _ x P f2 g2 (λ rel r3 e3 f3 g3 b3.
     passed _ _ x P g3 (λ t same.
-      let tests = and_parts (space == 1663) (nat_lt 0 db && nat_lt 0 rel) t in
-      let both = and_parts (nat_lt 0 db) (nat_lt 0 rel) tests.1 in
-      subst (λ (y : Relation × List ℕ). RelTaken bytes y.0 y.1) same (record {
-        spelled = put_front w32 space 1663 bytes r1 _ (eqb-true _ _ tests.0) e1 (put_front w32 db db r1 r2 _ refl e2 e3);
-        fits = f3;
-        some = (ltb-true _ _ both.0, ltb-true _ _ both.1);
-        rel_fits = (b2, b3);
-      })))))
+    let tests = and_parts (space == 1663) (nat_lt 0 db && nat_lt 0 rel) t in
+    let both = and_parts (nat_lt 0 db) (nat_lt 0 rel) tests.1 in
+    subst (λ (y : Relation × List ℕ). RelTaken bytes y.0 y.1) same (record {
+      spelled = put_front w32 space 1663 bytes r1 _ (eqb-true _ _ tests.0) e1 (put_front w32 db db r1 r2 _ refl e2 e3);
+      fits = f3;
+      some = (ltb-true _ _ both.0, ltb-true _ _ both.1);
+      rel_fits = (b2, b3);
+    })))))
 
 fork_chosen : (P : ForkKind → Type 0) (t u : Bool) (kind : ForkKind) → (t ≡ true → P Main) → (u ≡ true → P Init) → cond t (Some Main) (cond u (Some Init) None) ≡ Some kind → P kind
 fork_chosen P true u kind main init e = let same : Main ≡ kind = cc in subst P same (main refl)
@@ -136,16 +134,16 @@ shutdown_takes bytes redo fits e =
     step w32 (2 ^ 32) wide32 r2 _ redo P f2 g2 (λ before r3 e3 f3 g3 b3.
     step w64 (2 ^ 64) wide64 r3 _ redo P f3 g3 (λ last r4 e4 f4 g4 b4.
     passed _ _ redo P g4 (λ t same.
-      let tests = and_parts (timeline == 1) ((before == 1) && ((last == 1) && (length r4 == 0))) t in
-      let more = and_parts (before == 1) ((last == 1) && (length r4 == 0)) tests.1 in
-      let end = and_parts (last == 1) (length r4 == 0) more.1 in
-      let nil : r4 ≡ [] = nil_from_length r4 (eqb-true _ _ end.1) in
-      let main-is : main ≡ to_le_bytes w64 at ++ (to_le_bytes w32 1 ++ (to_le_bytes w32 1 ++ (to_le_bytes w64 1 ++ []))) =
-        put_front w64 at at main r1 _ refl e1 (put_front w32 timeline 1 r1 r2 _ (eqb-true _ _ tests.0) e2 (put_front w32 before 1 r2 r3 _ (eqb-true _ _ more.0) e3 (put_front w64 last 1 r3 r4 _ (eqb-true _ _ end.0) e4 nil))) in
-      subst (ShutdownTaken bytes) same (record {
-        spelled = m.spelled ∙ ap (λ (l : List ℕ). to_le_bytes w8 255 ++ (to_le_bytes w8 24 ++ l)) main-is;
-        writable = b1;
-      })))))))
+    let tests = and_parts (timeline == 1) ((before == 1) && ((last == 1) && (length r4 == 0))) t in
+    let more = and_parts (before == 1) ((last == 1) && (length r4 == 0)) tests.1 in
+    let end = and_parts (last == 1) (length r4 == 0) more.1 in
+    let nil : r4 ≡ [] = nil_from_length r4 (eqb-true _ _ end.1) in
+    let main-is : main ≡ to_le_bytes w64 at ++ (to_le_bytes w32 1 ++ (to_le_bytes w32 1 ++ (to_le_bytes w64 1 ++ []))) =
+    put_front w64 at at main r1 _ refl e1 (put_front w32 timeline 1 r1 r2 _ (eqb-true _ _ tests.0) e2 (put_front w32 before 1 r2 r3 _ (eqb-true _ _ more.0) e3 (put_front w64 last 1 r3 r4 _ (eqb-true _ _ end.0) e4 nil))) in
+    subst (ShutdownTaken bytes) same (record {
+      spelled = m.spelled ∙ ap (λ (l : List ℕ). to_le_bytes w8 255 ++ (to_le_bytes w8 24 ++ l)) main-is;
+      writable = b1;
+    })))))))
 
 -- a creation
 pub record CreateTaken (bytes : List ℕ) (fork : ForkId) : Type 0 where
@@ -163,13 +161,13 @@ create_takes bytes fork fits e =
     step w32 (2 ^ 32) wide32 rel.1 _ fork P r.fits g1 (λ number r2 e2 f2 g2 b2.
     took _ _ fork P g2 (λ kind e3 g3.
     passed _ _ fork P g3 (λ t same.
-      let nil : r2 ≡ [] = nil_from_length r2 (eqb-true _ _ t) in
-      let last : rel.1 ≡ to_le_bytes w32 (fork_number kind) ++ [] = put_front w32 number (fork_number kind) rel.1 r2 _ (number_told number kind e3) e2 nil in
-      let main-is : main ≡ rel_bytes (Some (rel_name rel.0)) (to_le_bytes w32 (fork_number kind) ++ []) = r.spelled ∙ ap (rel_bytes (Some (rel_name rel.0))) last in
-      subst (CreateTaken bytes) same (record {
-        spelled = m.spelled ∙ ap (λ (l : List ℕ). to_le_bytes w8 255 ++ (to_le_bytes w8 16 ++ l)) main-is;
-        writable = (r.some, r.rel_fits);
-      }))))))
+    let nil : r2 ≡ [] = nil_from_length r2 (eqb-true _ _ t) in
+    let last : rel.1 ≡ to_le_bytes w32 (fork_number kind) ++ [] = put_front w32 number (fork_number kind) rel.1 r2 _ (number_told number kind e3) e2 nil in
+    let main-is : main ≡ rel_bytes (Some (rel_name rel.0)) (to_le_bytes w32 (fork_number kind) ++ []) = r.spelled ∙ ap (rel_bytes (Some (rel_name rel.0))) last in
+    subst (CreateTaken bytes) same (record {
+      spelled = m.spelled ∙ ap (λ (l : List ℕ). to_le_bytes w8 255 ++ (to_le_bytes w8 16 ++ l)) main-is;
+      writable = (r.some, r.rel_fits);
+    }))))))
 
 pub record ExtentTaken (bytes : List ℕ) (extent : Extent) (more : List ℕ) : Type 0 where
   pub spelled : bytes ≡ to_le_bytes w16 extent.len ++ (to_le_bytes w16 extent.offset ++ (to_le_bytes w8 extent.info ++ more))
@@ -182,11 +180,11 @@ extent_takes bytes x fits e =
     step w16 (2 ^ 16) wide16 bytes _ x P fits e (λ len r1 e1 f1 g1 b1.
     step w16 (2 ^ 16) wide16 r1 _ x P f1 g1 (λ offset r2 e2 f2 g2 b2.
     step w8 (2 ^ 8) wide8 r2 _ x P f2 g2 (λ info r3 e3 f3 g3 b3.
-      let same : (record { len = len; offset = offset; info = info }, r3) ≡ x = cc in
-      subst (λ (y : Extent × List ℕ). ExtentTaken bytes y.0 y.1) same (record {
-        spelled = put_front w16 len len bytes r1 _ refl e1 (put_front w16 offset offset r1 r2 _ refl e2 e3);
-        fits = f3;
-      }))))
+    let same : (record { len = len; offset = offset; info = info }, r3) ≡ x = cc in
+    subst (λ (y : Extent × List ℕ). ExtentTaken bytes y.0 y.1) same (record {
+      spelled = put_front w16 len len bytes r1 _ refl e1 (put_front w16 offset offset r1 r2 _ refl e2 e3);
+      fits = f3;
+    }))))
 
 -- the announcement of one block
 pub record AnnouncedTaken (bytes : List ℕ) (head : Announced) (more : List ℕ) : Type 0 where
@@ -209,14 +207,14 @@ announced_takes bytes x fits e =
     let t6 = rel_takes extent.1 rel t5.fits e6 in
     step w32 (2 ^ 32) wide32 rel.1 _ x P t6.fits g6 (λ block r7 e7 f7 g7 b7.
     passed _ _ x P g7 (λ t same.
-      let tests = and_parts (id == 0) ((data_len == 0) && nat_lt block 32768) t in
-      let more = and_parts (data_len == 0) (nat_lt block 32768) tests.1 in
-      let back : extent.1 ≡ rel_bytes (Some (rel_name rel.0)) (to_le_bytes w32 block ++ r7) = t6.spelled ∙ ap (rel_bytes (Some (rel_name rel.0))) e7 in
-      let image : r4 ≡ to_le_bytes w16 extent.0.len ++ (to_le_bytes w16 extent.0.offset ++ (to_le_bytes w8 extent.0.info ++ rel_bytes (Some (rel_name rel.0)) (to_le_bytes w32 block ++ r7))) =
-        t5.spelled ∙ ap (λ (l : List ℕ). to_le_bytes w16 extent.0.len ++ (to_le_bytes w16 extent.0.offset ++ (to_le_bytes w8 extent.0.info ++ l))) back in
-      subst (λ (y : Announced × List ℕ). AnnouncedTaken bytes y.0 y.1) same (record {
-        spelled = put_front w8 id 0 bytes r1 _ (eqb-true _ _ tests.0) e1 (put_front w8 flags (fork_number kind + 0x10 + 0) r1 r2 _ (flags_told flags kind e3) e2 (put_front w16 data_len 0 r2 r4 _ (eqb-true _ _ more.0) e4 image));
-        number = ltb-true _ _ more.1;
-        some = t6.some;
-        rel_fits = t6.rel_fits;
-      })))))))))
+    let tests = and_parts (id == 0) ((data_len == 0) && nat_lt block 32768) t in
+    let more = and_parts (data_len == 0) (nat_lt block 32768) tests.1 in
+    let back : extent.1 ≡ rel_bytes (Some (rel_name rel.0)) (to_le_bytes w32 block ++ r7) = t6.spelled ∙ ap (rel_bytes (Some (rel_name rel.0))) e7 in
+    let image : r4 ≡ to_le_bytes w16 extent.0.len ++ (to_le_bytes w16 extent.0.offset ++ (to_le_bytes w8 extent.0.info ++ rel_bytes (Some (rel_name rel.0)) (to_le_bytes w32 block ++ r7))) =
+    t5.spelled ∙ ap (λ (l : List ℕ). to_le_bytes w16 extent.0.len ++ (to_le_bytes w16 extent.0.offset ++ (to_le_bytes w8 extent.0.info ++ l))) back in
+    subst (λ (y : Announced × List ℕ). AnnouncedTaken bytes y.0 y.1) same (record {
+      spelled = put_front w8 id 0 bytes r1 _ (eqb-true _ _ tests.0) e1 (put_front w8 flags (fork_number kind + 0x10 + 0) r1 r2 _ (flags_told flags kind e3) e2 (put_front w16 data_len 0 r2 r4 _ (eqb-true _ _ more.0) e4 image));
+      number = ltb-true _ _ more.1;
+      some = t6.some;
+      rel_fits = t6.rel_fits;
+    })))))))))

@@ -1,5 +1,5 @@
 -- The announcements of an entry, which stand between its header and its data (access/xlogrecord.h).
-use Rattle.std.specs.Prelude.{ℕ, ◌+◌, ◌*◌, ◌-◌, ◌<◌, ◌^◌, List, [], ◌∷◌, ◌++◌, length, Option, Some, None}
+use Rattle.std.specs.Prelude.{ℕ, List, [], ◌∷◌, ◌++◌, Option, Some, None}
 use Rattle.std.specs.Int.{w8, w16, w32, to_le_bytes}
 
 -- an image: its length, where its hole begins, and its flags (1 it has a hole, 2 it is to be applied)

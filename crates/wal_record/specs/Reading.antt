@@ -1,6 +1,6 @@
 -- How the code reads an entry, part by part from the front of the bytes. That this finds exactly the
 -- entries that the bytes are the written form of is proved; contracts of public calls cite the written form alone.
-use Rattle.std.specs.Prelude.{◌≡◌, ℕ, ◌-◌, Bool, true, false, List, [], ◌∷◌, length, Option, Some, None, Result, Ok, Err, nat_lt, nat_le, ◌==◌, ◌&&◌, if◌then◌else◌}
+use Rattle.std.specs.Prelude.{◌≡◌, ℕ, Bool, true, List, [], ◌∷◌, length, Option, Some, None, Result, Ok, Err, nat_lt, nat_le, ◌==◌, ◌&&◌, if◌then◌else◌}
 use Rattle.std.specs.Option.{option_map}
 use Rattle.std.specs.Int.{w8, w16, w32, w64}
 use Rattle.byte_words.specs.Numbers.{◌>>=◌, number_at}
@@ -118,7 +118,7 @@ good_page bytes = if is_good bytes then Some bytes else None
 unfoldable pub page_at : Extent → List ℕ → Option (List ℕ)
 page_at extent bytes =
     if (length bytes == extent.len) && (nat_le extent.offset extent.len && nat_le extent.len 8192) then
-      (good_page (restored extent.offset bytes) >>= λ page. if is_same_extent extent (extent_of (hole_of page)) then Some page else None)
+    (good_page (restored extent.offset bytes) >>= λ page. if is_same_extent extent (extent_of (hole_of page)) then Some page else None)
     else None
 
 unfoldable pub block_at : List ℕ → Option BlockRef
@@ -143,5 +143,5 @@ unfoldable pub record_at : Place → Option Lsn → List ℕ → Option Record
 record_at place prev bytes =
     front_at bytes >>= λ front.
     if is_linked prev front.0.prev then
-      (kind_at front.0.manager front.0.info front.1 >>= λ kind. Some (record { start = place.start; end = place.end; prev = record { 0 = front.0.prev }; xid = front.0.xid; kind = kind }))
+    (kind_at front.0.manager front.0.info front.1 >>= λ kind. Some (record { start = place.start; end = place.end; prev = record { 0 = front.0.prev }; xid = front.0.xid; kind = kind }))
     else None

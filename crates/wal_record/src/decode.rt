@@ -19,7 +19,12 @@ use std::alloc::Global;
 /// The entry that these bytes are, where the entry before it starts at `prev` (not tested where
 /// that is None). `Form` exactly where they are the written form of none; the four bytes of the
 /// sum may be any.
-pub fn decode_record(alloc: Global, bytes: &[u8], place: Place, prev: Option<Lsn>) -> Result<Record, RecordFault>
+pub fn decode_record(
+    alloc: Global,
+    bytes: &[u8],
+    place: Place,
+    prev: Option<Lsn>,
+) -> Result<Record, RecordFault>
     ensures found { IfOk result (λ r. IsEntry bytes.now place prev r) }
     ensures form { result ≡ Err Form → (r : Record) → IsEntry bytes.now place prev r → ⊥ }
 {
@@ -62,7 +67,9 @@ fn kind_of(alloc: Global, manager: u8, info: u8, bytes: &[u8]) -> Result<Kind, R
     ensures { Answers (kind_at manager info bytes.now) result }
 {
     match (manager, info) {
-        (0, 0x00) => shutdown_of(bytes).map(Kind::Shutdown).ok_or(RecordFault::Form),
+        (0, 0x00) => shutdown_of(bytes)
+            .map(Kind::Shutdown)
+            .ok_or(RecordFault::Form),
         (2, 0x11) => create_of(bytes).map(Kind::Create).ok_or(RecordFault::Form),
         (20, 0x00) => one_block(alloc, bytes),
         _ => Err(RecordFault::Form),
@@ -104,7 +111,11 @@ fn create_of(bytes: &[u8]) -> Option<ForkId>
     };
     let (number, rest) = u32_at(rest)?;
     let kind = kind_numbered(number)?;
-    if rest.is_empty() { Some(ForkId { rel, kind }) } else { None }
+    if rest.is_empty() {
+        Some(ForkId { rel, kind })
+    } else {
+        None
+    }
 }
 
 #[tactic(auto, unfolding(crate::specs::Reading::block_at))]
@@ -115,7 +126,10 @@ fn block_of(bytes: &[u8]) -> Option<BlockRef>
         return None;
     };
     let page = page_of(head.extent, image)?;
-    Some(BlockRef { at: head.at, body: Body::Image(page) })
+    Some(BlockRef {
+        at: head.at,
+        body: Body::Image(page),
+    })
 }
 
 // the page of an image, where what was left out is just the page's hole
@@ -127,7 +141,11 @@ fn page_of(extent: Extent, image: &[u8]) -> Option<Page>
         return None;
     }
     let page = good_page(&restored_page(usize::from(extent.offset), image))?;
-    if is_same(extent, extent_of(&page)) { Some(page) } else { None }
+    if is_same(extent, extent_of(&page)) {
+        Some(page)
+    } else {
+        None
+    }
 }
 
 #[tactic(auto, unfolding(crate::specs::Reading::good_page))]
@@ -141,8 +159,16 @@ fn extent_of(page: &Page) -> Extent
     ensures { result ≡ extent_of (hole_of page.now) }
 {
     match page.hole() {
-        None => Extent { len: 8192, offset: 0, info: 2 },
-        Some((lower, upper)) => Extent { len: 8192u16.saturating_sub(upper - lower), offset: lower, info: 3 },
+        None => Extent {
+            len: 8192,
+            offset: 0,
+            info: 2,
+        },
+        Some((lower, upper)) => Extent {
+            len: 8192u16.saturating_sub(upper - lower),
+            offset: lower,
+            info: 3,
+        },
     }
 }
 

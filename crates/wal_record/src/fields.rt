@@ -45,7 +45,15 @@ pub fn front_of(bytes: &[u8]) -> Option<(Front, &[u8])>
     let (zeros, rest) = u16_at(rest)?;
     let (_, rest) = u32_at(rest)?;
     if total as usize == bytes.len() && zeros == 0 {
-        Some((Front { xid, prev, info, manager }, rest))
+        Some((
+            Front {
+                xid,
+                prev,
+                info,
+                manager,
+            },
+            rest,
+        ))
     } else {
         None
     }
@@ -58,7 +66,11 @@ pub fn main_of(size: u8, bytes: &[u8]) -> Option<&[u8]>
 {
     let (id, rest) = u8_at(bytes)?;
     let (len, rest) = u8_at(rest)?;
-    if id == 255 && len == size { Some(rest) } else { None }
+    if id == 255 && len == size {
+        Some(rest)
+    } else {
+        None
+    }
 }
 
 /// A relation of tablespace 1663, and the bytes after it.

@@ -8,3 +8,6 @@ mod record;
 
 pub use decode::decode_record;
 pub use record::{BlockRef, Blocks, Body, Kind, Record, RecordFault};
+
+#[cfg(test)]
+mod tests;
