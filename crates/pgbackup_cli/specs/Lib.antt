@@ -1,3 +1,4 @@
 pub mod Words
 pub mod Replay
 pub mod Answers
+pub mod Top

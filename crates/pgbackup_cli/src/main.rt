@@ -4,6 +4,7 @@
 mod answer;
 mod files;
 mod replay;
+mod top;
 mod words;
 
 fn main() {}
