@@ -1,4 +1,6 @@
 //! `pgbackup`: PostgreSQL's incremental physical backup as one program.
 #![tactic(auto)]
 
+mod files;
+
 fn main() {}
