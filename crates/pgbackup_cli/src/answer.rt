@@ -62,7 +62,8 @@ fn head(fault: Fault) -> &'static [u8]
     match fault {
         Fault::Usage => b"1 Usage",
         Fault::Site(TakeFault::First(AreaFault::Failed) | TakeFault::Second(AreaFault::Failed))
-        | Fault::Replay(ReplayFault::Wal(WalFault::Failed) | ReplayFault::Out(AreaFault::Failed)) => b"60 DeviceFault ",
+        | Fault::Replay(ReplayFault::Wal(WalFault::Failed) | ReplayFault::Out(AreaFault::Failed)) =>
+            b"60 DeviceFault ",
         Fault::Replay(ReplayFault::NotEmpty) => b"41 AreaNotEmpty ",
         Fault::Replay(ReplayFault::Wal(WalFault::Damaged(_, _))) => b"11 WalDamaged ",
         Fault::Replay(ReplayFault::Wal(WalFault::NotInit)) => b"43 NotInit",
@@ -96,7 +97,9 @@ fn argument(alloc: Global, out: &[u8], fault: Fault) -> Result<Text, NoMemory>
         Fault::Site(TakeFault::First(AreaFault::Failed))
         | Fault::Replay(ReplayFault::Wal(WalFault::Failed)) => text_of(alloc, b"wal"),
         Fault::Site(TakeFault::Second(AreaFault::Failed))
-        | Fault::Replay(ReplayFault::NotEmpty | ReplayFault::Out(AreaFault::Failed)) => text_of(alloc, out),
+        | Fault::Replay(ReplayFault::NotEmpty | ReplayFault::Out(AreaFault::Failed)) => text_of(
+            alloc, out,
+        ),
         _ => text_of(alloc, b""),
     }
 }
@@ -138,7 +141,8 @@ fn end(fault: Fault) -> Status
     match fault {
         Fault::Usage => Status::Usage,
         Fault::Site(TakeFault::First(AreaFault::Failed) | TakeFault::Second(AreaFault::Failed))
-        | Fault::Replay(ReplayFault::Wal(WalFault::Failed) | ReplayFault::Out(AreaFault::Failed)) => Status::Device,
+        | Fault::Replay(ReplayFault::Wal(WalFault::Failed) | ReplayFault::Out(AreaFault::Failed)) =>
+            Status::Device,
         Fault::Replay(
             ReplayFault::NotEmpty | ReplayFault::Wal(WalFault::Damaged(_, _) | WalFault::NotInit),
         ) => Status::Refused,

@@ -9,11 +9,10 @@ mod top;
 mod words;
 
 pub use answer::Status;
-pub use top::pgbackup;
-
 use lsn_core::{NoMemory, Text};
 use std::env;
 use std::process::ExitCode;
+pub use top::pgbackup;
 use vault_os::{OsClock, OsSink, OsSite, OsSource};
 
 #[cfg(test)]

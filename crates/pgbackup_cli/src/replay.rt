@@ -54,7 +54,11 @@ impl From<AreaFault> for ReplayFault {
 }
 
 /// Reads the WAL whole, and applies it to an empty store in memory.
-fn read_entries<V: Vault>(alloc: Global, wal: &mut V, settings: &Settings) -> Result<(PageMap, Lsn), WalFault>
+fn read_entries<V: Vault>(
+    alloc: Global,
+    wal: &mut V,
+    settings: &Settings,
+) -> Result<(PageMap, Lsn), WalFault>
     ensures answer { ReadAnswer settings.now.segment (V.files wal.old) (V.faults wal.old) (V.faults wal.new) result }
     ensures same { V.files wal.new ≡ V.files wal.old }
     ensures later { V.faults wal.old ≤ V.faults wal.new }
@@ -120,7 +124,11 @@ fn write_out<V: Vault>(alloc: Global, out: &mut V, store: &PageMap) -> Result<()
 
 /// Reads the WAL whole, and then writes the files of the store that it makes into the output's
 /// area, which has to be empty.
-pub fn replay_areas<V: Vault>(alloc: Global, wal: &mut V, out: &mut V) -> Result<Replayed, ReplayFault>
+pub fn replay_areas<V: Vault>(
+    alloc: Global,
+    wal: &mut V,
+    out: &mut V,
+) -> Result<Replayed, ReplayFault>
     ensures answer { ReplayAnswer (at_home (V.files wal.old) (V.faults wal.old)) (at_home (V.files wal.new) (V.faults wal.new)) (at_home (V.files out.old) (V.faults out.old)) (at_home (V.files out.new) (V.faults out.new)) result }
     ensures wal { V.files wal.new ≡ V.files wal.old }
     ensures wal_later { V.faults wal.old ≤ V.faults wal.new }
@@ -132,5 +140,9 @@ pub fn replay_areas<V: Vault>(alloc: Global, wal: &mut V, out: &mut V) -> Result
     let (store, end) = read_wal(alloc, wal)?;
     let pages = page_count(&store)?;
     write_out(alloc, out, &store)?;
-    Ok(Replayed { end, forks: store.fork_count(), pages })
+    Ok(Replayed {
+        end,
+        forks: store.fork_count(),
+        pages,
+    })
 }

@@ -59,7 +59,12 @@ fn area_asked(alloc: Global, words: &[Text]) -> Result<Text, NoMemory>
 }
 
 /// Prints the line of an answer.
-fn tell<O: Sink>(alloc: Global, words: &[Text], out: &mut O, answer: &Result<Replayed, Fault>) -> Result<(), AreaFault>
+fn tell<O: Sink>(
+    alloc: Global,
+    words: &[Text],
+    out: &mut O,
+    answer: &Result<Replayed, Fault>,
+) -> Result<(), AreaFault>
     ensures told { Tells (line_asked words.now answer.now) (O.bytes out.old) (O.bytes out.new) (O.faults out.old) (O.faults out.new) result }
 {
     let area = area_asked(alloc, words)?;
