@@ -6,7 +6,9 @@ mod cursor;
 mod entry;
 mod fault;
 mod head;
+mod laws;
 mod page;
 
 pub use cursor::{WalCursor, read_settings};
+pub use laws::archive_is_read_in_one_way;
 pub use fault::{Damage, WalFault};
