@@ -1,7 +1,7 @@
 -- From the entry at a place to what follows a place, and to what the archive is there.
 use Rattle.std.proofs.Common.{◌≡◌, ℕ, ◌+◌, ◌-◌, ◌≤◌, ◌<◌, Bool, true, false, List, length, Option, Some, None, Result, Ok, Err, IfSome, IsTrue, ◌↔◌, refl, sym, ap, subst, ◌∙◌, arith, inl, inr, cond, eqb, eq-eqb}
 use Rattle.std.proofs.lemmas.Bool.{cases_eq, ne_eqb}
-use Rattle.byte_words.specs.Told.{when_both_told}
+use Rattle.byte_words.specs.Told.{when_told, when_both_told}
 use Rattle.lsn_core.specs.Files.{Files}
 use Rattle.wal_record.specs.declared.record.Record.{Record}
 use Rattle.wal_reader.specs.declared.fault.WalFault.{WalFault}
@@ -25,6 +25,11 @@ from_entry mib page at prev start (Err (Damaged place why)) e head none = inr (h
 from_entry mib page at prev start (Err NotInit) e head never = never
 from_entry mib page at prev start (Err Failed) e head never = never
 from_entry mib page at prev start (Err NoMemory) e head free = tt
+
+-- where a place is told not to be the end, the archive goes on
+pub goes_on : (mib at : ℕ) (files : Option Files) (end : Bool) → end ≡ false → IfSome files (λ m. IsTrue end ↔ EndsAt mib (held_bytes mib m) at) → IfSome files (λ m. EndsAt mib (held_bytes mib m) at → ⊥)
+goes_on mib at files end not told =
+    when_told files (λ m. IsTrue end ↔ EndsAt mib (held_bytes mib m) at) (λ m. EndsAt mib (held_bytes mib m) at → ⊥) (λ m iff ends. let both : true ≡ false = sym (iff.1 ends) ∙ not in absurd (cc)) told
 
 -- where the archive goes on, what follows on its first page is what follows in it
 pub entry_found : (mib at prev : ℕ) (files : Option Files) (page : List ℕ) (r : Record) → origin mib ≤ at → length page ≤ 8192
