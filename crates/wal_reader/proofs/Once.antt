@@ -13,7 +13,7 @@ pub stands_once : (mib : ℕ) (page : List ℕ) (start prev : ℕ) (r q : Record
 stands_once mib page start prev r q s t =
     let h = has_size mib page start prev r s in
     let own : IsOwn page (start - origin mib) (take (u32_in page (start - origin mib)) (drop (start - origin mib) page)) =
-      record { bytes_are = refl; number = omega (arith, h.least, s.whole); whole = omega (arith, h.size_is, s.whole) } in
+    record { bytes_are = refl; number = omega (arith, h.least, s.whole); whole = omega (arith, h.size_is, s.whole) } in
     same_entry prev (as_own mib page start prev _ own r s) (as_own mib page start prev _ own q t)
 
 follows_once : (mib : ℕ) (held : List ℕ) (at prev : ℕ) (r q : Record) → Follows mib held at prev r → Follows mib held at prev q → r ≡ q

@@ -37,12 +37,13 @@ pub entry_found : (mib at prev : ℕ) (files : Option Files) (page : List ℕ) (
     → FollowAnswer mib page at prev (Ok r) → IsGiven mib at r × IfSome files (λ m. Follows mib (held_bytes mib m) at prev r)
 entry_found mib at prev files page r least short page_is goes_on found =
     let later : at ≤ start_after mib at = elim (cases_eq at (origin mib)) [
-        | inl e ↦ omega (arith, start_at_origin mib at e)
-        | inr ne ↦ omega (arith, start_behind mib at ne)
-      ] in
-    (given mib page at (start_after mib at) prev r short later (omega (arith, least, later)) found.1,
-     when_both_told files (λ m. page ≡ first_page (held_bytes mib m)) (λ m. EndsAt mib (held_bytes mib m) at → ⊥) (λ m. Follows mib (held_bytes mib m) at prev r)
-     (λ m e on. record { goes_on = on; head = λ at_is. subst (IsHead mib) e (found.0 at_is); entry = subst (λ (p : List ℕ). StandsAt mib p (start_after mib at) prev r) e found.1 }) page_is goes_on)
+      | inl e ↦ omega (arith, start_at_origin mib at e)
+      | inr ne ↦ omega (arith, start_behind mib at ne)
+    ] in (
+      given mib page at (start_after mib at) prev r short later (omega (arith, least, later)) found.1,
+      when_both_told files (λ m. page ≡ first_page (held_bytes mib m)) (λ m. EndsAt mib (held_bytes mib m) at → ⊥) (λ m. Follows mib (held_bytes mib m) at prev r)
+          (λ m e on. record { goes_on = on; head = λ at_is. subst (IsHead mib) e (found.0 at_is); entry = subst (λ (p : List ℕ). StandsAt mib p (start_after mib at) prev r) e found.1 }) page_is goes_on,
+    )
 
 pub fault_found : (mib at prev : ℕ) (files : Option Files) (before now : ℕ) (page : List ℕ) (fault : WalFault)
     → IfSome files (λ m. page ≡ first_page (held_bytes mib m)) → IfSome files (λ m. EndsAt mib (held_bytes mib m) at → ⊥)

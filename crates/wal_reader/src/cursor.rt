@@ -31,7 +31,10 @@ pub fn read_settings<V: Vault>(alloc: Global, area: &mut V) -> Result<Settings, 
     let segment = SegSize::standard();
     let name = segment_name(alloc, 1, segment)?;
     match area.size(name.as_bytes())? {
-        Some(_) => Ok(Settings { segment, relseg: 131_072 }),
+        Some(_) => Ok(Settings {
+            segment,
+            relseg: 131_072,
+        }),
         None => Err(WalFault::NotInit),
     }
 }
@@ -63,7 +66,12 @@ impl WalCursor {
         ensures { result ≡ at_start settings.now.segment }
     {
         let segment = settings.segment;
-        WalCursor { segment, at: segment.bytes(), prev: 0, fault: None }
+        WalCursor {
+            segment,
+            at: segment.bytes(),
+            prev: 0,
+            fault: None,
+        }
     }
 
     /// Where the last entry that it gave ends and starts; before the first one, where the archive
@@ -72,14 +80,21 @@ impl WalCursor {
         ensures end { result.end.0 ≡ self.now.at }
         ensures prev { result.prev.0 ≡ self.now.prev }
     {
-        WalTip { end: Lsn(self.at), prev: Lsn(self.prev) }
+        WalTip {
+            end: Lsn(self.at),
+            prev: Lsn(self.prev),
+        }
     }
 
     /// The next entry, in order. None exactly at the archive's end, where the cursor stays and may
     /// be asked again. `Damaged` exactly where the archive is damaged behind the entries so far.
     /// After a fault other than `Failed` it answers the same fault again; after `Failed` it stands
     /// as before the call. It reads the page anew, and the file up to a byte other than zero.
-    pub fn next<V: Vault>(&mut self, alloc: Global, area: &mut V) -> Result<Option<Record>, WalFault>
+    pub fn next<V: Vault>(
+        &mut self,
+        alloc: Global,
+        area: &mut V,
+    ) -> Result<Option<Record>, WalFault>
         ensures answer { NextAnswer self.old.fault self.old self.new (V.files area.old) (V.faults area.old) (V.faults area.new) result }
         ensures same { V.files area.new ≡ V.files area.old }
         ensures later { V.faults area.old ≤ V.faults area.new }
@@ -101,7 +116,13 @@ impl WalCursor {
 }
 
 /// Whether the archive ends at a place, by its first page and by what is zero behind the place.
-fn is_end<V: Vault>(alloc: Global, area: &mut V, segment: SegSize, at: u64, page: &[u8]) -> Result<bool, AreaFault>
+fn is_end<V: Vault>(
+    alloc: Global,
+    area: &mut V,
+    segment: SegSize,
+    at: u64,
+    page: &[u8],
+) -> Result<bool, AreaFault>
     requires least { origin segment ≤ at }
     requires most { at ≤ origin segment + 8192 }
     requires page { IfSome (V.files area.old) (λ m. page.now ≡ first_page (held_bytes segment m)) }
@@ -120,7 +141,13 @@ fn is_end<V: Vault>(alloc: Global, area: &mut V, segment: SegSize, at: u64, page
 }
 
 /// The entry that follows a place of the first page, where the archive goes on.
-fn follows(alloc: Global, page: &[u8], segment: SegSize, at: u64, prev: u64) -> Result<Record, WalFault>
+fn follows(
+    alloc: Global,
+    page: &[u8],
+    segment: SegSize,
+    at: u64,
+    prev: u64,
+) -> Result<Record, WalFault>
     requires least { origin segment ≤ at }
     requires most { at ≤ origin segment + 8192 }
     requires page { length page.now ≤ 8192 }
@@ -136,7 +163,13 @@ fn follows(alloc: Global, page: &[u8], segment: SegSize, at: u64, prev: u64) -> 
 }
 
 /// What stands after a place.
-fn found<V: Vault>(alloc: Global, area: &mut V, segment: SegSize, at: u64, prev: u64) -> Result<Option<Record>, WalFault>
+fn found<V: Vault>(
+    alloc: Global,
+    area: &mut V,
+    segment: SegSize,
+    at: u64,
+    prev: u64,
+) -> Result<Option<Record>, WalFault>
     requires least { origin segment ≤ at }
     requires most { at ≤ origin segment + 8192 }
     ensures answer { FoundAnswer segment at prev (V.files area.old) (V.faults area.old) (V.faults area.new) result }

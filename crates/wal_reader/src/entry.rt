@@ -60,7 +60,13 @@ fn fault_of(fault: RecordFault, start: u64) -> WalFault
 
 /// The entry that stands at a place of the first page, after one that starts at `prev` (0 where
 /// there is none). Damage exactly where none stands there.
-pub fn entry_at(alloc: Global, page: &[u8], size: SegSize, start: u64, prev: u64) -> Result<Record, WalFault>
+pub fn entry_at(
+    alloc: Global,
+    page: &[u8],
+    size: SegSize,
+    start: u64,
+    prev: u64,
+) -> Result<Record, WalFault>
     requires least { segment_bytes size ≤ start }
     requires most { start ≤ segment_bytes size + 8192 }
     requires page { length page.now ≤ 8192 }
@@ -71,7 +77,10 @@ pub fn entry_at(alloc: Global, page: &[u8], size: SegSize, start: u64, prev: u64
         return Err(damaged);
     };
     let end = aligned(start + bytes.len() as u64);
-    let place = Place { start: Lsn(start), end: Lsn(end) };
+    let place = Place {
+        start: Lsn(start),
+        end: Lsn(end),
+    };
     match decode_record(alloc, bytes, place, Some(Lsn(prev))) {
         Ok(record) => {
             if is_allowed(size.bytes() + LONG_HEAD, start, &record.kind) {

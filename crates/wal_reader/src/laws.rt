@@ -8,5 +8,4 @@ pub fn archive_is_read_in_one_way()
     ensures reading { HasOneReading }
     ensures ends { EndsOrIsDamaged }
     ensures damage { HasOneDamage }
-{
-}
+{}

@@ -10,5 +10,8 @@ mod laws;
 mod page;
 
 pub use cursor::{WalCursor, read_settings};
-pub use laws::archive_is_read_in_one_way;
 pub use fault::{Damage, WalFault};
+pub use laws::archive_is_read_in_one_way;
+
+#[cfg(test)]
+mod tests;

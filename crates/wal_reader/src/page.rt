@@ -46,7 +46,11 @@ fn front<V: Vault>(alloc: Global, area: &mut V, name: &[u8]) -> Result<Vec<u8>, 
 }
 
 /// The held bytes of the archive's first page.
-pub fn page_of<V: Vault>(alloc: Global, area: &mut V, segment: SegSize) -> Result<Vec<u8>, AreaFault>
+pub fn page_of<V: Vault>(
+    alloc: Global,
+    area: &mut V,
+    segment: SegSize,
+) -> Result<Vec<u8>, AreaFault>
     ensures bytes { IfOk result (λ page. IfSome (V.files area.old) (λ m. page.items ≡ first_page (held_bytes segment m))) }
     ensures size { IfOk result (λ page. length page.items ≤ 8192) }
     ensures same { V.files area.new ≡ V.files area.old }
@@ -67,7 +71,12 @@ fn is_all_zero(bytes: &[u8]) -> bool
 }
 
 /// Reads a piece of a file, and says how many bytes it has and whether each is zero.
-fn zero_run<V: Vault>(area: &mut V, name: &[u8], at: u64, into: &mut [u8]) -> Result<(u32, bool), AreaFault>
+fn zero_run<V: Vault>(
+    area: &mut V,
+    name: &[u8],
+    at: u64,
+    into: &mut [u8],
+) -> Result<(u32, bool), AreaFault>
     requires { length into.old ≤ 2 ^ 20 }
     ensures run { IfOk result (λ run. IfSome (V.files area.old) (λ m. IsZeroRun (bytes_of m name.now) at (length into.old) run.0 run.1)) }
     ensures count { IfOk result (λ run. run.0 ≤ length into.old) }
@@ -80,7 +89,13 @@ fn zero_run<V: Vault>(area: &mut V, name: &[u8], at: u64, into: &mut [u8]) -> Re
 
 /// Whether all bytes of a file between two offsets are zero, as far as it has them. It reads piece
 /// by piece, up to the first byte other than zero.
-fn scan<V: Vault>(area: &mut V, name: &[u8], from: u64, limit: u64, piece: &mut [u8]) -> Result<bool, AreaFault>
+fn scan<V: Vault>(
+    area: &mut V,
+    name: &[u8],
+    from: u64,
+    limit: u64,
+    piece: &mut [u8],
+) -> Result<bool, AreaFault>
     requires order { from ≤ limit }
     requires piece { length piece.old ≡ 8192 }
     ensures zero { IfOk result (λ zero. IfSome (V.files area.old) (λ m. zero ≡ all_zero (drop from (take limit (bytes_of m name.now))))) }
@@ -104,7 +119,12 @@ fn scan<V: Vault>(area: &mut V, name: &[u8], from: u64, limit: u64, piece: &mut 
 
 /// Whether all held bytes of the archive are zero from an offset on. It reads pieces of 8192 bytes,
 /// up to the first byte other than zero.
-pub fn is_zero_from<V: Vault>(alloc: Global, area: &mut V, segment: SegSize, from: u64) -> Result<bool, AreaFault>
+pub fn is_zero_from<V: Vault>(
+    alloc: Global,
+    area: &mut V,
+    segment: SegSize,
+    from: u64,
+) -> Result<bool, AreaFault>
     requires { from ≤ origin segment }
     ensures zero { IfOk result (λ zero. IfSome (V.files area.old) (λ m. zero ≡ all_zero (drop from (held_bytes segment m)))) }
     ensures same { V.files area.new ≡ V.files area.old }

@@ -11,11 +11,13 @@ returns-in_default c =
     (refl, none_cut_off c.args.size c.args.page.now c.args.start c.args.prev (subst (λ (b : ℕ). IsCutOff c.args.page.now (c.args.start - b)) c.bytes.ensures.bytes c.in_default.ensures.cut_off))
 
 pub returns-else-is_allowed : goal.returns-else-is_allowed
-returns-else-is_allowed c =
-    (refl, refused c.args.size c.args.page.now c.args.start c.args.prev c.in-Some.bytes.now c.bytes.result c.aligned-end.result c.bytes.ensures.bytes c.aligned-end.ensures c.in-Some.ensures.own
-    (λ q e ok. let same : c.in-Ok.record ≡ q = same_entry c.args.prev c.in-Ok.ensures.found e in
+returns-else-is_allowed c = (
+  refl,
+  refused c.args.size c.args.page.now c.args.start c.args.prev c.in-Some.bytes.now c.bytes.result c.aligned-end.result c.bytes.ensures.bytes c.aligned-end.ensures c.in-Some.ensures.own
+      (λ q e ok. let same : c.in-Ok.record ≡ q = same_entry c.args.prev c.in-Ok.ensures.found e in
       let never : IsTrue false = c.if-is_allowed.ensures.1 (subst (λ (b : ℕ). IsAllowed (b + 40) c.args.start c.in-Ok.record.kind) (sym c.bytes-in-Ok.ensures.bytes)
-      (subst (λ (r : Record). IsAllowed (c.args.size * 1048576 + 40) c.args.start r.kind) (sym same) ok)) in cc))
+      (subst (λ (r : Record). IsAllowed (c.args.size * 1048576 + 40) c.args.start r.kind) (sym same) ok)) in cc),
+)
 
 pub returns-in-Err : goal.returns-in-Err
 returns-in-Err c =
