@@ -1,8 +1,8 @@
 -- The entry that stands at a place is the one that its own bytes spell.
-use Rattle.std.proofs.Common.{◌≡◌, ℕ, ◌+◌, ◌-◌, ◌*◌, ◌/◌, ◌<◌, ◌≤◌, min, List, length, take, drop, get_or, Some, Result, Ok, Err, refl, sym, ap, subst, ◌∙◌, arith}
+use Rattle.std.proofs.Common.{◌≡◌, ℕ, ◌+◌, ◌-◌, ◌<◌, ◌≤◌, List, length, take, drop, get_or, Some, Result, Err, refl, sym, ap, subst, ◌∙◌, arith}
 use Rattle.std.proofs.lemmas.List.{length-take, length-drop, get_or-drop, get_or-take}
 use Rattle.byte_words.proofs.Fields.{number_is}
-use Rattle.byte_words.specs.Numbers.{u16_in, u32_in}
+use Rattle.byte_words.specs.Numbers.{u32_in}
 use Rattle.lsn_core.specs.declared.lsn.Lsn.{Lsn}
 use Rattle.lsn_core.specs.declared.lsn.Place.{Place}
 use Rattle.wal_record.specs.declared.record.Record.{Record}

@@ -1,9 +1,9 @@
 -- One answer follows at each place: an entry, the end, or damage at a place. So the whole archive has one.
-use Rattle.std.proofs.Common.{◌≡◌, ℕ, ◌+◌, ◌-◌, ◌≤◌, ◌⊎◌, inl, inr, List, [], ◌∷◌, length, take, drop, refl, sym, ap, subst, ◌∙◌, arith}
+use Rattle.std.proofs.Common.{◌≡◌, ℕ, ◌-◌, inl, inr, List, [], ◌∷◌, take, drop, refl, sym, ap, subst, ◌∙◌, arith}
 use Rattle.byte_words.specs.Numbers.{u32_in}
 use Rattle.wal_record.specs.declared.record.Record.{Record}
-use Rattle.wal_reader.specs.Head.{origin, IsHead}
-use Rattle.wal_reader.specs.Archive.{first_page, StandsAt, EndsAt, Follows, IsBroken, IsDamagedAt, Reads, Breaks}
+use Rattle.wal_reader.specs.Head.{origin}
+use Rattle.wal_reader.specs.Archive.{first_page, StandsAt, Follows, IsBroken, Reads, Breaks}
 use Rattle.wal_reader.specs.Entry.{IsOwn}
 use Rattle.wal_reader.specs.Laws.{HasOneReading, EndsOrIsDamaged, HasOneDamage}
 use Rattle.wal_reader.proofs.Entries.{has_size, as_own, same_entry}

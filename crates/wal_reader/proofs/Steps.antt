@@ -1,18 +1,18 @@
 -- From the entry at a place to what follows a place, and to what the archive is there.
-use Rattle.std.proofs.Common.{◌≡◌, ℕ, ◌+◌, ◌-◌, ◌≤◌, ◌<◌, Bool, true, false, List, length, Option, Some, None, Result, Ok, Err, IfSome, IsTrue, ◌↔◌, refl, sym, ap, subst, ◌∙◌, arith, inl, inr, cond, eqb, eq-eqb}
+use Rattle.std.proofs.Common.{◌≡◌, ℕ, ◌+◌, ◌≤◌, Bool, true, false, List, length, Option, Result, Ok, Err, IfSome, IsTrue, ◌↔◌, refl, sym, subst, ◌∙◌, arith, inl, inr, eq-eqb}
 use Rattle.std.proofs.lemmas.Bool.{cases_eq, ne_eqb}
 use Rattle.byte_words.specs.Told.{when_told, when_both_told}
 use Rattle.lsn_core.specs.Files.{Files}
 use Rattle.wal_record.specs.declared.record.Record.{Record}
 use Rattle.wal_reader.specs.declared.fault.WalFault.{WalFault}
 use Rattle.wal_reader.specs.declared.fault.WalFault.TheVariants.{Damaged, NotInit, Failed, NoMemory}
-use Rattle.wal_reader.specs.Head.{origin, IsHead}
+use Rattle.wal_reader.specs.Head.{origin, long_head, IsHead}
 use Rattle.wal_reader.specs.Archive.{held_bytes, first_page, start_after, StandsAt, EndsAt, Follows, IsBroken, IsDamagedAt}
 use Rattle.wal_reader.specs.Entry.{EntryAnswer, FollowAnswer}
 use Rattle.wal_reader.specs.Cursor.{FoundAnswer, IsGiven}
 use Rattle.wal_reader.proofs.Entries.{given}
 
-pub start_at_origin : (mib at : ℕ) → at ≡ origin mib → start_after mib at ≡ at + 40
+pub start_at_origin : (mib at : ℕ) → at ≡ origin mib → start_after mib at ≡ at + long_head
 start_at_origin mib at e = rw (eq-eqb at (origin mib) e) (omega (arith, e))
 
 pub start_behind : (mib at : ℕ) → (at ≡ origin mib → ⊥) → start_after mib at ≡ at

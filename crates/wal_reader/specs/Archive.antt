@@ -1,17 +1,16 @@
 -- The reading rules, for entries on the first page of the WAL: which entries the archive has, where it ends, and where it is damaged (profile).
 -- A place is an LSN; an offset counts from the start of the archive.
-use Rattle.std.specs.Prelude.{◌≡◌, ◌≢◌, ℕ, ◌+◌, ◌-◌, ◌*◌, ◌/◌, ◌<◌, ◌≤◌, ◌⊎◌, List, [], ◌∷◌, length, take, drop, Some, true, ◌==◌, if◌then◌else◌}
+use Rattle.std.specs.Prelude.{◌≡◌, ◌≢◌, ℕ, ◌+◌, ◌-◌, ◌*◌, ◌/◌, ◌≤◌, ◌⊎◌, List, [], ◌∷◌, length, take, drop, Some, true, ◌==◌, if◌then◌else◌}
 use Rattle.lsn_core.specs.Files.{Files}
 use Rattle.lsn_core.specs.Segment.{segment_bytes}
 use Rattle.lsn_core.specs.Names.{segment_name_bytes}
-use Rattle.lsn_core.specs.declared.lsn.Lsn.{Lsn}
 use Rattle.lsn_core.specs.declared.lsn.Place.{Place}
 use Rattle.vault.specs.Area.{bytes_of}
 use Rattle.wal_record.specs.declared.record.Record.{Record}
 use Rattle.wal_record.specs.declared.record.Kind.{Kind}
 use Rattle.wal_record.specs.declared.record.Kind.TheVariants.{Shutdown, Generic, Create}
 use Rattle.wal_record.specs.Spelling.{IsEntry}
-use Rattle.wal_reader.specs.Head.{origin, first_start, IsHead}
+use Rattle.wal_reader.specs.Head.{origin, long_head, first_start, IsHead}
 use Rattle.wal_reader.specs.Scan.{all_zero}
 
 -- the bytes that the archive holds, from the start of segment 1 on. So far these are those of one file;
@@ -58,7 +57,7 @@ start_after mib at = if at == origin mib then first_start mib else at
 -- the archive ends at a place: all that is held from there on is zero; or the place is the start of the page,
 -- its head passes, and all that is held behind the head is zero
 abbrev pub EndsAt : ℕ → List ℕ → ℕ → Type 0
-EndsAt mib held at = IsZeroFrom held (at - origin mib) ⊎ ((at ≡ origin mib) × (IsHead mib (first_page held) × IsZeroFrom held 40))
+EndsAt mib held at = IsZeroFrom held (at - origin mib) ⊎ ((at ≡ origin mib) × (IsHead mib (first_page held) × IsZeroFrom held long_head))
 
 -- after a place the archive goes on with this entry, behind a head that passes if the place is the start of the page
 pub record Follows (mib : ℕ) (held : List ℕ) (at prev : ℕ) (r : Record) : Type 0 where

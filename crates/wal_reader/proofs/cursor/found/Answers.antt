@@ -1,6 +1,5 @@
 -- What follows on the first page follows in the archive, which goes on there.
-use Rattle.std.proofs.Common.{◌≡◌, ◌≤◌, ℕ, List, IfSome, sym, subst, ◌∙◌, length}
-use Rattle.byte_words.specs.Told.{when_told}
+use Rattle.std.proofs.Common.{◌≡◌, ◌≤◌, ℕ, List, IfSome, sym, subst, length}
 use Rattle.wal_reader.specs.Archive.{held_bytes, first_page}
 use Rattle.wal_reader.proofs.Steps.{goes_on, entry_found, fault_found}
 use Rattle.wal_reader.proofs.cursor.found.Goals as goal

@@ -1,8 +1,8 @@
 -- Where an entry is refused none stands.
-use Rattle.std.proofs.Common.{◌≡◌, ℕ, ◌-◌, ◌+◌, ◌*◌, List, sym, subst, refl, ◌∙◌, ap, Bool, true, false, IsTrue}
+use Rattle.std.proofs.Common.{◌≡◌, ℕ, ◌-◌, ◌+◌, ◌*◌, sym, subst, refl, false, IsTrue}
 use Rattle.wal_record.specs.declared.record.Record.{Record}
 use Rattle.wal_reader.specs.Archive.{IsAllowed}
-use Rattle.wal_reader.specs.Entry.{IsCutOff, EntryAnswer, fault_at}
+use Rattle.wal_reader.specs.Entry.{IsCutOff}
 use Rattle.wal_reader.proofs.Entries.{none_cut_off, refused, refusal, same_entry}
 use Rattle.wal_reader.proofs.entry.entry_at.Goals as goal
 

@@ -1,5 +1,5 @@
 -- A piece of zeros leaves the question to what lies behind it; a byte other than zero answers it.
-use Rattle.std.proofs.Common.{◌≡◌, ℕ, ◌+◌, ◌-◌, ◌<◌, ◌≤◌, false, true, min, length, take, drop, sym, subst, ◌∙◌, arith, IfSome, length-take}
+use Rattle.std.proofs.Common.{◌≡◌, ◌+◌, ◌≤◌, false, length, take, drop, sym, ◌∙◌, arith, length-take}
 use Rattle.byte_words.specs.Told.{when_both_told}
 use Rattle.vault.specs.Area.{bytes_of}
 use Rattle.wal_reader.specs.Scan.{all_zero, IsZeroRun}
