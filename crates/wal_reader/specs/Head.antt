@@ -1,16 +1,25 @@
 -- The head of the archive's first page (access/xlog_internal.h, XLogLongPageHeaderData).
-use Rattle.std.specs.Prelude.{◌≡◌, ℕ, ◌≤◌, ◌⊎◌, List, length}
+use Rattle.std.specs.Prelude.{◌≡◌, ℕ, ◌+◌, ◌≤◌, ◌⊎◌, List, length}
 use Rattle.byte_words.specs.Numbers.{u16_in, u32_in, u64_in}
 use Rattle.lsn_core.specs.Segment.{segment_bytes}
 
--- segment 1 begins at the size of a segment
+-- the archive begins with segment 1, which starts at the size of a segment
 abbrev pub origin : ℕ → ℕ
 origin mib = segment_bytes mib
 
--- a long page header for the start of segment 1 with no entry continued. Its magic number is the
--- profile's; it may be removable (bit 4); its padding isn't tested, and its system identifier is any
+-- how many bytes a long page header has
+abbrev pub long_head : ℕ
+long_head = 40
+
+-- the first entry starts behind the long header of the first page
+abbrev pub first_start : ℕ → ℕ
+first_start mib = origin mib + long_head
+
+-- a long page header for the start of segment 1, with no entry continued there: flag 1 isn't set and
+-- nothing remains. The magic number is the profile's, flag 2 tells the long form, and flag 4 (removable)
+-- may be set. The system identifier and the padding may be any
 pub record IsHead (mib : ℕ) (page : List ℕ) : Type 0 where
-  pub held : 40 ≤ length page
+  pub held : long_head ≤ length page
   pub magic : u16_in page 0 ≡ 0xD116
   pub info : (u16_in page 2 ≡ 2) ⊎ (u16_in page 2 ≡ 6)
   pub timeline : u32_in page 4 ≡ 1

@@ -1,4 +1,7 @@
-//! A cursor over the archive.
+//! A cursor over the archive, and the settings that it is made from.
+//!
+//! Where the archive goes on, where it ends and where it is damaged is said in `specs/Archive.antt`;
+//! what each call answers and how it leaves the cursor, in `specs/Cursor.antt`.
 
 ghost use Rattle.std.specs.Prelude.{◌≡◌, ◌+◌, ◌≤◌, ◌↔◌, length, IsTrue, IfSome, IfOk};
 ghost use Rattle.lsn_core.specs.Causes.{HasCause};
@@ -9,7 +12,7 @@ ghost use Rattle.wal_reader.specs.Cursor.{at_start, NextAnswer, SettingsAnswer, 
 
 use crate::entry::entry_at;
 use crate::fault::{Damage, WalFault};
-use crate::head::is_head;
+use crate::head::{LONG_HEAD, is_head};
 use crate::page::{is_zero_from, page_of};
 use lsn_core::{AreaFault, Lsn, SegSize, Settings, WalTip, segment_name};
 use std::alloc::Global;
@@ -17,10 +20,9 @@ use std::marker::Model;
 use vault::Vault;
 use wal_record::Record;
 
-const HEAD: u64 = 40;
-
-/// The settings of a WAL: segments of 16 MiB and 131072 blocks a segment of a fork. `NotInit`
-/// exactly where the file of segment 1 isn't there.
+/// The settings of a WAL, which so far are always the same: segments of 16 MiB (PostgreSQL manual,
+/// initdb --wal-segsize), and 131072 blocks a segment of a fork (PostgreSQL manual, configure
+/// --with-segsize). `NotInit` exactly where the file of segment 1 isn't there.
 pub fn read_settings<V: Vault>(alloc: Global, area: &mut V) -> Result<Settings, WalFault>
     ensures answer { SettingsAnswer (V.files area.old) (V.faults area.old) (V.faults area.new) result }
     ensures same { V.files area.new ≡ V.files area.old }
@@ -29,12 +31,16 @@ pub fn read_settings<V: Vault>(alloc: Global, area: &mut V) -> Result<Settings, 
     let segment = SegSize::standard();
     let name = segment_name(alloc, 1, segment)?;
     match area.size(name.as_bytes())? {
-        Some(_) => Ok(Settings { segment, relseg: 131_072 }),
+        Some(_) => Ok(Settings {
+            segment,
+            relseg: 131_072,
+        }),
         None => Err(WalFault::NotInit),
     }
 }
 
-/// A cursor over the archive, which holds nothing of the area. Contracts see where it stands.
+/// A cursor over the archive. It holds nothing of the area, which is given to each step. Contracts
+/// see where it stands, and the fault that it goes on to answer (`Reading`).
 #[derive(Debug, Drop)]
 pub struct WalCursor {
     segment: SegSize,
@@ -60,7 +66,12 @@ impl WalCursor {
         ensures { result ≡ at_start settings.now.segment }
     {
         let segment = settings.segment;
-        WalCursor { segment, at: segment.bytes(), prev: 0, fault: None }
+        WalCursor {
+            segment,
+            at: segment.bytes(),
+            prev: 0,
+            fault: None,
+        }
     }
 
     /// Where the last entry that it gave ends and starts; before the first one, where the archive
@@ -69,12 +80,21 @@ impl WalCursor {
         ensures end { result.end.0 ≡ self.now.at }
         ensures prev { result.prev.0 ≡ self.now.prev }
     {
-        WalTip { end: Lsn(self.at), prev: Lsn(self.prev) }
+        WalTip {
+            end: Lsn(self.at),
+            prev: Lsn(self.prev),
+        }
     }
 
-    /// The next entry, in order. None exactly at the archive's end. After a fault other than
-    /// `Failed` it answers the same fault again; after `Failed` it stands as before the call.
-    pub fn next<V: Vault>(&mut self, alloc: Global, area: &mut V) -> Result<Option<Record>, WalFault>
+    /// The next entry, in order. None exactly at the archive's end, where the cursor stays and may
+    /// be asked again. `Damaged` exactly where the archive is damaged behind the entries so far.
+    /// After a fault other than `Failed` it answers the same fault again; after `Failed` it stands
+    /// as before the call. It reads the page anew, and the file up to a byte other than zero.
+    pub fn next<V: Vault>(
+        &mut self,
+        alloc: Global,
+        area: &mut V,
+    ) -> Result<Option<Record>, WalFault>
         ensures answer { NextAnswer self.old.fault self.old self.new (V.files area.old) (V.faults area.old) (V.faults area.new) result }
         ensures same { V.files area.new ≡ V.files area.old }
         ensures later { V.faults area.old ≤ V.faults area.new }
@@ -95,8 +115,14 @@ impl WalCursor {
     }
 }
 
-/// Whether the archive ends at a place, by its first page and by what is zero.
-fn is_end<V: Vault>(alloc: Global, area: &mut V, segment: SegSize, at: u64, page: &[u8]) -> Result<bool, AreaFault>
+/// Whether the archive ends at a place, by its first page and by what is zero behind the place.
+fn is_end<V: Vault>(
+    alloc: Global,
+    area: &mut V,
+    segment: SegSize,
+    at: u64,
+    page: &[u8],
+) -> Result<bool, AreaFault>
     requires least { origin segment ≤ at }
     requires most { at ≤ origin segment + 8192 }
     requires page { IfSome (V.files area.old) (λ m. page.now ≡ first_page (held_bytes segment m)) }
@@ -111,11 +137,17 @@ fn is_end<V: Vault>(alloc: Global, area: &mut V, segment: SegSize, at: u64, page
     if at > origin || !is_head(page, segment) {
         return Ok(false);
     }
-    is_zero_from(alloc, area, segment, HEAD)
+    is_zero_from(alloc, area, segment, LONG_HEAD)
 }
 
-/// What follows a place of the first page, where the archive goes on.
-fn follows(alloc: Global, page: &[u8], segment: SegSize, at: u64, prev: u64) -> Result<Record, WalFault>
+/// The entry that follows a place of the first page, where the archive goes on.
+fn follows(
+    alloc: Global,
+    page: &[u8],
+    segment: SegSize,
+    at: u64,
+    prev: u64,
+) -> Result<Record, WalFault>
     requires least { origin segment ≤ at }
     requires most { at ≤ origin segment + 8192 }
     requires page { length page.now ≤ 8192 }
@@ -125,13 +157,19 @@ fn follows(alloc: Global, page: &[u8], segment: SegSize, at: u64, prev: u64) -> 
         if !is_head(page, segment) {
             return Err(WalFault::Damaged(Lsn(at), Damage::Form));
         }
-        return entry_at(alloc, page, segment, at + HEAD, prev);
+        return entry_at(alloc, page, segment, at + LONG_HEAD, prev);
     }
     entry_at(alloc, page, segment, at, prev)
 }
 
 /// What stands after a place.
-fn found<V: Vault>(alloc: Global, area: &mut V, segment: SegSize, at: u64, prev: u64) -> Result<Option<Record>, WalFault>
+fn found<V: Vault>(
+    alloc: Global,
+    area: &mut V,
+    segment: SegSize,
+    at: u64,
+    prev: u64,
+) -> Result<Option<Record>, WalFault>
     requires least { origin segment ≤ at }
     requires most { at ≤ origin segment + 8192 }
     ensures answer { FoundAnswer segment at prev (V.files area.old) (V.faults area.old) (V.faults area.new) result }
