@@ -181,7 +181,7 @@ block_most at (Image page) w =
     let fits = image_fits page w.body.0 w.body.1 in
     omega (arith, ap length (block_body at page), fits.most)
 
-body_most : (kind : Kind) → IsWritable kind → length (body_of kind) ≤ 8217
+pub body_most : (kind : Kind) → IsWritable kind → length (body_of kind) ≤ 8217
 body_most (Shutdown redo) w = omega arith
 body_most (Create fork) w = omega arith
 body_most (Generic []) w = absurd w

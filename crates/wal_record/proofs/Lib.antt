@@ -3,3 +3,4 @@ pub mod Taken
 pub mod Images
 pub mod Again
 pub mod Entries
+pub mod Sealed

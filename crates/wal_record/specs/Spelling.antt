@@ -7,6 +7,7 @@ use Rattle.lsn_core.specs.declared.ids.ForkKind.{ForkKind}
 use Rattle.lsn_core.specs.declared.ids.ForkKind.TheVariants.{Main, Init}
 use Rattle.lsn_core.specs.declared.lsn.Lsn.{Lsn}
 use Rattle.lsn_core.specs.declared.lsn.Place.{Place}
+use Rattle.wal_crc.specs.Crc.{crc32c}
 use Rattle.pg_page.specs.Header.{IsGood, hole_of, hole_zeroed}
 use Rattle.pg_page.specs.Image.{image_of}
 use Rattle.wal_record.specs.declared.record.Record.{Record}
@@ -101,6 +102,10 @@ front_of r = to_le_bytes w32 (total_of r.kind) ++ (to_le_bytes w32 r.xid ++ (to_
 -- an entry as it is written, with these four bytes of sum
 unfoldable pub spelling : ℕ → Record → List ℕ
 spelling crc r = front_of r ++ (to_le_bytes w32 crc ++ body_of r.kind)
+
+-- an entry as it is written: its sum is the CRC-32C of the bytes behind the header and then of the header's first 20 bytes
+abbrev pub sealed : Record → List ℕ
+sealed r = spelling (crc32c (body_of r.kind ++ front_of r)) r
 
 -- a block that can be written: below 32,768, and its page has zeros in its hole
 abbrev pub IsWritableBody : Body → Type 0

@@ -2,14 +2,13 @@
 
 ghost use Rattle.std.specs.Prelude.{◌≡◌, ◌≤◌, [], ◌∷◌, length, IfOk};
 ghost use Rattle.std.specs.Option.{option_map};
-ghost use Rattle.pg_page.specs.Header.{hole_of};
 ghost use Rattle.wal_record.specs.declared.record.Record.{Record};
 ghost use Rattle.wal_record.specs.declared.record.Kind.TheVariants.{Generic};
 ghost use Rattle.wal_record.specs.declared.record.RecordFault.TheVariants.{Form};
 ghost use Rattle.wal_record.specs.Spelling.{IsEntry};
-ghost use Rattle.wal_record.specs.Reading.{Answers, shutdown_at, create_at, good_page, extent_of, is_same_extent, page_at, block_at, kind_at, is_linked, record_at};
+ghost use Rattle.wal_record.specs.Reading.{Answers, shutdown_at, create_at, good_page, is_same_extent, page_at, block_at, kind_at, is_linked, record_at};
 
-use crate::fields::{Extent, announced_at, front_of, kind_numbered, main_of, rel_of};
+use crate::fields::{Extent, announced_at, extent_of, front_of, kind_numbered, main_of, rel_of};
 use crate::record::{BlockRef, Blocks, Body, Kind, Record, RecordFault};
 use byte_words::{u32_at, u64_at};
 use lsn_core::{ForkId, Lsn, Place};
@@ -153,23 +152,6 @@ fn good_page(bytes: &[u8; 8192]) -> Option<Page>
     ensures { result ≡ good_page bytes.now }
 {
     Page::read(bytes)
-}
-
-fn extent_of(page: &Page) -> Extent
-    ensures { result ≡ extent_of (hole_of page.now) }
-{
-    match page.hole() {
-        None => Extent {
-            len: 8192,
-            offset: 0,
-            info: 2,
-        },
-        Some((lower, upper)) => Extent {
-            len: 8192u16.saturating_sub(upper - lower),
-            offset: lower,
-            info: 3,
-        },
-    }
 }
 
 fn is_same(a: Extent, b: Extent) -> bool

@@ -2,10 +2,12 @@
 
 ghost use Rattle.std.specs.Prelude.{◌≡◌};
 ghost use Rattle.std.specs.Option.{option_map};
-ghost use Rattle.wal_record.specs.Reading.{front_at, main_at, rel_at, kind_numbered, kind_flagged, extent_at, announced_at};
+ghost use Rattle.pg_page.specs.Header.{hole_of};
+ghost use Rattle.wal_record.specs.Reading.{extent_of, front_at, main_at, rel_at, kind_numbered, kind_flagged, extent_at, announced_at};
 
 use byte_words::{u8_at, u16_at, u32_at, u64_at};
 use lsn_core::{BlockId, ForkId, ForkKind, Rel};
+use pg_page::Page;
 
 /// The header's fields beside its length and its sum.
 #[derive(Clone, Copy)]
@@ -140,4 +142,22 @@ pub fn announced_at(bytes: &[u8]) -> Option<(Announced, &[u8])>
     let fork = ForkId { rel, kind };
     let at = BlockId { fork, block };
     Some((Announced { at, extent }, rest))
+}
+
+/// The extent of a page's image.
+pub fn extent_of(page: &Page) -> Extent
+    ensures { result ≡ extent_of (hole_of page.now) }
+{
+    match page.hole() {
+        None => Extent {
+            len: 8192,
+            offset: 0,
+            info: 2,
+        },
+        Some((lower, upper)) => Extent {
+            len: 8192u16.saturating_sub(upper - lower),
+            offset: lower,
+            info: 3,
+        },
+    }
 }

@@ -3,10 +3,12 @@
 #![tactic(auto)]
 
 mod decode;
+mod encode;
 mod fields;
 mod record;
 
 pub use decode::decode_record;
+pub use encode::encode_record;
 pub use record::{BlockRef, Blocks, Body, Kind, Record, RecordFault};
 
 #[cfg(test)]

@@ -1,5 +1,5 @@
 use super::*;
-use lsn_core::{ForkKind, Lsn, Place};
+use lsn_core::{ForkId, ForkKind, Lsn, Place, Rel};
 use std::test::Fail;
 
 // a checkpoint at 0/1000028, the first entry of its archive
@@ -27,6 +27,14 @@ const IMAGE: [u8; 113] = [
     0x41, 0x41, 0x41, 0x41, 0x41, 0x41, 0x41, 0x41, 0x41, 0x41, 0x41, 0x41, 0x41, 0x41, 0x41, 0x41,
     0x41, 0x41, 0x41, 0x41, 0x41, 0x41, 0x41, 0x41, 0x41, 0x41, 0x41, 0x41, 0x41, 0x41, 0x41, 0x41,
     0x41,
+];
+
+// the first entry of a WAL with segments of 1 MiB: a checkpoint at 0/100028
+const FIRST: [u8; 50] = [
+    0x32, 0x00, 0x00, 0x00, 0x00, 0x00, 0x00, 0x00, 0x00, 0x00, 0x00, 0x00, 0x00, 0x00, 0x00, 0x00,
+    0x00, 0x00, 0x00, 0x00, 0x86, 0x6e, 0x76, 0x81, 0xff, 0x18, 0x28, 0x00, 0x10, 0x00, 0x00, 0x00,
+    0x00, 0x00, 0x01, 0x00, 0x00, 0x00, 0x01, 0x00, 0x00, 0x00, 0x01, 0x00, 0x00, 0x00, 0x00, 0x00,
+    0x00, 0x00,
 ];
 
 const PLACE: Place = Place {
@@ -149,4 +157,32 @@ fn length_and_previous_link_are_exact(rt: HostRuntime) {
     );
     assert_eq!(rt; decode_record(rt.alloc(), &[], PLACE, None).err(), form);
     assert_eq!(rt; Blocks::from_vec(Vec::new(rt.alloc())).as_slice().len(), 0);
+}
+
+#[test]
+fn entries_are_written_with_their_sums(rt: HostRuntime) -> Result<(), Fail> {
+    let first = Record {
+        start: Lsn(0x100028),
+        end: Lsn(0x100060),
+        prev: Lsn(0),
+        xid: 0,
+        kind: Kind::Shutdown(Lsn(0x100028)),
+    };
+    let bytes = encode_record(rt.alloc(), &first)?;
+    assert_eq!(rt; bytes.as_slice(), FIRST.as_slice());
+    let rel = Rel::new(5, 16384).ok_or("no relation")?;
+    let fork = ForkId {
+        rel,
+        kind: ForkKind::Main,
+    };
+    let created = Record {
+        start: Lsn(0x1000060),
+        end: Lsn(0x1000090),
+        prev: Lsn(0x1000028),
+        xid: 0,
+        kind: Kind::Create(fork),
+    };
+    let bytes = encode_record(rt.alloc(), &created)?;
+    assert_eq!(rt; bytes.as_slice(), CREATION.as_slice());
+    Ok(())
 }
