@@ -10,6 +10,7 @@ use Rattle.wal_record.specs.declared.record.Record.{Record}
 use Rattle.wal_record.specs.declared.record.Kind.{Kind}
 use Rattle.wal_record.specs.declared.record.Kind.TheVariants.{Shutdown, Generic, Create}
 use Rattle.wal_record.specs.Spelling.{IsEntry}
+pub use Rattle.wal_record.specs.Places.{aligned, place_of, start_after}
 use Rattle.wal_reader.specs.Head.{origin, long_head, first_start, IsHead}
 use Rattle.wal_reader.specs.Scan.{all_zero}
 
@@ -26,14 +27,6 @@ first_page held = take 8192 held
 abbrev pub IsZeroFrom : List ℕ → ℕ → Type 0
 IsZeroFrom held offset = all_zero (drop offset held) ≡ true
 
--- a place rounded up to a multiple of 8
-abbrev pub aligned : ℕ → ℕ
-aligned at = (at + 7) / 8 * 8
-
--- an entry of so many bytes from a start on ends at the next multiple of 8
-abbrev pub place_of : ℕ → ℕ → Place
-place_of start size = record { start = record { 0 = start }; end = record { 0 = aligned (start + size) } }
-
 -- the kinds that may start at a place, where the archive's first entry starts at first: the first entry is a
 -- shutdown checkpoint whose redo point is its own start, and no later one is a checkpoint
 abbrev pub IsAllowed : ℕ → ℕ → Kind → Type 0
@@ -49,10 +42,6 @@ pub record StandsAt (mib : ℕ) (page : List ℕ) (start prev : ℕ) (r : Record
   pub whole : start - origin mib + size ≤ length page
   pub entry : IsEntry (take size (drop (start - origin mib) page)) (place_of start size) (Some (record { 0 = prev })) r
   pub allowed : IsAllowed (first_start mib) start r.kind
-
--- where the entry after this place starts: at the start of the page it is behind the head
-abbrev pub start_after : ℕ → ℕ → ℕ
-start_after mib at = if at == origin mib then first_start mib else at
 
 -- the archive ends at a place: all that is held from there on is zero; or the place is the start of the page,
 -- its head passes, and all that is held behind the head is zero

@@ -1,19 +1,8 @@
 -- The head of the archive's first page (access/xlog_internal.h, XLogLongPageHeaderData).
-use Rattle.std.specs.Prelude.{◌≡◌, ℕ, ◌+◌, ◌≤◌, ◌⊎◌, List, length}
+use Rattle.std.specs.Prelude.{◌≡◌, ℕ, ◌≤◌, ◌⊎◌, List, length, nat_le, if◌then◌else◌}
 use Rattle.byte_words.specs.Numbers.{u16_in, u32_in, u64_in}
 use Rattle.lsn_core.specs.Segment.{segment_bytes}
-
--- the archive begins with segment 1, which starts at the size of a segment
-abbrev pub origin : ℕ → ℕ
-origin mib = segment_bytes mib
-
--- how many bytes a long page header has
-abbrev pub long_head : ℕ
-long_head = 40
-
--- the first entry starts behind the long header of the first page
-abbrev pub first_start : ℕ → ℕ
-first_start mib = origin mib + long_head
+pub use Rattle.wal_record.specs.Places.{origin, long_head, first_start}
 
 -- a long page header for the start of segment 1, with no entry continued there: flag 1 isn't set and
 -- nothing remains. The magic number is the profile's, flag 2 tells the long form, and flag 4 (removable)
@@ -27,3 +16,7 @@ pub record IsHead (mib : ℕ) (page : List ℕ) : Type 0 where
   pub continued : u32_in page 16 ≡ 0
   pub segment : u32_in page 32 ≡ segment_bytes mib
   pub page_size : u32_in page 36 ≡ 8192
+
+-- the system identifier that stands in a page head, 0 where its first 32 bytes aren't held
+abbrev pub system_in : List ℕ → ℕ
+system_in page = if nat_le 32 (length page) then u64_in page 24 else 0

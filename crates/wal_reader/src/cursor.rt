@@ -5,14 +5,14 @@
 
 ghost use Rattle.std.specs.Prelude.{◌≡◌, ◌+◌, ◌≤◌, ◌↔◌, length, IsTrue, IfSome, IfOk};
 ghost use Rattle.lsn_core.specs.Causes.{HasCause};
-ghost use Rattle.wal_reader.specs.Head.{origin};
+ghost use Rattle.wal_reader.specs.Head.{origin, system_in};
 ghost use Rattle.wal_reader.specs.Archive.{held_bytes, first_page, EndsAt};
 ghost use Rattle.wal_reader.specs.Entry.{FollowAnswer};
 ghost use Rattle.wal_reader.specs.Cursor.{at_start, NextAnswer, SettingsAnswer, FoundAnswer};
 
 use crate::entry::entry_at;
 use crate::fault::{Damage, WalFault};
-use crate::head::{LONG_HEAD, is_head};
+use crate::head::{LONG_HEAD, is_head, system_in};
 use crate::page::{is_zero_from, page_of};
 use lsn_core::{AreaFault, Lsn, SegSize, Settings, WalTip, segment_name};
 use std::alloc::Global;
@@ -22,8 +22,9 @@ use wal_record::Record;
 
 /// The settings of a WAL, which so far are always the same: segments of 16 MiB (PostgreSQL manual,
 /// initdb --wal-segsize), and 131072 blocks a segment of a fork (PostgreSQL manual, configure
-/// --with-segsize). `NotInit` exactly where the file of segment 1 isn't there.
+/// --with-segsize). The system identifier is that of the first page's head. `NotInit` exactly where the file of segment 1 isn't there.
 pub fn read_settings<V: Vault>(alloc: Global, area: &mut V) -> Result<Settings, WalFault>
+    ensures system { IfOk result (λ s. IfSome (V.files area.old) (λ m. s.system ≡ system_in (first_page (held_bytes 16 m)))) }
     ensures answer { SettingsAnswer (V.files area.old) (V.faults area.old) (V.faults area.new) result }
     ensures same { V.files area.new ≡ V.files area.old }
     ensures later { V.faults area.old ≤ V.faults area.new }
@@ -34,9 +35,20 @@ pub fn read_settings<V: Vault>(alloc: Global, area: &mut V) -> Result<Settings, 
         Some(_) => Ok(Settings {
             segment,
             relseg: 131_072,
+            system: system_of(alloc, area, segment)?,
         }),
         None => Err(WalFault::NotInit),
     }
+}
+
+/// The system identifier that stands in the head of the first page.
+fn system_of<V: Vault>(alloc: Global, area: &mut V, segment: SegSize) -> Result<u64, AreaFault>
+    ensures system { IfOk result (λ system. IfSome (V.files area.old) (λ m. system ≡ system_in (first_page (held_bytes segment m)))) }
+    ensures same { V.files area.new ≡ V.files area.old }
+    ensures cause { HasCause (V.faults area.old) (V.faults area.new) result }
+{
+    let page = page_of(alloc, area, segment)?;
+    Ok(system_in(&page))
 }
 
 /// A cursor over the archive. It holds nothing of the area, which is given to each step. Contracts
