@@ -7,7 +7,7 @@ use Rattle.lsn_core.specs.Files.{Files}
 use Rattle.lsn_core.specs.Causes.{HasCause}
 use Rattle.lsn_core.specs.declared.fault.AreaFault.{AreaFault}
 use Rattle.vault.specs.Site.{AreaState, Areas, AllHome, at_home, away, set_at}
-use Rattle.vault.specs.Lending.{both_out, IsOut, WritesAt, OnlyReads, HasSiteCause}
+use Rattle.vault.specs.Lending.{both_out, AllHomeBut, IsOut, WritesAt, OnlyReads, HasSiteCause}
 
 pub set_at-same : (f : Areas) (name : List ℕ) (x : AreaState) → set_at f name x name ≡ x
 unfolding set_at
@@ -175,3 +175,31 @@ out_new f h g name x same new out = rw (out, same, new) refl
 pub after_error : {T E : Type 0} (r : Result T E) (P : Type 0) → P → OnErr r P
 after_error (Ok v) P holds = tt
 after_error (Err e) P holds = holds
+
+-- where all areas were at home, all but those that were taken are, and all are again once these came back
+pub rest_of_one : (f g : Areas) (a : List ℕ) (x : AreaState) → g ≡ set_at f a x → AllHome f → AllHomeBut a a g
+rest_of_one f g a x out home n not again = rw (stays f g a n x out not) (home n)
+
+pub rest_of_two : (f g : Areas) (a b : List ℕ) → g ≡ both_out f a b → AllHome f → AllHomeBut a b g
+rest_of_two f g a b out home n not_a not_b =
+    rw (stays (set_at f a (away (f a))) g b n (away (f b)) out not_b, set_at-other f a n (away (f a)) not_a) (home n)
+
+pub home_with_one : (f g : Areas) (a : List ℕ) (x : AreaState) → g ≡ set_at f a x → x.home ≡ true → AllHomeBut a a f → AllHome g
+home_with_one f g a x back home rest n =
+    elim (same_or_not n a) [
+      | inl here ↦ rw (here, stands f g a x back) home
+      | inr not ↦ rw (stays f g a n x back not) (rest n not not)
+    ]
+
+pub home_with_two : (f g : Areas) (a b : List ℕ) (x y : AreaState) → g ≡ set_at (set_at f a x) b y → x.home ≡ true → y.home ≡ true → AllHomeBut a b f → AllHome g
+home_with_two f g a b x y back x_home y_home rest n =
+    elim (same_or_not n b) [
+      | inl here ↦ rw (here, stands (set_at f a x) g b y back) y_home
+      | inr not_b ↦ rw (stays (set_at f a x) g b n y back not_b) (elim (same_or_not n a) [
+          | inl here ↦ rw (here, set_at-same f a x) x_home
+          | inr not_a ↦ rw (set_at-other f a n x not_a) (rest n not_a not_b)
+        ])
+    ]
+
+pub same_home : (f g : Areas) → g ≡ f → AllHome f → AllHome g
+same_home f g same home n = rw (ap (λ (areas : Areas). areas n) same) (home n)

@@ -2,8 +2,8 @@
 
 ghost use Rattle.std.specs.Prelude.{◌≡◌, ◌≢◌, ◌≤◌, true, IfOk, IfErr, OnOk, OnErr};
 ghost use Rattle.lsn_core.specs.Causes.{HasCause};
-ghost use Rattle.vault.specs.Site.{at_home, away, set_at};
-ghost use Rattle.vault.specs.Lending.{both_out, IsOut, TakesCause};
+ghost use Rattle.vault.specs.Site.{AllHome, at_home, away, set_at};
+ghost use Rattle.vault.specs.Lending.{both_out, AllHomeBut, IsOut, TakesCause};
 
 use crate::area::Vault;
 use crate::site::Site;
@@ -25,6 +25,8 @@ pub fn take_one<S: Site>(site: &mut S, name: &[u8]) -> Result<S::Area, AreaFault
     ensures away { OnOk result (S.areas site.new ≡ set_at (S.areas site.old) name.now (away (S.areas site.old name.now))) }
     ensures out { IfOk result (λ area. IsOut (S.areas site.new) name.now (S.Area.faults area)) }
     ensures same { OnErr result (S.areas site.new ≡ S.areas site.old) }
+    ensures rest { OnOk result (AllHome (S.areas site.old) → AllHomeBut name.now name.now (S.areas site.new)) }
+    ensures home { OnErr result (AllHome (S.areas site.old) → AllHome (S.areas site.new)) }
     ensures cause { HasCause (S.own site.old) (S.own site.new) result }
 {
     let area = site.take(name)?;
@@ -35,6 +37,7 @@ pub fn take_one<S: Site>(site: &mut S, name: &[u8]) -> Result<S::Area, AreaFault
 pub fn give_one<S: Site>(site: &mut S, name: &[u8], area: S::Area)
     requires { IsOut (S.areas site.old) name.now (S.Area.faults area) }
     ensures areas { S.areas site.new ≡ set_at (S.areas site.old) name.now (at_home (S.Area.files area) (S.Area.faults area)) }
+    ensures home { AllHomeBut name.now name.now (S.areas site.old) → AllHome (S.areas site.new) }
     ensures own { S.own site.new ≡ S.own site.old }
 {
     site.give(name, area);
@@ -56,6 +59,8 @@ pub fn take_two<S: Site>(
     ensures first_out { IfOk result (λ both. IsOut (S.areas site.new) first.now (S.Area.faults both.0)) }
     ensures second_out { IfOk result (λ both. IsOut (S.areas site.new) second.now (S.Area.faults both.1)) }
     ensures same { OnErr result (S.areas site.new ≡ S.areas site.old) }
+    ensures rest { OnOk result (AllHome (S.areas site.old) → AllHomeBut first.now second.now (S.areas site.new)) }
+    ensures home { OnErr result (AllHome (S.areas site.old) → AllHome (S.areas site.new)) }
     ensures later { S.own site.old ≤ S.own site.new }
     ensures cause { IfErr result (TakesCause (S.own site.old) (S.own site.new)) }
 {
@@ -78,6 +83,7 @@ pub fn give_two<S: Site>(site: &mut S, first: &[u8], one: S::Area, second: &[u8]
     requires first { IsOut (S.areas site.old) first.now (S.Area.faults one) }
     requires second { IsOut (S.areas site.old) second.now (S.Area.faults two) }
     ensures areas { S.areas site.new ≡ set_at (set_at (S.areas site.old) first.now (at_home (S.Area.files one) (S.Area.faults one))) second.now (at_home (S.Area.files two) (S.Area.faults two)) }
+    ensures home { AllHomeBut first.now second.now (S.areas site.old) → AllHome (S.areas site.new) }
     ensures own { S.own site.new ≡ S.own site.old }
 {
     site.give(first, one);
