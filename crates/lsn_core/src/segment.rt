@@ -54,10 +54,11 @@ impl SegSize {
     }
 }
 
-/// What a store was made with: the segment size of its WAL, and the blocks per segment of a
-/// fork's files (1 to 131072).
+/// What a store was made with: the segment size of its WAL, the blocks per segment of a fork's
+/// files (1 to 131072), and the system identifier that stands in its WAL.
 #[derive(Clone, Copy, Debug, PartialEq, Eq)]
 pub struct Settings {
     pub segment: SegSize,
     pub relseg: u32,
+    pub system: u64,
 }

@@ -10,6 +10,7 @@ use Rattle.wal_record.specs.declared.record.Record.{Record}
 use Rattle.wal_record.specs.declared.record.Kind.{Kind}
 use Rattle.wal_record.specs.declared.record.Kind.TheVariants.{Shutdown, Generic, Create}
 use Rattle.wal_record.specs.Spelling.{IsEntry}
+pub use Rattle.wal_record.specs.Places.{raised, place_of, start_after}
 use Rattle.wal_reader.specs.Head.{origin, IsHead}
 use Rattle.wal_reader.specs.Scan.{all_zero}
 
@@ -25,13 +26,6 @@ first_page held = take 8192 held
 abbrev pub IsZeroFrom : List ℕ → ℕ → Type 0
 IsZeroFrom held at = all_zero (drop at held) ≡ true
 
--- a place raised to a multiple of 8
-abbrev pub raised : ℕ → ℕ
-raised at = (at + 7) / 8 * 8
-
-abbrev pub place_of : ℕ → ℕ → Place
-place_of start size = record { start = record { 0 = start }; end = record { 0 = raised (start + size) } }
-
 -- an entry may stand where the archive's first one does just if it is a shutdown checkpoint whose redo point is its own start
 abbrev pub IsAllowed : ℕ → ℕ → Kind → Type 0
 IsAllowed first start (Shutdown redo) = (start ≡ first) × (redo.0 ≡ start)
@@ -44,10 +38,6 @@ pub record StandsAt (mib : ℕ) (page : List ℕ) (start prev : ℕ) (r : Record
   pub whole : start - origin mib + size ≤ length page
   pub entry : IsEntry (take size (drop (start - origin mib) page)) (place_of start size) (Some (record { 0 = prev })) r
   pub allowed : IsAllowed (origin mib + 40) start r.kind
-
--- where the entry after this place starts: behind the page's head
-abbrev pub start_after : ℕ → ℕ → ℕ
-start_after mib at = if at == origin mib then origin mib + 40 else at
 
 -- the archive ends at a place: all that is held from there on is zero, or that place begins the page, whose head passes, and all behind the head is zero
 abbrev pub EndsAt : ℕ → List ℕ → ℕ → Type 0

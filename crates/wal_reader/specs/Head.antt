@@ -2,10 +2,7 @@
 use Rattle.std.specs.Prelude.{◌≡◌, ℕ, ◌≤◌, ◌⊎◌, List, length}
 use Rattle.byte_words.specs.Numbers.{u16_in, u32_in, u64_in}
 use Rattle.lsn_core.specs.Segment.{segment_bytes}
-
--- segment 1 begins at the size of a segment
-abbrev pub origin : ℕ → ℕ
-origin mib = segment_bytes mib
+pub use Rattle.wal_record.specs.Places.{origin}
 
 -- a long page header for the start of segment 1 with no entry continued. Its magic number is the
 -- profile's; it may be removable (bit 4); its padding isn't tested, and its system identifier is any

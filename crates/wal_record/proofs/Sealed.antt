@@ -1,11 +1,11 @@
 -- What is written with its sum is the written form of the entry.
-use Rattle.std.proofs.Common.{◌≡◌, ℕ, ◌%◌, ◌/◌, ◌^◌, ◌<◌, List, ◌++◌, Option, IfSome, ap, arith}
+use Rattle.std.proofs.Common.{◌≡◌, ℕ, ◌%◌, ◌/◌, ◌^◌, ◌<◌, List, ◌++◌, length, Option, IfSome, refl, ap, arith}
 use Rattle.std.specs.Int.{w32, to_le_bytes}
 use Rattle.lsn_core.specs.declared.lsn.Lsn.{Lsn}
 use Rattle.lsn_core.specs.declared.lsn.Place.{Place}
 use Rattle.wal_crc.specs.Crc.{crc32c}
 use Rattle.wal_record.specs.declared.record.Record.{Record}
-use Rattle.wal_record.specs.Spelling.{body_of, front_of, spelling, sealed, IsWritable, IsEntry}
+use Rattle.wal_record.specs.Spelling.{body_of, total_of, front_of, spelling, sealed, IsWritable, IsEntry}
 
 -- four bytes of a sum hold its last 32 bits
 four_bytes : (n : ℕ) → to_le_bytes w32 n ≡ to_le_bytes w32 (n % 2 ^ 32)
@@ -33,3 +33,13 @@ sealed_is_entry r place prev writable start end prev_fits linked xid_fits = reco
   xid_fits = xid_fits;
   kind = writable;
 }
+
+-- how many bytes are written
+pub length-sealed : (r : Record) → length (sealed r) ≡ total_of r.kind
+unfolding spelling
+length-sealed r = omega arith
+
+-- what is written doesn't depend on where the entry ends
+pub sealed_anywhere : (r : Record) (end : Lsn) → sealed (record r { end = end }) ≡ sealed r
+unfolding spelling
+sealed_anywhere r end = refl
