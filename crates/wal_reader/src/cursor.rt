@@ -2,14 +2,14 @@
 
 ghost use Rattle.std.specs.Prelude.{◌≡◌, ◌+◌, ◌≤◌, ◌↔◌, length, IsTrue, IfSome, IfOk};
 ghost use Rattle.lsn_core.specs.Causes.{HasCause};
-ghost use Rattle.wal_reader.specs.Head.{origin};
+ghost use Rattle.wal_reader.specs.Head.{origin, system_of};
 ghost use Rattle.wal_reader.specs.Archive.{held_bytes, first_page, EndsAt};
 ghost use Rattle.wal_reader.specs.Entry.{FollowAnswer};
 ghost use Rattle.wal_reader.specs.Cursor.{at_start, NextAnswer, SettingsAnswer, FoundAnswer};
 
 use crate::entry::entry_at;
 use crate::fault::{Damage, WalFault};
-use crate::head::is_head;
+use crate::head::{is_head, system_of};
 use crate::page::{is_zero_from, page_of};
 use lsn_core::{AreaFault, Lsn, SegSize, Settings, WalTip, segment_name};
 use std::alloc::Global;
@@ -19,19 +19,21 @@ use wal_record::Record;
 
 const HEAD: u64 = 40;
 
-/// The settings of a WAL: segments of 16 MiB and 131072 blocks a segment of a fork. `NotInit`
-/// exactly where the file of segment 1 isn't there.
+/// The settings of a WAL: segments of 16 MiB, 131072 blocks a segment of a fork, and the system
+/// identifier of the first page. `NotInit` exactly where the file of segment 1 isn't there.
 pub fn read_settings<V: Vault>(alloc: Global, area: &mut V) -> Result<Settings, WalFault>
     ensures answer { SettingsAnswer (V.files area.old) (V.faults area.old) (V.faults area.new) result }
+    ensures system { IfOk result (λ s. IfSome (V.files area.old) (λ m. s.system ≡ system_of (first_page (held_bytes 16 m)))) }
     ensures same { V.files area.new ≡ V.files area.old }
     ensures later { V.faults area.old ≤ V.faults area.new }
 {
     let segment = SegSize::standard();
     let name = segment_name(alloc, 1, segment)?;
-    match area.size(name.as_bytes())? {
-        Some(_) => Ok(Settings { segment, relseg: 131_072 }),
-        None => Err(WalFault::NotInit),
+    if area.size(name.as_bytes())?.is_none() {
+        return Err(WalFault::NotInit);
     }
+    let page = page_of(alloc, area, segment)?;
+    Ok(Settings { segment, relseg: 131_072, system: system_of(&page) })
 }
 
 /// A cursor over the archive, which holds nothing of the area. Contracts see where it stands.
@@ -67,6 +69,8 @@ impl WalCursor {
     /// begins, and 0.
     pub fn tip(&self) -> WalTip
         ensures end { result.end.0 ≡ self.now.at }
+        ensures least { origin self.now.mib ≤ result.end.0 }
+        ensures most { result.end.0 ≤ origin self.now.mib + 8192 }
         ensures prev { result.prev.0 ≡ self.now.prev }
     {
         WalTip { end: Lsn(self.at), prev: Lsn(self.prev) }

@@ -1,7 +1,7 @@
 //! The head of the archive's first page.
 
 ghost use Rattle.std.specs.Prelude.{◌≡◌, ◌↔◌, IsTrue};
-ghost use Rattle.wal_reader.specs.Head.{IsHead};
+ghost use Rattle.wal_reader.specs.Head.{IsHead, system_of};
 
 use byte_words::{u16_in, u32_in, u64_in};
 use lsn_core::SegSize;
@@ -23,4 +23,14 @@ pub fn is_head(page: &[u8], size: SegSize) -> bool
         && u32_in(page, 16) == 0
         && u64::from(u32_in(page, 32)) == size.bytes()
         && u32_in(page, 36) == 8192
+}
+
+/// The system identifier of the first page, 0 where its first 32 bytes aren't held.
+pub fn system_of(page: &[u8]) -> u64
+    ensures { result ≡ system_of page.now }
+{
+    if page.len() < 32 {
+        return 0;
+    }
+    u64_in(page, 24)
 }

@@ -20,7 +20,12 @@ fn raised(at: u64) -> u64
 
 /// The entry of a kind at a place, behind an entry that starts at `prev`, and its bytes with zeros
 /// up to its end.
-pub fn entry_of(alloc: Global, start: u64, prev: u64, kind: Kind) -> Result<(Record, Vec<u8>), NoMemory>
+pub fn entry_of(
+    alloc: Global,
+    start: u64,
+    prev: u64,
+    kind: Kind,
+) -> Result<(Record, Vec<u8>), NoMemory>
     requires kind { IsWritable kind }
     requires place { start < 2 ^ 62 }
     ensures record { IfOk result (λ x. x.0 ≡ record_at start prev kind) }

@@ -11,3 +11,5 @@ mod tail;
 pub use fault::AppendFault;
 pub use state::{Flushed, WalState};
 
+#[cfg(test)]
+mod tests;

@@ -48,7 +48,10 @@ impl<V: Vault> WalState<V> {
         ensures area { result.area ≡ area }
         ensures log { result.tail ≡ log_at settings tip }
     {
-        WalState { area, tail: Tail::new(alloc, settings, tip) }
+        WalState {
+            area,
+            tail: Tail::new(alloc, settings, tip),
+        }
     }
 
     /// The area again. What isn't flushed is lost.
@@ -85,7 +88,9 @@ impl<V: Vault> WalState<V> {
             write_out(alloc, &mut self.area, &self.tail, to.0)?;
             self.tail.advance(to.0);
         }
-        Ok(Flushed { to: Lsn(self.tail.flushed()) })
+        Ok(Flushed {
+            to: Lsn(self.tail.flushed()),
+        })
     }
 
     /// Where all before it is flushed.
@@ -118,12 +123,7 @@ fn write_out<V: Vault>(alloc: Global, area: &mut V, tail: &Tail, to: u64) -> Res
 }
 
 /// Writes bytes at a place of a file and syncs the area.
-fn write_synced<V: Vault>(
-    area: &mut V,
-    name: &[u8],
-    at: u64,
-    piece: &[u8],
-) -> Result<(), AreaFault>
+fn write_synced<V: Vault>(area: &mut V, name: &[u8], at: u64, piece: &[u8]) -> Result<(), AreaFault>
     ensures written { OnOk result (V.files area.new ≡ option_map (after_write name.now at piece.now) (V.files area.old)) }
     ensures left { OnErr result (Related (IsTorn name.now at (length piece.now)) (V.files area.old) (V.files area.new)) }
     ensures cause { HasCause (V.faults area.old) (V.faults area.new) result }
