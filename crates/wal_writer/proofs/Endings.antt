@@ -4,9 +4,8 @@ use Rattle.byte_words.specs.Pieces.{zero_filled}
 use Rattle.wal_record.specs.declared.record.Record.{Record}
 use Rattle.wal_record.specs.declared.record.Kind.{Kind}
 use Rattle.wal_record.specs.Spelling.{sealed, total_of}
-use Rattle.wal_record.specs.Places.{raised}
+use Rattle.wal_record.specs.Places.{raised, record_at, written_entry}
 use Rattle.wal_record.proofs.Sealed.{sealed_anywhere}
-use Rattle.wal_writer.specs.Log.{record_at, written_entry}
 
 -- an entry at a place that ends at a place
 abbrev pub record_from : ℕ → ℕ → ℕ → Kind → Record

@@ -11,16 +11,6 @@ use Rattle.wal_record.proofs.Sealed.{length-sealed}
 use Rattle.wal_writer.specs.Head.{page_head}
 use Rattle.wal_writer.specs.Log.{Log, IsLog, next_record, written_entry, lead}
 
-pub length-page_head : (mib system : ℕ) → length (page_head mib system) ≡ 40
-unfolding page_head
-length-page_head mib system = refl
-
-pub length-written : (r : Record) → r.start.0 + total_of r.kind ≤ r.end.0 → length (written_entry r) ≡ r.end.0 - r.start.0
-unfolding written_entry
-length-written r room =
-    let size : ℕ = r.end.0 - r.start.0 - length (sealed r) in
-    omega (arith, length-append (sealed r) (replicate size 0), length-replicate {A = ℕ} size 0, length-sealed r)
-
 length-chosen : (b : Bool) (at first : ℕ) (head : List ℕ) → length head ≡ 40 → (b ≡ true → at ≡ first) → at + length (if b then head else []) ≡ (if b then first + 40 else at)
 length-chosen true at first head len same = omega (arith, len, same refl)
 length-chosen false at first head len same = omega arith

@@ -1,13 +1,10 @@
 -- The WAL as its writer knows it.
 use Rattle.std.specs.Prelude.{◌≡◌, ℕ, ◌+◌, ◌-◌, ◌<◌, ◌≤◌, ◌^◌, max, List, [], ◌++◌, length, drop, ◌==◌, if◌then◌else◌}
-use Rattle.byte_words.specs.Pieces.{zero_filled}
 use Rattle.lsn_core.specs.declared.lsn.WalTip.{WalTip}
 use Rattle.lsn_core.specs.declared.segment.Settings.{Settings}
 use Rattle.wal_record.specs.declared.record.Record.{Record}
 use Rattle.wal_record.specs.declared.record.Kind.{Kind}
-use Rattle.wal_record.specs.Spelling.{sealed, total_of}
-use Rattle.wal_record.specs.Places.{origin, raised, start_after}
-use Rattle.wal_writer.specs.Head.{page_head}
+use Rattle.wal_record.specs.Places.{origin, start_after, record_at, written_entry, page_head}
 
 -- the segment size in MiB and the system identifier, the place up to which all is flushed, the end of the last entry,
 -- where that entry starts (0 where there is none), and the bytes from the flushed position to the end
@@ -30,17 +27,9 @@ pub record IsLog (log : Log) : Type 0 where
 abbrev pub log_at : Settings → WalTip → Log
 log_at settings tip = record { mib = settings.segment; system = settings.system; flushed = tip.end.0; end = tip.end.0; prev = tip.prev.0; pending = [] }
 
--- the entry of a kind at a place, behind one that starts at prev, written by no transaction
-abbrev pub record_at : ℕ → ℕ → Kind → Record
-record_at start prev kind = record { start = record { 0 = start }; end = record { 0 = raised (start + total_of kind) }; prev = record { 0 = prev }; xid = 0; kind = kind }
-
 -- the entry of a kind that comes next
 abbrev pub next_record : Log → Kind → Record
 next_record log kind = record_at (start_after log.mib log.end) log.prev kind
-
--- an entry as it stands in the WAL: its own bytes, and zeros up to its end
-unfoldable pub written_entry : Record → List ℕ
-written_entry r = zero_filled (sealed r) (r.end.0 - r.start.0)
 
 -- what stands before the next entry: at the start of a segment its page's head
 abbrev pub lead : Log → List ℕ

@@ -2,9 +2,8 @@
 
 ghost use Rattle.std.specs.Prelude.{◌≡◌, ◌+◌, ◌<◌, ◌≤◌, ◌^◌, length, IfOk, OnOk};
 ghost use Rattle.byte_words.specs.Pieces.{zero_filled};
-ghost use Rattle.wal_record.specs.Places.{raised};
+ghost use Rattle.wal_record.specs.Places.{raised, record_at, written_entry};
 ghost use Rattle.wal_record.specs.Spelling.{IsWritable};
-ghost use Rattle.wal_writer.specs.Log.{record_at, written_entry};
 
 use lsn_core::{Lsn, NoMemory};
 use std::alloc::{AllocError, Global};

@@ -1,7 +1,7 @@
 //! The head of a segment's first page.
 
 ghost use Rattle.std.specs.Prelude.{◌≡◌, IfOk};
-ghost use Rattle.wal_writer.specs.Head.{page_head};
+ghost use Rattle.wal_record.specs.Places.{page_head};
 
 use lsn_core::Settings;
 use std::alloc::{AllocError, Global};
@@ -10,7 +10,7 @@ use std::alloc::{AllocError, Global};
 const MAGIC: u16 = 0xD116;
 
 /// The long head of the first page of segment 1, with no entry continued.
-#[tactic(auto, unfolding(crate::specs::Head::page_head))]
+#[tactic(auto, unfolding(wal_record::specs::Places::page_head))]
 pub fn page_head(alloc: Global, settings: &Settings) -> Result<Vec<u8>, AllocError>
     ensures { IfOk result (λ bytes. bytes.items ≡ page_head settings.now.segment settings.now.system) }
 {

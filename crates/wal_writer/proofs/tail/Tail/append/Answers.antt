@@ -1,7 +1,7 @@
 -- The bytes not yet flushed reach to the end of the entry.
 use Rattle.std.proofs.Common.{ℕ, List, ◌++◌, sym, ap, ◌∙◌, arith}
-use Rattle.wal_record.specs.Places.{start_after}
-use Rattle.wal_writer.specs.Log.{Log, record_at, lead}
+use Rattle.wal_record.specs.Places.{start_after, record_at}
+use Rattle.wal_writer.specs.Log.{Log, lead}
 use Rattle.wal_writer.proofs.Lengths.{append_keeps}
 use Rattle.wal_writer.proofs.tail.Tail.append.Goals as goal
 
