@@ -1,6 +1,6 @@
 //! A store of pages in memory.
 
-ghost use Rattle.std.specs.Prelude.{◌≡◌, ◌<◌, ℕ, List, length, slice_get, Option, Some, OnOk, OnErr, IfOk};
+ghost use Rattle.std.specs.Prelude.{◌≡◌, ◌<◌, ◌≤◌, ◌^◌, ℕ, List, length, slice_get, Option, Some, OnOk, OnErr, IfOk};
 ghost use Rattle.std.specs.FinMap.{empty, get, keys, len};
 ghost use Rattle.std.specs.Option.{option_map};
 ghost use Rattle.history.specs.Apply.{with_block, with_page, with_fork};
@@ -57,10 +57,11 @@ impl PageMap {
         self.forks.len() as u64
     }
 
-    /// How many pages all forks have together. `NoMemory` where the number is above that of the
-    /// type's end, which no memory holds.
+    /// How many pages all forks have together. `NoMemory` exactly where that is past the number's
+    /// type, which no memory holds.
     pub fn page_count(&self) -> Result<u64, NoMemory>
-        ensures { IfOk result (λ count. count ≡ page_count self.now) }
+        ensures count { IfOk result (λ count. count ≡ page_count self.now) }
+        ensures many { OnErr result (2 ^ 64 ≤ page_count self.now) }
     {
         let mut count: u64 = 0;
         for pages in self.forks.values() {

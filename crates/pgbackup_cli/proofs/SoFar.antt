@@ -66,7 +66,7 @@ pub one_more : (mib : ℕ) (files : Option Files) (at prev : ℕ) (store last : 
 one_more mib files at prev store last r so later follows step = record {
   entries = so.entries ++ (r ∷ []);
   passed = when_both_told files (λ m. Passes mib (held_bytes mib m) (origin mib) 0 so.entries at prev) (λ m. Follows mib (held_bytes mib m) at prev r) (λ m. Passes mib (held_bytes mib m) (origin mib) 0 (so.entries ++ (r ∷ [])) r.end.0 r.start.0)
-    (λ m passed next. Passes-push mib (held_bytes mib m) (origin mib) 0 so.entries at prev r passed next) so.passed follows;
+      (λ m passed next. Passes-push mib (held_bytes mib m) (origin mib) 0 so.entries at prev r passed next) so.passed follows;
   applied = rw (map-append entry_of so.entries (r ∷ [])) (apply_all-push empty (map entry_of so.entries) store (entry_of r) last so.applied step);
   within = EndBy-push at r.end.0 so.entries r so.within (omega arith) (omega arith);
 }
@@ -76,7 +76,7 @@ pub at_end : (mib : ℕ) (files : Option Files) (at prev : ℕ) (store : Store) 
 at_end mib files at prev store so ends = record {
   entries = so.entries;
   archive = when_both_told files (λ m. Passes mib (held_bytes mib m) (origin mib) 0 so.entries at prev) (λ m. EndsAt mib (held_bytes mib m) at) (λ m. IsArchive mib m so.entries at)
-    (λ m passed end. Passes-end mib (held_bytes mib m) (origin mib) 0 so.entries at prev passed end) so.passed ends;
+      (λ m passed end. Passes-end mib (held_bytes mib m) (origin mib) 0 so.entries at prev passed end) so.passed ends;
   store_is = ap (λ (rs : List Record). apply_all empty (map entry_of rs)) (all_kept at so.entries so.within) ∙ so.applied;
 }
 
@@ -104,8 +104,8 @@ pub next_kept : (mib : ℕ) (old files after : Option Files) (before now later :
 next_kept mib old files after before now later c new store last r kept answer same rises step =
     let a = answered c new files now later (Ok (Some r)) kept.fresh answer in
     let follows : IfSome old (λ m. Follows mib (held_bytes mib m) c.at c.prev r) =
-      subst (λ (f : Option Files). IfSome f (λ m. Follows mib (held_bytes mib m) c.at c.prev r)) kept.same
-      (subst (λ (n : ℕ). IfSome files (λ m. Follows n (held_bytes n m) c.at c.prev r)) kept.segment a.1.1) in
+    subst (λ (f : Option Files). IfSome f (λ m. Follows mib (held_bytes mib m) c.at c.prev r)) kept.same
+    (subst (λ (n : ℕ). IfSome files (λ m. Follows n (held_bytes n m) c.at c.prev r)) kept.segment a.1.1) in
     subst (λ (reading : Reading). Keeps mib old after before later reading last) (sym a.0)
     (record {
       fresh = kept.fresh;
@@ -120,8 +120,8 @@ pub end_kept : (mib : ℕ) (old files : Option Files) (before now later : ℕ) (
 end_kept mib old files before now later c new store kept answer =
     let a = answered c new files now later (Ok None) kept.fresh answer in
     let ends : IfSome old (λ m. EndsAt mib (held_bytes mib m) c.at) =
-      subst (λ (f : Option Files). IfSome f (λ m. EndsAt mib (held_bytes mib m) c.at)) kept.same
-      (subst (λ (n : ℕ). IfSome files (λ m. EndsAt n (held_bytes n m) c.at)) kept.segment a.1) in
+    subst (λ (f : Option Files). IfSome f (λ m. EndsAt mib (held_bytes mib m) c.at)) kept.same
+    (subst (λ (n : ℕ). IfSome files (λ m. EndsAt n (held_bytes n m) c.at)) kept.segment a.1) in
     subst (λ (reading : Reading). IsReplayed mib old store reading.at) (sym a.0) (at_end mib old c.at c.prev store kept.so_far ends)
 
 pub fault_kept : (mib : ℕ) (old files : Option Files) (before now later : ℕ) (c new : Reading) (store : Store) (fault : WalFault) → Keeps mib old files before now c store
@@ -129,8 +129,8 @@ pub fault_kept : (mib : ℕ) (old files : Option Files) (before now later : ℕ)
 fault_kept mib old files before now later c new store (Damaged place why) kept answer =
     let a = answered c new files now later (Err (Damaged place why)) kept.fresh answer in
     let damaged : IfSome old (λ m. IsDamagedAt mib (held_bytes mib m) c.at c.prev place.0) =
-      subst (λ (f : Option Files). IfSome f (λ m. IsDamagedAt mib (held_bytes mib m) c.at c.prev place.0)) kept.same
-      (subst (λ (n : ℕ). IfSome files (λ m. IsDamagedAt n (held_bytes n m) c.at c.prev place.0)) kept.segment a.1) in
+    subst (λ (f : Option Files). IfSome f (λ m. IsDamagedAt mib (held_bytes mib m) c.at c.prev place.0)) kept.same
+    (subst (λ (n : ℕ). IfSome files (λ m. IsDamagedAt n (held_bytes n m) c.at c.prev place.0)) kept.segment a.1) in
     at_damage mib old c.at c.prev store place.0 kept.so_far damaged
 fault_kept mib old files before now later c new store NotInit kept answer = absurd (answered c new files now later (Err NotInit) kept.fresh answer).1
 fault_kept mib old files before now later c new store Failed kept answer =

@@ -1,15 +1,15 @@
 -- The entry that stands at a place is the one that its own bytes spell.
-use Rattle.std.proofs.Common.{◌≡◌, ℕ, ◌+◌, ◌-◌, ◌*◌, ◌/◌, ◌<◌, ◌≤◌, min, List, length, take, drop, get_or, Some, Result, Ok, Err, refl, sym, ap, subst, ◌∙◌, arith}
+use Rattle.std.proofs.Common.{◌≡◌, ℕ, ◌+◌, ◌-◌, ◌<◌, ◌≤◌, List, length, take, drop, get_or, Some, Result, Err, refl, sym, ap, subst, ◌∙◌, arith}
 use Rattle.std.proofs.lemmas.List.{length-take, length-drop, get_or-drop, get_or-take}
 use Rattle.byte_words.proofs.Fields.{number_is}
-use Rattle.byte_words.specs.Numbers.{u16_in, u32_in}
+use Rattle.byte_words.specs.Numbers.{u32_in}
 use Rattle.lsn_core.specs.declared.lsn.Lsn.{Lsn}
 use Rattle.lsn_core.specs.declared.lsn.Place.{Place}
 use Rattle.wal_record.specs.declared.record.Record.{Record}
 use Rattle.wal_record.specs.Spelling.{IsEntry}
 use Rattle.wal_record.proofs.Entries.{entry_once, entry_total}
-use Rattle.wal_reader.specs.Head.{origin}
-use Rattle.wal_reader.specs.Archive.{StandsAt, place_of, raised, IsAllowed}
+use Rattle.wal_reader.specs.Head.{origin, first_start}
+use Rattle.wal_reader.specs.Archive.{StandsAt, place_of, aligned, IsAllowed}
 use Rattle.wal_record.specs.declared.record.RecordFault.{RecordFault}
 use Rattle.wal_record.specs.declared.record.RecordFault.TheVariants.{Form, NoMemory}
 use Rattle.wal_reader.specs.Entry.{IsOwn, IsCutOff, EntryAnswer, fault_at}
@@ -63,13 +63,13 @@ as_own mib page start prev bytes own r s =
 
 -- no entry stands where its own bytes spell none that is allowed
 pub none_allowed : (mib : ℕ) (page : List ℕ) (start prev : ℕ) (bytes : List ℕ) → IsOwn page (start - origin mib) bytes
-    → ((q : Record) → IsEntry bytes (place_of start (length bytes)) (Some (record { 0 = prev })) q → IsAllowed (origin mib + 40) start q.kind → ⊥)
+    → ((q : Record) → IsEntry bytes (place_of start (length bytes)) (Some (record { 0 = prev })) q → IsAllowed (first_start mib) start q.kind → ⊥)
     → (r : Record) → StandsAt mib page start prev r → ⊥
 none_allowed mib page start prev bytes own none r s = none r (as_own mib page start prev bytes own r s) s.allowed
 
 -- the same where the start of segment 1 and the end of the entry are numbers of their own
-pub refused : (mib : ℕ) (page : List ℕ) (start prev : ℕ) (bytes : List ℕ) (base end : ℕ) → base ≡ origin mib → end ≡ raised (start + length bytes) → IsOwn page (start - base) bytes
-    → ((q : Record) → IsEntry bytes (record { start = record { 0 = start }; end = record { 0 = end } }) (Some (record { 0 = prev })) q → IsAllowed (origin mib + 40) start q.kind → ⊥)
+pub refused : (mib : ℕ) (page : List ℕ) (start prev : ℕ) (bytes : List ℕ) (base end : ℕ) → base ≡ origin mib → end ≡ aligned (start + length bytes) → IsOwn page (start - base) bytes
+    → ((q : Record) → IsEntry bytes (record { start = record { 0 = start }; end = record { 0 = end } }) (Some (record { 0 = prev })) q → IsAllowed (first_start mib) start q.kind → ⊥)
     → (r : Record) → StandsAt mib page start prev r → ⊥
 refused mib page start prev bytes base end base_is end_is own none =
     none_allowed mib page start prev bytes (subst (λ (b : ℕ). IsOwn page (start - b) bytes) base_is own)
@@ -88,5 +88,5 @@ refusal mib page start prev NoMemory none = tt
 pub given : (mib : ℕ) (page : List ℕ) (at start prev : ℕ) (r : Record) → length page ≤ 8192 → at ≤ start → origin mib ≤ start → StandsAt mib page start prev r → IsGiven mib at r
 given mib page at start prev r short later least s =
     let h = has_size mib page start prev r s in
-    let end : r.end.0 ≡ raised (start + s.size) = ap (λ (l : Lsn). l.0) s.entry.end in
+    let end : r.end.0 ≡ aligned (start + s.size) = ap (λ (l : Lsn). l.0) s.entry.end in
     record { later = omega (arith, h.least, end); on_page = omega (arith, s.whole, short, end); writable = s.entry.kind }

@@ -2,3 +2,4 @@ pub mod Zeros
 pub mod Entries
 pub mod Steps
 pub mod Passing
+pub mod Once

@@ -1,11 +1,10 @@
 -- Reading a file piece by piece, and looking through it for bytes other than zero.
-use Rattle.std.proofs.Common.{◌≡◌, ℕ, ◌+◌, ◌-◌, ◌<◌, ◌≤◌, min, Bool, true, false, List, [], ◌++◌, length, take, drop, refl, sym, ap, subst, ◌∙◌, arith}
-use Rattle.std.specs.List.{list_all}
-use Rattle.std.proofs.lemmas.List.{drop-take, length-take, length-drop, take_all, append-nil, drop-drop}
+use Rattle.std.proofs.Common.{◌≡◌, ℕ, ◌+◌, ◌-◌, ◌≤◌, true, false, List, [], ◌++◌, length, take, drop, refl, ap, subst, ◌∙◌, arith}
+use Rattle.std.proofs.lemmas.List.{drop-take, length-take, take_all, append-nil, drop-drop}
 use Rattle.std.proofs.lemmas.List.Folds.{list_all-append}
 use Rattle.std.proofs.Math.ListN.{drop_of_length-le}
 use Rattle.std.proofs.Math.Seq.{take-add}
-use Rattle.wal_reader.specs.Scan.{all_zero, IsZeroRun}
+use Rattle.wal_reader.specs.Scan.{all_zero}
 
 -- a buffer that was read into and cut to what was read
 pub kept : (count len size : ℕ) (new items into file : List ℕ) → new ≡ take count (take len (into ++ drop (length into) items)) → length into ≡ size → length items ≡ size → len ≡ size → take count into ≡ take size file → new ≡ take size file

@@ -9,7 +9,6 @@ use Rattle.lsn_core.specs.declared.fault.AreaFault.{AreaFault}
 use Rattle.lsn_core.specs.declared.fault.AreaFault.TheVariants as area
 use Rattle.wal_record.specs.declared.record.Record.{Record}
 use Rattle.wal_record.specs.Spelling.{IsWritable}
-use Rattle.wal_reader.specs.declared.fault.Damage.{Damage}
 use Rattle.wal_reader.specs.declared.fault.WalFault.{WalFault}
 use Rattle.wal_reader.specs.declared.fault.WalFault.TheVariants.{Damaged, NotInit, Failed, NoMemory}
 use Rattle.wal_reader.specs.Head.{origin}

@@ -1,11 +1,9 @@
 -- What looking for an entry at a place of the first page answers.
 use Rattle.std.specs.Prelude.{◌≡◌, ℕ, ◌+◌, ◌≤◌, List, length, take, drop, Result, Ok, Err}
 use Rattle.byte_words.specs.Numbers.{u32_in}
-use Rattle.lsn_core.specs.declared.lsn.Lsn.{Lsn}
 use Rattle.wal_record.specs.declared.record.Record.{Record}
 use Rattle.wal_record.specs.declared.record.RecordFault.{RecordFault}
 use Rattle.wal_record.specs.declared.record.RecordFault.TheVariants as record_fault
-use Rattle.wal_reader.specs.declared.fault.Damage.{Damage}
 use Rattle.wal_reader.specs.declared.fault.Damage.TheVariants.{Form}
 use Rattle.wal_reader.specs.declared.fault.WalFault.{WalFault}
 use Rattle.wal_reader.specs.declared.fault.WalFault.TheVariants.{Damaged, NotInit, Failed, NoMemory}

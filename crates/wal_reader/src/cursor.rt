@@ -1,15 +1,18 @@
-//! A cursor over the archive.
+//! A cursor over the archive, and the settings that it is made from.
+//!
+//! Where the archive goes on, where it ends and where it is damaged is said in `specs/Archive.antt`;
+//! what each call answers and how it leaves the cursor, in `specs/Cursor.antt`.
 
 ghost use Rattle.std.specs.Prelude.{◌≡◌, ◌+◌, ◌≤◌, ◌↔◌, length, IsTrue, IfSome, IfOk};
 ghost use Rattle.lsn_core.specs.Causes.{HasCause};
-ghost use Rattle.wal_reader.specs.Head.{origin, system_of};
+ghost use Rattle.wal_reader.specs.Head.{origin, system_in};
 ghost use Rattle.wal_reader.specs.Archive.{held_bytes, first_page, EndsAt};
 ghost use Rattle.wal_reader.specs.Entry.{FollowAnswer};
 ghost use Rattle.wal_reader.specs.Cursor.{at_start, NextAnswer, SettingsAnswer, FoundAnswer};
 
 use crate::entry::entry_at;
 use crate::fault::{Damage, WalFault};
-use crate::head::{is_head, system_of};
+use crate::head::{LONG_HEAD, is_head, system_in};
 use crate::page::{is_zero_from, page_of};
 use lsn_core::{AreaFault, Lsn, SegSize, Settings, WalTip, segment_name};
 use std::alloc::Global;
@@ -17,26 +20,39 @@ use std::marker::Model;
 use vault::Vault;
 use wal_record::Record;
 
-const HEAD: u64 = 40;
-
-/// The settings of a WAL: segments of 16 MiB, 131072 blocks a segment of a fork, and the system
-/// identifier of the first page. `NotInit` exactly where the file of segment 1 isn't there.
+/// The settings of a WAL, which so far are always the same: segments of 16 MiB (PostgreSQL manual,
+/// initdb --wal-segsize), and 131072 blocks a segment of a fork (PostgreSQL manual, configure
+/// --with-segsize). The system identifier is that of the first page's head. `NotInit` exactly where the file of segment 1 isn't there.
 pub fn read_settings<V: Vault>(alloc: Global, area: &mut V) -> Result<Settings, WalFault>
+    ensures system { IfOk result (λ s. IfSome (V.files area.old) (λ m. s.system ≡ system_in (first_page (held_bytes s.segment m)))) }
     ensures answer { SettingsAnswer (V.files area.old) (V.faults area.old) (V.faults area.new) result }
-    ensures system { IfOk result (λ s. IfSome (V.files area.old) (λ m. s.system ≡ system_of (first_page (held_bytes 16 m)))) }
     ensures same { V.files area.new ≡ V.files area.old }
     ensures later { V.faults area.old ≤ V.faults area.new }
 {
     let segment = SegSize::standard();
     let name = segment_name(alloc, 1, segment)?;
-    if area.size(name.as_bytes())?.is_none() {
-        return Err(WalFault::NotInit);
+    match area.size(name.as_bytes())? {
+        Some(_) => Ok(Settings {
+            segment,
+            relseg: 131_072,
+            system: system_of(alloc, area, segment)?,
+        }),
+        None => Err(WalFault::NotInit),
     }
-    let page = page_of(alloc, area, segment)?;
-    Ok(Settings { segment, relseg: 131_072, system: system_of(&page) })
 }
 
-/// A cursor over the archive, which holds nothing of the area. Contracts see where it stands.
+/// The system identifier that stands in the head of the first page.
+fn system_of<V: Vault>(alloc: Global, area: &mut V, segment: SegSize) -> Result<u64, AreaFault>
+    ensures system { IfOk result (λ system. IfSome (V.files area.old) (λ m. system ≡ system_in (first_page (held_bytes segment m)))) }
+    ensures same { V.files area.new ≡ V.files area.old }
+    ensures cause { HasCause (V.faults area.old) (V.faults area.new) result }
+{
+    let page = page_of(alloc, area, segment)?;
+    Ok(system_in(&page))
+}
+
+/// A cursor over the archive. It holds nothing of the area, which is given to each step. Contracts
+/// see where it stands, and the fault that it goes on to answer (`Reading`).
 #[derive(Debug, Drop)]
 pub struct WalCursor {
     segment: SegSize,
@@ -62,23 +78,35 @@ impl WalCursor {
         ensures { result ≡ at_start settings.now.segment }
     {
         let segment = settings.segment;
-        WalCursor { segment, at: segment.bytes(), prev: 0, fault: None }
+        WalCursor {
+            segment,
+            at: segment.bytes(),
+            prev: 0,
+            fault: None,
+        }
     }
 
     /// Where the last entry that it gave ends and starts; before the first one, where the archive
     /// begins, and 0.
     pub fn tip(&self) -> WalTip
         ensures end { result.end.0 ≡ self.now.at }
-        ensures least { origin self.now.mib ≤ result.end.0 }
-        ensures most { result.end.0 ≤ origin self.now.mib + 8192 }
         ensures prev { result.prev.0 ≡ self.now.prev }
     {
-        WalTip { end: Lsn(self.at), prev: Lsn(self.prev) }
+        WalTip {
+            end: Lsn(self.at),
+            prev: Lsn(self.prev),
+        }
     }
 
-    /// The next entry, in order. None exactly at the archive's end. After a fault other than
-    /// `Failed` it answers the same fault again; after `Failed` it stands as before the call.
-    pub fn next<V: Vault>(&mut self, alloc: Global, area: &mut V) -> Result<Option<Record>, WalFault>
+    /// The next entry, in order. None exactly at the archive's end, where the cursor stays and may
+    /// be asked again. `Damaged` exactly where the archive is damaged behind the entries so far.
+    /// After a fault other than `Failed` it answers the same fault again; after `Failed` it stands
+    /// as before the call. It reads the page anew, and the file up to a byte other than zero.
+    pub fn next<V: Vault>(
+        &mut self,
+        alloc: Global,
+        area: &mut V,
+    ) -> Result<Option<Record>, WalFault>
         ensures answer { NextAnswer self.old.fault self.old self.new (V.files area.old) (V.faults area.old) (V.faults area.new) result }
         ensures same { V.files area.new ≡ V.files area.old }
         ensures later { V.faults area.old ≤ V.faults area.new }
@@ -99,8 +127,14 @@ impl WalCursor {
     }
 }
 
-/// Whether the archive ends at a place, by its first page and by what is zero.
-fn is_end<V: Vault>(alloc: Global, area: &mut V, segment: SegSize, at: u64, page: &[u8]) -> Result<bool, AreaFault>
+/// Whether the archive ends at a place, by its first page and by what is zero behind the place.
+fn is_end<V: Vault>(
+    alloc: Global,
+    area: &mut V,
+    segment: SegSize,
+    at: u64,
+    page: &[u8],
+) -> Result<bool, AreaFault>
     requires least { origin segment ≤ at }
     requires most { at ≤ origin segment + 8192 }
     requires page { IfSome (V.files area.old) (λ m. page.now ≡ first_page (held_bytes segment m)) }
@@ -115,11 +149,17 @@ fn is_end<V: Vault>(alloc: Global, area: &mut V, segment: SegSize, at: u64, page
     if at > origin || !is_head(page, segment) {
         return Ok(false);
     }
-    is_zero_from(alloc, area, segment, HEAD)
+    is_zero_from(alloc, area, segment, LONG_HEAD)
 }
 
-/// What follows a place of the first page, where the archive goes on.
-fn follows(alloc: Global, page: &[u8], segment: SegSize, at: u64, prev: u64) -> Result<Record, WalFault>
+/// The entry that follows a place of the first page, where the archive goes on.
+fn follows(
+    alloc: Global,
+    page: &[u8],
+    segment: SegSize,
+    at: u64,
+    prev: u64,
+) -> Result<Record, WalFault>
     requires least { origin segment ≤ at }
     requires most { at ≤ origin segment + 8192 }
     requires page { length page.now ≤ 8192 }
@@ -129,13 +169,19 @@ fn follows(alloc: Global, page: &[u8], segment: SegSize, at: u64, prev: u64) -> 
         if !is_head(page, segment) {
             return Err(WalFault::Damaged(Lsn(at), Damage::Form));
         }
-        return entry_at(alloc, page, segment, at + HEAD, prev);
+        return entry_at(alloc, page, segment, at + LONG_HEAD, prev);
     }
     entry_at(alloc, page, segment, at, prev)
 }
 
 /// What stands after a place.
-fn found<V: Vault>(alloc: Global, area: &mut V, segment: SegSize, at: u64, prev: u64) -> Result<Option<Record>, WalFault>
+fn found<V: Vault>(
+    alloc: Global,
+    area: &mut V,
+    segment: SegSize,
+    at: u64,
+    prev: u64,
+) -> Result<Option<Record>, WalFault>
     requires least { origin segment ≤ at }
     requires most { at ≤ origin segment + 8192 }
     ensures answer { FoundAnswer segment at prev (V.files area.old) (V.faults area.old) (V.faults area.new) result }

@@ -9,16 +9,17 @@ use lsn_core::{AreaFault, Lsn, NoMemory};
 /// What is wrong with damaged WAL.
 #[derive(Clone, Copy, Debug, PartialEq, Eq)]
 pub enum Damage {
-    /// There is neither a page head nor an entry in its written form.
+    /// What stands there is not what has to: the head of the page, or an entry in its written form
+    /// that may stand there.
     Form,
 }
 
 /// Why a WAL can't be read.
 #[derive(Clone, Copy, Debug, PartialEq, Eq)]
 pub enum WalFault {
-    /// The WAL is damaged at this place.
+    /// The archive is damaged at this place: the start of the page or of an entry.
     Damaged(Lsn, Damage),
-    /// There is no WAL.
+    /// There is no WAL: the file of segment 1 isn't there.
     NotInit,
     /// The area of the WAL failed, and its count of faults rose.
     Failed,

@@ -1,15 +1,13 @@
 -- How long the bytes are that an entry adds to the log.
-use Rattle.std.proofs.Common.{◌≡◌, ℕ, ◌+◌, ◌-◌, ◌<◌, ◌≤◌, ◌^◌, Bool, true, false, List, ◌++◌, length, replicate, refl, sym, ap, subst, ◌∙◌, arith}
+use Rattle.std.proofs.Common.{◌≡◌, ℕ, ◌+◌, ◌<◌, ◌≤◌, ◌^◌, Bool, true, false, List, ◌++◌, length, refl, sym, ap, subst, ◌∙◌, arith}
 use Rattle.std.specs.Prelude.{◌==◌, if◌then◌else◌, []}
 use Rattle.std.proofs.lemmas.Bool.{eqb-true}
-use Rattle.std.proofs.lemmas.List.{length-append, length-replicate}
+use Rattle.std.proofs.lemmas.List.{length-append}
 use Rattle.wal_record.specs.declared.record.Record.{Record}
 use Rattle.wal_record.specs.declared.record.Kind.{Kind}
-use Rattle.wal_record.specs.Spelling.{sealed, total_of}
-use Rattle.wal_record.specs.Places.{origin, start_after}
-use Rattle.wal_record.proofs.Sealed.{length-sealed}
-use Rattle.wal_writer.specs.Head.{page_head}
-use Rattle.wal_writer.specs.Log.{Log, IsLog, next_record, written_entry, lead}
+use Rattle.wal_record.specs.Places.{origin, start_after, written_entry, page_head}
+use Rattle.wal_record.proofs.Sealed.{length-page_head, length-written}
+use Rattle.wal_writer.specs.Log.{Log, IsLog, next_record, lead}
 
 length-chosen : (b : Bool) (at first : ℕ) (head : List ℕ) → length head ≡ 40 → (b ≡ true → at ≡ first) → at + length (if b then head else []) ≡ (if b then first + 40 else at)
 length-chosen true at first head len same = omega (arith, len, same refl)

@@ -2,17 +2,17 @@
 
 ghost use Rattle.std.specs.Prelude.{◌≡◌, ◌+◌, ◌<◌, ◌≤◌, ◌^◌, length, IfOk, OnOk};
 ghost use Rattle.byte_words.specs.Pieces.{zero_filled};
-ghost use Rattle.wal_record.specs.Places.{raised, record_at, written_entry};
+ghost use Rattle.wal_record.specs.Places.{aligned, record_at, written_entry};
 ghost use Rattle.wal_record.specs.Spelling.{IsWritable};
 
 use lsn_core::{Lsn, NoMemory};
 use std::alloc::{AllocError, Global};
 use wal_record::{Kind, Record, encode_record};
 
-/// A place raised to a multiple of 8.
-fn raised(at: u64) -> u64
+/// A place rounded up to a multiple of 8.
+fn aligned(at: u64) -> u64
     requires { at < 2 ^ 63 }
-    ensures { result ≡ raised at }
+    ensures { result ≡ aligned at }
 {
     (at + 7) / 8 * 8
 }
@@ -38,7 +38,7 @@ pub fn entry_of(
         kind,
     };
     let mut bytes = encode_record(alloc, &record)?;
-    record.end = Lsn(raised(start + bytes.len() as u64));
+    record.end = Lsn(aligned(start + bytes.len() as u64));
     pad(&mut bytes, (record.end.0 - start) as usize)?;
     Ok((record, bytes))
 }

@@ -1,5 +1,5 @@
 -- The entry starts behind the head at the start of the page, and elsewhere at the place itself.
-use Rattle.std.proofs.Common.{◌≡◌, sym, ◌∙◌}
+use Rattle.std.proofs.Common.{sym, ◌∙◌}
 use Rattle.wal_reader.proofs.Steps.{from_entry, start_at_origin, start_behind}
 use Rattle.wal_reader.proofs.cursor.follows.Goals as goal
 

@@ -1,5 +1,5 @@
 -- The first page lies within the segment.
-use Rattle.std.proofs.Common.{◌≡◌, ◌*◌, ◌≤◌, ℕ, List, take, ap, sym, ◌∙◌, arith}
+use Rattle.std.proofs.Common.{◌≡◌, ◌*◌, ℕ, List, take, ap, sym, ◌∙◌, arith}
 use Rattle.std.proofs.lemmas.List.{take-take}
 use Rattle.byte_words.specs.Told.{when_told}
 use Rattle.lsn_core.specs.Names.{segment_name_bytes}

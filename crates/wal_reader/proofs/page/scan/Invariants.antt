@@ -1,4 +1,4 @@
-use Rattle.std.proofs.Common.{◌-◌, ◌≡◌, ◌≤◌, IfSome, length, take, drop}
+use Rattle.std.proofs.Common.{◌-◌, ◌≡◌, ◌≤◌, IfSome, take, drop}
 use Rattle.vault.specs.Area.{bytes_of}
 use Rattle.wal_reader.specs.Scan.{all_zero}
 use Rattle.wal_reader.proofs.page.scan.Given as goal
