@@ -1,7 +1,8 @@
--- A write, and no write at all, leave no more unknown than a write that failed.
-use Rattle.std.proofs.Common.{◌≡◌, ℕ, ◌+◌, ◌-◌, ◌≤◌, max, Bool, true, false, cond, List, [], ◌∷◌, ◌++◌, length, get_or, take, drop, replicate, Option, Some, None, IfSome, option_map, unwrap_or, refl, sym, subst, ◌∙◌, arith}
-use Rattle.std.proofs.lemmas.List.{length-append, length-replicate, length-take-le, length-drop, get_or_append_left}
-use Rattle.std.specs.Ordering.{nat_cmp, is_eq, eq_by_cmp}
+-- What a write leaves: its file, and no more unknown than after a write that failed.
+use Rattle.std.proofs.Common.{◌≡◌, ℕ, ◌+◌, ◌-◌, ◌≤◌, max, Bool, true, false, cond, List, [], ◌∷◌, ◌++◌, length, take, drop, replicate, Option, Some, None, IfSome, option_map, unwrap_or, refl, sym, ap, subst, ◌∙◌, arith}
+use Rattle.std.proofs.lemmas.Cmp.{eq_by_cmp_equiv}
+use Rattle.std.proofs.lemmas.List.{append-nil, drop_all, length-append, length-replicate, length-take-le, length-drop, get_or_append_left}
+use Rattle.std.specs.Ordering.{nat_cmp, eq_by_cmp}
 use Rattle.std.specs.Cmp.{Equal-is}
 use Rattle.std.specs.Cmp.Lexicographic.{slice_cmp, nat_list_cmp_total}
 use Rattle.std.specs.FinMap.{get, insert, get-insert, slice_cmp-IsAntisymmetric, nat_cmp-IsAntisymmetric}
@@ -31,6 +32,10 @@ overwritten_file at piece bytes =
 written_file : (at : ℕ) (piece bytes : List ℕ) → IsTornFile at (length piece) bytes (file_written bytes at piece)
 written_file at [] bytes = same_file at 0 bytes
 written_file at (b ∷ bs) bytes = overwritten_file at (b ∷ bs) bytes
+
+written_alone : (piece : List ℕ) → file_written [] 0 piece ≡ piece
+written_alone [] = refl
+written_alone (b ∷ bs) = ap (λ (l : List ℕ). (b ∷ bs) ++ l) (drop_all (0 + length (b ∷ bs)) [] (omega arith)) ∙ append-nil (b ∷ bs)
 
 told_file : (at count : ℕ) (old : Option (List ℕ)) → IfSome old (IsTornFile at count (unwrap_or old []))
 told_file at count None = tt
@@ -82,3 +87,16 @@ written_is_related name at piece (Some files) = written_is_torn name at piece fi
 pub same_is_related : (name : List ℕ) (at count : ℕ) (files : Option Files) → Related (IsTorn name at count) files files
 same_is_related name at count None = tt
 same_is_related name at count (Some files) = same_is_torn name at count files
+
+-- the bytes of the file that was written
+pub bytes_written : (name : List ℕ) (at : ℕ) (piece : List ℕ) (files : Files) → bytes_of (after_write name at piece files) name ≡ file_written (bytes_of files name) at piece
+unfolding is_name
+bytes_written name at piece files =
+    let new : List ℕ = file_written (bytes_of files name) at piece in
+    let same : is_name name name ≡ true = (eq_by_cmp_equiv nat_list_cmp_total).refl name in
+    ap (λ (o : Option (List ℕ)). unwrap_or o []) (get_written name new files name ∙ ap (λ (b : Bool). cond b (Some new) (get files name)) same)
+
+-- a piece that is written at the start of an empty or missing file is all of it
+pub bytes_written_first : (name : List ℕ) (at : ℕ) (piece : List ℕ) (files : Files) → at ≡ 0 → bytes_of files name ≡ [] → bytes_of (after_write name at piece files) name ≡ piece
+bytes_written_first name at piece files start none =
+    bytes_written name at piece files ∙ ap (λ (l : List ℕ). file_written l at piece) none ∙ ap (λ (n : ℕ). file_written [] n piece) start ∙ written_alone piece
