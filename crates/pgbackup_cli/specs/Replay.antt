@@ -56,7 +56,7 @@ pub record ReplayDone (wal out new_out : AreaState) (done : Replayed) : Type 0 w
   pub forks : done.forks ≡ len store
   pub pages : done.pages ≡ page_count store
 
--- why a replay was refused: before the first write the output is as it was
+-- why a replay was refused. A full output and a WAL that can't be read leave the output as it was; a failed device or want of memory may leave some files there
 abbrev pub ReplayCause : AreaState → AreaState → AreaState → AreaState → ReplayFault → Type 0
 ReplayCause wal new_wal out new_out replay.NotEmpty = IfSome out.files (λ m. m ≢ empty) × (new_out.files ≡ out.files)
 ReplayCause wal new_wal out new_out (replay.Wal fault) = IsClear out × ((new_out.files ≡ out.files) × WalCause 16 wal.files wal.faults new_wal.faults fault)

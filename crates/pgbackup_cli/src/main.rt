@@ -1,5 +1,5 @@
-//! `pgbackup`: PostgreSQL's incremental physical backup as one program. `pgbackup` does all of it
-//! over whatever site, source, sink and clock it is handed; `main` hands it the system's.
+//! The program. The function `pgbackup` is all that it does, over whatever site, source, sink and
+//! clock it is handed; `main` hands it the system's.
 #![tactic(auto)]
 
 mod answer;

@@ -8,7 +8,7 @@ use Rattle.vault.specs.Area.{bytes_of}
 use Rattle.wal_record.specs.declared.record.Record.{Record}
 use Rattle.wal_record.specs.declared.record.Kind.TheVariants.{Shutdown}
 use Rattle.wal_record.specs.Spelling.{sealed, spelling, IsEntry}
-use Rattle.wal_record.specs.Places.{place_of, record_at, written_entry, page_head}
+use Rattle.wal_record.specs.Places.{place_of, record_behind, written_entry, page_head}
 use Rattle.wal_record.proofs.Sealed.{sealed_is_entry, length-sealed, length-written, length-page_head}
 use Rattle.wal_reader.specs.Head.{origin, first_start, IsHead}
 use Rattle.wal_reader.specs.Scan.{all_zero}
@@ -49,7 +49,7 @@ head_not_zero mib system rest e = absurd (cc)
 
 -- a checkpoint at a place
 abbrev pub checkpoint : ℕ → Record
-checkpoint start = record_at start 0 (Shutdown (record { 0 = start }))
+checkpoint start = record_behind start 0 (Shutdown (record { 0 = start }))
 
 checkpoint_not_zero : (start : ℕ) → all_zero (written_entry (checkpoint start)) ≡ true → ⊥
 unfolding written_entry spelling

@@ -33,8 +33,8 @@ abbrev pub start_after : ℕ → ℕ → ℕ
 start_after mib at = if at == origin mib then first_start mib else at
 
 -- the entry of a kind at a place, behind one that starts at prev, written by no transaction
-abbrev pub record_at : ℕ → ℕ → Kind → Record
-record_at start prev kind = record { start = record { 0 = start }; end = record { 0 = aligned (start + total_of kind) }; prev = record { 0 = prev }; xid = 0; kind = kind }
+abbrev pub record_behind : ℕ → ℕ → Kind → Record
+record_behind start prev kind = record { start = record { 0 = start }; end = record { 0 = aligned (start + total_of kind) }; prev = record { 0 = prev }; xid = 0; kind = kind }
 
 -- an entry as it stands in the WAL: its own bytes, and zeros up to its end
 unfoldable pub written_entry : Record → List ℕ

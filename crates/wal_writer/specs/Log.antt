@@ -4,7 +4,7 @@ use Rattle.lsn_core.specs.declared.lsn.WalTip.{WalTip}
 use Rattle.lsn_core.specs.declared.segment.Settings.{Settings}
 use Rattle.wal_record.specs.declared.record.Record.{Record}
 use Rattle.wal_record.specs.declared.record.Kind.{Kind}
-use Rattle.wal_record.specs.Places.{origin, start_after, record_at, written_entry, page_head}
+use Rattle.wal_record.specs.Places.{origin, start_after, record_behind, written_entry, page_head}
 
 -- the segment size in MiB and the system identifier, the place up to which all is flushed, the end of the last entry,
 -- where that entry starts (0 where there is none), and the bytes from the flushed position to the end
@@ -29,7 +29,7 @@ log_at settings tip = record { mib = settings.segment; system = settings.system;
 
 -- the entry of a kind that comes next
 abbrev pub next_record : Log → Kind → Record
-next_record log kind = record_at (start_after log.mib log.end) log.prev kind
+next_record log kind = record_behind (start_after log.mib log.end) log.prev kind
 
 -- what stands before the next entry: at the start of a segment its page's head
 abbrev pub lead : Log → List ℕ

@@ -2,7 +2,7 @@
 
 ghost use Rattle.std.specs.Prelude.{◌≡◌, ◌+◌, ◌<◌, ◌≤◌, ◌^◌, length, IfOk, OnOk};
 ghost use Rattle.byte_words.specs.Pieces.{zero_filled};
-ghost use Rattle.wal_record.specs.Places.{aligned, record_at, written_entry};
+ghost use Rattle.wal_record.specs.Places.{aligned, record_behind, written_entry};
 ghost use Rattle.wal_record.specs.Spelling.{IsWritable};
 
 use lsn_core::{Lsn, NoMemory};
@@ -27,7 +27,7 @@ pub fn entry_of(
 ) -> Result<(Record, Vec<u8>), NoMemory>
     requires kind { IsWritable kind }
     requires place { start < 2 ^ 62 }
-    ensures record { IfOk result (λ x. x.0 ≡ record_at start prev kind) }
+    ensures record { IfOk result (λ x. x.0 ≡ record_behind start prev kind) }
     ensures bytes { IfOk result (λ x. x.1.items ≡ written_entry x.0) }
 {
     let mut record = Record {
