@@ -22,7 +22,8 @@ use wal_record::Record;
 
 /// The settings of a WAL, which so far are always the same: segments of 16 MiB (PostgreSQL manual,
 /// initdb --wal-segsize), and 131072 blocks a segment of a fork (PostgreSQL manual, configure
-/// --with-segsize). The system identifier is that of the first page's head. `NotInit` exactly where the file of segment 1 isn't there.
+/// --with-segsize). The system identifier is that of the first page's head, 0 where its first 32
+/// bytes aren't held. `NotInit` exactly where the file of segment 1 isn't there.
 pub fn read_settings<V: Vault>(alloc: Global, area: &mut V) -> Result<Settings, WalFault>
     ensures system { IfOk result (λ s. IfSome (V.files area.old) (λ m. s.system ≡ system_in (first_page (held_bytes s.segment m)))) }
     ensures answer { SettingsAnswer (V.files area.old) (V.faults area.old) (V.faults area.new) result }
