@@ -1,10 +1,9 @@
 -- The reading rules, for entries on the first page of the WAL: which entries the archive has, where it ends, and where it is damaged (profile).
 -- A place is an LSN; an offset counts from the start of the archive.
-use Rattle.std.specs.Prelude.{◌≡◌, ◌≢◌, ℕ, ◌+◌, ◌-◌, ◌*◌, ◌/◌, ◌≤◌, ◌⊎◌, List, [], ◌∷◌, length, take, drop, Some, true, ◌==◌, if◌then◌else◌}
+use Rattle.std.specs.Prelude.{◌≡◌, ◌≢◌, ℕ, ◌+◌, ◌-◌, ◌≤◌, ◌⊎◌, List, [], ◌∷◌, length, take, drop, Some, true}
 use Rattle.lsn_core.specs.Files.{Files}
 use Rattle.lsn_core.specs.Segment.{segment_bytes}
 use Rattle.lsn_core.specs.Names.{segment_name_bytes}
-use Rattle.lsn_core.specs.declared.lsn.Place.{Place}
 use Rattle.vault.specs.Area.{bytes_of}
 use Rattle.wal_record.specs.declared.record.Record.{Record}
 use Rattle.wal_record.specs.declared.record.Kind.{Kind}

@@ -1,5 +1,4 @@
 -- Asking for the size of the file changes no file.
-use Rattle.std.proofs.Common.{◌≡◌}
 use Rattle.wal_reader.proofs.cursor.read_settings.Goals as goal
 
 pub returns-in-Some-clause-system : goal.returns-in-Some-clause-system
