@@ -3,3 +3,4 @@ pub mod Entries
 pub mod Steps
 pub mod Passing
 pub mod Once
+pub mod First

@@ -91,6 +91,8 @@ impl WalCursor {
     /// begins, and 0.
     pub fn tip(&self) -> WalTip
         ensures end { result.end.0 ≡ self.now.at }
+        ensures least { origin self.now.mib ≤ result.end.0 }
+        ensures most { result.end.0 ≤ origin self.now.mib + 8192 }
         ensures prev { result.prev.0 ≡ self.now.prev }
     {
         WalTip {

@@ -1,11 +1,13 @@
 -- What is written with its sum is the written form of the entry.
-use Rattle.std.proofs.Common.{◌≡◌, ℕ, ◌%◌, ◌/◌, ◌^◌, ◌<◌, List, ◌++◌, length, Option, IfSome, refl, ap, arith}
+use Rattle.std.proofs.Common.{◌≡◌, ℕ, ◌+◌, ◌-◌, ◌≤◌, ◌%◌, ◌/◌, ◌^◌, ◌<◌, List, ◌++◌, length, replicate, Option, IfSome, refl, ap, arith}
+use Rattle.std.proofs.lemmas.List.{length-append, length-replicate}
 use Rattle.std.specs.Int.{w32, to_le_bytes}
 use Rattle.lsn_core.specs.declared.lsn.Lsn.{Lsn}
 use Rattle.lsn_core.specs.declared.lsn.Place.{Place}
 use Rattle.wal_crc.specs.Crc.{crc32c}
 use Rattle.wal_record.specs.declared.record.Record.{Record}
 use Rattle.wal_record.specs.Spelling.{body_of, total_of, front_of, spelling, sealed, IsWritable, IsEntry}
+use Rattle.wal_record.specs.Places.{written_entry, page_head}
 
 -- four bytes of a sum hold its last 32 bits
 four_bytes : (n : ℕ) → to_le_bytes w32 n ≡ to_le_bytes w32 (n % 2 ^ 32)
@@ -43,3 +45,14 @@ length-sealed r = omega arith
 pub sealed_anywhere : (r : Record) (end : Lsn) → sealed (record r { end = end }) ≡ sealed r
 unfolding spelling
 sealed_anywhere r end = refl
+
+-- an entry takes the room up to its end
+pub length-written : (r : Record) → r.start.0 + total_of r.kind ≤ r.end.0 → length (written_entry r) ≡ r.end.0 - r.start.0
+unfolding written_entry
+length-written r room =
+    let size : ℕ = r.end.0 - r.start.0 - length (sealed r) in
+    omega (arith, length-append (sealed r) (replicate size 0), length-replicate {A = ℕ} size 0, length-sealed r)
+
+pub length-page_head : (mib system : ℕ) → length (page_head mib system) ≡ 40
+unfolding page_head
+length-page_head mib system = refl
