@@ -98,7 +98,9 @@ fn three_entries_are_read_up_to_the_end(rt: HostRuntime) -> Result<(), Fail> {
         kind: ForkKind::Main,
     };
     let mut area = area_with(alloc, &[])?;
-    let mut cursor = WalCursor::first(&read_settings(alloc, &mut area)?);
+    let settings = read_settings(alloc, &mut area)?;
+    assert_eq!(rt; settings.system, 7);
+    let mut cursor = WalCursor::first(&settings);
     assert_eq!(rt; cursor.tip().end, Lsn(0x100_0000));
     let first = cursor.next(alloc, &mut area)?.ok_or("a first entry")?;
     assert_eq!(rt; places_of(&first), (0x100_0028, 0x100_0060, 0));
@@ -219,15 +221,18 @@ fn an_entry_ends_on_the_first_page(rt: HostRuntime) -> Result<(), Fail> {
 #[test]
 fn a_cursor_goes_on_after_a_failure(rt: HostRuntime) -> Result<(), Fail> {
     let alloc = rt.alloc();
-    for call in 7..=15 {
+    for call in 8..=16 {
         let mut area = area_with(alloc, &[call])?;
         assert_eq!(rt; read_through(alloc, &mut area)?, (4, None), "at {call}");
     }
-    let mut area = area_with(alloc, &[6])?;
-    assert_eq!(rt;
-        read_settings(alloc, &mut area).err(),
-        Some(WalFault::Failed)
-    );
+    for call in 6..=7 {
+        let mut area = area_with(alloc, &[call])?;
+        assert_eq!(rt;
+            read_settings(alloc, &mut area).err(),
+            Some(WalFault::Failed),
+            "at {call}"
+        );
+    }
     Ok(())
 }
 
