@@ -20,13 +20,8 @@ use std::marker::Model;
 use vault::Vault;
 use wal_record::Record;
 
-<<<<<<< HEAD
 /// The settings of a WAL: so far always segments of 16 MiB (PostgreSQL manual, initdb
 /// --wal-segsize) and 131072 blocks a segment of a fork (PostgreSQL manual, configure
-=======
-/// The settings of a WAL, which so far are always the same: segments of 16 MiB (PostgreSQL manual,
-/// initdb --wal-segsize), and 131072 blocks a segment of a fork (PostgreSQL manual, configure
->>>>>>> 5faa1ac51125bb5a7d477d06d54c340f0c37e52e
 /// --with-segsize). The system identifier is that of the first page's head, 0 where its first 32
 /// bytes aren't held. `NotInit` exactly where the file of segment 1 isn't there.
 pub fn read_settings<V: Vault>(alloc: Global, area: &mut V) -> Result<Settings, WalFault>
