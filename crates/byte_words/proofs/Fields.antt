@@ -1,10 +1,10 @@
 -- A number that is read is the number that was written, and what was written is read again.
-use Rattle.std.proofs.Common.{◌≡◌, ℕ, zero, suc, ◌+◌, ◌^◌, ◌<◌, ◌≤◌, Bool, true, false, cond, ltb, List, [], ◌∷◌, ◌++◌, length, get_or, take, drop, Option, Some, None, refl, sym, ap, subst, ◌∙◌, arith, inl, inr}
+use Rattle.std.proofs.Common.{◌≡◌, ℕ, ◌+◌, ◌%◌, ◌^◌, ◌<◌, ◌≤◌, Bool, true, false, cond, ltb, List, [], ◌∷◌, ◌++◌, length, take, drop, Option, Some, None, refl, sym, ap, subst, ◌∙◌, arith, inl, inr}
 use Rattle.std.specs.Int.{Width, w8, w16, w32, w64, byte_len, from_le_bytes, to_le_bytes}
 use Rattle.std.proofs.lemmas.Bool.{cases_lt, ltb-false, le-ltb}
 use Rattle.std.proofs.lemmas.List.{take_at, drop_at, take-append-drop, length-append, length-take, get_or-drop, get_or-take, get_or_past}
 use Rattle.std.proofs.lemmas.Nat.{le_bytes_2, le_bytes_4, le_bytes_8, from_le_bytes-to_le_bytes_2, from_le_bytes-to_le_bytes_4, from_le_bytes-to_le_bytes_8}
-use Rattle.byte_words.specs.Numbers.{IsBytes, ◌>>=◌, number_at}
+use Rattle.byte_words.specs.Numbers.{IsBytes, ◌>>=◌, number_at, u32_in}
 
 pub IsBytes-drop : (n : ℕ) (bytes : List ℕ) → IsBytes bytes → IsBytes (drop n bytes)
 IsBytes-drop n bytes h i = rw get_or-drop (h (n + i))
@@ -22,6 +22,20 @@ pub record IsWide (w : Width) (limit : ℕ) : Type 0 where
   pub back : (bytes : List ℕ) → length bytes ≡ byte_len w → IsBytes bytes → to_le_bytes w (from_le_bytes w bytes) ≡ bytes
   pub again : (n : ℕ) → n < limit → from_le_bytes w (to_le_bytes w n) ≡ n
   pub below : (bytes : List ℕ) → IsBytes bytes → from_le_bytes w bytes < limit
+
+-- one byte
+back_one : (bytes : List ℕ) → length bytes ≡ 1 → IsBytes bytes → to_le_bytes w8 (from_le_bytes w8 bytes) ≡ bytes
+back_one [] len fits = absurd (omega (arith, len))
+back_one (b ∷ []) len fits = let small : b < 256 = fits 0 in let e : (b % 256) ≡ b = omega arith in ap (λ (n : ℕ). n ∷ []) e
+back_one (b ∷ (c ∷ bs)) len fits = absurd (omega (arith, len))
+
+pub wide8 : IsWide w8 (2 ^ 8)
+wide8 = record {
+  len = λ n. refl;
+  back = λ bytes len fits. back_one bytes len fits;
+  again = λ n lt. omega arith;
+  below = λ bytes fits. omega (arith, fits 0);
+}
 
 pub wide16 : IsWide w16 (2 ^ 16)
 wide16 = record {
@@ -90,3 +104,24 @@ number_again w limit wide n rest lt =
     let len = wide.len n in
     let long : ltb (length (to_le_bytes w n ++ rest)) (byte_len w) ≡ false = le-ltb _ _ (omega (arith, length-append (to_le_bytes w n) rest)) in
     rw (long, take_at (to_le_bytes w n) rest (byte_len w) len, drop_at (to_le_bytes w n) rest (byte_len w) len, wide.again n lt) refl
+
+-- one step of a reader, where the number stands at the front
+pub step_again : (w : Width) (limit : ℕ) (wide : IsWide w limit) {A : Type 0} (bytes : List ℕ) (n : ℕ) (rest : List ℕ) (f : ℕ × List ℕ → Option A) (y : Option A) → bytes ≡ to_le_bytes w n ++ rest → n < limit → f (n, rest) ≡ y → (number_at w bytes >>= f) ≡ y
+step_again w limit wide bytes n rest f y e lt go = ap (λ (l : List ℕ). number_at w l >>= f) e ∙ ap (λ (o : Option (ℕ × List ℕ)). o >>= f) (number_again w limit wide n rest lt) ∙ go
+
+-- a number in front of bytes that are these
+pub put_front : (w : Width) (n m : ℕ) (bytes rest more : List ℕ) → n ≡ m → bytes ≡ to_le_bytes w n ++ rest → rest ≡ more → bytes ≡ to_le_bytes w m ++ more
+put_front w n m bytes rest more same e tail = subst (λ (k : ℕ). bytes ≡ to_le_bytes w k ++ more) same (subst (λ (l : List ℕ). bytes ≡ to_le_bytes w n ++ l) tail e)
+
+-- the number at the front is the one at place 0
+front_number : (bytes : List ℕ) → from_le_bytes w32 (take 4 bytes) ≡ u32_in bytes 0
+front_number [] = omega arith
+front_number (a ∷ []) = omega arith
+front_number (a ∷ (b ∷ [])) = omega arith
+front_number (a ∷ (b ∷ (c ∷ []))) = omega arith
+front_number (a ∷ (b ∷ (c ∷ (d ∷ bytes)))) = omega arith
+
+pub number_is : (bytes : List ℕ) (n : ℕ) (rest : List ℕ) → number_at w32 bytes ≡ Some (n, rest) → u32_in bytes 0 ≡ n
+number_is bytes n rest e =
+    let g = guard_some (ltb (length bytes) (byte_len w32)) (from_le_bytes w32 (take 4 bytes), drop 4 bytes) (n, rest) e in
+    sym (front_number bytes) ∙ ap (λ (p : ℕ × List ℕ). p.0) g.1

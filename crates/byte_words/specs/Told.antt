@@ -1,5 +1,5 @@
 -- Facts about a value that may not be told.
-use Rattle.std.specs.Prelude.{◌≡◌, Option, Some, None, IfSome}
+use Rattle.std.specs.Prelude.{Option, Some, None, IfSome}
 
 -- what holds of a value follows into what it implies, where the value is told
 pub when_told : {A : Type 0} (o : Option A) (P Q : A → Type 0) → ((x : A) → P x → Q x) → IfSome o P → IfSome o Q

@@ -1,9 +1,9 @@
 //! Numbers at the front of bytes, least byte first.
 
-ghost use Rattle.std.specs.Prelude.{◌≡◌};
+ghost use Rattle.std.specs.Prelude.{◌≡◌, ◌+◌, ◌≤◌, length};
 ghost use Rattle.std.specs.Option.{option_map};
 ghost use Rattle.std.specs.Int.{w8, w16, w32, w64};
-ghost use Rattle.byte_words.specs.Numbers.{number_at};
+ghost use Rattle.byte_words.specs.Numbers.{number_at, u16_in, u32_in, u64_in};
 
 /// The byte at the front, and the bytes after it. None exactly where there is none.
 pub fn u8_at(bytes: &[u8]) -> Option<(u8, &[u8])>
@@ -52,4 +52,28 @@ pub fn u64_at(bytes: &[u8]) -> Option<(u64, &[u8])>
         front[0], front[1], front[2], front[3], front[4], front[5], front[6], front[7],
     ]);
     Some((number, rest))
+}
+
+/// The number of the two bytes at a place.
+pub fn u16_in(bytes: &[u8], at: usize) -> u16
+    requires { at + 2 ≤ length bytes.now }
+    ensures { result ≡ u16_in bytes.now at }
+{
+    u16::from_le_bytes([bytes[at], bytes[at + 1]])
+}
+
+/// The number of the four bytes at a place.
+pub fn u32_in(bytes: &[u8], at: usize) -> u32
+    requires { at + 4 ≤ length bytes.now }
+    ensures { result ≡ u32_in bytes.now at }
+{
+    u32::from(u16_in(bytes, at)) + 65_536 * u32::from(u16_in(bytes, at + 2))
+}
+
+/// The number of the eight bytes at a place.
+pub fn u64_in(bytes: &[u8], at: usize) -> u64
+    requires { at + 8 ≤ length bytes.now }
+    ensures { result ≡ u64_in bytes.now at }
+{
+    u64::from(u32_in(bytes, at)) + 4_294_967_296 * u64::from(u32_in(bytes, at + 4))
 }

@@ -1,1 +1,2 @@
+pub mod ForkOrder
 pub mod Padding

@@ -1,5 +1,5 @@
 -- How places, segment files and the files of forks are named.
-use Rattle.std.specs.Prelude.{ℕ, ◌+◌, ◌-◌, ◌/◌, ◌%◌, ◌^◌, Bool, true, false, List, [], ◌∷◌, ◌++◌, length, replicate, codes, ◌==◌, if◌then◌else◌}
+use Rattle.std.specs.Prelude.{ℕ, ◌-◌, ◌/◌, ◌%◌, ◌^◌, Bool, true, false, List, [], ◌∷◌, ◌++◌, length, replicate, codes, ◌==◌, if◌then◌else◌}
 use Rattle.std.specs.Fmt.{digits, decimal}
 use Rattle.lsn_core.specs.declared.ids.ForkKind.{ForkKind}
 use Rattle.lsn_core.specs.declared.ids.ForkKind.TheVariants.{Main, Init}

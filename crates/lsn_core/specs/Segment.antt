@@ -1,11 +1,10 @@
-use Rattle.std.specs.Prelude.{ℕ, ◌≤◌, ◌*◌, IsTrue}
-use Rattle.std.specs.Int.{is_power_of_two}
+use Rattle.std.specs.Prelude.{◌≡◌, ℕ, ◌≤◌, ◌*◌, ◌%◌}
 
--- a segment's size in MiB: a power of two from 1 to 1024
+-- a segment's size in MiB: a power of two from 1 to 1024, which are just the divisors of 1024
 pub record IsSegmentMib (mib : ℕ) : Type 0 where
-  pub power : IsTrue (is_power_of_two mib)
   pub least : 1 ≤ mib
   pub most : mib ≤ 1024
+  pub divides : 1024 % mib ≡ 0
 
 abbrev pub segment_bytes : ℕ → ℕ
 segment_bytes mib = mib * 1048576

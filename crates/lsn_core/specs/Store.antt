@@ -1,10 +1,9 @@
 -- A store of pages, and the files that it has.
-use Rattle.std.specs.Prelude.{ℕ, ◌+◌, ◌*◌, ◌-◌, ◌/◌, max, false, List, map, take, drop, length, replicate}
+use Rattle.std.specs.Prelude.{ℕ, ◌+◌, ◌*◌, ◌-◌, ◌/◌, max, false, List, [], ◌∷◌, map, take, drop, length}
 use Rattle.std.specs.List.{flat_map, range_with_len}
 use Rattle.std.specs.declared.cmp.Ordering.{Ordering}
-use Rattle.std.specs.declared.cmp.Ordering.TheVariants.{Less, Equal, Greater}
 use Rattle.std.specs.Ordering.{nat_cmp, ordering_then}
-use Rattle.std.specs.FinMap.{FinMap, entries, from_entries}
+use Rattle.std.specs.FinMap.{FinMap, empty, entries, insert}
 use Rattle.lsn_core.specs.declared.ids.ForkKind.{ForkKind}
 use Rattle.lsn_core.specs.declared.ids.ForkKind.TheVariants.{Main, Init}
 use Rattle.lsn_core.specs.declared.ids.ForkId.{ForkId}
@@ -39,6 +38,11 @@ segment_content relseg pages seg = flat_map (λ page. page) (take relseg (drop (
 abbrev pub fork_files : ℕ → ForkId × Pages → List (List ℕ × List ℕ)
 fork_files relseg e = map (λ seg. (fork_path_bytes e.0 seg false, segment_content relseg e.1 seg)) (range_with_len 0 (segment_count relseg (length e.1)))
 
--- the files of a store (Database File Layout)
+-- files put into a directory, one after the other
+abbrev pub with_files : Files → List (List ℕ × List ℕ) → Files
+with_files files [] = files
+with_files files (f ∷ fs) = with_files (insert files f.0 f.1) fs
+
+-- the files of a store, and no others (Database File Layout)
 abbrev pub files_of : ℕ → Store → Files
-files_of relseg store = from_entries (flat_map (fork_files relseg) (entries store))
+files_of relseg store = with_files empty (flat_map (fork_files relseg) (entries store))

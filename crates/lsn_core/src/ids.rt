@@ -31,7 +31,11 @@ impl Rel {
         ensures some { IsSome result ↔ (0 < db) × (0 < rel) }
         ensures value { IfSome result (λ r. r ≡ record { db = db; rel = rel }) }
     {
-        if db > 0 && rel > 0 { Some(Rel { db, rel }) } else { None }
+        if db > 0 && rel > 0 {
+            Some(Rel { db, rel })
+        } else {
+            None
+        }
     }
 
     /// The number of the database.

@@ -45,7 +45,9 @@ pub fn fork_path(alloc: Global, fork: ForkId, seg: u32, incr: bool) -> Result<Te
     let prefix = prefix_of(incr);
     let suffix = suffix_of(fork.kind);
     if seg == 0 {
-        return Ok(Text::from_vec(format!(in alloc; "base/{db}/{prefix}{rel}{suffix}")?.into_bytes()));
+        return Ok(Text::from_vec(format!(in alloc;
+            "base/{db}/{prefix}{rel}{suffix}"
+        )?.into_bytes()));
     }
     Ok(Text::from_vec(format!(in alloc; "base/{db}/{prefix}{rel}{suffix}.{seg}")?.into_bytes()))
 }

@@ -30,11 +30,18 @@ impl SegSize {
         ensures some { IsSome result ↔ IsSegmentMib mib }
         ensures value { IfSome result (λ s. s ≡ mib) }
     {
-        if mib >= 1 && mib <= 1024 && mib.is_power_of_two() {
+        if mib >= 1 && mib <= 1024 && 1024 % mib == 0 {
             Some(SegSize { mib })
         } else {
             None
         }
+    }
+
+    /// The size where nothing else is said, 16 MiB (PostgreSQL manual, initdb --wal-segsize).
+    pub fn standard() -> SegSize
+        ensures { result ≡ 16 }
+    {
+        SegSize { mib: 16 }
     }
 
     /// How many bytes a segment file has.
@@ -47,10 +54,11 @@ impl SegSize {
     }
 }
 
-/// What a store was made with: the segment size of its WAL, and the blocks per segment of a
-/// fork's files (1 to 131072).
+/// What a store was made with: the segment size of its WAL, the blocks per segment of a fork's
+/// files (1 to 131072), and the system identifier that stands in its WAL.
 #[derive(Clone, Copy, Debug, PartialEq, Eq)]
 pub struct Settings {
     pub segment: SegSize,
     pub relseg: u32,
+    pub system: u64,
 }

@@ -10,8 +10,14 @@ fn places_and_files_are_named(rt: HostRuntime) -> Result<(), Fail> {
     let segment = segment_name(alloc, 258, size)?;
     assert_eq!(rt; segment.as_bytes(), b"000000010000000100000002".as_slice());
     let rel = Rel::new(5, 16384).ok_or("the numbers are good")?;
-    let fork = ForkId { rel, kind: ForkKind::Init };
+    let fork = ForkId {
+        rel,
+        kind: ForkKind::Init,
+    };
     let path = fork_path(alloc, fork, 2, true)?;
-    assert_eq!(rt; path.into_vec().as_slice(), b"base/5/INCREMENTAL.16384_init.2".as_slice());
+    assert_eq!(rt;
+        path.into_vec().as_slice(),
+        b"base/5/INCREMENTAL.16384_init.2".as_slice()
+    );
     Ok(())
 }

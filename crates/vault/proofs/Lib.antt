@@ -4,3 +4,4 @@ pub mod Printed
 pub mod Reading
 pub mod Slots
 pub mod Written
+pub mod Torn

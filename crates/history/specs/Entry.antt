@@ -1,0 +1,26 @@
+-- An entry of the history.
+use Rattle.std.specs.Prelude.{ℕ, List, Option}
+use Rattle.lsn_core.specs.declared.ids.ForkId.{ForkId}
+
+-- how an item changes its block: a page is put there
+pub data Edit : Type 0 where
+  Put : List ℕ → Edit
+
+pub record Item : Type 0 where
+  pub fork : ForkId
+  pub block : ℕ
+  pub edit : Edit
+
+-- what an entry does: it creates a fork, it changes blocks in turn, or it marks a place and changes nothing
+pub data Act : Type 0 where
+  Create : ForkId → Act
+  Change : List Item → Act
+  Mark : Act
+
+-- an entry: its act, where it starts and ends, and, where a worker made it, that worker and the number of its command
+pub record Entry : Type 0 where
+  pub act : Act
+  pub start : ℕ
+  pub end : ℕ
+  pub worker : Option ℕ
+  pub seq : Option ℕ

@@ -1,0 +1,12 @@
+//! What the entries of a WAL mean: the acts that they are, a store of pages, and how an act
+//! changes it.
+#![tactic(auto)]
+
+mod applying;
+mod page_map;
+
+pub use applying::{ApplyFault, apply};
+pub use page_map::PageMap;
+
+#[cfg(test)]
+mod tests;

@@ -1,0 +1,162 @@
+//! A store of pages in memory.
+
+ghost use Rattle.std.specs.Prelude.{◌≡◌, ◌<◌, ◌≤◌, ◌^◌, ℕ, List, length, slice_get, Option, Some, OnOk, OnErr, IfOk};
+ghost use Rattle.std.specs.FinMap.{empty, get, keys, len};
+ghost use Rattle.std.specs.Option.{option_map};
+ghost use Rattle.history.specs.Apply.{with_block, with_page, with_fork};
+ghost use Rattle.history.specs.Pages.{store_in, block_of, page_count};
+
+use lsn_core::{BlockId, ForkId, NoMemory};
+use pg_page::zero_page;
+use std::alloc::Global;
+use std::collections::BTreeMap;
+use std::marker::Model;
+
+/// A store of pages in memory: the pages of each fork. Contracts see the store.
+#[derive(Drop)]
+pub struct PageMap {
+    forks: BTreeMap<ForkId, Vec<[u8; 8192]>>,
+    alloc: Global,
+}
+
+impl Model for PageMap {
+    ghost use Rattle.lsn_core.specs.Store.{Store};
+    ghost use Rattle.history.specs.Pages.{store_code};
+
+    ghost Value = { Store };
+
+    ghost coded = { store_code };
+
+    ghost use Rattle.history.specs.Pages.{store_in};
+
+    ghost view = { λ m. store_in m.forks };
+}
+
+impl PageMap {
+    /// The empty store.
+    pub fn new(alloc: Global) -> PageMap
+        ensures { result ≡ empty }
+    {
+        PageMap {
+            forks: BTreeMap::new(alloc),
+            alloc,
+        }
+    }
+
+    /// The forks, in order: by database, relation and kind.
+    pub fn forks(&self, alloc: Global) -> Result<Vec<ForkId>, NoMemory>
+        ensures { IfOk result (λ forks. forks.items ≡ keys self.now) }
+    {
+        Ok(self.forks.keys().copied().collect(alloc)?)
+    }
+
+    /// How many forks there are.
+    pub fn fork_count(&self) -> u64
+        ensures { result ≡ len self.now }
+    {
+        self.forks.len() as u64
+    }
+
+    /// How many pages all forks have together. `NoMemory` exactly where that is past the number's
+    /// type, which no memory holds.
+    pub fn page_count(&self) -> Result<u64, NoMemory>
+        ensures count { IfOk result (λ count. count ≡ page_count self.now) }
+        ensures many { OnErr result (2 ^ 64 ≤ page_count self.now) }
+    {
+        let mut count: u64 = 0;
+        for pages in self.forks.values() {
+            count = count.checked_add(pages.len() as u64).ok_or(NoMemory)?;
+        }
+        Ok(count)
+    }
+
+    /// How many blocks a fork has. None exactly where there is no such fork.
+    pub fn blocks(&self, fork: &ForkId) -> Option<usize>
+        ensures { result ≡ option_map length (get self.now fork.now) }
+    {
+        match self.forks.get(fork) {
+            Some(pages) => Some(pages.len()),
+            None => None,
+        }
+    }
+
+    /// The bytes of a block. None exactly where the fork has no such block, or isn't there.
+    pub fn block(&self, at: &BlockId) -> Option<&[u8; 8192]>
+        ensures { option_map (λ page. page.now) result ≡ block_of self.now at.now }
+    {
+        match self.forks.get(&at.fork) {
+            Some(pages) => page_at(pages, at.block),
+            None => None,
+        }
+    }
+
+    // makes an empty fork, where there is none
+    pub(crate) fn create(&mut self, fork: &ForkId) -> Result<(), NoMemory>
+        ensures made { OnOk result (self.new ≡ with_fork self.old fork.now) }
+        ensures same { OnErr result (self.new ≡ self.old) }
+    {
+        create_in(&mut self.forks, fork, self.alloc)
+    }
+
+    // puts a page at a block; a missing fork and missing pages before it are made
+    pub(crate) fn put(&mut self, at: &BlockId, page: &[u8; 8192]) -> Result<(), NoMemory>
+        requires { at.now.block < 32768 }
+        ensures put { OnOk result (self.new ≡ with_page self.old at.now.fork at.now.block page.now) }
+        ensures same { OnErr result (self.new ≡ self.old) }
+    {
+        put_in(&mut self.forks, at, page, self.alloc)
+    }
+}
+
+fn page_at(pages: &[[u8; 8192]], block: u32) -> Option<&[u8; 8192]>
+    ensures { option_map (λ page. page.now) result ≡ slice_get pages.now block }
+{
+    pages.get(block as usize)
+}
+
+fn create_in(
+    forks: &mut BTreeMap<ForkId, Vec<[u8; 8192]>>,
+    fork: &ForkId,
+    alloc: Global,
+) -> Result<(), NoMemory>
+    ensures made { OnOk result (store_in forks.new ≡ with_fork (store_in forks.old) fork.now) }
+    ensures same { OnErr result (store_in forks.new ≡ store_in forks.old) }
+{
+    if forks.contains_key(fork) {
+        return Ok(());
+    }
+    forks.insert(*fork, Vec::new(alloc))?;
+    Ok(())
+}
+
+fn put_in(
+    forks: &mut BTreeMap<ForkId, Vec<[u8; 8192]>>,
+    at: &BlockId,
+    page: &[u8; 8192],
+    alloc: Global,
+) -> Result<(), NoMemory>
+    requires { at.now.block < 32768 }
+    ensures put { OnOk result (store_in forks.new ≡ with_page (store_in forks.old) at.now.fork at.now.block page.now) }
+    ensures same { OnErr result (store_in forks.new ≡ store_in forks.old) }
+{
+    if let Some(pages) = forks.get_mut(&at.fork) {
+        return put_block(pages, at.block, page);
+    }
+    let mut pages = Vec::new(alloc);
+    put_block(&mut pages, at.block, page)?;
+    forks.insert(at.fork, pages)?;
+    Ok(())
+}
+
+fn put_block(pages: &mut Vec<[u8; 8192]>, block: u32, page: &[u8; 8192]) -> Result<(), NoMemory>
+    requires { block < 32768 }
+    ensures put { OnOk result (pages.new.items ≡ with_block pages.old.items block page.now) }
+    ensures same { OnErr result (pages.new.items ≡ pages.old.items) }
+{
+    let at = block as usize;
+    if pages.len() <= at {
+        pages.resize(at + 1, zero_page())?;
+    }
+    pages[at] = *page;
+    Ok(())
+}

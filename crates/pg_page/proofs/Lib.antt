@@ -1,0 +1,3 @@
+pub mod HeaderLaws
+pub mod ImageLaws
+pub mod MadeLaws

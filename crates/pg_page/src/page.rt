@@ -1,0 +1,134 @@
+//! A page with a good header.
+
+ghost use Rattle.std.specs.Prelude.{◌≡◌, ◌+◌, ◌-◌, ◌<◌, ◌≤◌, ◌↔◌, length, replicate, IsTrue, IsSome, IfSome};
+ghost use Rattle.byte_words.specs.Pieces.{overwritten};
+ghost use Rattle.pg_page.specs.Header.{IsGood, lsn_of, lsn_field, hole_of, hole_zeroed, with_lsn, zero_page, made_page};
+
+use byte_words::{overwrite, u16_in};
+use std::marker::Model;
+
+/// A page of 8192 bytes with a good header. Contracts see its bytes.
+#[derive(Clone, Copy, Debug, PartialEq, Eq)]
+pub struct Page {
+    bytes: [u8; 8192],
+}
+
+impl Model for Page {
+    ghost use Rattle.std.specs.Prelude.{List, ℕ};
+
+    ghost Value = { List ℕ };
+
+    ghost use Rattle.pg_page.specs.Header.{IsGood};
+
+    ghost view = { λ p. p.bytes };
+
+    ghost invariant = { λ p. IsGood p.bytes };
+
+    ghost inverse = { λ bytes. record { bytes = bytes } };
+}
+
+impl Page {
+    /// The page of these bytes. None exactly where the header isn't good.
+    pub fn read(bytes: &[u8; 8192]) -> Option<Page>
+        ensures some { IsSome result ↔ IsGood bytes.now }
+        ensures value { IfSome result (λ page. page ≡ bytes.now) }
+    {
+        if is_good(bytes) {
+            Some(Page { bytes: *bytes })
+        } else {
+            None
+        }
+    }
+
+    /// The page of bytes with a good header.
+    pub(crate) fn from_good(bytes: [u8; 8192]) -> Page
+        requires { IsGood bytes }
+        ensures { result ≡ bytes }
+    {
+        Page { bytes }
+    }
+
+    /// The page's bytes.
+    pub fn bytes(&self) -> &[u8; 8192]
+        ensures bytes { result.now ≡ self.now }
+        ensures good { IsGood self.now }
+    {
+        &self.bytes
+    }
+
+    /// The hole: from pd_lower to pd_upper. None exactly where that is empty.
+    pub fn hole(&self) -> Option<(u16, u16)>
+        ensures { result ≡ hole_of self.now }
+    {
+        let (lower, upper) = (u16_in(&self.bytes, 12), u16_in(&self.bytes, 14));
+        if lower < upper {
+            Some((lower, upper))
+        } else {
+            None
+        }
+    }
+
+    /// The page's LSN, pd_lsn: the place in the WAL that the page's last change ended at.
+    pub fn lsn(&self) -> u64
+        ensures { result ≡ lsn_of self.now }
+    {
+        let page = &self.bytes;
+        let high = u32::from_le_bytes([page[0], page[1], page[2], page[3]]);
+        let low = u32::from_le_bytes([page[4], page[5], page[6], page[7]]);
+        u64::from(high) * 4_294_967_296 + u64::from(low)
+    }
+
+    /// Sets the page's LSN.
+    #[tactic(auto, using(crate::proofs::HeaderLaws::lsn_keeps_good), unfolding(crate::specs::Header::with_lsn))]
+    pub fn set_lsn(&mut self, at: u64)
+        ensures { self.new ≡ with_lsn at self.old }
+    {
+        overwrite(&mut self.bytes, 0, &lsn_field(at));
+    }
+
+    /// Writes zeros into the hole.
+    #[tactic(auto, using(crate::proofs::HeaderLaws::hole_keeps_good), unfolding(crate::specs::Header::hole_zeroed))]
+    pub fn zero_hole(&mut self)
+        ensures { self.new ≡ hole_zeroed self.old }
+    {
+        let lower = usize::from(u16_in(&self.bytes, 12));
+        let upper = usize::from(u16_in(&self.bytes, 14));
+        fill_between(&mut self.bytes, lower, upper, 0);
+    }
+}
+
+/// A page of zeros, as an added block is. Its header isn't good.
+#[tactic(auto, unfolding(crate::specs::Header::zero_page))]
+pub fn zero_page() -> [u8; 8192]
+    ensures { result ≡ zero_page }
+{
+    [0; 8192]
+}
+
+fn is_good(page: &[u8; 8192]) -> bool
+    ensures { IsTrue result ↔ IsGood page.now }
+{
+    let (lower, upper, special) = (u16_in(page, 12), u16_in(page, 14), u16_in(page, 16));
+    u16_in(page, 18) == 8196 && 24 <= lower && lower <= upper && upper <= special && special <= 8192
+}
+
+// the eight bytes of pd_lsn
+#[tactic(auto, unfolding(crate::specs::Header::lsn_field))]
+fn lsn_field(at: u64) -> [u8; 8]
+    ensures { result ≡ lsn_field at }
+{
+    let high = (at >> 32) as u32;
+    let low = (at & 0xffff_ffff) as u32;
+    let [a, b, c, d] = high.to_le_bytes();
+    let [e, f, g, h] = low.to_le_bytes();
+    [a, b, c, d, e, f, g, h]
+}
+
+/// Writes a value into all bytes from one place to another.
+pub(crate) fn fill_between(bytes: &mut [u8], from: usize, to: usize, value: u8)
+    requires order { from ≤ to }
+    requires within { to ≤ length bytes.old }
+    ensures { bytes.new ≡ overwritten bytes.old from (replicate (to - from) value) }
+{
+    bytes[from..to].fill(value);
+}

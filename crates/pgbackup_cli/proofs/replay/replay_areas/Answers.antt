@@ -1,0 +1,24 @@
+-- What was read of the WAL is what was written.
+use Rattle.std.proofs.Common.{◌≡◌, true, IsTrue, ◌↔◌, IfSome, sym, subst, ◌∙◌}
+use Rattle.std.specs.Prelude.{Option}
+use Rattle.std.specs.Option.{option_map}
+use Rattle.std.specs.FinMap.{empty}
+use Rattle.lsn_core.specs.Files.{Files}
+use Rattle.lsn_core.specs.Store.{files_of}
+use Rattle.byte_words.specs.Told.{when_told}
+use Rattle.pgbackup_cli.proofs.replay.replay_areas.Goals as goal
+
+pub returns-clause-answer : goal.returns-clause-answer
+returns-clause-answer g c =
+    let clear : IfSome (g.V.Vault.files c.args.out.now) (λ m. m ≡ empty) =
+    when_told (g.V.Vault.files c.args.out.now) (λ m. IsTrue c.in_ok-is_clear.field-0 ↔ (m ≡ empty)) (λ m. m ≡ empty) (λ m iff. iff.0 c.if-not-branch.false) c.in_ok-is_clear.ensures.clear in
+    record {
+      clear = clear;
+      there = c.in_ok-store.ensures.there;
+      store = c.in_ok-store.store;
+      read = c.in_ok-store.ensures.answer;
+      written = subst (λ (f : Option Files). g.V.Vault.files c.write_out.new.out ≡ option_map (λ m. files_of 131072 c.in_ok-store.store) f) c.in_ok-is_clear.ensures.same
+          (c.in_ok-write_out.ensures.written (subst (λ (f : Option Files). IfSome f (λ m. m ≡ empty)) (sym c.in_ok-is_clear.ensures.same) clear));
+      forks = c.fork_count.ensures;
+      pages = c.in_ok-pages.ensures.count;
+    }

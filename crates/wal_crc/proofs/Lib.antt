@@ -1,0 +1,5 @@
+pub mod Laws
+mod Xor
+mod Steps
+mod Registers
+mod Runs

@@ -1,0 +1,17 @@
+//! CRC-32C for a caller in C, as bench/ measures it.
+#![tactic(auto)]
+
+ghost use Rattle.std.specs.Prelude.{◌≡◌};
+ghost use Rattle.wal_crc.specs.Crc.{crc32c};
+
+use wal_crc::Crc;
+
+/// The CRC-32C of the bytes, which C passes as a pointer and a length.
+#[unsafe(no_mangle)]
+pub extern "C" fn wal_crc32c(bytes: &[u8]) -> u32
+    ensures { result ≡ crc32c bytes.now }
+{
+    let mut crc = Crc::new();
+    crc.add(bytes);
+    crc.value()
+}

@@ -1,0 +1,6 @@
+pub mod Zeros
+pub mod Entries
+pub mod Steps
+pub mod Passing
+pub mod Once
+pub mod First

@@ -1,0 +1,40 @@
+-- What looking for an entry at a place of the first page answers.
+use Rattle.std.specs.Prelude.{◌≡◌, ℕ, ◌+◌, ◌≤◌, List, length, take, drop, Result, Ok, Err}
+use Rattle.byte_words.specs.Numbers.{u32_in}
+use Rattle.wal_record.specs.declared.record.Record.{Record}
+use Rattle.wal_record.specs.declared.record.RecordFault.{RecordFault}
+use Rattle.wal_record.specs.declared.record.RecordFault.TheVariants as record_fault
+use Rattle.wal_reader.specs.declared.fault.Damage.TheVariants.{Form}
+use Rattle.wal_reader.specs.declared.fault.WalFault.{WalFault}
+use Rattle.wal_reader.specs.declared.fault.WalFault.TheVariants.{Damaged, NotInit, Failed, NoMemory}
+use Rattle.wal_reader.specs.Archive.{StandsAt, IsBroken, start_after}
+use Rattle.wal_reader.specs.Head.{origin, IsHead}
+
+-- the bytes from a place of the page on, as many as the number there says
+pub record IsOwn (page : List ℕ) (offset : ℕ) (bytes : List ℕ) : Type 0 where
+  pub bytes_are : bytes ≡ take (u32_in page offset) (drop offset page)
+  pub number : offset + 4 ≤ length page
+  pub whole : offset + u32_in page offset ≤ length page
+
+-- that number or these bytes aren't all held
+abbrev pub IsCutOff : List ℕ → ℕ → Type 0
+IsCutOff page offset = offset + 4 ≤ length page → offset + u32_in page offset ≤ length page → ⊥
+
+abbrev pub fault_at : ℕ → RecordFault → WalFault
+fault_at start record_fault.Form = Damaged (record { 0 = start }) Form
+fault_at start record_fault.NoMemory = NoMemory
+
+abbrev pub EntryAnswer : ℕ → List ℕ → ℕ → ℕ → Result Record WalFault → Type 0
+EntryAnswer mib page start prev (Ok r) = StandsAt mib page start prev r
+EntryAnswer mib page start prev (Err (Damaged place why)) = (place.0 ≡ start) × ((r : Record) → StandsAt mib page start prev r → ⊥)
+EntryAnswer mib page start prev (Err NotInit) = ⊥
+EntryAnswer mib page start prev (Err Failed) = ⊥
+EntryAnswer mib page start prev (Err NoMemory) = Unit {0}
+
+-- the same of what follows a place, where the archive goes on
+abbrev pub FollowAnswer : ℕ → List ℕ → ℕ → ℕ → Result Record WalFault → Type 0
+FollowAnswer mib page at prev (Ok r) = (at ≡ origin mib → IsHead mib page) × StandsAt mib page (start_after mib at) prev r
+FollowAnswer mib page at prev (Err (Damaged place why)) = IsBroken mib page at prev place.0
+FollowAnswer mib page at prev (Err NotInit) = ⊥
+FollowAnswer mib page at prev (Err Failed) = ⊥
+FollowAnswer mib page at prev (Err NoMemory) = Unit {0}

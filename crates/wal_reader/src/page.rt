@@ -1,0 +1,136 @@
+//! Reading the archive from its area: the first page, and whether all behind an offset is zero.
+
+ghost use Rattle.std.specs.Prelude.{◌≡◌, ◌^◌, ◌≤◌, IfOk, IfSome, length, take, drop};
+ghost use Rattle.lsn_core.specs.Causes.{HasCause};
+ghost use Rattle.vault.specs.Area.{bytes_of};
+ghost use Rattle.wal_reader.specs.Head.{origin};
+ghost use Rattle.wal_reader.specs.Archive.{held_bytes, first_page};
+ghost use Rattle.wal_reader.specs.Scan.{all_zero, IsZeroRun};
+
+use lsn_core::{AreaFault, SegSize, segment_name};
+use std::alloc::{AllocError, Global};
+use vault::Vault;
+
+/// How many bytes a page of the WAL has, and how many one read asks for.
+const PAGE: usize = 8192;
+
+/// So many bytes to read into.
+fn buffer(alloc: Global, size: usize) -> Result<Vec<u8>, AllocError>
+    ensures { IfOk result (λ v. length v.items ≡ size) }
+{
+    vec![in alloc; 0u8; size]
+}
+
+/// Reads the front of a file.
+fn read_front<V: Vault>(area: &mut V, name: &[u8], into: &mut [u8]) -> Result<u32, AreaFault>
+    requires { length into.old ≤ 2 ^ 20 }
+    ensures count { IfOk result (λ count. count ≤ length into.old) }
+    ensures front { IfOk result (λ count. IfSome (V.files area.old) (λ m. take count into.new ≡ take (length into.old) (bytes_of m name.now))) }
+    ensures same { V.files area.new ≡ V.files area.old }
+    ensures cause { HasCause (V.faults area.old) (V.faults area.new) result }
+{
+    area.read_at(name, 0, into)
+}
+
+/// The first 8192 bytes of a file, or all that it has.
+fn front<V: Vault>(alloc: Global, area: &mut V, name: &[u8]) -> Result<Vec<u8>, AreaFault>
+    ensures bytes { IfOk result (λ page. IfSome (V.files area.old) (λ m. page.items ≡ take 8192 (bytes_of m name.now))) }
+    ensures size { IfOk result (λ page. length page.items ≤ 8192) }
+    ensures same { V.files area.new ≡ V.files area.old }
+    ensures cause { HasCause (V.faults area.old) (V.faults area.new) result }
+{
+    let mut page = buffer(alloc, PAGE)?;
+    let count = read_front(area, name, &mut page)?;
+    page.truncate(count as usize);
+    Ok(page)
+}
+
+/// The held bytes of the archive's first page.
+pub fn page_of<V: Vault>(
+    alloc: Global,
+    area: &mut V,
+    segment: SegSize,
+) -> Result<Vec<u8>, AreaFault>
+    ensures bytes { IfOk result (λ page. IfSome (V.files area.old) (λ m. page.items ≡ first_page (held_bytes segment m))) }
+    ensures size { IfOk result (λ page. length page.items ≤ 8192) }
+    ensures same { V.files area.new ≡ V.files area.old }
+    ensures cause { HasCause (V.faults area.old) (V.faults area.new) result }
+{
+    let bytes = segment.bytes();
+    prove!(8192 <= bytes);
+    let name = segment_name(alloc, 1, segment)?;
+    let page = front(alloc, area, name.as_bytes())?;
+    Ok(page)
+}
+
+/// Whether each byte is zero.
+fn is_all_zero(bytes: &[u8]) -> bool
+    ensures { result ≡ all_zero bytes.now }
+{
+    bytes.iter().all(|b| *b == 0)
+}
+
+/// Reads a piece of a file, and says how many bytes it has and whether each is zero.
+fn zero_run<V: Vault>(
+    area: &mut V,
+    name: &[u8],
+    at: u64,
+    into: &mut [u8],
+) -> Result<(u32, bool), AreaFault>
+    requires { length into.old ≤ 2 ^ 20 }
+    ensures run { IfOk result (λ run. IfSome (V.files area.old) (λ m. IsZeroRun (bytes_of m name.now) at (length into.old) run.0 run.1)) }
+    ensures count { IfOk result (λ run. run.0 ≤ length into.old) }
+    ensures same { V.files area.new ≡ V.files area.old }
+    ensures cause { HasCause (V.faults area.old) (V.faults area.new) result }
+{
+    let count = area.read_at(name, at, into)?;
+    Ok((count, is_all_zero(&into[..count as usize])))
+}
+
+/// Whether all bytes of a file between two offsets are zero, as far as it has them. It reads piece
+/// by piece, up to the first byte other than zero.
+fn scan<V: Vault>(
+    area: &mut V,
+    name: &[u8],
+    from: u64,
+    limit: u64,
+    piece: &mut [u8],
+) -> Result<bool, AreaFault>
+    requires order { from ≤ limit }
+    requires piece { length piece.old ≡ 8192 }
+    ensures zero { IfOk result (λ zero. IfSome (V.files area.old) (λ m. zero ≡ all_zero (drop from (take limit (bytes_of m name.now))))) }
+    ensures same { V.files area.new ≡ V.files area.old }
+    ensures cause { HasCause (V.faults area.old) (V.faults area.new) result }
+{
+    let mut at = from;
+    while at < limit {
+        let wanted = (limit - at).min(PAGE as u64) as usize;
+        let (count, zero) = zero_run(area, name, at, &mut piece[..wanted])?;
+        if !zero {
+            return Ok(false);
+        }
+        if (count as usize) < wanted {
+            return Ok(true);
+        }
+        at += u64::from(count);
+    }
+    Ok(true)
+}
+
+/// Whether all held bytes of the archive are zero from an offset on. It reads pieces of 8192 bytes,
+/// up to the first byte other than zero.
+pub fn is_zero_from<V: Vault>(
+    alloc: Global,
+    area: &mut V,
+    segment: SegSize,
+    from: u64,
+) -> Result<bool, AreaFault>
+    requires { from ≤ origin segment }
+    ensures zero { IfOk result (λ zero. IfSome (V.files area.old) (λ m. zero ≡ all_zero (drop from (held_bytes segment m)))) }
+    ensures same { V.files area.new ≡ V.files area.old }
+    ensures cause { HasCause (V.faults area.old) (V.faults area.new) result }
+{
+    let name = segment_name(alloc, 1, segment)?;
+    let mut piece = buffer(alloc, PAGE)?;
+    scan(area, name.as_bytes(), from, segment.bytes(), &mut piece)
+}

@@ -1,0 +1,249 @@
+use super::*;
+use lsn_core::{AreaFault, BlockId, ForkId, ForkKind, Lsn, Rel};
+use std::alloc::Global;
+use std::test::Fail;
+use vault::{MemVault, Vault};
+use wal_record::{Kind, Record};
+
+const NAME: &[u8] = b"000000010000000000000001";
+
+/// The long header of the first page.
+const HEAD: &[u8] =
+    b"\x16\xd1\x02\0\x01\0\0\0\0\0\0\x01\0\0\0\0\0\0\0\0\0\0\0\0\x07\0\0\0\0\0\0\0\0\0\0\x01\0\x20\0\0";
+
+/// A shutdown checkpoint, 50 bytes from 0/1000028 on.
+const CHECKPOINT: &[u8] =
+    b"\x32\0\0\0\0\0\0\0\0\0\0\0\0\0\0\0\0\0\0\0\x29\x15\x01\x33\xff\x18\x28\0\0\x01\0\0\0\0\x01\0\0\0\x01\0\0\0\x01\0\0\0\0\0\0\0";
+
+/// The creation of the main fork of 5/16384, 42 bytes from 0/1000060 on.
+const CREATION: &[u8] =
+    b"\x2a\0\0\0\0\0\0\0\x28\0\0\x01\0\0\0\0\x11\x02\0\0\xd5\xad\x43\x0d\xff\x10\x7f\x06\0\0\x05\0\0\0\0\x40\0\0\0\0\0\0";
+
+/// An image of its block 0 with the hole 32 to 8160, 113 bytes from 0/1000090 on: the header and
+/// the announcement, and the page without its hole.
+const ANNOUNCED: &[u8] =
+    b"\x71\0\0\0\0\0\0\0\x60\0\0\x01\0\0\0\0\0\x14\0\0\xff\x76\x61\xbd\0\x10\0\0\x40\0\x20\0\x03\x7f\x06\0\0\x05\0\0\0\0\x40\0\0\0\0\0\0";
+
+const IMAGE: &[u8] =
+    b"\0\0\0\0\0\0\0\0\0\0\0\0\x20\0\xe0\x1f\0\x20\x04\x20\0\0\0\0AAAAAAAAAAAAAAAAAAAAAAAAAAAAAAAAAAAAAAAA";
+
+/// The bytes of these three entries. The padding of the last one isn't there.
+const SIZE: u64 = 0x101;
+
+/// An area with a segment file of these three entries; it fails at these calls, of which five make
+/// the file.
+fn area_with(alloc: Global, fails: &[u64]) -> Result<MemVault, AreaFault> {
+    let mut area = MemVault::new(alloc, fails)?;
+    area.write_at(NAME, 0, HEAD)?;
+    area.write_at(NAME, 0x28, CHECKPOINT)?;
+    area.write_at(NAME, 0x60, CREATION)?;
+    area.write_at(NAME, 0x90, ANNOUNCED)?;
+    area.write_at(NAME, 0xc1, IMAGE)?;
+    Ok(area)
+}
+
+/// How many answers of a cursor come before its last one, each of them an entry or a failure that
+/// leaves it as it was; and where there is damage then, which is asked for twice.
+fn read_through(alloc: Global, area: &mut MemVault) -> Result<(u32, Option<u64>), WalFault> {
+    let mut cursor = WalCursor::first(&read_settings(alloc, area)?);
+    for answers in 0..5u32 {
+        let before = cursor.tip();
+        match cursor.next(alloc, area) {
+            Ok(Some(_)) => {}
+            Ok(None) => return Ok((answers, None)),
+            Err(WalFault::Failed) if cursor.tip() == before => {}
+            Err(fault) => {
+                return match cursor.next(alloc, area) {
+                    Err(WalFault::Damaged(place, _)) => Ok((answers, Some(place.0))),
+                    _ => Err(fault),
+                };
+            }
+        }
+    }
+    Err(WalFault::Failed)
+}
+
+/// Where an entry starts and ends, and where the one before it starts.
+fn places_of(record: &Record) -> (u64, u64, u64) {
+    (record.start.0, record.end.0, record.prev.0)
+}
+
+fn redo_of(record: &Record) -> Option<u64> {
+    match &record.kind {
+        Kind::Shutdown(redo) => Some(redo.0),
+        _ => None,
+    }
+}
+
+fn fork_of(record: &Record) -> Option<ForkId> {
+    match &record.kind {
+        Kind::Create(fork) => Some(*fork),
+        _ => None,
+    }
+}
+
+fn block_of(record: &Record) -> Option<BlockId> {
+    match &record.kind {
+        Kind::Generic(blocks) => blocks.as_slice().first().map(|block| block.at),
+        _ => None,
+    }
+}
+
+#[test]
+fn three_entries_are_read_up_to_the_end(rt: HostRuntime) -> Result<(), Fail> {
+    let alloc = rt.alloc();
+    let rel = Rel::new(5, 16384).ok_or("not 0")?;
+    let fork = ForkId {
+        rel,
+        kind: ForkKind::Main,
+    };
+    let mut area = area_with(alloc, &[])?;
+    let settings = read_settings(alloc, &mut area)?;
+    assert_eq!(rt; settings.system, 7);
+    let mut cursor = WalCursor::first(&settings);
+    assert_eq!(rt; cursor.tip().end, Lsn(0x100_0000));
+    let first = cursor.next(alloc, &mut area)?.ok_or("a first entry")?;
+    assert_eq!(rt; places_of(&first), (0x100_0028, 0x100_0060, 0));
+    assert_eq!(rt; redo_of(&first), Some(0x100_0028));
+    let second = cursor.next(alloc, &mut area)?.ok_or("a second entry")?;
+    assert_eq!(rt; places_of(&second), (0x100_0060, 0x100_0090, 0x100_0028));
+    assert_eq!(rt; fork_of(&second), Some(fork));
+    let third = cursor.next(alloc, &mut area)?.ok_or("a third entry")?;
+    assert_eq!(rt; places_of(&third), (0x100_0090, 0x100_0108, 0x100_0060));
+    assert_eq!(rt; block_of(&third), Some(BlockId { fork, block: 0 }));
+    assert!(rt; cursor.next(alloc, &mut area)?.is_none());
+    assert_eq!(rt; cursor.tip().end, Lsn(0x100_0108));
+    assert_eq!(rt; cursor.tip().prev, Lsn(0x100_0090));
+    Ok(())
+}
+
+#[test]
+fn the_archive_ends(rt: HostRuntime) -> Result<(), Fail> {
+    let alloc = rt.alloc();
+    for (case, size, at, byte, entries) in [
+        ("zeros alone", 0, 9000, 0, 0),
+        ("zeros behind the head", 40, 9000, 0, 0),
+        ("zeros behind the entries", SIZE, 20000, 0, 3),
+        ("padding of an entry", SIZE, 0x101, 1, 3),
+        ("a byte behind the segment", SIZE, 0x100_0000, 1, 3),
+        ("a removable page", SIZE, 2, 6, 3),
+        ("padding of the head", SIZE, 20, 1, 3),
+        ("another system", SIZE, 24, 8, 3),
+        ("another sum", SIZE, 0x74, 0, 3),
+    ] {
+        let mut area = area_with(alloc, &[])?;
+        area.cut(NAME, size)?;
+        area.write_at(NAME, at, &[byte])?;
+        assert_eq!(rt; read_through(alloc, &mut area)?, (entries, None), "{case}");
+    }
+    Ok(())
+}
+
+#[test]
+fn the_file_is_cut(rt: HostRuntime) -> Result<(), Fail> {
+    let alloc = rt.alloc();
+    for (size, entries, damage) in [
+        (0, 0, None),
+        (39, 0, Some(0x100_0000)),
+        (40, 0, None),
+        (0x60, 1, None),
+        (0x93, 2, Some(0x100_0090)),
+        (SIZE - 1, 2, Some(0x100_0090)),
+    ] {
+        let mut area = area_with(alloc, &[])?;
+        area.cut(NAME, size)?;
+        assert_eq!(rt;
+            read_through(alloc, &mut area)?,
+            (entries, damage),
+            "at {size}"
+        );
+    }
+    Ok(())
+}
+
+#[test]
+fn the_archive_is_damaged(rt: HostRuntime) -> Result<(), Fail> {
+    let alloc = rt.alloc();
+    for (case, at, byte, entries, damage) in [
+        ("magic", 0, 0x17, 0, 0x100_0000),
+        ("an entry goes on", 2, 3, 0, 0x100_0000),
+        ("timeline", 4, 2, 0, 0x100_0000),
+        ("address", 9, 1, 0, 0x100_0000),
+        ("bytes remain", 16, 1, 0, 0x100_0000),
+        ("segment size", 35, 2, 0, 0x100_0000),
+        ("page size", 37, 0x40, 0, 0x100_0000),
+        ("redo point", 0x42, 0x30, 0, 0x100_0028),
+        ("previous entry", 0x68, 0x60, 1, 0x100_0060),
+        ("a byte behind the padding", 0x108, 1, 3, 0x100_0108),
+        ("a byte on a later page", 20000, 1, 3, 0x100_0108),
+    ] {
+        let mut area = area_with(alloc, &[])?;
+        area.write_at(NAME, at, &[byte])?;
+        assert_eq!(rt;
+            read_through(alloc, &mut area)?,
+            (entries, Some(damage)),
+            "{case}"
+        );
+    }
+    Ok(())
+}
+
+#[test]
+fn an_entry_ends_on_the_first_page(rt: HostRuntime) -> Result<(), Fail> {
+    let alloc = rt.alloc();
+    let rows = [
+        (
+            b"\x70\x1f".as_slice(),
+            b"\x3f\x1f\x18".as_slice(),
+            b"\x18\0\xd9\0".as_slice(),
+            3,
+            None,
+        ),
+        (
+            b"\x71\x1f".as_slice(),
+            b"\x40\x1f\x18".as_slice(),
+            b"\x18\0\xd8\0".as_slice(),
+            2,
+            Some(0x100_0090),
+        ),
+    ];
+    for (total, extent, hole, entries, damage) in rows {
+        let mut area = area_with(alloc, &[])?;
+        area.write_at(NAME, 0x90, total)?;
+        area.write_at(NAME, 0xac, extent)?;
+        area.write_at(NAME, 0xcd, hole)?;
+        area.write_at(NAME, 9000, b"\0")?;
+        assert_eq!(rt; read_through(alloc, &mut area)?, (entries, damage));
+    }
+    Ok(())
+}
+
+#[test]
+fn a_cursor_goes_on_after_a_failure(rt: HostRuntime) -> Result<(), Fail> {
+    let alloc = rt.alloc();
+    for call in 8..=16 {
+        let mut area = area_with(alloc, &[call])?;
+        assert_eq!(rt; read_through(alloc, &mut area)?, (4, None), "at {call}");
+    }
+    for call in 6..=7 {
+        let mut area = area_with(alloc, &[call])?;
+        assert_eq!(rt;
+            read_settings(alloc, &mut area).err(),
+            Some(WalFault::Failed),
+            "at {call}"
+        );
+    }
+    Ok(())
+}
+
+#[test]
+fn there_is_no_wal(rt: HostRuntime) -> Result<(), Fail> {
+    let alloc = rt.alloc();
+    let mut area = MemVault::new(alloc, &[])?;
+    area.write_at(b"000000010000000000000002", 0, HEAD)?;
+    assert_eq!(rt;
+        read_settings(alloc, &mut area).err(),
+        Some(WalFault::NotInit)
+    );
+    Ok(())
+}

@@ -1,0 +1,4 @@
+pub mod Heads
+pub mod Spelling
+pub mod Reading
+pub mod Places

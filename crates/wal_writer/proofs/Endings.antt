@@ -1,0 +1,20 @@
+-- The entry that comes next, by the number of its bytes.
+use Rattle.std.proofs.Common.{◌≡◌, ℕ, ◌+◌, ◌-◌, List, ap, ◌∙◌}
+use Rattle.byte_words.specs.Pieces.{zero_filled}
+use Rattle.wal_record.specs.declared.record.Record.{Record}
+use Rattle.wal_record.specs.declared.record.Kind.{Kind}
+use Rattle.wal_record.specs.Spelling.{sealed, total_of}
+use Rattle.wal_record.specs.Places.{aligned, record_behind, written_entry}
+use Rattle.wal_record.proofs.Sealed.{sealed_anywhere}
+
+-- an entry at a place that ends at a place
+abbrev pub record_from : ℕ → ℕ → ℕ → Kind → Record
+record_from start end prev kind = record { start = record { 0 = start }; end = record { 0 = end }; prev = record { 0 = prev }; xid = 0; kind = kind }
+
+pub record_ends : (start end prev size : ℕ) (kind : Kind) → end ≡ aligned (start + size) → size ≡ total_of kind → record_from start end prev kind ≡ record_behind start prev kind
+record_ends start end prev size kind e f = ap (λ (n : ℕ). record_from start n prev kind) (e ∙ ap (λ (n : ℕ). aligned (start + n)) f)
+
+pub entry_written : (start end prev : ℕ) (kind : Kind) (bytes padded : List ℕ) → bytes ≡ sealed (record_from start start prev kind) → padded ≡ zero_filled bytes (end - start) → padded ≡ written_entry (record_from start end prev kind)
+unfolding written_entry
+entry_written start end prev kind bytes padded e f =
+    f ∙ ap (λ (l : List ℕ). zero_filled l (end - start)) (e ∙ sealed_anywhere (record_from start end prev kind) (record { 0 = start }))

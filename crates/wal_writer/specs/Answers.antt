@@ -1,0 +1,28 @@
+-- What calls on the writer of the WAL answer.
+use Rattle.std.specs.Prelude.{◌≡◌, ℕ, ◌+◌, ◌-◌, ◌<◌, ◌≤◌, List, length, take, Option, Result, Ok, Err}
+use Rattle.lsn_core.specs.Files.{Files}
+use Rattle.lsn_core.specs.Names.{segment_name_bytes}
+use Rattle.vault.specs.Area.{after_write, IsTorn, Related}
+use Rattle.wal_record.specs.declared.record.Record.{Record}
+use Rattle.wal_record.specs.declared.record.Kind.{Kind}
+use Rattle.wal_record.specs.Places.{origin}
+use Rattle.wal_writer.specs.declared.fault.AppendFault.{AppendFault}
+use Rattle.wal_writer.specs.declared.fault.AppendFault.TheVariants.{WalFull, NoMemory}
+use Rattle.wal_writer.specs.Log.{Log, next_record, appended}
+
+-- the next entry is appended where it ends on the first page; a refusal changes nothing
+abbrev pub AppendAnswer : Kind → Log → Log → Result Record AppendFault → Type 0
+AppendAnswer kind old new (Ok r) = (r ≡ next_record old kind) × ((new ≡ appended old r) × (r.end.0 ≤ origin old.mib + 8192))
+AppendAnswer kind old new (Err WalFull) = (new ≡ old) × (origin old.mib + 8192 < (next_record old kind).end.0)
+AppendAnswer kind old new (Err NoMemory) = new ≡ old
+
+-- the bytes that a flush writes, and the files after that
+abbrev pub to_flush : Log → ℕ → List ℕ
+to_flush log to = take (to - log.flushed) log.pending
+
+abbrev pub after_flush : Log → ℕ → Files → Files
+after_flush log to = after_write (segment_name_bytes 1 log.mib) (log.flushed - origin log.mib) (to_flush log to)
+
+-- what a flush that failed leaves of the files: only the written range and what lies past the old end are unknown
+abbrev pub IsLeft : Log → ℕ → Option Files → Option Files → Type 0
+IsLeft log to old new = Related (IsTorn (segment_name_bytes 1 log.mib) (log.flushed - origin log.mib) (length (to_flush log to))) old new

@@ -1,0 +1,133 @@
+//! The WAL of an area, with the entries that aren't flushed yet.
+
+ghost use Rattle.std.specs.Prelude.{◌≡◌, ◌+◌, ◌<◌, ◌≤◌, length, IfOk, OnOk, OnErr};
+ghost use Rattle.std.specs.Option.{option_map};
+ghost use Rattle.lsn_core.specs.Causes.{HasCause};
+ghost use Rattle.lsn_core.specs.Names.{segment_name_bytes};
+ghost use Rattle.vault.specs.Area.{after_write, IsTorn, Related};
+ghost use Rattle.wal_record.specs.Places.{origin};
+ghost use Rattle.wal_record.specs.Spelling.{IsWritable};
+ghost use Rattle.wal_writer.specs.Log.{IsLog, log_at, flushed_to};
+ghost use Rattle.wal_writer.specs.Answers.{AppendAnswer, to_flush, after_flush, IsLeft};
+
+use crate::fault::AppendFault;
+use crate::tail::Tail;
+use lsn_core::{AreaFault, Lsn, Settings, WalTip, segment_name};
+use std::alloc::Global;
+use vault::Vault;
+use wal_record::{Kind, Record};
+
+/// The WAL of an area: entries are appended in memory, and flushed into the file of segment 1.
+#[derive(Drop)]
+pub struct WalState<V: Vault> {
+    area: V,
+    tail: Tail,
+}
+
+/// A place before which the WAL is flushed. Only a flush makes one.
+#[derive(Clone, Copy, Debug)]
+pub struct Flushed {
+    to: Lsn,
+}
+
+impl Flushed {
+    /// The place.
+    pub fn to(&self) -> Lsn
+        ensures { result ≡ self.now.to }
+    {
+        self.to
+    }
+}
+
+impl<V: Vault> WalState<V> {
+    /// The WAL of an area whose archive ends so, with a page head and entries to be written behind
+    /// that.
+    pub fn attach(alloc: Global, area: V, settings: Settings, tip: WalTip) -> WalState<V>
+        requires least { origin settings.segment ≤ tip.end.0 }
+        requires most { tip.end.0 ≤ origin settings.segment + 8192 }
+        ensures area { result.area ≡ area }
+        ensures log { result.tail ≡ log_at settings tip }
+    {
+        WalState {
+            area,
+            tail: Tail::new(alloc, settings, tip),
+        }
+    }
+
+    /// The area again. What isn't flushed is lost.
+    pub fn detach(self) -> V
+        ensures { result ≡ self.area }
+    {
+        self.area
+    }
+
+    /// Appends an entry in memory, at the start of the segment behind its page's head. `WalFull`
+    /// exactly where it would end past the first page; a refusal changes nothing.
+    pub fn append(&mut self, alloc: Global, kind: Kind) -> Result<Record, AppendFault>
+        requires { IsWritable kind }
+        ensures answer { AppendAnswer kind self.old.tail self.new.tail result }
+        ensures area { self.new.area ≡ self.old.area }
+    {
+        self.tail.append(alloc, kind)
+    }
+
+    /// Writes what stands before a place and isn't flushed yet, and syncs the area. Up to the
+    /// flushed position nothing is to be done. After a fault the flushed position stands, and the
+    /// next flush writes the same bytes again.
+    pub fn flush_to(&mut self, alloc: Global, to: Lsn) -> Result<Flushed, AreaFault>
+        requires { to.0 ≤ self.old.tail.end }
+        ensures idle { to.0 ≤ self.old.tail.flushed → self.new ≡ self.old }
+        ensures written { OnOk result (self.old.tail.flushed < to.0 → V.files self.new.area ≡ option_map (after_flush self.old.tail to.0) (V.files self.old.area)) }
+        ensures flushed { OnOk result (self.new.tail ≡ flushed_to self.old.tail to.0) }
+        ensures mark { IfOk result (λ mark. mark.to.0 ≡ self.new.tail.flushed) }
+        ensures stands { OnErr result (self.new.tail ≡ self.old.tail) }
+        ensures left { OnErr result (IsLeft self.old.tail to.0 (V.files self.old.area) (V.files self.new.area)) }
+        ensures cause { HasCause (V.faults self.old.area) (V.faults self.new.area) result }
+    {
+        if self.tail.flushed() < to.0 {
+            write_out(alloc, &mut self.area, &self.tail, to.0)?;
+            self.tail.advance(to.0);
+        }
+        Ok(Flushed {
+            to: Lsn(self.tail.flushed()),
+        })
+    }
+
+    /// Where all before it is flushed.
+    pub fn flushed(&self) -> Lsn
+        ensures flushed { result.0 ≡ self.now.tail.flushed }
+        ensures known { IsLog self.now.tail }
+    {
+        Lsn(self.tail.flushed())
+    }
+
+    /// Where the last entry ends; before the first one, where the segment begins.
+    pub fn end(&self) -> Lsn
+        ensures end { result.0 ≡ self.now.tail.end }
+        ensures known { IsLog self.now.tail }
+    {
+        Lsn(self.tail.end())
+    }
+}
+
+/// Writes what stands before a place and isn't flushed yet, and syncs the area.
+fn write_out<V: Vault>(alloc: Global, area: &mut V, tail: &Tail, to: u64) -> Result<(), AreaFault>
+    requires from { tail.now.flushed ≤ to }
+    requires to { to ≤ tail.now.end }
+    ensures written { OnOk result (V.files area.new ≡ option_map (after_flush tail.now to) (V.files area.old)) }
+    ensures left { OnErr result (IsLeft tail.now to (V.files area.old) (V.files area.new)) }
+    ensures cause { HasCause (V.faults area.old) (V.faults area.new) result }
+{
+    let name = segment_name(alloc, 1, tail.segment())?;
+    write_synced(area, name.as_bytes(), tail.offset(), tail.until(to))
+}
+
+/// Writes bytes at a place of a file and syncs the area.
+fn write_synced<V: Vault>(area: &mut V, name: &[u8], at: u64, piece: &[u8]) -> Result<(), AreaFault>
+    ensures written { OnOk result (V.files area.new ≡ option_map (after_write name.now at piece.now) (V.files area.old)) }
+    ensures left { OnErr result (Related (IsTorn name.now at (length piece.now)) (V.files area.old) (V.files area.new)) }
+    ensures cause { HasCause (V.faults area.old) (V.faults area.new) result }
+{
+    area.write_at(name, at, piece)?;
+    area.sync()
+}
