@@ -1,13 +1,22 @@
-# Two commands do all on a machine with the kit: `make demo` and `make test`.
+# Two commands do all on a machine with the kit: `make demo` runs the program on a sample, `make test` is the gate.
 PREFIX ?= /usr/local
 
 .PHONY: build demo test bench install clean
 
 build:
-	@true
+	./demo/build
+
+demo: build
+	./demo/tour bin/pgbackup
 
 test:
 	rt ci
 
 bench:
 	$(MAKE) -s -C bench
+
+install: build
+	install -D bin/pgbackup $(DESTDIR)$(PREFIX)/bin/pgbackup
+
+clean:
+	rm -rf bin crates/*/out

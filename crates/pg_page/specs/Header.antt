@@ -1,14 +1,8 @@
 -- The header of a page (PostgreSQL manual, Database Page Layout), and the hole in its middle.
 use Rattle.std.specs.Prelude.{◌≡◌, ℕ, ◌+◌, ◌-◌, ◌*◌, ◌/◌, ◌%◌, ◌^◌, ◌≤◌, List, ◌++◌, length, get_or, replicate, Option, Some, None, nat_lt, if◌then◌else◌}
 use Rattle.std.specs.Int.{w16, w32, to_le_bytes}
+use Rattle.byte_words.specs.Numbers.{u16_in, u32_in}
 use Rattle.byte_words.specs.Pieces.{overwritten}
-
--- a number of two bytes in a page
-abbrev pub u16_in : List ℕ → ℕ → ℕ
-u16_in page at = get_or page at 0 + 256 * get_or page (at + 1) 0
-
-abbrev pub u32_in : List ℕ → ℕ → ℕ
-u32_in page at = u16_in page at + 65536 * u16_in page (at + 2)
 
 -- pd_lower, pd_upper, pd_special and pd_pagesize_version
 abbrev pub lower_of : List ℕ → ℕ

@@ -2,9 +2,9 @@
 
 ghost use Rattle.std.specs.Prelude.{◌≡◌, ◌+◌, ◌-◌, ◌<◌, ◌≤◌, ◌↔◌, length, replicate, IsTrue, IsSome, IfSome};
 ghost use Rattle.byte_words.specs.Pieces.{overwritten};
-ghost use Rattle.pg_page.specs.Header.{IsGood, u16_in, lsn_of, lsn_field, hole_of, hole_zeroed, with_lsn, zero_page, made_page};
+ghost use Rattle.pg_page.specs.Header.{IsGood, lsn_of, lsn_field, hole_of, hole_zeroed, with_lsn, zero_page, made_page};
 
-use byte_words::overwrite;
+use byte_words::{overwrite, u16_in};
 use std::marker::Model;
 
 /// A page of 8192 bytes with a good header. Contracts see its bytes.
@@ -103,13 +103,6 @@ pub fn zero_page() -> [u8; 8192]
     ensures { result ≡ zero_page }
 {
     [0; 8192]
-}
-
-fn u16_in(page: &[u8; 8192], at: usize) -> u16
-    requires { at + 2 ≤ 8192 }
-    ensures { result ≡ u16_in page.now at }
-{
-    u16::from_le_bytes([page[at], page[at + 1]])
 }
 
 fn is_good(page: &[u8; 8192]) -> bool

@@ -1,3 +1,4 @@
 pub mod SoFar
 pub mod Clear
 pub mod StoreFiles
+pub mod OneAnswer

@@ -2,3 +2,4 @@ pub mod Words
 pub mod Replay
 pub mod Answers
 pub mod Top
+pub mod Laws

@@ -1,5 +1,5 @@
 -- What a replay of a WAL answers and leaves, over the area of the WAL and the output's area.
-use Rattle.std.specs.Prelude.{◌≡◌, ◌≢◌, ℕ, List, Option, Some, None, Result, Ok, Err, IfSome}
+use Rattle.std.specs.Prelude.{◌≡◌, ◌≢◌, ℕ, List, Option, Some, None, Result, Ok, Err, IsSome, IfSome}
 use Rattle.std.specs.Option.{option_map}
 use Rattle.std.specs.FinMap.{get, empty, len}
 use Rattle.lsn_core.specs.Causes.{Rose}
@@ -42,9 +42,14 @@ ReadAnswer mib files before now (Err fault) = WalCause mib files before now faul
 abbrev pub IsClear : AreaState → Type 0
 IsClear out = IfSome out.files (λ m. m ≡ empty)
 
+-- there is a WAL: the file of segment 1 is there
+abbrev pub IsThere : Option Files → Type 0
+IsThere files = IfSome files (λ m. IsSome (get m (segment_name_bytes 1 16)))
+
 -- a replay that was done: the output's files are those of the store that the whole WAL makes
 pub record ReplayDone (wal out new_out : AreaState) (done : Replayed) : Type 0 where
   pub clear : IsClear out
+  pub there : IsThere wal.files
   pub store : Store
   pub read : IsReplayed 16 wal.files store done.end.0
   pub written : new_out.files ≡ option_map (λ m. files_of 131072 store) out.files

@@ -4,11 +4,13 @@
 
 mod answer;
 mod files;
+mod laws;
 mod replay;
 mod top;
 mod words;
 
 pub use answer::Status;
+pub use laws::replay_has_one_answer;
 use lsn_core::{NoMemory, Text};
 use std::env;
 use std::process::ExitCode;

@@ -9,7 +9,7 @@ ghost use Rattle.lsn_core.specs.Store.{files_of};
 ghost use Rattle.history.specs.Pages.{page_count};
 ghost use Rattle.vault.specs.Site.{at_home};
 ghost use Rattle.pgbackup_cli.specs.declared.replay.ReplayFault.TheVariants as replay;
-ghost use Rattle.pgbackup_cli.specs.Replay.{ReadAnswer, ReplayAnswer};
+ghost use Rattle.pgbackup_cli.specs.Replay.{IsThere, ReadAnswer, ReplayAnswer};
 
 use crate::files::write_store;
 use history::{PageMap, apply};
@@ -79,6 +79,7 @@ fn read_entries<V: Vault>(
 
 /// The settings of the WAL and all its entries, applied to an empty store in memory.
 fn read_wal<V: Vault>(alloc: Global, wal: &mut V) -> Result<(PageMap, Lsn), WalFault>
+    ensures there { OnOk result (IsThere (V.files wal.old)) }
     ensures answer { ReadAnswer 16 (V.files wal.old) (V.faults wal.old) (V.faults wal.new) result }
     ensures same { V.files wal.new ≡ V.files wal.old }
     ensures later { V.faults wal.old ≤ V.faults wal.new }

@@ -27,3 +27,5 @@ pub use whole::{read_in, read_whole, write_in};
 
 #[cfg(test)]
 mod memory_tests;
+#[cfg(test)]
+mod stream_tests;

@@ -14,6 +14,7 @@ returns-clause-answer g c =
     when_told (g.V.Vault.files c.args.out.now) (λ m. IsTrue c.in_ok-is_clear.field-0 ↔ (m ≡ empty)) (λ m. m ≡ empty) (λ m iff. iff.0 c.if-not-branch.false) c.in_ok-is_clear.ensures.clear in
     record {
       clear = clear;
+      there = c.in_ok-store.ensures.there;
       store = c.in_ok-store.store;
       read = c.in_ok-store.ensures.answer;
       written = subst (λ (f : Option Files). g.V.Vault.files c.write_out.new.out ≡ option_map (λ m. files_of 131072 c.in_ok-store.store) f) c.in_ok-is_clear.ensures.same
