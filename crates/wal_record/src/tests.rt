@@ -184,5 +184,8 @@ fn entries_are_written_with_their_sums(rt: HostRuntime) -> Result<(), Fail> {
     };
     let bytes = encode_record(rt.alloc(), &created)?;
     assert_eq!(rt; bytes.as_slice(), CREATION.as_slice());
+    let changed = decode_record(rt.alloc(), &IMAGE, PLACE, None)?;
+    let bytes = encode_record(rt.alloc(), &changed)?;
+    assert_eq!(rt; bytes.as_slice(), IMAGE.as_slice());
     Ok(())
 }

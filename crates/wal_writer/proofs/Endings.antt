@@ -1,11 +1,12 @@
--- The entry that comes next, by the number of its bytes.
-use Rattle.std.proofs.Common.{◌≡◌, ℕ, ◌+◌, ◌-◌, List, ap, ◌∙◌}
+-- The entry that comes next.
+use Rattle.std.proofs.Common.{◌≡◌, ℕ, ◌+◌, ◌-◌, ◌^◌, ◌<◌, List, Some, refl, ap, ◌∙◌, arith}
 use Rattle.byte_words.specs.Pieces.{zero_filled}
 use Rattle.wal_record.specs.declared.record.Record.{Record}
 use Rattle.wal_record.specs.declared.record.Kind.{Kind}
-use Rattle.wal_record.specs.Spelling.{sealed, total_of}
-use Rattle.wal_record.specs.Places.{aligned, record_behind, written_entry}
-use Rattle.wal_record.proofs.Sealed.{sealed_anywhere}
+use Rattle.wal_record.specs.Spelling.{sealed, total_of, IsWritable, IsEntry}
+use Rattle.wal_record.specs.Places.{aligned, place_of, start_after, record_behind, written_entry}
+use Rattle.wal_record.proofs.Sealed.{sealed_anywhere, sealed_is_entry}
+use Rattle.wal_writer.specs.Log.{Log, next_record}
 
 -- an entry at a place that ends at a place
 abbrev pub record_from : ℕ → ℕ → ℕ → Kind → Record
@@ -18,3 +19,9 @@ pub entry_written : (start end prev : ℕ) (kind : Kind) (bytes padded : List �
 unfolding written_entry
 entry_written start end prev kind bytes padded e f =
     f ∙ ap (λ (l : List ℕ). zero_filled l (end - start)) (e ∙ sealed_anywhere (record_from start end prev kind) (record { 0 = start }))
+
+-- what is written of the entry that comes next is that entry, behind the last one
+pub next_is_entry : (log : Log) (kind : Kind) → log.prev < 2 ^ 64 → IsWritable kind
+    → IsEntry (sealed (next_record log kind)) (place_of (start_after log.mib log.end) (total_of kind)) (Some (record { 0 = log.prev })) (next_record log kind)
+next_is_entry log kind prev_fits writable =
+    sealed_is_entry (next_record log kind) (place_of (start_after log.mib log.end) (total_of kind)) (Some (record { 0 = log.prev })) writable refl refl prev_fits refl (omega arith)

@@ -1,6 +1,6 @@
 //! The WAL of an area, with the entries that aren't flushed yet.
 
-ghost use Rattle.std.specs.Prelude.{◌≡◌, ◌+◌, ◌<◌, ◌≤◌, length, IfOk, OnOk, OnErr};
+ghost use Rattle.std.specs.Prelude.{◌≡◌, ◌+◌, ◌<◌, ◌≤◌, length, IsOk, IfOk, OnOk, OnErr};
 ghost use Rattle.std.specs.Option.{option_map};
 ghost use Rattle.lsn_core.specs.Causes.{HasCause};
 ghost use Rattle.lsn_core.specs.Names.{segment_name_bytes};
@@ -40,8 +40,8 @@ impl Flushed {
 }
 
 impl<V: Vault> WalState<V> {
-    /// The WAL of an area whose archive ends so, with a page head and entries to be written behind
-    /// that.
+    /// The WAL of an area with these settings whose archive ends so: at the start of segment 1,
+    /// or behind an entry of its first page. Nothing waits to be flushed.
     pub fn attach(alloc: Global, area: V, settings: Settings, tip: WalTip) -> WalState<V>
         requires least { origin settings.segment ≤ tip.end.0 }
         requires most { tip.end.0 ≤ origin settings.segment + 8192 }
@@ -77,6 +77,7 @@ impl<V: Vault> WalState<V> {
     pub fn flush_to(&mut self, alloc: Global, to: Lsn) -> Result<Flushed, AreaFault>
         requires { to.0 ≤ self.old.tail.end }
         ensures idle { to.0 ≤ self.old.tail.flushed → self.new ≡ self.old }
+        ensures easy { to.0 ≤ self.old.tail.flushed → IsOk result }
         ensures written { OnOk result (self.old.tail.flushed < to.0 → V.files self.new.area ≡ option_map (after_flush self.old.tail to.0) (V.files self.old.area)) }
         ensures flushed { OnOk result (self.new.tail ≡ flushed_to self.old.tail to.0) }
         ensures mark { IfOk result (λ mark. mark.to.0 ≡ self.new.tail.flushed) }
