@@ -1,7 +1,7 @@
 # Two commands do all on a machine with the kit: `make demo` runs the program on a sample, `make test` is the gate.
 PREFIX ?= /usr/local
 
-.PHONY: build demo test bench install clean
+.PHONY: build demo test bench conformance install clean
 
 build:
 	./demo/build
@@ -11,6 +11,9 @@ demo: build
 
 test:
 	rt ci
+
+conformance: build
+	python3 conformance/replay.py bin/pgbackup
 
 bench:
 	$(MAKE) -s -C bench
