@@ -77,7 +77,7 @@ impl<V: Vault> WalState<V> {
     pub fn flush_to(&mut self, alloc: Global, to: Lsn) -> Result<Flushed, AreaFault>
         requires { to.0 ≤ self.old.tail.end }
         ensures idle { to.0 ≤ self.old.tail.flushed → self.new ≡ self.old }
-        ensures easy { to.0 ≤ self.old.tail.flushed → IsOk result }
+        ensures succeeds { to.0 ≤ self.old.tail.flushed → IsOk result }
         ensures written { OnOk result (self.old.tail.flushed < to.0 → V.files self.new.area ≡ option_map (after_flush self.old.tail to.0) (V.files self.old.area)) }
         ensures flushed { OnOk result (self.new.tail ≡ flushed_to self.old.tail to.0) }
         ensures mark { IfOk result (λ mark. mark.to.0 ≡ self.new.tail.flushed) }

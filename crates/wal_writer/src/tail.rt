@@ -21,7 +21,7 @@ const HEAD: u64 = 40;
 const PAGE: u64 = 8192;
 
 /// The end of the WAL. Contracts see a `Log`.
-#[derive(Debug, Drop)]
+#[derive(Drop)]
 pub struct Tail {
     settings: Settings,
     flushed: u64,
