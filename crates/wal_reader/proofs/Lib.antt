@@ -4,3 +4,5 @@ pub mod Steps
 pub mod Passing
 pub mod Once
 pub mod First
+pub mod Appending
+pub mod SettingsText

@@ -5,7 +5,7 @@ use Rattle.byte_words.specs.Told.{when_told, when_both_told}
 use Rattle.lsn_core.specs.Files.{Files}
 use Rattle.wal_record.specs.declared.record.Record.{Record}
 use Rattle.wal_reader.specs.declared.fault.WalFault.{WalFault}
-use Rattle.wal_reader.specs.declared.fault.WalFault.TheVariants.{Damaged, NotInit, Failed, NoMemory}
+use Rattle.wal_reader.specs.declared.fault.WalFault.TheVariants.{Damaged, SettingsDamaged, NotInit, Failed, NoMemory}
 use Rattle.wal_reader.specs.Head.{origin, long_head, IsHead}
 use Rattle.wal_reader.specs.Archive.{held_bytes, first_page, start_after, StandsAt, EndsAt, Follows, IsBroken, IsDamagedAt}
 use Rattle.wal_reader.specs.Entry.{EntryAnswer, FollowAnswer}
@@ -22,6 +22,7 @@ start_behind mib at ne = rw (ne_eqb at (origin mib) ne) refl
 pub from_entry : (mib : ℕ) (page : List ℕ) (at prev start : ℕ) (result : Result Record WalFault) → start_after mib at ≡ start → (at ≡ origin mib → IsHead mib page) → EntryAnswer mib page start prev result → FollowAnswer mib page at prev result
 from_entry mib page at prev start (Ok r) e head stands = (head, subst (λ (s : ℕ). StandsAt mib page s prev r) (sym e) stands)
 from_entry mib page at prev start (Err (Damaged place why)) e head none = inr (head, (none.0 ∙ sym e, λ r s. none.1 r (subst (λ (n : ℕ). StandsAt mib page n prev r) e s)))
+from_entry mib page at prev start (Err SettingsDamaged) e head never = never
 from_entry mib page at prev start (Err NotInit) e head never = never
 from_entry mib page at prev start (Err Failed) e head never = never
 from_entry mib page at prev start (Err NoMemory) e head free = tt
@@ -51,6 +52,7 @@ pub fault_found : (mib at prev : ℕ) (files : Option Files) (before now : ℕ) 
 fault_found mib at prev files before now page (Damaged place why) page_is goes_on broken =
     when_both_told files (λ m. page ≡ first_page (held_bytes mib m)) (λ m. EndsAt mib (held_bytes mib m) at → ⊥) (λ m. IsDamagedAt mib (held_bytes mib m) at prev place.0)
     (λ m e on. record { goes_on = on; broken = subst (λ (p : List ℕ). IsBroken mib p at prev place.0) e broken }) page_is goes_on
+fault_found mib at prev files before now page SettingsDamaged page_is goes_on never = never
 fault_found mib at prev files before now page NotInit page_is goes_on never = never
 fault_found mib at prev files before now page Failed page_is goes_on never = absurd never
 fault_found mib at prev files before now page NoMemory page_is goes_on free = tt

@@ -1,8 +1,7 @@
 -- What a cursor over the archive answers.
-use Rattle.std.specs.Prelude.{◌≡◌, ℕ, ◌+◌, ◌<◌, ◌≤◌, ◌^◌, Option, Some, None, Result, Ok, Err, IsSome, IfSome}
+use Rattle.std.specs.Prelude.{◌≡◌, ℕ, ◌+◌, ◌<◌, ◌≤◌, ◌^◌, Option, Some, None, Result, Ok, Err, IsSome, IfSome, codes}
 use Rattle.std.specs.FinMap.{get}
 use Rattle.lsn_core.specs.Files.{Files}
-use Rattle.lsn_core.specs.Names.{segment_name_bytes}
 use Rattle.lsn_core.specs.declared.segment.Settings.{Settings}
 use Rattle.lsn_core.specs.Causes.{Rose}
 use Rattle.lsn_core.specs.declared.fault.AreaFault.{AreaFault}
@@ -10,8 +9,9 @@ use Rattle.lsn_core.specs.declared.fault.AreaFault.TheVariants as area
 use Rattle.wal_record.specs.declared.record.Record.{Record}
 use Rattle.wal_record.specs.Spelling.{IsWritable}
 use Rattle.wal_reader.specs.declared.fault.WalFault.{WalFault}
-use Rattle.wal_reader.specs.declared.fault.WalFault.TheVariants.{Damaged, NotInit, Failed, NoMemory}
+use Rattle.wal_reader.specs.declared.fault.WalFault.TheVariants.{Damaged, SettingsDamaged, NotInit, Failed, NoMemory}
 use Rattle.wal_reader.specs.Head.{origin}
+use Rattle.wal_reader.specs.Settings.{first_segment, IsDamagedText, IsSettingsOf}
 use Rattle.wal_reader.specs.Archive.{held_bytes, EndsAt, Follows, IsDamagedAt}
 
 abbrev pub area_fault : AreaFault → WalFault
@@ -45,6 +45,7 @@ abbrev pub FoundAnswer : ℕ → ℕ → ℕ → Option Files → ℕ → ℕ �
 FoundAnswer mib at prev files before now (Ok None) = IfSome files (λ m. EndsAt mib (held_bytes mib m) at)
 FoundAnswer mib at prev files before now (Ok (Some r)) = IsGiven mib at r × IfSome files (λ m. Follows mib (held_bytes mib m) at prev r)
 FoundAnswer mib at prev files before now (Err (Damaged place why)) = IfSome files (λ m. IsDamagedAt mib (held_bytes mib m) at prev place.0)
+FoundAnswer mib at prev files before now (Err SettingsDamaged) = ⊥
 FoundAnswer mib at prev files before now (Err NotInit) = ⊥
 FoundAnswer mib at prev files before now (Err Failed) = Rose before now
 FoundAnswer mib at prev files before now (Err NoMemory) = Unit {0}
@@ -54,6 +55,7 @@ abbrev pub moved : Reading → Result (Option Record) WalFault → Reading
 moved c (Ok None) = c
 moved c (Ok (Some r)) = record c { at = r.end.0; prev = r.start.0 }
 moved c (Err (Damaged place why)) = record c { fault = Some (Damaged place why) }
+moved c (Err SettingsDamaged) = record c { fault = Some SettingsDamaged }
 moved c (Err NotInit) = record c { fault = Some NotInit }
 moved c (Err Failed) = c
 moved c (Err NoMemory) = record c { fault = Some NoMemory }
@@ -63,10 +65,11 @@ abbrev pub NextAnswer : Option WalFault → Reading → Reading → Option Files
 NextAnswer None c new files before now result = (new ≡ moved c result) × FoundAnswer c.mib c.at c.prev files before now result
 NextAnswer (Some fault) c new files before now result = (new ≡ c) × (result ≡ Err fault)
 
--- the settings are those of every WAL so far, and there is one just where the file of segment 1 is there
+-- the settings of the WAL; or its file `settings` is damaged, or the file of segment 1 isn't there
 abbrev pub SettingsAnswer : Option Files → ℕ → ℕ → Result Settings WalFault → Type 0
-SettingsAnswer files before now (Ok s) = ((s.segment ≡ 16) × (s.relseg ≡ 131072)) × IfSome files (λ m. IsSome (get m (segment_name_bytes 1 16)))
+SettingsAnswer files before now (Ok s) = IfSome files (λ m. IsSettingsOf m s) × ((1 ≤ s.relseg) × (s.relseg ≤ 131072))
 SettingsAnswer files before now (Err (Damaged place why)) = ⊥
-SettingsAnswer files before now (Err NotInit) = IfSome files (λ m. get m (segment_name_bytes 1 16) ≡ None)
+SettingsAnswer files before now (Err SettingsDamaged) = IfSome files (λ m. IsSome (get m first_segment) × IsDamagedText (get m (codes "settings")))
+SettingsAnswer files before now (Err NotInit) = IfSome files (λ m. get m first_segment ≡ None)
 SettingsAnswer files before now (Err Failed) = Rose before now
 SettingsAnswer files before now (Err NoMemory) = Unit {0}

@@ -6,7 +6,7 @@ use Rattle.wal_record.specs.declared.record.RecordFault.{RecordFault}
 use Rattle.wal_record.specs.declared.record.RecordFault.TheVariants as record_fault
 use Rattle.wal_reader.specs.declared.fault.Damage.TheVariants.{Form}
 use Rattle.wal_reader.specs.declared.fault.WalFault.{WalFault}
-use Rattle.wal_reader.specs.declared.fault.WalFault.TheVariants.{Damaged, NotInit, Failed, NoMemory}
+use Rattle.wal_reader.specs.declared.fault.WalFault.TheVariants.{Damaged, SettingsDamaged, NotInit, Failed, NoMemory}
 use Rattle.wal_reader.specs.Archive.{StandsAt, IsBroken, start_after}
 use Rattle.wal_reader.specs.Head.{origin, IsHead}
 
@@ -27,6 +27,7 @@ fault_at start record_fault.NoMemory = NoMemory
 abbrev pub EntryAnswer : ℕ → List ℕ → ℕ → ℕ → Result Record WalFault → Type 0
 EntryAnswer mib page start prev (Ok r) = StandsAt mib page start prev r
 EntryAnswer mib page start prev (Err (Damaged place why)) = (place.0 ≡ start) × ((r : Record) → StandsAt mib page start prev r → ⊥)
+EntryAnswer mib page start prev (Err SettingsDamaged) = ⊥
 EntryAnswer mib page start prev (Err NotInit) = ⊥
 EntryAnswer mib page start prev (Err Failed) = ⊥
 EntryAnswer mib page start prev (Err NoMemory) = Unit {0}
@@ -35,6 +36,7 @@ EntryAnswer mib page start prev (Err NoMemory) = Unit {0}
 abbrev pub FollowAnswer : ℕ → List ℕ → ℕ → ℕ → Result Record WalFault → Type 0
 FollowAnswer mib page at prev (Ok r) = (at ≡ origin mib → IsHead mib page) × StandsAt mib page (start_after mib at) prev r
 FollowAnswer mib page at prev (Err (Damaged place why)) = IsBroken mib page at prev place.0
+FollowAnswer mib page at prev (Err SettingsDamaged) = ⊥
 FollowAnswer mib page at prev (Err NotInit) = ⊥
 FollowAnswer mib page at prev (Err Failed) = ⊥
 FollowAnswer mib page at prev (Err NoMemory) = Unit {0}

@@ -1,56 +1,24 @@
-//! A cursor over the archive, and the settings that it is made from.
+//! A cursor over the archive.
 //!
 //! Where the archive goes on, where it ends and where it is damaged is said in `specs/Archive.antt`;
 //! what each call answers and how it leaves the cursor, in `specs/Cursor.antt`.
 
 ghost use Rattle.std.specs.Prelude.{◌≡◌, ◌+◌, ◌≤◌, ◌↔◌, length, IsTrue, IfSome, IfOk};
 ghost use Rattle.lsn_core.specs.Causes.{HasCause};
-ghost use Rattle.wal_reader.specs.Head.{origin, system_in};
+ghost use Rattle.wal_reader.specs.Head.{origin};
 ghost use Rattle.wal_reader.specs.Archive.{held_bytes, first_page, EndsAt};
 ghost use Rattle.wal_reader.specs.Entry.{FollowAnswer};
-ghost use Rattle.wal_reader.specs.Cursor.{at_start, NextAnswer, SettingsAnswer, FoundAnswer};
+ghost use Rattle.wal_reader.specs.Cursor.{at_start, NextAnswer, FoundAnswer};
 
 use crate::entry::entry_at;
 use crate::fault::{Damage, WalFault};
-use crate::head::{LONG_HEAD, is_head, system_in};
+use crate::head::{LONG_HEAD, is_head};
 use crate::page::{is_zero_from, page_of};
-use lsn_core::{AreaFault, Lsn, SegSize, Settings, WalTip, segment_name};
+use lsn_core::{AreaFault, Lsn, SegSize, Settings, WalTip};
 use std::alloc::Global;
 use std::marker::Model;
 use vault::Vault;
 use wal_record::Record;
-
-/// The settings of a WAL: so far always segments of 16 MiB (PostgreSQL manual, initdb
-/// --wal-segsize) and 131072 blocks a segment of a fork (PostgreSQL manual, configure
-/// --with-segsize). The system identifier is that of the first page's head, 0 where its first 32
-/// bytes aren't held. `NotInit` exactly where the file of segment 1 isn't there.
-pub fn read_settings<V: Vault>(alloc: Global, area: &mut V) -> Result<Settings, WalFault>
-    ensures system { IfOk result (λ s. IfSome (V.files area.old) (λ m. s.system ≡ system_in (first_page (held_bytes s.segment m)))) }
-    ensures answer { SettingsAnswer (V.files area.old) (V.faults area.old) (V.faults area.new) result }
-    ensures same { V.files area.new ≡ V.files area.old }
-    ensures later { V.faults area.old ≤ V.faults area.new }
-{
-    let segment = SegSize::standard();
-    let name = segment_name(alloc, 1, segment)?;
-    match area.size(name.as_bytes())? {
-        Some(_) => Ok(Settings {
-            segment,
-            relseg: 131_072,
-            system: system_of(alloc, area, segment)?,
-        }),
-        None => Err(WalFault::NotInit),
-    }
-}
-
-/// The system identifier that stands in the head of the first page.
-fn system_of<V: Vault>(alloc: Global, area: &mut V, segment: SegSize) -> Result<u64, AreaFault>
-    ensures system { IfOk result (λ system. IfSome (V.files area.old) (λ m. system ≡ system_in (first_page (held_bytes segment m)))) }
-    ensures same { V.files area.new ≡ V.files area.old }
-    ensures cause { HasCause (V.faults area.old) (V.faults area.new) result }
-{
-    let page = page_of(alloc, area, segment)?;
-    Ok(system_in(&page))
-}
 
 /// A cursor over the archive. It holds nothing of the area, which is given to each step. Contracts
 /// see where it stands, and the fault that it goes on to answer (`Reading`).

@@ -19,6 +19,8 @@ pub enum Damage {
 pub enum WalFault {
     /// The archive is damaged at this place: the start of the page or of an entry.
     Damaged(Lsn, Damage),
+    /// The file `settings` is not of its grammar.
+    SettingsDamaged,
     /// There is no WAL: the file of segment 1 isn't there.
     NotInit,
     /// The area of the WAL failed, and its count of faults rose.

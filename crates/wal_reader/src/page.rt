@@ -1,6 +1,8 @@
 //! Reading the archive from its area: the first page, and whether all behind an offset is zero.
 
 ghost use Rattle.std.specs.Prelude.{◌≡◌, ◌^◌, ◌≤◌, IfOk, IfSome, length, take, drop};
+ghost use Rattle.std.specs.FinMap.{get};
+ghost use Rattle.std.specs.Option.{option_map};
 ghost use Rattle.lsn_core.specs.Causes.{HasCause};
 ghost use Rattle.vault.specs.Area.{bytes_of};
 ghost use Rattle.wal_reader.specs.Head.{origin};
@@ -43,6 +45,22 @@ fn front<V: Vault>(alloc: Global, area: &mut V, name: &[u8]) -> Result<Vec<u8>, 
     let count = read_front(area, name, &mut page)?;
     page.truncate(count as usize);
     Ok(page)
+}
+
+/// The first 8192 bytes of a file, or all that it has. None exactly where it isn't there.
+pub fn front_if_there<V: Vault>(
+    alloc: Global,
+    area: &mut V,
+    name: &[u8],
+) -> Result<Option<Vec<u8>>, AreaFault>
+    ensures bytes { IfOk result (λ found. IfSome (V.files area.old) (λ m. option_map (λ v. v.items) found ≡ option_map (take 8192) (get m name.now))) }
+    ensures same { V.files area.new ≡ V.files area.old }
+    ensures cause { HasCause (V.faults area.old) (V.faults area.new) result }
+{
+    match area.size(name)? {
+        Some(_) => Ok(Some(front(alloc, area, name)?)),
+        None => Ok(None),
+    }
 }
 
 /// The held bytes of the archive's first page.

@@ -1,5 +1,5 @@
 use super::*;
-use lsn_core::{AreaFault, BlockId, ForkId, ForkKind, Lsn, Rel};
+use lsn_core::{AreaFault, BlockId, ForkId, ForkKind, Lsn, Rel, SegSize};
 use std::alloc::Global;
 use std::test::Fail;
 use vault::{MemVault, Vault};
@@ -221,11 +221,11 @@ fn an_entry_ends_on_the_first_page(rt: HostRuntime) -> Result<(), Fail> {
 #[test]
 fn a_cursor_goes_on_after_a_failure(rt: HostRuntime) -> Result<(), Fail> {
     let alloc = rt.alloc();
-    for call in 8..=16 {
+    for call in 9..=17 {
         let mut area = area_with(alloc, &[call])?;
         assert_eq!(rt; read_through(alloc, &mut area)?, (4, None), "at {call}");
     }
-    for call in 6..=7 {
+    for call in 6..=8 {
         let mut area = area_with(alloc, &[call])?;
         assert_eq!(rt;
             read_settings(alloc, &mut area).err(),
@@ -233,6 +233,93 @@ fn a_cursor_goes_on_after_a_failure(rt: HostRuntime) -> Result<(), Fail> {
             "at {call}"
         );
     }
+    Ok(())
+}
+
+/// The segment size in MiB and the blocks a segment of a fork that a file of settings gives. The
+/// file is there even if its text is empty.
+fn numbers_given(alloc: Global, text: &[u8]) -> Result<(u64, u32), WalFault> {
+    let mut area = area_with(alloc, &[])?;
+    area.write_at(b"settings", 0, b"x")?;
+    area.cut(b"settings", 0)?;
+    area.write_at(b"settings", 0, text)?;
+    let settings = read_settings(alloc, &mut area)?;
+    Ok((settings.segment.bytes() / 1_048_576, settings.relseg))
+}
+
+#[test]
+fn a_file_gives_settings(rt: HostRuntime) -> Result<(), Fail> {
+    let alloc = rt.alloc();
+    for (text, numbers) in [
+        ("segment-mib 1\nblocks-per-segment 1\n", (1, 1)),
+        (
+            "segment-mib 1024\nblocks-per-segment 131072\n",
+            (1024, 131_072),
+        ),
+        ("segment-mib 32\nblocks-per-segment 5\n", (32, 5)),
+    ] {
+        let (mib, relseg) = numbers;
+        assert_eq!(rt; numbers_given(alloc, text.as_bytes())?, numbers, "{text}");
+        let segment = SegSize::new(mib as u32).ok_or("a segment size")?;
+        let written = settings_text(alloc, segment, relseg)?;
+        assert_eq!(rt; written.as_bytes(), text.as_bytes());
+    }
+    Ok(())
+}
+
+#[test]
+fn a_file_of_settings_is_damaged(rt: HostRuntime) -> Result<(), Fail> {
+    let alloc = rt.alloc();
+    for text in [
+        "",
+        "segment-mib 16\n",
+        "segment-mib 16\nblocks-per-segment 131072",
+        "segment-mib 16\nblocks-per-segment 131072\n\n",
+        "segment-mib 16\nblocks-per-segment 131072\n0",
+        "segment-mib 016\nblocks-per-segment 131072\n",
+        "segment-mib 16\nblocks-per-segment 0131072\n",
+        "segment-mib +16\nblocks-per-segment 131072\n",
+        "segment-mib  16\nblocks-per-segment 131072\n",
+        "segment-mib 16 \nblocks-per-segment 131072\n",
+        "segment-mib 16\r\nblocks-per-segment 131072\r\n",
+        "segment-mib 16\n\nblocks-per-segment 131072\n",
+        "Segment-mib 16\nblocks-per-segment 131072\n",
+        "segment-mib \nblocks-per-segment 131072\n",
+        "segment-mib 0\nblocks-per-segment 131072\n",
+        "segment-mib 3\nblocks-per-segment 131072\n",
+        "segment-mib 2048\nblocks-per-segment 131072\n",
+        "segment-mib 4294967312\nblocks-per-segment 131072\n",
+        "segment-mib 16\nblocks-per-segment 0\n",
+        "segment-mib 16\nblocks-per-segment 131073\n",
+        "segment-mib 16\nblocks-per-segment 4295098368\n",
+        "blocks-per-segment 131072\nsegment-mib 16\n",
+    ] {
+        assert_eq!(rt;
+            numbers_given(alloc, text.as_bytes()).err(),
+            Some(WalFault::SettingsDamaged),
+            "{text}"
+        );
+    }
+    Ok(())
+}
+
+#[test]
+fn a_wal_has_segments_of_one_mebibyte(rt: HostRuntime) -> Result<(), Fail> {
+    let alloc = rt.alloc();
+    let mut area = MemVault::new(alloc, &[])?;
+    area.write_at(NAME, 0, HEAD)?;
+    area.write_at(NAME, 8, b"\0\0\x10\0")?;
+    area.write_at(NAME, 32, b"\0\0\x10\0")?;
+    area.write_at(
+        b"settings",
+        0,
+        b"segment-mib 1\nblocks-per-segment 131072\n",
+    )?;
+    let settings = read_settings(alloc, &mut area)?;
+    assert_eq!(rt; settings.system, 7);
+    let cursor = WalCursor::first(&settings);
+    assert_eq!(rt; cursor.tip().end, Lsn(0x10_0000));
+    assert_eq!(rt; read_through(alloc, &mut area)?, (0, None));
     Ok(())
 }
 

@@ -1,0 +1,9 @@
+//! Numbers written in decimal digits.
+#![tactic(auto)]
+
+mod reading;
+
+pub use reading::{decimal_in, digits_in};
+
+#[cfg(test)]
+mod tests;

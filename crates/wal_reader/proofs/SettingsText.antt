@@ -1,0 +1,237 @@
+-- The file `settings`: its lines are read in one way, and it is short.
+use Rattle.std.proofs.Common.{◌≡◌, ℕ, ◌+◌, ◌-◌, ◌/◌, ◌%◌, ◌<◌, ◌≤◌, ◌^◌, ◌==◌, true, false, List, [], ◌∷◌, ◌++◌, length, get_or, take, drop, codes, Option, Some, None, IsSome, IfSome, IfNone, refl, ap, sym, subst, ◌∙◌, arith, cond, nat_lt, add-one}
+use Rattle.std.specs.Fmt.{decimal, digits}
+use Rattle.std.specs.Int.{IsInRange}
+use Rattle.std.specs.List.{position, position_or_len}
+use Rattle.std.specs.Option.{option_map, MatchOption, is_some}
+use Rattle.std.specs.FinMap.{get}
+use Rattle.std.proofs.Math.Nat.{le-div_iff_mul-le, div-eq_of_lt, mod-eq_of_lt}
+use Rattle.std.proofs.lemmas.Bool.{ne_eqb, lt-ltb, eqb-true}
+use Rattle.std.proofs.lemmas.List.{take_all, length-append, append_cancel_left, length-drop, take-append-drop, length-take}
+use Rattle.std.proofs.lemmas.List.Quantifiers.{position-Some}
+use Rattle.std.proofs.Math.Seq.{take-append_seam, drop-append-add, drop-cons}
+use Rattle.std.proofs.lemmas.Fmt.{decimal_injective, length-decimal-le}
+use Rattle.text_numbers.specs.Numbers.{all_digits}
+use Rattle.text_numbers.proofs.Decimal.{tells, decimal_is_digits}
+use Rattle.lsn_core.specs.Segment.{IsSegmentMib, segment_bytes}
+use Rattle.lsn_core.specs.Names.{segment_name_bytes, eight_digits}
+use Rattle.lsn_core.specs.Files.{Files}
+use Rattle.lsn_core.specs.declared.segment.Settings.{Settings}
+use Rattle.wal_reader.specs.Head.{system_in}
+use Rattle.wal_reader.specs.Archive.{held_bytes, first_page}
+use Rattle.wal_reader.specs.Settings.{first_segment, settings_text, cut_line, IsSettingsText, GivesSettings, IsDamagedText, IsSettingsOf, Tells}
+
+-- a line end behind digits is the first one
+end_of_digits : (text tail : List ℕ) → all_digits text ≡ true → position_or_len (λ b. b == 10) (text ++ (10 ∷ tail)) ≡ length text
+end_of_digits [] tail numeral = refl
+end_of_digits (c ∷ cs) tail numeral =
+    let both : IsInRange 48 57 c × (all_digits cs ≡ true) = tells.parts c cs numeral in
+    let other : (c == 10) ≡ false = ne_eqb c 10 (λ e. omega (arith, both.0, e)) in
+    let more : position_or_len (λ b. b == 10) (cs ++ (10 ∷ tail)) ≡ length cs = end_of_digits cs tail both.1 in
+    rw (other, more) (omega arith)
+
+-- a place that is found within
+placed : (size n m : ℕ) → m ≡ n → n < size → cond (nat_lt m size) (Some m) None ≡ Some n
+placed size n m e within = rw (e, lt-ltb n size within) refl
+
+-- what stands before and behind a place
+abbrev parts : List ℕ → ℕ → List ℕ × List ℕ
+parts text i = (take i text, drop (i + 1) text)
+
+seam : (text tail : List ℕ) → parts (text ++ (10 ∷ tail)) (length text) ≡ (text, tail)
+seam text tail = rw (take-append_seam text (10 ∷ tail), drop-append-add text (10 ∷ tail) 1) refl
+
+-- digits and a line end behind them are cut there
+cut_digits : (text tail : List ℕ) → all_digits text ≡ true → cut_line (text ++ (10 ∷ tail)) ≡ Some (text, tail)
+cut_digits text tail numeral =
+    ap (λ (o : Option ℕ). option_map (parts (text ++ (10 ∷ tail))) o)
+    (placed (length (text ++ (10 ∷ tail))) (length text) (position_or_len (λ b. b == 10) (text ++ (10 ∷ tail))) (end_of_digits text tail numeral) (omega (arith, length-append text (10 ∷ tail))))
+    ∙ ap (λ (x : List ℕ × List ℕ). Some x) (seam text tail)
+
+-- what a slice behind a place is
+pub cut_at : (text : List ℕ) (i : ℕ) → Some i ≡ position (λ b. b == 10) text → Some (take i text, take (length text - (i + 1)) (drop (i + 1) text)) ≡ cut_line text
+cut_at text i at =
+    ap (λ (t : List ℕ). Some (take i text, t)) (take_all (length text - (i + 1)) (drop (i + 1) text) (omega (arith, length-drop (i + 1) text))) ∙ ap (option_map (parts text)) at
+
+-- the two parts of a pair that is there
+abbrev front : Option (List ℕ × List ℕ) → List ℕ
+front None = []
+front (Some x) = x.0
+
+abbrev back : Option (List ℕ × List ℕ) → List ℕ
+back None = []
+back (Some x) = x.1
+
+-- what is cut is whole
+whole_at : (text before behind : List ℕ) (o : Option ℕ) → position (λ b. b == 10) text ≡ o → option_map (parts text) o ≡ Some (before, behind) → text ≡ before ++ (10 ∷ behind)
+whole_at text before behind None at e = absurd (cc)
+whole_at text before behind (Some i) at e =
+    let found : (i < length text) × ((get_or text i 0 == 10) ≡ true) × ((k : ℕ) → k < i → (get_or text k 0 == 10) ≡ false) = position-Some (λ b. b == 10) text i 0 at in
+    let line_end : get_or text i 0 ≡ 10 = eqb-true (get_or text i 0) 10 found.1 in
+    let within : i < length text = found.0 in
+    let tail : drop i text ≡ 10 ∷ drop (i + 1) text = rw (add-one, drop-cons text i 0, line_end) refl in
+    let first : take i text ≡ before = ap front e in
+    let second : drop (i + 1) text ≡ behind = ap back e in
+    sym (take-append-drop i text) ∙ rw (tail, first, second) refl
+
+pub whole_line : (text before behind : List ℕ) → cut_line text ≡ Some (before, behind) → text ≡ before ++ (10 ∷ behind)
+whole_line text before behind e = whole_at text before behind (position (λ b. b == 10) text) refl e
+
+-- a key, a number and a line end are read in one way
+pub line_once : (key : List ℕ) (n m : ℕ) (r s : List ℕ) → n < 2 ^ 64 → m < 2 ^ 64 → key ++ (decimal n ++ (10 ∷ r)) ≡ key ++ (decimal m ++ (10 ∷ s)) → (n ≡ m) × (r ≡ s)
+line_once key n m r s small less e =
+    let same : decimal n ++ (10 ∷ r) ≡ decimal m ++ (10 ∷ s) = append_cancel_left key (decimal n ++ (10 ∷ r)) (decimal m ++ (10 ∷ s)) e in
+    let cuts : Some (decimal n, r) ≡ Some (decimal m, s) = sym (cut_digits (decimal n) r (decimal_is_digits n small)) ∙ ap cut_line same ∙ cut_digits (decimal m) s (decimal_is_digits m less) in
+    (decimal_injective n m small less (ap front cuts), ap back cuts)
+
+-- a text has one pair of numbers
+pub numbers_once : (m n p q : ℕ) → m < 2 ^ 64 → n < 2 ^ 64 → p < 2 ^ 64 → q < 2 ^ 64 → settings_text m n ≡ settings_text p q → (m ≡ p) × (n ≡ q)
+numbers_once m n p q sm sn sp sq e =
+    let first : (m ≡ p) × ((codes "blocks-per-segment " ++ (decimal n ++ (10 ∷ []))) ≡ (codes "blocks-per-segment " ++ (decimal q ++ (10 ∷ [])))) =
+    line_once (codes "segment-mib ") m p (codes "blocks-per-segment " ++ (decimal n ++ (10 ∷ []))) (codes "blocks-per-segment " ++ (decimal q ++ (10 ∷ []))) sm sp e in
+    (first.0, (line_once (codes "blocks-per-segment ") n q [] [] sn sq first.1).0)
+
+pub settings_once : (bytes : List ℕ) (m n p q : ℕ) → IsSettingsText bytes m n → IsSettingsText bytes p q → (m ≡ p) × (n ≡ q)
+settings_once bytes m n p q a b =
+    numbers_once m n p q (omega (arith, a.segment.most)) (omega (arith, a.most)) (omega (arith, b.segment.most)) (omega (arith, b.most)) (sym a.text ∙ b.text)
+
+-- files give one pair of numbers at most, and none where the file is damaged
+pub gives_once : (file : Option (List ℕ)) (m n p q : ℕ) → GivesSettings file m n → GivesSettings file p q → (m ≡ p) × (n ≡ q)
+gives_once None m n p q a b = (a.0 ∙ sym b.0, a.1 ∙ sym b.1)
+gives_once (Some bytes) m n p q a b = settings_once bytes m n p q a b
+
+pub gives_or_is_damaged : (file : Option (List ℕ)) (m n : ℕ) → GivesSettings file m n → IsDamagedText file → ⊥
+gives_or_is_damaged None m n gives never = never
+gives_or_is_damaged (Some bytes) m n gives damaged = damaged m n gives
+
+-- the file has 43 bytes at most
+pub length_settings : (bytes : List ℕ) (m n : ℕ) → IsSettingsText bytes m n → length bytes ≤ 43
+length_settings bytes m n is =
+    let first : length (decimal m) ≤ 4 = length-decimal-le 4 m (omega arith) (omega (arith, is.segment.most)) (omega (arith, is.segment.most)) in
+    let second : length (decimal n) ≤ 6 = length-decimal-le 6 n (omega arith) (omega (arith, is.most)) (omega (arith, is.most)) in
+    omega (arith, ap length is.text, first, second, length-append (decimal m) (10 ∷ (codes "blocks-per-segment " ++ (decimal n ++ (10 ∷ [])))), length-append (decimal n) (10 ∷ []))
+
+-- the name of segment 1 is one at every segment size
+name_of_one : codes "00000001" ++ (eight_digits 0 ++ eight_digits 1) ≡ first_segment
+unfolding digits
+name_of_one = refl
+
+pub first_name : (mib : ℕ) → IsSegmentMib mib → segment_name_bytes 1 mib ≡ first_segment
+first_name mib size =
+    let some : 0 < segment_bytes mib = omega (arith, size.least) in
+    let many : 2 ≤ 4294967296 / segment_bytes mib = (le-div_iff_mul-le some).1 (omega (arith, size.most)) in
+    let high : 1 / (4294967296 / segment_bytes mib) ≡ 0 = div-eq_of_lt many in
+    let low : 1 % (4294967296 / segment_bytes mib) ≡ 1 = mod-eq_of_lt many in
+    ap (λ (q : ℕ). codes "00000001" ++ (eight_digits q ++ eight_digits (1 % (4294967296 / segment_bytes mib)))) high
+    ∙ ap (λ (r : ℕ). codes "00000001" ++ (eight_digits 0 ++ eight_digits r)) low ∙ name_of_one
+
+-- a reader's answer in two clauses
+pub found_of : {A : Type 0} (o : Option A) (P : Type 0) (Q : A → Type 0) → MatchOption o P Q → IfSome o Q
+found_of None P Q m = tt
+found_of (Some x) P Q m = m
+
+pub none_of : {A : Type 0} (o : Option A) (P : Type 0) (Q : A → Type 0) → MatchOption o P Q → IfNone o P
+none_of None P Q m = m
+none_of (Some x) P Q m = tt
+
+never_some : {A : Type 0} (x : A) → None ≡ Some x → ⊥
+never_some x e = cc
+
+-- a line that isn't cut, or whose front is no number's text, is no line of a key and a number
+pub not_cut : (key bytes line : List ℕ) → bytes ≡ key ++ line → cut_line line ≡ None → (n : ℕ) (tail : List ℕ) → n < 2 ^ 64 → bytes ≡ key ++ (decimal n ++ (10 ∷ tail)) → ⊥
+not_cut key bytes line behind none n tail small e =
+    let same : line ≡ decimal n ++ (10 ∷ tail) = append_cancel_left key line (decimal n ++ (10 ∷ tail)) (sym behind ∙ e) in
+    let some : cut_line line ≡ Some (decimal n, tail) = ap cut_line same ∙ cut_digits (decimal n) tail (decimal_is_digits n small) in
+    never_some (decimal n, tail) (sym none ∙ some)
+
+pub not_number : (key bytes line text after : List ℕ) → bytes ≡ key ++ line → cut_line line ≡ Some (text, after) → ((n : ℕ) → n < 2 ^ 64 → text ≡ decimal n → ⊥) → (n : ℕ) (tail : List ℕ) → n < 2 ^ 64 → bytes ≡ key ++ (decimal n ++ (10 ∷ tail)) → ⊥
+not_number key bytes line text after behind cut none n tail small e =
+    let same : line ≡ decimal n ++ (10 ∷ tail) = append_cancel_left key line (decimal n ++ (10 ∷ tail)) (sym behind ∙ e) in
+    let some : cut_line line ≡ Some (decimal n, tail) = ap cut_line same ∙ cut_digits (decimal n) tail (decimal_is_digits n small) in
+    none n small (ap front (sym cut ∙ some))
+
+pub is_number_line : (key bytes line text tail : List ℕ) (n : ℕ) → bytes ≡ key ++ line → cut_line line ≡ Some (text, tail) → text ≡ decimal n → bytes ≡ key ++ (decimal n ++ (10 ∷ tail))
+is_number_line key bytes line text tail n behind cut number =
+    behind ∙ ap (λ (l : List ℕ). key ++ l) (whole_line line text tail cut ∙ ap (λ (t : List ℕ). t ++ (10 ∷ tail)) number)
+
+-- the second line
+abbrev pub second_line : ℕ → List ℕ
+second_line relseg = codes "blocks-per-segment " ++ (decimal relseg ++ (10 ∷ []))
+
+pub second_is : (bytes tail : List ℕ) (mib m relseg : ℕ) → bytes ≡ codes "segment-mib " ++ (decimal mib ++ (10 ∷ tail)) → mib < 2 ^ 64 → m < 2 ^ 64 → bytes ≡ settings_text m relseg → tail ≡ second_line relseg
+second_is bytes tail mib m relseg first small less e =
+    (line_once (codes "segment-mib ") mib m tail (second_line relseg) small less (sym first ∙ e)).1
+
+pub nothing_behind : (tail after : List ℕ) (n relseg : ℕ) → tail ≡ codes "blocks-per-segment " ++ (decimal n ++ (10 ∷ after)) → n < 2 ^ 64 → relseg < 2 ^ 64 → tail ≡ second_line relseg → after ≡ []
+nothing_behind tail after n relseg line small less e = (line_once (codes "blocks-per-segment ") n relseg after [] small less (sym line ∙ e)).1
+
+-- both lines, with nothing behind them
+pub both_lines : (bytes tail after : List ℕ) (mib relseg : ℕ) → bytes ≡ codes "segment-mib " ++ (decimal mib ++ (10 ∷ tail)) → tail ≡ codes "blocks-per-segment " ++ (decimal relseg ++ (10 ∷ after)) → after ≡ [] → bytes ≡ settings_text mib relseg
+both_lines bytes tail after mib relseg first second nothing =
+    first ∙ ap (λ (t : List ℕ). codes "segment-mib " ++ (decimal mib ++ (10 ∷ t))) (second ∙ ap (λ (t : List ℕ). codes "blocks-per-segment " ++ (decimal relseg ++ (10 ∷ t))) nothing)
+
+pub is_nothing : (tail : List ℕ) → true ≡ (length tail == 0) → tail ≡ []
+is_nothing [] e = refl
+is_nothing (b ∷ bs) e = let zero_long : length (b ∷ bs) ≡ 0 = eqb-true (length (b ∷ bs)) 0 (sym e) in absurd (omega arith)
+
+pub is_something : (tail : List ℕ) → false ≡ (length tail == 0) → tail ≡ [] → ⊥
+is_something [] e nothing = cc
+is_something (b ∷ bs) e nothing = cc
+
+pub none_read : (bytes : List ℕ) → ((mib relseg : ℕ) → mib < 2 ^ 64 → relseg < 2 ^ 64 → bytes ≡ settings_text mib relseg → ⊥) → (mib relseg : ℕ) → IsSettingsText bytes mib relseg → ⊥
+none_read bytes none mib relseg is = none mib relseg (omega (arith, is.segment.most)) (omega (arith, is.most)) is.text
+
+-- numbers out of range
+pub none_in_range : (bytes : List ℕ) (m n : ℕ) → m < 2 ^ 64 → n < 2 ^ 64 → bytes ≡ settings_text m n → (IsSettingsText (settings_text m n) m n → ⊥) → (mib relseg : ℕ) → IsSettingsText bytes mib relseg → ⊥
+none_in_range bytes m n sm sn e out mib relseg is =
+    let same : (m ≡ mib) × (n ≡ relseg) = numbers_once m n mib relseg sm sn (omega (arith, is.segment.most)) (omega (arith, is.most)) (sym e ∙ is.text) in
+    out (record {
+      segment = subst IsSegmentMib (sym same.0) is.segment;
+      least = omega (arith, is.least, same.1);
+      most = omega (arith, is.most, same.1);
+      text = refl;
+    })
+
+pub range_found : (bytes : List ℕ) (m n : ℕ) (o : Option (ℕ × ℕ)) → bytes ≡ settings_text m n → IfSome o (λ x. IsSettingsText (settings_text m n) x.0 x.1) → IfSome o (λ x. IsSettingsText bytes x.0 x.1)
+range_found bytes m n None e found = tt
+range_found bytes m n (Some x) e found = subst (λ (l : List ℕ). IsSettingsText l x.0 x.1) (sym e) found
+
+pub range_none : (bytes : List ℕ) (m n : ℕ) (o : Option (ℕ × ℕ)) → m < 2 ^ 64 → n < 2 ^ 64 → bytes ≡ settings_text m n → IfNone o (IsSettingsText (settings_text m n) m n → ⊥) → IfNone o ((mib relseg : ℕ) → IsSettingsText bytes mib relseg → ⊥)
+range_none bytes m n None sm sn e out = none_in_range bytes m n sm sn e out
+range_none bytes m n (Some x) sm sn e out = tt
+
+-- a text of settings lies in the first 8192 bytes
+whole_front : (bytes : List ℕ) → length (take 8192 bytes) ≤ 43 → take 8192 bytes ≡ bytes
+whole_front bytes short = take_all 8192 bytes (omega (arith, length-take 8192 bytes, short))
+
+pub told_by : (file : Option (List ℕ)) (front : List ℕ) (o : Option (ℕ × ℕ)) → Some front ≡ option_map (take 8192) file
+    → IfSome o (λ x. IsSettingsText front x.0 x.1) → IfNone o ((mib relseg : ℕ) → IsSettingsText front mib relseg → ⊥) → Tells file o
+told_by None front o e found none = absurd (cc)
+told_by (Some bytes) front (Some x) e found none =
+    let cut : front ≡ take 8192 bytes = cc in
+    let whole : take 8192 bytes ≡ bytes = whole_front bytes (subst (λ (l : List ℕ). length l ≤ 43) cut (length_settings front x.0 x.1 found)) in
+    subst (λ (l : List ℕ). IsSettingsText l x.0 x.1) (cut ∙ whole) found
+told_by (Some bytes) front None e found none = λ mib relseg is.
+    let cut : front ≡ take 8192 bytes = cc in
+    let whole : take 8192 bytes ≡ bytes = take_all 8192 bytes (omega (arith, length_settings bytes mib relseg is)) in
+    none mib relseg (subst (λ (l : List ℕ). IsSettingsText l mib relseg) (sym (cut ∙ whole)) is)
+
+pub told_absent : (file : Option (List ℕ)) (mib : ℕ) → mib ≡ 16 → None ≡ option_map (take 8192) file → Tells file (Some (mib, 131072))
+told_absent None mib standard e = (standard, refl)
+told_absent (Some bytes) mib standard e = absurd (cc)
+
+-- a file that has a size is there
+is_there : (o : Option (List ℕ)) (size : Option ℕ) → size ≡ option_map length o → is_some size ≡ true → IsSome o
+is_there None size e some = absurd (cc)
+is_there (Some bytes) size e some = refl
+
+-- what is asked of an area, taken together
+pub are_settings : (files : Option Files) (size : Option ℕ) (told : Option (ℕ × ℕ)) (s : Settings) → is_some size ≡ true → told ≡ Some (s.segment, s.relseg)
+    → IfSome files (λ m. size ≡ option_map length (get m first_segment)) → IfSome files (λ m. Tells (get m (codes "settings")) told) → IfSome files (λ m. s.system ≡ system_in (first_page (held_bytes s.segment m)))
+    → IfSome files (λ m. IsSettingsOf m s)
+are_settings None size told s some numbers has tells system = tt
+are_settings (Some m) size told s some numbers has tells system = record {
+  there = is_there (get m first_segment) size has some;
+  given = rw numbers at tells;
+  system = system;
+}

@@ -1,0 +1,173 @@
+//! The settings of a WAL: the file `settings`, and the system identifier in the first page.
+
+ghost use Rattle.std.specs.Prelude.{◌≡◌, ◌^◌, ◌+◌, ◌<◌, ◌≤◌, ℕ, List, ◌∷◌, ◌++◌, take, drop, codes, IfOk, IfSome, IfNone, ◌==◌};
+ghost use Rattle.std.specs.Fmt.{decimal};
+ghost use Rattle.std.specs.FinMap.{get};
+ghost use Rattle.std.specs.List.{position};
+ghost use Rattle.std.specs.Option.{option_map};
+ghost use Rattle.lsn_core.specs.Causes.{HasCause};
+ghost use Rattle.wal_reader.specs.Head.{system_in};
+ghost use Rattle.wal_reader.specs.Archive.{held_bytes, first_page};
+ghost use Rattle.wal_reader.specs.Settings.{settings_text, cut_line, IsSettingsText, Tells};
+ghost use Rattle.wal_reader.specs.Cursor.{SettingsAnswer};
+
+use crate::fault::WalFault;
+use crate::head::system_in;
+use crate::page::{front_if_there, page_of};
+use lsn_core::{AreaFault, NoMemory, SegSize, Settings, Text};
+use std::alloc::Global;
+use text_numbers::decimal_in;
+use vault::Vault;
+
+/// The name of segment 1's file, the same at every segment size (PostgreSQL manual, WAL Internals).
+const FIRST_SEGMENT: &[u8] = b"000000010000000000000001";
+
+/// The name of the file of settings (profile).
+const SETTINGS: &[u8] = b"settings";
+
+/// The text of the file `settings` of a WAL with this segment size and so many blocks a segment of
+/// a fork (profile): the lines `segment-mib M` and `blocks-per-segment N`.
+pub fn settings_text(alloc: Global, segment: SegSize, relseg: u32) -> Result<Text, NoMemory>
+    ensures { IfOk result (λ t. t ≡ settings_text segment relseg) }
+{
+    let mib = segment.bytes() / 1_048_576;
+    Ok(Text::from_vec(format!(in alloc;
+        "segment-mib {mib}\nblocks-per-segment {relseg}\n"
+    )?.into_bytes()))
+}
+
+/// What stands behind a key at the front.
+fn behind_key<'a>(bytes: &'a [u8], key: &[u8]) -> Option<&'a [u8]>
+    ensures found { IfSome result (λ tail. bytes.now ≡ key.now ++ tail.now) }
+    ensures none { IfNone result ((tail : List ℕ) → bytes.now ≡ key.now ++ tail → ⊥) }
+{
+    bytes.strip_prefix(key)
+}
+
+/// Where the first line end stands.
+fn line_end(bytes: &[u8]) -> Option<usize>
+    ensures { result ≡ position (λ b. b == 10) bytes.now }
+{
+    bytes.iter().position(|b| *b == b'\n')
+}
+
+/// What stands before the first line end, and what behind it.
+fn first_line(bytes: &[u8]) -> Option<(&[u8], &[u8])>
+    ensures { option_map (λ x. (x.0.now, x.1.now)) result ≡ cut_line bytes.now }
+{
+    match line_end(bytes) {
+        Some(end) => Some((&bytes[..end], &bytes[end + 1..])),
+        None => None,
+    }
+}
+
+/// The number of a line of a key and a number, and what stands behind the line.
+fn number_line<'a>(bytes: &'a [u8], key: &[u8]) -> Option<(u64, &'a [u8])>
+    ensures found { IfSome result (λ x. bytes.now ≡ key.now ++ (decimal x.0 ++ (10 ∷ x.1.now))) }
+    ensures small { IfSome result (λ x. x.0 < 2 ^ 64) }
+    ensures none { IfNone result ((n : ℕ) (tail : List ℕ) → n < 2 ^ 64 → bytes.now ≡ key.now ++ (decimal n ++ (10 ∷ tail)) → ⊥) }
+{
+    let Some(line) = behind_key(bytes, key) else {
+        return None;
+    };
+    let Some((text, tail)) = first_line(line) else {
+        return None;
+    };
+    match decimal_in(text) {
+        Some(number) => Some((number, tail)),
+        None => None,
+    }
+}
+
+/// The two numbers of the file, whatever they are.
+fn two_numbers(bytes: &[u8]) -> Option<(u64, u64)>
+    ensures found { IfSome result (λ x. bytes.now ≡ settings_text x.0 x.1) }
+    ensures small { IfSome result (λ x. (x.0 < 2 ^ 64) × (x.1 < 2 ^ 64)) }
+    ensures none { IfNone result ((mib relseg : ℕ) → mib < 2 ^ 64 → relseg < 2 ^ 64 → bytes.now ≡ settings_text mib relseg → ⊥) }
+{
+    let Some((mib, tail)) = number_line(bytes, b"segment-mib ") else {
+        return None;
+    };
+    let Some((relseg, tail)) = number_line(tail, b"blocks-per-segment ") else {
+        return None;
+    };
+    if tail.is_empty() {
+        return Some((mib, relseg));
+    }
+    None
+}
+
+/// The settings that such numbers are.
+fn in_range(mib: u64, relseg: u64) -> Option<(SegSize, u32)>
+    ensures found { IfSome result (λ x. IsSettingsText (settings_text mib relseg) x.0 x.1) }
+    ensures none { IfNone result (IsSettingsText (settings_text mib relseg) mib relseg → ⊥) }
+{
+    if mib > 1024 || relseg < 1 || relseg > 131_072 {
+        return None;
+    }
+    match SegSize::new(mib as u32) {
+        Some(segment) => Some((segment, relseg as u32)),
+        None => None,
+    }
+}
+
+/// The settings that stand in the file. None exactly where it is not of its grammar.
+fn settings_in(bytes: &[u8]) -> Option<(SegSize, u32)>
+    ensures found { IfSome result (λ x. IsSettingsText bytes.now x.0 x.1) }
+    ensures none { IfNone result ((mib relseg : ℕ) → IsSettingsText bytes.now mib relseg → ⊥) }
+{
+    match two_numbers(bytes) {
+        Some((mib, relseg)) => in_range(mib, relseg),
+        None => None,
+    }
+}
+
+/// What the file tells: 16 MiB and 131072 blocks where it isn't there (PostgreSQL manual, initdb
+/// --wal-segsize, configure --with-segsize), and none where it is damaged. It has 43 bytes at most,
+/// so that its first 8192 are looked at.
+fn told_settings<V: Vault>(alloc: Global, area: &mut V) -> Result<Option<(SegSize, u32)>, AreaFault>
+    ensures told { IfOk result (λ told. IfSome (V.files area.old) (λ m. Tells (get m (codes "settings")) told)) }
+    ensures range { IfOk result (λ told. IfSome told (λ x. (1 ≤ x.1) × (x.1 ≤ 131072))) }
+    ensures same { V.files area.new ≡ V.files area.old }
+    ensures cause { HasCause (V.faults area.old) (V.faults area.new) result }
+{
+    match front_if_there(alloc, area, SETTINGS)? {
+        Some(bytes) => Ok(settings_in(&bytes)),
+        None => Ok(Some((SegSize::standard(), 131_072))),
+    }
+}
+
+/// The system identifier that stands in the head of the first page.
+fn system_of<V: Vault>(alloc: Global, area: &mut V, segment: SegSize) -> Result<u64, AreaFault>
+    ensures system { IfOk result (λ system. IfSome (V.files area.old) (λ m. system ≡ system_in (first_page (held_bytes segment m)))) }
+    ensures same { V.files area.new ≡ V.files area.old }
+    ensures cause { HasCause (V.faults area.old) (V.faults area.new) result }
+{
+    let page = page_of(alloc, area, segment)?;
+    Ok(system_in(&page))
+}
+
+/// The settings of a WAL. `NotInit` exactly where the file of segment 1 isn't there, and
+/// `SettingsDamaged` exactly where it is and the file `settings` is there and not of its grammar:
+/// the lines `segment-mib M` and `blocks-per-segment N`, each with a line end, M a power of two
+/// from 1 to 1024 and N from 1 to 131072, in decimal without leading zeros (profile). Without that
+/// file M is 16 and N 131072. The system identifier is that of the first page's head, 0 where its
+/// first 32 bytes aren't held.
+pub fn read_settings<V: Vault>(alloc: Global, area: &mut V) -> Result<Settings, WalFault>
+    ensures answer { SettingsAnswer (V.files area.old) (V.faults area.old) (V.faults area.new) result }
+    ensures same { V.files area.new ≡ V.files area.old }
+    ensures later { V.faults area.old ≤ V.faults area.new }
+{
+    if area.size(FIRST_SEGMENT)?.is_none() {
+        return Err(WalFault::NotInit);
+    }
+    let Some(told) = told_settings(alloc, area)? else {
+        return Err(WalFault::SettingsDamaged);
+    };
+    let system = system_of(alloc, area, told.0)?;
+    Ok(Settings {
+        segment: told.0,
+        relseg: told.1,
+        system,
+    })
+}
