@@ -1,5 +1,5 @@
 -- The WAL as its writer knows it.
-use Rattle.std.specs.Prelude.{◌≡◌, ℕ, ◌+◌, ◌-◌, ◌<◌, ◌≤◌, ◌^◌, max, List, [], ◌++◌, length, drop, ◌==◌, if◌then◌else◌}
+use Rattle.std.specs.Prelude.{◌≡◌, ℕ, ◌+◌, ◌-◌, ◌<◌, ◌≤◌, ◌^◌, max, List, [], ◌++◌, length, take, drop, ◌==◌, if◌then◌else◌}
 use Rattle.lsn_core.specs.declared.lsn.WalTip.{WalTip}
 use Rattle.lsn_core.specs.declared.segment.Settings.{Settings}
 use Rattle.wal_record.specs.declared.record.Record.{Record}
@@ -42,3 +42,7 @@ appended log r = record log { end = r.end.0; prev = r.start.0; pending = log.pen
 -- the WAL once it is flushed up to a place
 abbrev pub flushed_to : Log → ℕ → Log
 flushed_to log to = record log { flushed = max log.flushed to; pending = drop (to - log.flushed) log.pending }
+
+-- the WAL with an earlier end again: what was appended since is gone
+abbrev pub rewound : Log → WalTip → Log
+rewound log tip = record log { end = tip.end.0; prev = tip.prev.0; pending = take (tip.end.0 - log.flushed) log.pending }

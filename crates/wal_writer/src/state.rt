@@ -7,7 +7,8 @@ ghost use Rattle.lsn_core.specs.Names.{segment_name_bytes};
 ghost use Rattle.vault.specs.Area.{after_write, IsTorn, Related};
 ghost use Rattle.wal_record.specs.Places.{origin};
 ghost use Rattle.wal_record.specs.Spelling.{IsWritable};
-ghost use Rattle.wal_writer.specs.Log.{IsLog, log_at, flushed_to};
+ghost use Rattle.wal_writer.specs.Log.{Log, IsLog, log_at, appended, flushed_to, rewound};
+ghost use Rattle.wal_record.specs.declared.record.Record.{Record};
 ghost use Rattle.wal_writer.specs.Answers.{AppendAnswer, to_flush, after_flush, IsLeft};
 
 use crate::fault::AppendFault;
@@ -108,6 +109,28 @@ impl<V: Vault> WalState<V> {
         ensures known { IsLog self.now.tail }
     {
         Lsn(self.tail.end())
+    }
+
+    /// Where the last entry ends, and where it starts (0 where there is none).
+    pub fn tip(&self) -> WalTip
+        ensures end { result.end.0 ≡ self.now.tail.end }
+        ensures prev { result.prev.0 ≡ self.now.tail.prev }
+        ensures known { IsLog self.now.tail }
+    {
+        let _ = self.tail.end();
+        self.tail.tip()
+    }
+
+    /// Goes back to an earlier end: what was appended since is dropped, as if it had never been.
+    /// Takes no memory. What is flushed stays.
+    pub fn rewind(&mut self, tip: WalTip)
+        requires from { self.old.tail.flushed ≤ tip.end.0 }
+        requires to { tip.end.0 ≤ self.old.tail.end }
+        ensures rewound { self.new.tail ≡ rewound self.old.tail tip }
+        ensures undone { (log : Log) (r : Record) → IsLog log → log.end ≡ tip.end.0 → log.prev ≡ tip.prev.0 → self.old.tail ≡ appended log r → self.new.tail ≡ log }
+        ensures area { self.new.area ≡ self.old.area }
+    {
+        self.tail.rewind(tip);
     }
 }
 

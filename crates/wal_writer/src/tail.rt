@@ -3,13 +3,13 @@
 ghost use Rattle.std.specs.Prelude.{◌≡◌, ◌+◌, ◌-◌, ◌<◌, ◌≤◌, ◌^◌, length, take, drop, IfOk};
 ghost use Rattle.wal_record.specs.Places.{origin, start_after};
 ghost use Rattle.wal_record.specs.Spelling.{IsWritable};
-ghost use Rattle.wal_writer.specs.Log.{Log, IsLog, log_at, lead, flushed_to};
+ghost use Rattle.wal_writer.specs.Log.{Log, IsLog, log_at, lead, flushed_to, rewound};
 ghost use Rattle.wal_writer.specs.Answers.{AppendAnswer, to_flush};
 
 use crate::entry::entry_of;
 use crate::fault::AppendFault;
 use crate::head::page_head;
-use lsn_core::{SegSize, Settings, WalTip};
+use lsn_core::{Lsn, SegSize, Settings, WalTip};
 use std::alloc::{AllocError, Global};
 use std::marker::Model;
 use wal_record::{Kind, Record};
@@ -144,6 +144,36 @@ impl Tail {
         drop_front(&mut self.pending, (to - self.flushed) as usize);
         self.flushed = to;
     }
+
+    /// Where the last entry ends, and where it starts (0 where there is none).
+    pub fn tip(&self) -> WalTip
+        ensures end { result.end.0 ≡ self.now.end }
+        ensures prev { result.prev.0 ≡ self.now.prev }
+    {
+        WalTip {
+            end: Lsn(self.end),
+            prev: Lsn(self.prev),
+        }
+    }
+
+    /// Goes back to an earlier end: what was appended since is dropped. Takes no memory.
+    pub fn rewind(&mut self, tip: WalTip)
+        requires from { self.old.flushed ≤ tip.end.0 }
+        requires to { tip.end.0 ≤ self.old.end }
+        ensures { self.new ≡ rewound self.old tip }
+    {
+        keep_front(&mut self.pending, (tip.end.0 - self.flushed) as usize);
+        self.end = tip.end.0;
+        self.prev = tip.prev.0;
+    }
+}
+
+/// Keeps so many bytes at the front.
+fn keep_front(bytes: &mut Vec<u8>, count: usize)
+    requires { count ≤ length bytes.old.items }
+    ensures { bytes.new.items ≡ take count bytes.old.items }
+{
+    bytes.truncate(count);
 }
 
 /// Drops so many bytes from the front.

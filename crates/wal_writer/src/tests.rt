@@ -71,3 +71,31 @@ fn entries_end_with_the_first_page(rt: HostRuntime) -> Result<(), Fail> {
     assert_eq!(rt; wal.end(), last.end);
     Ok(())
 }
+
+#[test]
+fn what_was_appended_last_is_taken_back(rt: HostRuntime) -> Result<(), Fail> {
+    let alloc = rt.alloc();
+    let settings = Settings {
+        segment: SegSize::new(1).ok_or("no size")?,
+        relseg: 131_072,
+        system: 7,
+    };
+    let start = WalTip {
+        end: Lsn(0x100000),
+        prev: Lsn(0),
+    };
+    let area = MemVault::new(alloc, &[])?;
+    let mut wal = WalState::attach(alloc, area, settings, start);
+    let tip = wal.tip();
+    assert_eq!(rt; tip, start);
+    let refused = wal.append(alloc, Kind::Shutdown(Lsn(1)))?;
+    assert_eq!(rt; wal.tip().prev, refused.start);
+    wal.rewind(tip);
+    assert_eq!(rt; wal.tip(), start);
+    let first = wal.append(alloc, Kind::Shutdown(Lsn(0x100028)))?;
+    assert_eq!(rt; wal.flush_to(alloc, first.end)?.to(), first.end);
+    let mut area = wal.detach();
+    let bytes = read_whole(alloc, &mut area, SEGMENT)?;
+    assert_eq!(rt; bytes.as_slice(), WAL.as_slice());
+    Ok(())
+}
