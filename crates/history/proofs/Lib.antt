@@ -1,1 +1,2 @@
 pub mod StoreMap
+pub mod Commands

@@ -39,7 +39,7 @@ with_fork store fork = if contains_key store fork then store else insert store f
 abbrev pub apply_act : ℕ → Store → Act → Option Store
 apply_act end store (Create fork) = Some (with_fork store fork)
 apply_act end store (Change items) = apply_items end store items
-apply_act end store Mark = Some store
+apply_act end store (Mark kind) = Some store
 
 abbrev pub apply : Store → Entry → Option Store
 apply store entry = apply_act entry.end store entry.act

@@ -19,9 +19,9 @@ edit_of (Image page) = Put page
 abbrev pub item_of : BlockRef → Item
 item_of block = record { fork = block.at.fork; block = block.at.block; edit = edit_of block.body }
 
--- a checkpoint at shutdown changes nothing
+-- a checkpoint at shutdown is a mark
 abbrev pub act_of : Kind → Act
-act_of (kind.Shutdown redo) = Mark
+act_of (kind.Shutdown redo) = Mark (kind.Shutdown redo)
 act_of (kind.Create fork) = Create fork
 act_of (kind.Generic blocks) = Change (map item_of blocks)
 

@@ -3,9 +3,11 @@
 #![tactic(auto)]
 
 mod applying;
+mod op;
 mod page_map;
 
 pub use applying::{ApplyFault, apply};
+pub use op::Op;
 pub use page_map::PageMap;
 
 #[cfg(test)]

@@ -1,12 +1,10 @@
-ghost use Rattle.std.specs.Prelude.{◌≡◌, ◌<◌, ◌^◌, IfOk};
-ghost use Rattle.wal_record.specs.Spelling.{IsWritable, IsWritableBlock};
+ghost use Rattle.std.specs.Prelude.{◌≡◌};
 
 use super::*;
-use lsn_core::{BlockId, ForkId, ForkKind, Lsn, NoMemory, Rel};
-use pg_page::{Page, make_page};
-use std::alloc::Global;
+use lsn_core::{BlockId, ForkId, ForkKind, Lsn, Rel};
+use pg_page::make_page;
 use std::test::Fail;
-use wal_record::{BlockRef, Blocks, Body, Kind, Record};
+use wal_record::{Kind, Record};
 
 fn record(start: u64, end: u64, kind: Kind) -> Record
     ensures { result.kind ≡ kind }
@@ -18,27 +16,6 @@ fn record(start: u64, end: u64, kind: Kind) -> Record
         xid: 0,
         kind,
     }
-}
-
-fn image(at: &BlockId, mut page: Page) -> BlockRef
-    requires number { at.now.block < 32768 }
-    requires some { (0 < at.now.fork.rel.db) × (0 < at.now.fork.rel.rel) }
-    requires fits { (at.now.fork.rel.db < 2 ^ 32) × (at.now.fork.rel.rel < 2 ^ 32) }
-    ensures { IsWritableBlock result }
-{
-    let _ = page.bytes();
-    page.zero_hole();
-    BlockRef {
-        at: *at,
-        body: Body::Image(page),
-    }
-}
-
-fn change(alloc: Global, block: BlockRef) -> Result<Kind, NoMemory>
-    requires { IsWritableBlock block }
-    ensures { IfOk result IsWritable }
-{
-    Ok(Kind::Generic(Blocks::from_vec(vec![in alloc; block]?)))
 }
 
 // the page with lower 24, upper 8190 and 65 behind them, after an entry that ends at 0/1000C8
@@ -58,17 +35,18 @@ fn changed_byte(place: usize) -> u8 {
 }
 
 #[test]
-fn a_creation_and_an_image_are_applied(rt: HostRuntime) -> Result<(), Fail> {
+fn a_creation_and_a_change_are_applied(rt: HostRuntime) -> Result<(), Fail> {
     let mut store = PageMap::new(rt.alloc());
     let rel = Rel::new(5, 16384).ok_or("the numbers are good")?;
     let fork = ForkId {
         rel,
         kind: ForkKind::Main,
     };
-    apply(&mut store, &record(0x100060, 0x100090, Kind::Create(fork)))?;
+    let kind = Op::Create(fork).kind(rt.alloc())?;
+    apply(&mut store, &record(0x100060, 0x100090, kind))?;
     assert_eq!(rt; store.blocks(&fork), Some(0));
     let page = make_page(24, 8190, 65).ok_or("the places are good")?;
-    let kind = change(rt.alloc(), image(&BlockId { fork, block: 2 }, page))?;
+    let kind = Op::Change(BlockId { fork, block: 2 }, page).kind(rt.alloc())?;
     apply(&mut store, &record(0x100090, 0x1000c8, kind))?;
     assert_eq!(rt; store.blocks(&fork), Some(3));
     assert_eq!(rt; store.fork_count(), 1);
