@@ -1,0 +1,65 @@
+//! Replay of a WAL from its beginning into a store in memory.
+
+ghost use Rattle.std.specs.Prelude.{◌≡◌, ◌≤◌};
+ghost use Rattle.recovery.specs.Reading.{ReplayAnswer, WalAnswer};
+
+use history::{PageMap, apply};
+use lsn_core::{Settings, WalTip};
+use std::alloc::Global;
+use vault::Vault;
+use wal_reader::{WalCursor, WalFault, read_settings};
+
+/// A WAL that was read whole: the store that it makes from nothing, where its last entry ends and
+/// starts, and how many entries it has.
+#[derive(Drop)]
+pub struct ReadWal {
+    pub store: PageMap,
+    pub tip: WalTip,
+    pub count: u64,
+}
+
+/// Reads the WAL of these settings whole, and applies it to an empty store in memory. It holds the
+/// store's pages and one page of the WAL.
+pub fn replay<V: Vault>(
+    alloc: Global,
+    wal: &mut V,
+    settings: &Settings,
+) -> Result<ReadWal, WalFault>
+    ensures answer { ReplayAnswer settings.now.segment (V.files wal.old) (V.faults wal.old) (V.faults wal.new) result }
+    ensures same { V.files wal.new ≡ V.files wal.old }
+    ensures later { V.faults wal.old ≤ V.faults wal.new }
+{
+    let mut cursor = WalCursor::first(settings);
+    let mut store = PageMap::new(alloc);
+    let mut count: u64 = 0;
+    loop {
+        let record = match cursor.next(alloc, wal) {
+            Ok(Some(record)) => record,
+            Ok(None) => {
+                return Ok(ReadWal {
+                    store,
+                    tip: cursor.tip(),
+                    count,
+                });
+            }
+            Err(fault) => return Err(fault),
+        };
+        let Ok(()) = apply(&mut store, &record) else {
+            return Err(WalFault::NoMemory);
+        };
+        count += 1;
+    }
+}
+
+/// The settings of the WAL and all its entries, applied to an empty store in memory. Refused where
+/// there is no WAL, where its settings are damaged and where the archive is, in this order. It
+/// holds the store's pages and one page of the WAL.
+pub fn read_wal<V: Vault>(alloc: Global, wal: &mut V) -> Result<(Settings, ReadWal), WalFault>
+    ensures answer { WalAnswer (V.files wal.old) (V.faults wal.old) (V.faults wal.new) result }
+    ensures same { V.files wal.new ≡ V.files wal.old }
+    ensures later { V.faults wal.old ≤ V.faults wal.new }
+{
+    let settings = read_settings(alloc, wal)?;
+    let read = replay(alloc, wal, &settings)?;
+    Ok((settings, read))
+}
