@@ -1,0 +1,18 @@
+use Rattle.std.proofs.Common.{◌≡◌, ◌<◌, ◌≤◌, List, length, take}
+use Rattle.std.specs.Vec.{vec_len, vec_capacity}
+use Rattle.wal_record.specs.Places.{origin}
+use Rattle.history.specs.Entry.{Entry}
+use Rattle.shared_store.specs.Insert.{state}
+use Rattle.crew.specs.Run.{IsStateOf}
+use Rattle.crew.proofs.Runs.{IsRunning}
+use Rattle.crew.proofs.run.run_into.Given as goal
+
+-- the lines before this one were run, and each answer found room
+abbrev pub invariant-loop-line : goal.invariant-loop-line
+invariant-loop-line g l = record {
+  count : vec_len l.answers ≡ l.line-index;
+  room : length l.lines ≤ vec_capacity l.answers;
+  area : l.store.wal.area ≡ l.fn.store.wal.area;
+  running : (h : List Entry) → IsStateOf l.fn.store.wal.tail.mib h (state l.fn.store.wal.tail l.fn.store.pages l.fn.store.count) → origin l.fn.store.wal.tail.mib < l.fn.store.wal.tail.end
+      → IsRunning l.fn.store.wal.tail.mib h (take l.line-index l.lines) l.answers.items (state l.fn.store.wal.tail l.fn.store.pages l.fn.store.count) (state l.store.wal.tail l.store.pages l.store.count) l.stopped;
+}

@@ -1,0 +1,10 @@
+pub mod Shape
+pub mod Cuts
+pub mod Items
+pub mod Meaning
+pub mod Reasons
+pub mod Script
+pub mod Laws
+pub mod Said
+pub mod Drafts
+pub mod Run

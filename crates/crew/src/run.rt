@@ -1,0 +1,197 @@
+//! Lines run on a store.
+
+ghost use Rattle.std.specs.Prelude.{◌≡◌, ◌+◌, ◌<◌, ◌≤◌, ◌^◌, ◌∷◌, ◌++◌, [], ℕ, List, length, IfOk, OnErr};
+ghost use Rattle.std.specs.Vec.{vec_len, vec_capacity};
+ghost use Rattle.pg_page.specs.Header.{IsGood, made_page};
+ghost use Rattle.wal_record.specs.Places.{origin};
+ghost use Rattle.wal_record.specs.Spelling.{IsWritable};
+ghost use Rattle.history.specs.Entry.{Entry};
+ghost use Rattle.history.specs.Written.{kind_of};
+ghost use Rattle.history.specs.Op.{act_of_op, IsNumbered};
+ghost use Rattle.shared_store.specs.Insert.{state};
+ghost use Rattle.crew.specs.Run.{op_of, stops, stops_with, IsStateOf, RunFrom, CommandAnswer, LineAnswer, IsReadAgain};
+
+use crate::script::{Command, Line};
+use crate::shape::PageShape;
+use history::Op;
+use lsn_core::{ForkId, NoMemory, Place};
+use pg_page::{Page, make_page};
+use shared_store::{InsertFault, Store};
+use std::alloc::Global;
+use std::marker::Model;
+use vault::Vault;
+
+/// What a line was answered.
+#[derive(Clone, Copy, Debug, PartialEq, Eq)]
+pub enum Answer {
+    /// Its entry stands at this place.
+    Accepted(Place),
+    /// It was refused, and changed nothing.
+    Refused(InsertFault),
+    /// Memory ran out before it.
+    NotRun,
+}
+
+/// Answers in the order of their lines. Contracts see the list.
+#[derive(Debug, Drop)]
+pub struct Answers {
+    items: Vec<Answer>,
+}
+
+impl Model for Answers {
+    ghost use Rattle.std.specs.Prelude.{List};
+    ghost use Rattle.crew.specs.declared.run.Answer.{Answer};
+
+    ghost Value = { List Answer };
+
+    ghost view = { λ a. a.items.items };
+}
+
+impl Answers {
+    /// The answers of a vector. Takes no memory.
+    fn from_vec(items: Vec<Answer>) -> Answers
+        ensures { result ≡ items.items }
+    {
+        Answers { items }
+    }
+
+    /// The answers.
+    pub fn as_slice(&self) -> &[Answer]
+        ensures { result.now ≡ self.now }
+    {
+        &self.items
+    }
+}
+
+// the numbers of a fork's relation
+fn know(fork: &ForkId)
+    ensures some { (0 < fork.now.rel.db) × (0 < fork.now.rel.rel) }
+    ensures fits { (fork.now.rel.db < 2 ^ 32) × (fork.now.rel.rel < 2 ^ 32) }
+{
+    let _ = (fork.rel.db(), fork.rel.rel());
+}
+
+// the page that is made so
+fn page_of(shape: PageShape) -> Page
+    ensures page { result ≡ made_page shape.lower shape.upper shape.fill }
+    ensures good { IsGood result }
+{
+    let Some(page) = make_page(shape.lower(), shape.upper(), shape.fill()) else {
+        unreachable!()
+    };
+    let _ = page.bytes();
+    page
+}
+
+// what a command asks of the store
+fn op_of(command: &Command) -> Op
+    ensures op { result ≡ op_of command.now }
+    ensures writable { IsNumbered result → IsWritable (kind_of (act_of_op result)) }
+{
+    match command {
+        Command::Create(fork) => {
+            know(fork);
+            Op::Create(*fork)
+        }
+        Command::Change(at, shape) => {
+            know(&at.fork);
+            Op::Change(*at, page_of(*shape))
+        }
+    }
+}
+
+// runs a command
+fn answer_to<V: Vault>(alloc: Global, store: &mut Store<V>, command: &Command) -> Answer
+    ensures answer { CommandAnswer (op_of command.now) (state store.old.wal.tail store.old.pages store.old.count) (state store.new.wal.tail store.new.pages store.new.count) result }
+    ensures area { store.new.wal.area ≡ store.old.wal.area }
+{
+    let op = op_of(command);
+    match store.insert(alloc, &op) {
+        Ok(receipt) => Answer::Accepted(receipt.place),
+        Err(fault) => Answer::Refused(fault),
+    }
+}
+
+// runs a line, unless the run is stopped
+fn run_line<V: Vault>(alloc: Global, store: &mut Store<V>, line: &Line, stopped: bool) -> Answer
+    ensures answer { LineAnswer line.now stopped (state store.old.wal.tail store.old.pages store.old.count) (state store.new.wal.tail store.new.pages store.new.count) result }
+    ensures area { store.new.wal.area ≡ store.old.wal.area }
+{
+    if stopped {
+        Answer::NotRun
+    } else {
+        answer_to(alloc, store, &line.command)
+    }
+}
+
+// whether a run is stopped behind this answer
+fn stops(answer: Answer) -> bool
+    ensures { result ≡ stops_with answer }
+{
+    match answer {
+        Answer::Accepted(_) => false,
+        Answer::Refused(InsertFault::NoMemory) => true,
+        Answer::Refused(_) => false,
+        Answer::NotRun => true,
+    }
+}
+
+// puts an answer where there is room for it
+fn put(answers: &mut Vec<Answer>, answer: Answer)
+    requires { vec_len answers.old < vec_capacity answers.old }
+    ensures items { answers.new.items ≡ answers.old.items ++ (answer ∷ []) }
+    ensures len { vec_len answers.new ≡ vec_len answers.old + 1 }
+    ensures capacity { vec_capacity answers.old ≤ vec_capacity answers.new }
+{
+    if answers.push(answer).is_err() {
+        unreachable!()
+    }
+}
+
+// runs lines, and puts their answers where there is room for them
+fn run_into<V: Vault>(
+    alloc: Global,
+    store: &mut Store<V>,
+    lines: &[Line],
+    answers: &mut Vec<Answer>,
+)
+    requires none { answers.old.items ≡ [] }
+    requires empty { vec_len answers.old ≡ 0 }
+    requires room { length lines.now ≤ vec_capacity answers.old }
+    ensures run { (h : List Entry) → IsStateOf store.old.wal.tail.mib h (state store.old.wal.tail store.old.pages store.old.count) → origin store.old.wal.tail.mib < store.old.wal.tail.end
+        → RunFrom store.old.wal.tail.mib h lines.now answers.new.items (state store.old.wal.tail store.old.pages store.old.count) (state store.new.wal.tail store.new.pages store.new.count) }
+    ensures area { store.new.wal.area ≡ store.old.wal.area }
+{
+    let mut stopped = false;
+    for line in lines {
+        let answer = run_line(alloc, store, line, stopped);
+        stopped = stops(answer);
+        put(answers, answer);
+    }
+}
+
+/// Runs lines on a store, each on what those before it left: a command is accepted, and its entry
+/// then stands at the end of the WAL, or it is refused and changes nothing. After want of memory
+/// the other lines aren't run. Nothing is flushed. The room for the answers is taken first: where
+/// that is wanting no line was run.
+pub fn run_lines<V: Vault>(
+    alloc: Global,
+    store: &mut Store<V>,
+    lines: &[Line],
+) -> Result<Answers, NoMemory>
+    ensures run { IfOk result (λ answers. (h : List Entry) → IsStateOf store.old.wal.tail.mib h (state store.old.wal.tail store.old.pages store.old.count) → origin store.old.wal.tail.mib < store.old.wal.tail.end
+        → RunFrom store.old.wal.tail.mib h lines.now answers (state store.old.wal.tail store.old.pages store.old.count) (state store.new.wal.tail store.new.pages store.new.count)) }
+    ensures same { OnErr result (store.new ≡ store.old) }
+    ensures area { store.new.wal.area ≡ store.old.wal.area }
+{
+    let mut answers = Vec::with_capacity(alloc, lines.len())?;
+    run_into(alloc, store, lines, &mut answers);
+    Ok(Answers::from_vec(answers))
+}
+
+/// A run on a store that was begun on a WAL, once it is flushed, is read again: behind the entries
+/// that the WAL had stand those of the run's accepted commands, and all of them make the store that
+/// the run left.
+pub fn run_is_read_again()
+    ensures { IsReadAgain }
+{}

@@ -1,0 +1,92 @@
+//! A script that was taken: its worker and the commands of that.
+
+ghost use Rattle.std.specs.Prelude.{◌≡◌};
+
+use crate::shape::PageShape;
+use lsn_core::{BlockId, ForkId, Text};
+use std::marker::Model;
+
+/// What a line tells a worker to do (profile).
+#[derive(Clone, Copy, Debug, PartialEq, Eq)]
+pub enum Command {
+    /// Make a fork.
+    Create(ForkId),
+    /// Put a page that is made so at a block.
+    Change(BlockId, PageShape),
+}
+
+/// A command, and the number of its line in the script, counted from 1.
+#[derive(Clone, Copy, Debug, PartialEq, Eq)]
+pub struct Line {
+    pub number: u32,
+    pub command: Command,
+}
+
+/// Commands in the order of their lines. Contracts see the list.
+#[derive(Debug, Drop)]
+pub struct Lines {
+    items: Vec<Line>,
+}
+
+impl Model for Lines {
+    ghost use Rattle.std.specs.Prelude.{List};
+    ghost use Rattle.crew.specs.declared.script.Line.{Line};
+
+    ghost Value = { List Line };
+
+    ghost view = { λ l. l.items.items };
+}
+
+impl Lines {
+    /// The commands of a vector. Takes no memory.
+    pub(crate) fn from_vec(items: Vec<Line>) -> Lines
+        ensures { result ≡ items.items }
+    {
+        Lines { items }
+    }
+
+    /// The commands.
+    pub fn as_slice(&self) -> &[Line]
+        ensures { result.now ≡ self.now }
+    {
+        &self.items
+    }
+}
+
+/// A worker by its name, and its commands.
+#[derive(Debug, Drop)]
+pub struct Task {
+    pub name: Text,
+    pub lines: Lines,
+}
+
+/// A script that was taken: its workers, at most one so far. Contracts see their list.
+#[derive(Debug, Drop)]
+pub struct Script {
+    workers: Vec<Task>,
+}
+
+impl Model for Script {
+    ghost use Rattle.std.specs.Prelude.{List};
+    ghost use Rattle.crew.specs.declared.script.Task.{Task};
+
+    ghost Value = { List Task };
+
+    ghost view = { λ s. s.workers.items };
+}
+
+impl Script {
+    /// The script of these workers. Takes no memory.
+    pub(crate) fn from_vec(workers: Vec<Task>) -> Script
+        ensures { result ≡ workers.items }
+    {
+        Script { workers }
+    }
+
+    /// The workers.
+    pub fn workers(&self) -> &[Task]
+        ensures { result.now ≡ self.now }
+    {
+        &self.workers
+    }
+}
