@@ -1,4 +1,4 @@
-# Two commands do all on a machine with the kit: `make demo` runs the program on a sample, `make test` is the gate.
+# Two commands do all on a machine with the kit: `make demo` runs the program on a sample script, `make test` is the gate.
 PREFIX ?= /usr/local
 
 .PHONY: build demo test bench conformance install clean
@@ -14,6 +14,7 @@ test:
 
 conformance: build
 	python3 conformance/replay.py bin/pgbackup
+	python3 conformance/run.py bin/pgbackup
 
 bench:
 	$(MAKE) -s -C bench

@@ -1,4 +1,12 @@
-pub mod SoFar
-pub mod Clear
+pub mod NoFile
+pub mod FlushLeft
+pub mod FirstBack
 pub mod StoreFiles
 pub mod OneAnswer
+pub mod OneInit
+pub mod OneRun
+pub mod NewWal
+pub mod RunDone
+pub mod Reading
+pub mod OptionWords
+pub mod AnswerLines

@@ -1,5 +1,10 @@
 pub mod Words
+pub mod Areas
+pub mod Input
+pub mod Init
+pub mod Run
 pub mod Replay
+pub mod Report
 pub mod Answers
 pub mod Top
 pub mod Laws

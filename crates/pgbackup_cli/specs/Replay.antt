@@ -1,67 +1,42 @@
 -- What a replay of a WAL answers and leaves, over the area of the WAL and the output's area.
-use Rattle.std.specs.Prelude.{◌≡◌, ◌≢◌, ℕ, List, Option, Some, None, Result, Ok, Err, IsSome, IfSome}
+use Rattle.std.specs.Prelude.{◌≡◌, ◌≢◌, IfSome, Result, Ok, Err}
 use Rattle.std.specs.Option.{option_map}
-use Rattle.std.specs.FinMap.{get, empty, len}
+use Rattle.std.specs.FinMap.{empty, len}
 use Rattle.lsn_core.specs.Causes.{Rose}
-use Rattle.lsn_core.specs.Names.{segment_name_bytes}
-use Rattle.lsn_core.specs.Files.{Files}
-use Rattle.lsn_core.specs.Store.{Store, files_of}
-use Rattle.lsn_core.specs.declared.lsn.Lsn.{Lsn}
-use Rattle.lsn_core.specs.declared.fault.AreaFault.{AreaFault}
+use Rattle.lsn_core.specs.Store.{files_of}
 use Rattle.lsn_core.specs.declared.fault.AreaFault.TheVariants as area
+use Rattle.lsn_core.specs.declared.segment.Settings.{Settings}
 use Rattle.vault.specs.Site.{AreaState}
-use Rattle.wal_record.specs.declared.record.Record.{Record}
-use Rattle.wal_reader.specs.declared.fault.Damage.{Damage}
-use Rattle.wal_reader.specs.declared.fault.WalFault.{WalFault}
-use Rattle.wal_reader.specs.declared.fault.WalFault.TheVariants.{Damaged, NotInit, Failed, NoMemory}
-use Rattle.wal_reader.specs.Archive.{IsArchive, IsDamaged}
-use Rattle.history.specs.Whole.{whole}
 use Rattle.history.specs.Pages.{page_count}
+use Rattle.recovery.specs.Reading.{HasSettings, IsReadWal, WalCause}
+use Rattle.recovery.specs.declared.replaying.ReadWal.{ReadWal}
 use Rattle.pgbackup_cli.specs.declared.replay.Replayed.{Replayed}
 use Rattle.pgbackup_cli.specs.declared.replay.ReplayFault.{ReplayFault}
 use Rattle.pgbackup_cli.specs.declared.replay.ReplayFault.TheVariants as replay
-
--- a WAL that was read: its entries up to its end, and the store that they make from nothing
-pub record IsReplayed (mib : ℕ) (files : Option Files) (store : Store) (end : ℕ) : Type 0 where
-  pub entries : List Record
-  pub archive : IfSome files (λ m. IsArchive mib m entries end)
-  pub store_is : whole entries end ≡ Some store
-
--- why a WAL could not be read
-abbrev pub WalCause : ℕ → Option Files → ℕ → ℕ → WalFault → Type 0
-WalCause mib files before now (Damaged place why) = IfSome files (λ m. IsDamaged mib m place.0)
-WalCause mib files before now NotInit = IfSome files (λ m. get m (segment_name_bytes 1 mib) ≡ None)
-WalCause mib files before now Failed = Rose before now
-WalCause mib files before now NoMemory = Unit {0}
-
-abbrev pub ReadAnswer : ℕ → Option Files → ℕ → ℕ → Result (Store × Lsn) WalFault → Type 0
-ReadAnswer mib files before now (Ok x) = IsReplayed mib files x.0 x.1.0
-ReadAnswer mib files before now (Err fault) = WalCause mib files before now fault
-
--- the output's area holds no file
-abbrev pub IsClear : AreaState → Type 0
-IsClear out = IfSome out.files (λ m. m ≡ empty)
-
--- there is a WAL: the file of segment 1 is there
-abbrev pub IsThere : Option Files → Type 0
-IsThere files = IfSome files (λ m. IsSome (get m (segment_name_bytes 1 16)))
+use Rattle.pgbackup_cli.specs.Areas.{IsClear, IsFull}
 
 -- a replay that was done: the output's files are those of the store that the whole WAL makes
 pub record ReplayDone (wal out new_out : AreaState) (done : Replayed) : Type 0 where
   pub clear : IsClear out
-  pub there : IsThere wal.files
-  pub store : Store
-  pub read : IsReplayed 16 wal.files store done.end.0
-  pub written : new_out.files ≡ option_map (λ m. files_of 131072 store) out.files
-  pub forks : done.forks ≡ len store
-  pub pages : done.pages ≡ page_count store
+  pub settings : Settings
+  pub given : HasSettings wal.files settings
+  pub read : ReadWal
+  pub read_is : IsReadWal settings.segment wal.files read
+  pub written : new_out.files ≡ option_map (λ m. files_of settings.relseg read.store) out.files
+  pub end : done.end ≡ read.tip.end
+  pub forks : done.forks ≡ len read.store
+  pub pages : done.pages ≡ page_count read.store
 
--- why a replay was refused. A full output and a WAL that can't be read leave the output as it was; a failed device or want of memory may leave some files there
+-- an area that held a file is as it was
+abbrev pub KeepsFull : AreaState → AreaState → Type 0
+KeepsFull old new = IfSome old.files (λ m. m ≢ empty → new.files ≡ old.files)
+
+-- why a replay was refused. A full output and a WAL that can't be read leave the output as it was; of one that was empty a failed device or want of memory says nothing
 abbrev pub ReplayCause : AreaState → AreaState → AreaState → AreaState → ReplayFault → Type 0
-ReplayCause wal new_wal out new_out replay.NotEmpty = IfSome out.files (λ m. m ≢ empty) × (new_out.files ≡ out.files)
-ReplayCause wal new_wal out new_out (replay.Wal fault) = IsClear out × ((new_out.files ≡ out.files) × WalCause 16 wal.files wal.faults new_wal.faults fault)
-ReplayCause wal new_wal out new_out (replay.Out area.Failed) = Rose out.faults new_out.faults
-ReplayCause wal new_wal out new_out (replay.Out area.NoMemory) = Unit {0}
+ReplayCause wal new_wal out new_out replay.NotEmpty = IsFull out × (new_out.files ≡ out.files)
+ReplayCause wal new_wal out new_out (replay.Wal fault) = IsClear out × ((new_out.files ≡ out.files) × WalCause wal.files wal.faults new_wal.faults fault)
+ReplayCause wal new_wal out new_out (replay.Out area.Failed) = Rose out.faults new_out.faults × KeepsFull out new_out
+ReplayCause wal new_wal out new_out (replay.Out area.NoMemory) = KeepsFull out new_out
 
 abbrev pub ReplayAnswer : AreaState → AreaState → AreaState → AreaState → Result Replayed ReplayFault → Type 0
 ReplayAnswer wal new_wal out new_out (Ok done) = ReplayDone wal out new_out done

@@ -1,22 +1,43 @@
-//! What the program comes to: its faults, the line that it prints and its exit status.
+//! What the program comes to: its outputs, its faults and its exit status.
 
-ghost use Rattle.std.specs.Prelude.{◌≡◌, [], Ok, Err, IfOk};
+ghost use Rattle.std.specs.Prelude.{◌≡◌};
 ghost use Rattle.pgbackup_cli.specs.declared.answer.Fault.TheVariants as fault;
-ghost use Rattle.pgbackup_cli.specs.Answers.{head_of, why_of, argument_of, line_of, end_of, status_of, code_of};
+ghost use Rattle.pgbackup_cli.specs.Answers.{area_status, wal_status, site_status, init_status, run_status, replay_status, fault_status, ending_status, output_status, status_of, code_of};
 
+use crate::init::InitFault;
 use crate::replay::{ReplayFault, Replayed};
-use lsn_core::{AreaFault, NoMemory, Text, lsn_text};
-use std::alloc::Global;
+use crate::run::{Report, RunFault};
+use crew::Why;
+use lsn_core::{AreaFault, Lsn, NoMemory};
 use vault::TakeFault;
-use wal_reader::{Damage, WalFault};
+use wal_reader::WalFault;
+
+/// What a command did.
+#[derive(Drop)]
+pub enum Output {
+    /// A new store was made, whose WAL ends there.
+    Initialised(Lsn),
+    /// A script was run.
+    Ran(Report),
+    /// The WAL was replayed.
+    Replayed(Replayed),
+}
 
 /// Why the program refused.
 #[derive(Clone, Copy, Debug, PartialEq, Eq)]
 pub enum Fault {
     /// The words aren't taken.
     Usage,
-    /// The site didn't hand out an area: the first is that of the WAL, the second the output's.
+    /// This line of the script is refused.
+    Script(u32, Why),
+    /// The input failed, or memory ran out.
+    Input(AreaFault),
+    /// The site didn't hand out an area: the first is that of the WAL.
     Site(TakeFault),
+    /// No new store was made.
+    Init(InitFault),
+    /// The script was not run.
+    Run(RunFault),
     /// The replay was refused.
     Replay(ReplayFault),
     /// Memory ran out.
@@ -56,111 +77,90 @@ impl Status {
     }
 }
 
-fn head(fault: Fault) -> &'static [u8]
-    ensures { result.now ≡ head_of fault }
+fn area_status(fault: AreaFault) -> Status
+    ensures { result ≡ area_status fault }
 {
     match fault {
-        Fault::Usage => b"1 Usage",
-        Fault::Site(TakeFault::First(AreaFault::Failed) | TakeFault::Second(AreaFault::Failed))
-        | Fault::Replay(ReplayFault::Wal(WalFault::Failed) | ReplayFault::Out(AreaFault::Failed)) =>
-            b"60 DeviceFault ",
-        Fault::Replay(ReplayFault::NotEmpty) => b"41 AreaNotEmpty ",
-        Fault::Replay(ReplayFault::Wal(WalFault::Damaged(_, _))) => b"11 WalDamaged ",
-        Fault::Replay(ReplayFault::Wal(WalFault::NotInit)) => b"43 NotInit",
-        _ => b"61 NoMemory",
+        AreaFault::Failed => Status::Device,
+        AreaFault::NoMemory => Status::Memory,
     }
 }
 
-fn why(damage: Damage) -> &'static [u8]
-    ensures { result.now ≡ why_of damage }
-{
-    match damage {
-        Damage::Form => b" Form",
-    }
-}
-
-fn text_of(alloc: Global, bytes: &[u8]) -> Result<Text, NoMemory>
-    ensures { IfOk result (λ text. text ≡ bytes.now) }
-{
-    Ok(Text::from_vec(Vec::from_slice(alloc, bytes)?))
-}
-
-fn argument(alloc: Global, out: &[u8], fault: Fault) -> Result<Text, NoMemory>
-    ensures { IfOk result (λ text. text ≡ argument_of out.now fault) }
+fn wal_status(fault: WalFault) -> Status
+    ensures { result ≡ wal_status fault }
 {
     match fault {
-        Fault::Replay(ReplayFault::Wal(WalFault::Damaged(place, damage))) => {
-            let mut bytes = lsn_text(alloc, place)?.into_vec();
-            bytes.extend_from_slice(why(damage))?;
-            Ok(Text::from_vec(bytes))
-        }
-        Fault::Site(TakeFault::First(AreaFault::Failed))
-        | Fault::Replay(ReplayFault::Wal(WalFault::Failed)) => text_of(alloc, b"wal"),
-        Fault::Site(TakeFault::Second(AreaFault::Failed))
-        | Fault::Replay(ReplayFault::NotEmpty | ReplayFault::Out(AreaFault::Failed)) => text_of(
-            alloc, out,
-        ),
-        _ => text_of(alloc, b""),
+        WalFault::Damaged(_, _) | WalFault::SettingsDamaged | WalFault::NotInit => Status::Refused,
+        WalFault::Failed => Status::Device,
+        WalFault::NoMemory => Status::Memory,
     }
 }
 
-fn done_line(alloc: Global, done: &Replayed) -> Result<Text, NoMemory>
-    ensures { IfOk result (λ line. line ≡ line_of [] (Ok done.now)) }
-{
-    let mut bytes = Vec::from_slice(alloc, b"replayed ")?;
-    bytes.extend_from_slice(lsn_text(alloc, done.end)?.as_bytes())?;
-    let (forks, pages) = (done.forks, done.pages);
-    let counts = format!(in alloc; " {forks} {pages}\n")?;
-    bytes.extend_from_slice(counts.as_bytes())?;
-    Ok(Text::from_vec(bytes))
-}
-
-fn fault_line(alloc: Global, out: &[u8], fault: Fault) -> Result<Text, NoMemory>
-    ensures { IfOk result (λ line. line ≡ line_of out.now (Err fault)) }
-{
-    let mut bytes = Vec::from_slice(alloc, b"refused ")?;
-    bytes.extend_from_slice(head(fault))?;
-    bytes.extend_from_slice(argument(alloc, out, fault)?.as_bytes())?;
-    bytes.push(b'\n')?;
-    Ok(Text::from_vec(bytes))
-}
-
-/// The line of an answer, where this is the output's area.
-pub fn line(alloc: Global, out: &[u8], answer: &Result<Replayed, Fault>) -> Result<Text, NoMemory>
-    ensures { IfOk result (λ line. line ≡ line_of out.now answer.now) }
-{
-    match answer {
-        Ok(done) => done_line(alloc, done),
-        Err(fault) => fault_line(alloc, out, *fault),
-    }
-}
-
-fn end(fault: Fault) -> Status
-    ensures { result ≡ end_of fault }
+fn init_status(fault: InitFault) -> Status
+    ensures { result ≡ init_status fault }
 {
     match fault {
-        Fault::Usage => Status::Usage,
-        Fault::Site(TakeFault::First(AreaFault::Failed) | TakeFault::Second(AreaFault::Failed))
-        | Fault::Replay(ReplayFault::Wal(WalFault::Failed) | ReplayFault::Out(AreaFault::Failed)) =>
-            Status::Device,
-        Fault::Replay(
-            ReplayFault::NotEmpty | ReplayFault::Wal(WalFault::Damaged(_, _) | WalFault::NotInit),
-        ) => Status::Refused,
-        _ => Status::Memory,
+        InitFault::AlreadyInit | InitFault::SumsNotEmpty => Status::Refused,
+        InitFault::Wal(why) | InitFault::Sums(why) => area_status(why),
+    }
+}
+
+fn run_status(fault: RunFault) -> Status
+    ensures { result ≡ run_status fault }
+{
+    match fault {
+        RunFault::Wal(why) => wal_status(why),
+        RunFault::NoMemory => Status::Memory,
+    }
+}
+
+fn replay_status(fault: ReplayFault) -> Status
+    ensures { result ≡ replay_status fault }
+{
+    match fault {
+        ReplayFault::NotEmpty => Status::Refused,
+        ReplayFault::Wal(why) => wal_status(why),
+        ReplayFault::Out(why) => area_status(why),
+    }
+}
+
+fn fault_status(fault: Fault) -> Status
+    ensures { result ≡ fault_status fault }
+{
+    match fault {
+        Fault::Usage | Fault::Script(_, _) => Status::Usage,
+        Fault::Input(why) => area_status(why),
+        Fault::Site(TakeFault::First(why) | TakeFault::Second(why)) => area_status(why),
+        Fault::Init(why) => init_status(why),
+        Fault::Run(why) => run_status(why),
+        Fault::Replay(why) => replay_status(why),
+        Fault::NoMemory => Status::Memory,
+    }
+}
+
+fn output_status(done: &Output) -> Status
+    ensures { result ≡ output_status done.now }
+{
+    match done {
+        Output::Initialised(_) | Output::Replayed(_) => Status::Done,
+        Output::Ran(report) => match report.ending {
+            Ok(_) => Status::Done,
+            Err(why) => area_status(why),
+        },
     }
 }
 
 /// The status of an answer, and of its printing: a sink that fails gives `Device` whatever else
 /// happened.
-pub fn exit_status(answer: &Result<Replayed, Fault>, telling: Result<(), AreaFault>) -> Status
+pub fn exit_status(answer: &Result<Output, Fault>, telling: Result<(), AreaFault>) -> Status
     ensures { result ≡ status_of answer.now telling }
 {
     match telling {
         Err(AreaFault::Failed) => Status::Device,
         Err(AreaFault::NoMemory) => Status::Memory,
         Ok(()) => match answer {
-            Ok(_) => Status::Done,
-            Err(fault) => end(*fault),
+            Ok(done) => output_status(done),
+            Err(fault) => fault_status(*fault),
         },
     }
 }

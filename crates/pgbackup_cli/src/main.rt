@@ -3,14 +3,21 @@
 #![tactic(auto)]
 
 mod answer;
+mod clear;
 mod files;
+mod init;
+mod input;
 mod laws;
+mod lines;
+mod options;
 mod replay;
+mod report;
+mod run;
 mod top;
 mod words;
 
 pub use answer::Status;
-pub use laws::replay_has_one_answer;
+pub use laws::{init_has_one_answer, replay_has_one_answer, run_has_one_answer};
 use lsn_core::{NoMemory, Text};
 use std::env;
 use std::process::ExitCode;
@@ -18,11 +25,18 @@ pub use top::pgbackup;
 use vault_os::{OsClock, OsSink, OsSite, OsSource};
 
 #[cfg(test)]
+mod store_tests;
+#[cfg(test)]
 mod tests;
 
-const USAGE: &str = "usage: pgbackup replay OUT
-  reads wal/000000010000000000000001 below the working directory, and writes the relation
-  files that its entries make to o/OUT; OUT is 1 to 32 of a to z, 0 to 9 and _";
+const USAGE: &str = "usage: pgbackup init [--segment-mib M] [--relseg N] [--system-id S]
+       pgbackup run
+       pgbackup replay OUT
+  init makes a new store below the working directory: its settings, and a WAL of one entry in wal;
+    M is a power of two from 1 to 1024 (16), N is 1 to 131072 (131072), S is below 2^64
+  run reads a script from standard input, runs its lines on the store and writes their WAL
+  replay reads the WAL, and writes the relation files that its entries make to o/OUT; OUT is 1 to
+    32 of a to z, 0 to 9 and _";
 
 /// The words of the command line. A word that isn't UTF-8 leaves none, which no command takes.
 fn words_of(rt: &HostRuntime) -> Result<Vec<Text>, NoMemory> {
@@ -36,7 +50,7 @@ fn words_of(rt: &HostRuntime) -> Result<Vec<Text>, NoMemory> {
     Ok(words)
 }
 
-fn run(rt: &HostRuntime) -> Result<Status, NoMemory> {
+fn run_words(rt: &HostRuntime) -> Result<Status, NoMemory> {
     let words = words_of(rt)?;
     let mut site = OsSite::new(rt.clone()?);
     let mut input = OsSource::new(rt.clone()?);
@@ -53,7 +67,7 @@ fn run(rt: &HostRuntime) -> Result<Status, NoMemory> {
 }
 
 fn main(rt: HostRuntime) -> ExitCode {
-    let Ok(status) = run(&rt) else {
+    let Ok(status) = run_words(&rt) else {
         return ExitCode::from(Status::Memory.code());
     };
     if status == Status::Usage {

@@ -1,6 +1,6 @@
 //! Replay of a WAL from its beginning, from one area into another.
 
-ghost use Rattle.std.specs.Prelude.{◌≡◌, ◌≤◌, ◌↔◌, [], IsTrue, IfOk, IfSome, IfErr, OnOk};
+ghost use Rattle.std.specs.Prelude.{◌≡◌, ◌<◌, ◌≤◌, IfOk, IfSome, IfErr, OnOk};
 ghost use Rattle.std.specs.Option.{option_map};
 ghost use Rattle.std.specs.FinMap.{empty};
 ghost use Rattle.lsn_core.specs.Causes.{HasCause};
@@ -9,14 +9,16 @@ ghost use Rattle.lsn_core.specs.Store.{files_of};
 ghost use Rattle.history.specs.Pages.{page_count};
 ghost use Rattle.vault.specs.Site.{at_home};
 ghost use Rattle.pgbackup_cli.specs.declared.replay.ReplayFault.TheVariants as replay;
-ghost use Rattle.pgbackup_cli.specs.Replay.{IsThere, ReadAnswer, ReplayAnswer};
+ghost use Rattle.pgbackup_cli.specs.Replay.{ReplayAnswer};
 
+use crate::clear::is_clear;
 use crate::files::write_store;
-use history::{PageMap, apply};
-use lsn_core::{AreaFault, Lsn, Settings, Text};
+use history::PageMap;
+use lsn_core::{AreaFault, Lsn};
+use recovery::read_wal;
 use std::alloc::Global;
 use vault::Vault;
-use wal_reader::{WalCursor, WalFault, read_settings};
+use wal_reader::WalFault;
 
 /// What a replay came to: where the last entry ends, and how many forks and pages there are.
 #[derive(Clone, Copy, Debug, PartialEq, Eq)]
@@ -53,41 +55,6 @@ impl From<AreaFault> for ReplayFault {
     }
 }
 
-/// Reads the WAL whole, and applies it to an empty store in memory.
-fn read_entries<V: Vault>(
-    alloc: Global,
-    wal: &mut V,
-    settings: &Settings,
-) -> Result<(PageMap, Lsn), WalFault>
-    ensures answer { ReadAnswer settings.now.segment (V.files wal.old) (V.faults wal.old) (V.faults wal.new) result }
-    ensures same { V.files wal.new ≡ V.files wal.old }
-    ensures later { V.faults wal.old ≤ V.faults wal.new }
-{
-    let mut cursor = WalCursor::first(settings);
-    let mut store = PageMap::new(alloc);
-    loop {
-        let record = match cursor.next(alloc, wal) {
-            Ok(Some(record)) => record,
-            Ok(None) => return Ok((store, cursor.tip().end)),
-            Err(fault) => return Err(fault),
-        };
-        let Ok(()) = apply(&mut store, &record) else {
-            return Err(WalFault::NoMemory);
-        };
-    }
-}
-
-/// The settings of the WAL and all its entries, applied to an empty store in memory.
-fn read_wal<V: Vault>(alloc: Global, wal: &mut V) -> Result<(PageMap, Lsn), WalFault>
-    ensures there { OnOk result (IsThere (V.files wal.old)) }
-    ensures answer { ReadAnswer 16 (V.files wal.old) (V.faults wal.old) (V.faults wal.new) result }
-    ensures same { V.files wal.new ≡ V.files wal.old }
-    ensures later { V.faults wal.old ≤ V.faults wal.new }
-{
-    let settings = read_settings(alloc, wal)?;
-    read_entries(alloc, wal, &settings)
-}
-
 fn page_count(store: &PageMap) -> Result<u64, AreaFault>
     ensures count { IfOk result (λ count. count ≡ page_count store.now) }
     ensures memory { IfErr result (λ fault. fault ≡ area.NoMemory) }
@@ -98,28 +65,18 @@ fn page_count(store: &PageMap) -> Result<u64, AreaFault>
     }
 }
 
-/// Whether an area holds no file.
-fn is_clear<V: Vault>(alloc: Global, area: &mut V) -> Result<bool, AreaFault>
-    ensures clear { IfOk result (λ clear. IfSome (V.files area.old) (λ m. IsTrue clear ↔ (m ≡ empty))) }
-    ensures same { V.files area.new ≡ V.files area.old }
-    ensures cause { HasCause (V.faults area.old) (V.faults area.new) result }
-{
-    let names = area.names(alloc)?;
-    Ok(has_none(&names))
-}
-
-fn has_none(names: &[Text]) -> bool
-    ensures { IsTrue result ↔ (names.now ≡ []) }
-{
-    names.is_empty()
-}
-
 /// Writes the files of a store into an area that holds none, and makes them durable.
-fn write_out<V: Vault>(alloc: Global, out: &mut V, store: &PageMap) -> Result<(), AreaFault>
-    ensures written { OnOk result (IfSome (V.files out.old) (λ m. m ≡ empty) → V.files out.new ≡ option_map (λ m. files_of 131072 store.now) (V.files out.old)) }
+fn write_out<V: Vault>(
+    alloc: Global,
+    out: &mut V,
+    store: &PageMap,
+    relseg: u32,
+) -> Result<(), AreaFault>
+    requires { 0 < relseg }
+    ensures written { OnOk result (IfSome (V.files out.old) (λ m. m ≡ empty) → V.files out.new ≡ option_map (λ m. files_of relseg store.now) (V.files out.old)) }
     ensures cause { HasCause (V.faults out.old) (V.faults out.new) result }
 {
-    write_store(alloc, out, store, 131_072)?;
+    write_store(alloc, out, store, relseg)?;
     out.sync()
 }
 
@@ -138,12 +95,12 @@ pub fn replay_areas<V: Vault>(
     if !is_clear(alloc, out)? {
         return Err(ReplayFault::NotEmpty);
     }
-    let (store, end) = read_wal(alloc, wal)?;
-    let pages = page_count(&store)?;
-    write_out(alloc, out, &store)?;
+    let (settings, read) = read_wal(alloc, wal)?;
+    let pages = page_count(&read.store)?;
+    write_out(alloc, out, &read.store, settings.relseg)?;
     Ok(Replayed {
-        end,
-        forks: store.fork_count(),
+        end: read.tip.end,
+        forks: read.store.fork_count(),
         pages,
     })
 }

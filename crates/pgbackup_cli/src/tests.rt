@@ -82,7 +82,7 @@ struct Seen {
     printed: Vec<u8>,
 }
 
-fn words_in(alloc: Global, line: &[&[u8]]) -> Result<Vec<Text>, Fail> {
+pub(crate) fn words_in(alloc: Global, line: &[&[u8]]) -> Result<Vec<Text>, Fail> {
     let mut words = Vec::new(alloc);
     for word in line {
         words.push(Text::from_vec(Vec::from_slice(alloc, word)?))?;

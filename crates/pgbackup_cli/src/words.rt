@@ -1,49 +1,71 @@
 //! The words of the command line.
 
-ghost use Rattle.std.specs.Prelude.{◌≡◌, Option, IfOk};
+ghost use Rattle.std.specs.Prelude.{◌≡◌, Option, IfOk, IfSome};
 ghost use Rattle.std.specs.Option.{option_map};
 ghost use Rattle.std.specs.List.{list_all};
-ghost use Rattle.pgbackup_cli.specs.Words.{is_name, is_name_byte, asked, asks, output_area};
+ghost use Rattle.pgbackup_cli.specs.Words.{Init, none_given, options_in, run_asked, replay_asked, asked, asks, HasRange, output_area};
 
+use crate::options::{InitOptions, options_of};
+use crew::is_name;
 use lsn_core::{NoMemory, Text};
 use std::alloc::Global;
 
 /// What the words ask for.
+#[derive(Clone, Copy)]
 pub enum Command<'a> {
+    /// A new store with these settings.
+    Init(InitOptions),
+    /// The script of the input, run on the store.
+    Run,
     /// The WAL replayed from its beginning, to an output of this name.
     Replay(&'a [u8]),
 }
 
-fn is_name_byte(b: u8) -> bool
-    ensures { result ≡ is_name_byte b }
+fn run_of(words: &[Text]) -> Option<Command<'_>>
+    ensures asked { option_map asks result ≡ run_asked words.now }
+    ensures range { IfSome result HasRange }
 {
-    matches!(b, b'a'..=b'z' | b'0'..=b'9' | b'_')
+    if words.is_empty() {
+        Some(Command::Run)
+    } else {
+        None
+    }
 }
 
-fn has_name_bytes(word: &[u8]) -> bool
-    ensures { result ≡ list_all is_name_byte word.now }
+fn replay_of(words: &[Text]) -> Option<Command<'_>>
+    ensures asked { option_map asks result ≡ replay_asked words.now }
+    ensures range { IfSome result HasRange }
 {
-    word.iter().all(|b| is_name_byte(*b))
+    match words {
+        [name] if is_name(name.as_bytes()) => Some(Command::Replay(name.as_bytes())),
+        _ => None,
+    }
 }
 
-/// Whether a word is a name of a backup or an output: 1 to 32 of `a` to `z`, `0` to `9`, `_`
-/// (profile).
-pub fn is_name(word: &[u8]) -> bool
-    ensures { result ≡ is_name word.now }
+fn init_of(words: &[Text]) -> Option<Command<'_>>
+    ensures asked { option_map asks result ≡ option_map Init (options_in none_given words.now) }
+    ensures range { IfSome result HasRange }
 {
-    1 <= word.len() && word.len() <= 32 && has_name_bytes(word)
+    Some(Command::Init(options_of(words)?))
 }
 
 /// The command that the words ask for. None exactly where they aren't taken.
 pub fn command_of(words: &[Text]) -> Option<Command<'_>>
-    ensures { option_map asks result ≡ asked words.now }
+    ensures asked { option_map asks result ≡ asked words.now }
+    ensures range { IfSome result HasRange }
 {
-    match words {
-        [word, name] if word.as_bytes() == b"replay".as_slice() && is_name(name.as_bytes()) => {
-            Some(Command::Replay(name.as_bytes()))
-        }
-        _ => None,
+    let (word, others) = words.split_first()?;
+    let word = word.as_bytes();
+    if word == b"init".as_slice() {
+        return init_of(others);
     }
+    if word == b"run".as_slice() {
+        return run_of(others);
+    }
+    if word == b"replay".as_slice() {
+        return replay_of(others);
+    }
+    None
 }
 
 /// The area of an output.

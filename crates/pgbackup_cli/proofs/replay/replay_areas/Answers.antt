@@ -1,5 +1,5 @@
 -- What was read of the WAL is what was written.
-use Rattle.std.proofs.Common.{◌≡◌, true, IsTrue, ◌↔◌, IfSome, sym, subst, ◌∙◌}
+use Rattle.std.proofs.Common.{◌≡◌, IsTrue, ◌↔◌, IfSome, refl, sym, subst}
 use Rattle.std.specs.Prelude.{Option}
 use Rattle.std.specs.Option.{option_map}
 use Rattle.std.specs.FinMap.{empty}
@@ -14,11 +14,13 @@ returns-clause-answer g c =
     when_told (g.V.Vault.files c.args.out.now) (λ m. IsTrue c.in_ok-is_clear.field-0 ↔ (m ≡ empty)) (λ m. m ≡ empty) (λ m iff. iff.0 c.if-not-branch.false) c.in_ok-is_clear.ensures.clear in
     record {
       clear = clear;
-      there = c.in_ok-store.ensures.there;
-      store = c.in_ok-store.store;
-      read = c.in_ok-store.ensures.answer;
-      written = subst (λ (f : Option Files). g.V.Vault.files c.write_out.new.out ≡ option_map (λ m. files_of 131072 c.in_ok-store.store) f) c.in_ok-is_clear.ensures.same
+      settings = c.in_ok-settings.settings;
+      given = c.in_ok-settings.ensures.answer.0;
+      read = c.in_ok-settings.read;
+      read_is = c.in_ok-settings.ensures.answer.1;
+      written = subst (λ (f : Option Files). g.V.Vault.files c.write_out.new.out ≡ option_map (λ m. files_of c.in_ok-settings.settings.relseg c.in_ok-settings.read.store) f) c.in_ok-is_clear.ensures.same
           (c.in_ok-write_out.ensures.written (subst (λ (f : Option Files). IfSome f (λ m. m ≡ empty)) (sym c.in_ok-is_clear.ensures.same) clear));
+      end = refl;
       forks = c.fork_count.ensures;
       pages = c.in_ok-pages.ensures.count;
     }

@@ -1,5 +1,5 @@
 -- What the two areas came to is what the site came to.
-use Rattle.std.proofs.Common.{◌≡◌, Ok, Err, refl, arith}
+use Rattle.std.proofs.Common.{Ok, Err, refl, arith}
 use Rattle.vault.proofs.LentAreas.{two_back}
 use Rattle.pgbackup_cli.specs.Replay.{ReplayAnswer}
 use Rattle.pgbackup_cli.specs.Top.{wal}

@@ -1,0 +1,69 @@
+"""What the comparisons share: the two programs, the files that they leave, and the runs."""
+import io
+import os
+import random
+import shutil
+import subprocess
+import sys
+import tempfile
+
+HERE = os.path.dirname(os.path.abspath(__file__))
+ORACLE = os.environ.get("PGBACKUP_ORACLE", os.path.join(HERE, "..", "..", "shared", "oracle"))
+SEGMENT = "000000010000000000000001"
+# What the first page of the WAL has behind its head and the checkpoint.
+ROOM = 8192 - 96
+
+
+def oracle(words, script=b""):
+    """(status, lines) of one call of the independent implementation, in the working folder."""
+    from oracle.cli import Program
+
+    called = Program(1700000000, io.BytesIO(script))
+    status = called.call(words)
+    return status, [line.decode() for line in called.lines]
+
+
+def program(path, words, script=b"", folder="."):
+    """(status, lines) of one call of the program in this folder."""
+    ran = subprocess.run([path] + words, input=script, cwd=folder, capture_output=True, check=False)
+    return ran.returncode, ran.stdout.decode().splitlines()
+
+
+def files(folder):
+    """The bytes of every file at or below a folder."""
+    found = {}
+    for top, _, names in os.walk(folder):
+        for name in names:
+            with open(os.path.join(top, name), "rb") as f:
+                found[os.path.relpath(os.path.join(top, name), folder)] = f.read()
+    return found
+
+
+def entry_size(lower, upper):
+    """How much room an entry of one image takes."""
+    image = 8192 - (upper - lower)
+    return (49 + image + 7) // 8 * 8
+
+
+def compare(one_run):
+    """Calls one_run(path, rnd), which gives what differs as texts, in a folder of its own for each run.
+
+    The arguments are PROGRAM [RUNS [SEED]]. Ends the process.
+    """
+    if not os.path.isdir(ORACLE):
+        print("skipped: there is no independent implementation at %s" % ORACLE)
+        sys.exit(0)
+    sys.path.insert(0, ORACLE)
+    arguments = sys.argv[2:] + ["300", "1"][len(sys.argv) - 2:]
+    path, runs, seed = os.path.abspath(sys.argv[1]), int(arguments[0]), int(arguments[1])
+    failed, home = 0, os.getcwd()
+    for run in range(runs):
+        folder = tempfile.mkdtemp()
+        os.chdir(folder)
+        for difference in one_run(path, random.Random("%d %d" % (seed, run))):
+            print("run %d: %s" % (run, difference))
+            failed += 1
+        os.chdir(home)
+        shutil.rmtree(folder)
+    print("%s: %d runs, %d differences" % (os.path.basename(sys.argv[0]), runs, failed))
+    sys.exit(1 if failed else 0)

@@ -1,0 +1,260 @@
+"""Random scripts through `pgbackup init`, `run` and `replay` and through an independent implementation.
+
+    python3 conformance/run.py PROGRAM [RUNS [SEED]]
+
+Each run makes a store with random options, runs one to three scripts of one worker on it, and
+replays its WAL, with both, each in a folder of its own. After each call the lines, the status and
+the bytes of `wal` and `o` are compared. Some scripts have one broken line, some stores can't be made.
+The scripts stay on the first page of the WAL, where a change fills it at most to its last byte.
+Not part of the gate. Skipped where the independent implementation (PGBACKUP_ORACLE) isn't there.
+"""
+import copy
+import os
+
+from common import ROOM, compare, entry_size, files, oracle, program
+
+TOP = (1 << 32) - 1
+NOT_ALLOWED = [0, 1, 8, 11, 12, 13, 27, 31, 127, 128, 195, 255]
+# Lines whose words are not taken.
+BROKEN = """
+ 
+\t \t
+ # a comment begins in the first column
+worker
+worker W
+worker a-b
+worker one two
+worker abcdefghijklmnopqrstuvwxyz0123456
+Create 1/2
+creates 1/2
+create
+create 1/2 1/3
+create 0/2
+create 1/0
+create 1
+create /2
+create 1/
+create 1/2/3
+create +1/2
+create 1/2_
+create 1/2_ini
+create 1/2_INIT
+create 1/2_init_init
+create _init
+create 4294967296/1
+create 1/4294967296
+create 00000000001/2
+create 0x1/2
+create 1/2@0
+change
+change 1/2
+change 1/2@0
+change 1/2@=24,8192,0
+change @0=24,8192,0
+change 1/2=24,8192,0
+change 1/2@0=
+change 1/2@0=24
+change 1/2@0=24,8192
+change 1/2@0=24,8192,
+change 1/2@0=24,8192,0,
+change 1/2@0=24,8192,0,0
+change 1/2@0=23,8192,0
+change 1/2@0=24,8193,0
+change 1/2@0=101,100,0
+change 1/2@0=24,8192,256
+change 1/2@0=24, 8192,0
+change 1/2@0==24,8192,0
+change 1/2@0@1=24,8192,0
+change 1/2@4294967296=24,8192,0
+change 1/2@00000000000=24,8192,0
+change 0/2@0=24,8192,0
+change 1/2_init0@0=24,8192,0
+change 1/2@-1=24,8192,0
+""".strip("\n").split("\n")
+
+
+class Store:
+    """What the scripts so far made: the blocks of each fork, and the room on the first page."""
+
+    def __init__(self):
+        self.blocks, self.room = {}, ROOM
+
+
+def digits(rnd, number):
+    """The number, at times with leading zeros."""
+    text = str(number)
+    return text.zfill(rnd.randrange(len(text), 11)) if rnd.random() < 0.1 else text
+
+
+def fork_word(rnd, fork):
+    db, rel, last = fork
+    return "%s/%s%s" % (digits(rnd, db), digits(rnd, rel), last)
+
+
+def a_fork(rnd):
+    high = rnd.choice([3, 3, 3, TOP])
+    return rnd.randrange(1, high + 1), rnd.randrange(1, high + 1), rnd.choice(["", "_init"])
+
+
+def change(rnd, fork, block, shape):
+    numbers = ",".join(digits(rnd, n) for n in shape + (rnd.randrange(256),))
+    return "change %s@%s=%s" % (fork_word(rnd, fork), digits(rnd, block), numbers)
+
+
+def any_shape(rnd):
+    lower = rnd.randrange(24, 8193)
+    return lower, rnd.randrange(lower, 8193)
+
+
+def small_shape(rnd, room):
+    """The bounds of a page whose image fits, or None; at times one that fills the room."""
+    if rnd.random() < 0.05 and 73 <= room <= 8100:
+        image = room - 49 - rnd.randrange(min(8, room - 72))
+        lower = rnd.randrange(24, image + 1)
+        return lower, lower + 8192 - image
+    lower, upper = rnd.choice([24, rnd.randrange(24, 300)]), rnd.choice([8192, rnd.randrange(7892, 8193)])
+    return (lower, upper) if entry_size(lower, upper) <= room else None
+
+
+def a_creation(rnd, store):
+    fork = a_fork(rnd)
+    if fork not in store.blocks:
+        if store.room < 48:
+            return None
+        store.blocks[fork] = 0
+        store.room -= 48
+    return "create " + fork_word(rnd, fork)
+
+
+def a_change(rnd, store):
+    """A change in range, or one past the end or of a fork that may be missing."""
+    kind = rnd.random()
+    if kind < 0.1:
+        fork = a_fork(rnd)
+        if fork not in store.blocks:
+            return change(rnd, fork, rnd.choice([0, rnd.randrange(TOP + 1)]), any_shape(rnd))
+    if not store.blocks:
+        return None
+    fork = rnd.choice(sorted(store.blocks))
+    length = store.blocks[fork]
+    if kind < 0.2:
+        return change(rnd, fork, length + rnd.choice([1, 2, rnd.randrange(1, TOP - length + 1)]), any_shape(rnd))
+    shape = small_shape(rnd, store.room)
+    if shape is None:
+        return None
+    block = rnd.choice([length, rnd.randrange(length + 1)])
+    store.blocks[fork] = max(length, block + 1)
+    store.room -= entry_size(*shape)
+    return change(rnd, fork, block, shape)
+
+
+def a_comment(rnd):
+    return "#" + "".join(chr(rnd.choice([9] + list(range(32, 127)))) for _ in range(rnd.randrange(20)))
+
+
+def spaced(rnd, line):
+    """The same words, at times with other blanks."""
+    if rnd.random() < 0.8:
+        return line
+
+    def blanks(least):
+        return "".join(rnd.choice(" \t") for _ in range(rnd.randrange(least, 4)))
+
+    return blanks(0) + blanks(1).join(line.split()) + blanks(0)
+
+
+def good_lines(rnd, store):
+    """The lines of a script that is taken, and the place of its worker's line."""
+    name = "".join(rnd.choice("abcxyz019_") for _ in range(rnd.choice([1, 4, 32])))
+    lines = [rnd.choice(["", a_comment(rnd)]) for _ in range(rnd.choice([0, 0, 0, 2]))]
+    at = len(lines)
+    lines.append(spaced(rnd, "worker " + name))
+    for _ in range(rnd.choice([0, 5, 20, 40])):
+        kind = rnd.random()
+        if kind < 0.1:
+            lines.append(rnd.choice(["", a_comment(rnd)]))
+            continue
+        line = a_creation(rnd, store) if kind < 0.35 else a_change(rnd, store)
+        if line is not None:
+            lines.append(spaced(rnd, line))
+    return lines, at
+
+
+def broken_bytes(rnd, lines, worker):
+    """One more line or byte, for which the script is refused. Gives the lines as bytes."""
+    why, lines = rnd.choice(["Bytes", "Word", "NoWorker", "Twice"]), [line.encode() for line in lines]
+    if why == "Bytes":
+        n = rnd.randrange(len(lines))
+        at = rnd.randrange(len(lines[n]) + 1)
+        lines[n] = lines[n][:at] + bytes([rnd.choice(NOT_ALLOWED)]) + lines[n][at:]
+    elif why == "Word":
+        lines.insert(rnd.randrange(len(lines) + 1), rnd.choice(BROKEN).encode())
+    elif why == "NoWorker":
+        lines.insert(rnd.randrange(worker + 1), rnd.choice([b"create 1/2", b"change 1/2@0=24,8192,7"]))
+    else:
+        lines.insert(rnd.randrange(worker + 1, len(lines) + 1), lines[worker].strip())
+    return lines
+
+
+def a_script(rnd, store):
+    if rnd.random() < 0.03:
+        return rnd.choice([b"", b"\n", b"\n\n", b"# nothing", b"worker w"])
+    if rnd.random() < 0.25:
+        lines, worker = good_lines(rnd, copy.deepcopy(store))
+        lines = broken_bytes(rnd, lines, worker)
+    else:
+        lines = [line.encode() for line in good_lines(rnd, store)[0]]
+    return b"\n".join(lines) + rnd.choice([b"", b"\n", b"\n", b"\n"])
+
+
+def init_words(rnd):
+    """`init` with random options, always with a system identifier; at times not taken."""
+    options = [["--system-id", str(rnd.choice([0, 7, (1 << 64) - 1, rnd.randrange(1 << 64)]))]]
+    if rnd.random() < 0.7:
+        options.append(["--segment-mib", str(1 << rnd.randrange(11))])
+    if rnd.random() < 0.7:
+        options.append(["--relseg", str(rnd.choice([1, 2, 3, rnd.randrange(1, 131073), 131072]))])
+    if rnd.random() < 0.07:
+        options += rnd.choice([[["--segment-mib", rnd.choice(["0", "3", "016", "2048", "1m", ""])]],
+                               [["--relseg", rnd.choice(["0", "131073", "01", "-1"])]],
+                               [["--system-id", "7"]], [["--frames", "4"]], [["--relseg"]], [["more"]]])
+    rnd.shuffle(options)
+    return ["init"] + [word for option in options for word in option]
+
+
+def both(path, words, script=b""):
+    """Calls both, and gives what differs as texts."""
+    got = program(path, words, script, "ours")
+    os.chdir("theirs")
+    wanted = oracle(words, script)
+    os.chdir("..")
+    differences = [] if wanted == got else ["%s, not %s" % (got, wanted)]
+    for folder in ("wal", "o"):
+        if files("theirs/" + folder) != files("ours/" + folder):
+            differences.append("the files of %s differ" % folder)
+    return ["%s %s: %s" % (" ".join(words), script, difference) for difference in differences]
+
+
+def one_run(path, rnd):
+    """What differs, as a list of texts."""
+    for folder in ("ours", "theirs"):
+        os.mkdir(folder)
+    if rnd.random() < 0.03:
+        for folder in ("ours", "theirs"):
+            os.mkdir(folder + "/sums")
+            open(folder + "/sums/x", "wb").close()
+    differences, store = both(path, init_words(rnd)), Store()
+    for _ in range(rnd.randrange(1, 4)):
+        differences += both(path, ["run"], a_script(rnd, store))
+    if rnd.random() < 0.1:
+        differences += both(path, init_words(rnd))
+    good, bad = ["p", "a_9", "x" * 32], ["x" * 33, "P", "a.b", "", "p/q"]
+    out = rnd.choice(bad if rnd.random() < 0.1 else good)
+    differences += both(path, ["replay", out])
+    if rnd.random() < 0.1:
+        differences += both(path, ["replay", out])
+    return differences
+
+
+if __name__ == "__main__":
+    compare(one_run)

@@ -1,0 +1,435 @@
+-- A script that is run on what an area holds has one outcome.
+use Rattle.std.proofs.Common.{◌≡◌, ℕ, ◌+◌, ◌<◌, ◌≤◌, ◌⊎◌, inl, inr, true, false, List, [], ◌∷◌, ◌++◌, map, length, Option, Some, None, Result, Ok, Err, IsSome, refl, sym, ap, subst, ◌∙◌, arith}
+use Rattle.std.specs.Prelude.{codes}
+use Rattle.std.specs.FinMap.{get, empty}
+use Rattle.lsn_core.specs.Files.{Files}
+use Rattle.lsn_core.specs.Store.{Store, Pages}
+use Rattle.lsn_core.specs.declared.lsn.Lsn.{Lsn}
+use Rattle.lsn_core.specs.declared.lsn.Place.{Place}
+use Rattle.lsn_core.specs.declared.segment.Settings.{Settings}
+use Rattle.lsn_core.specs.declared.fault.AreaFault.{AreaFault}
+use Rattle.vault.specs.Site.{AreaState}
+use Rattle.wal_record.specs.declared.record.Record.{Record}
+use Rattle.wal_record.specs.Places.{origin}
+use Rattle.wal_reader.specs.declared.fault.WalFault.{WalFault}
+use Rattle.wal_reader.specs.declared.fault.WalFault.TheVariants as wal
+use Rattle.wal_reader.specs.Archive.{Reads, IsArchive, IsDamaged}
+use Rattle.wal_reader.specs.Appended.{last_end}
+use Rattle.wal_reader.specs.Settings.{first_segment, GivesSettings, IsDamagedText, IsSettingsOf}
+use Rattle.wal_reader.proofs.Once.{one_reading, ends_or_is_damaged}
+use Rattle.history.specs.declared.op.Op.{Op}
+use Rattle.history.specs.declared.op.Op.TheVariants as op
+use Rattle.history.specs.Entry.{Entry}
+use Rattle.history.specs.Whole.{entry_of, apply_all}
+use Rattle.history.specs.Written.{record_of, wal_of}
+use Rattle.history.specs.Op.{act_of_op, IsTidy}
+use Rattle.recovery.specs.declared.replaying.ReadWal.{ReadWal}
+use Rattle.recovery.specs.Reading.{HasSettings, WalCause}
+use Rattle.recovery.specs.Laws.{IsOfFiles}
+use Rattle.recovery.proofs.OneWal.{one_wal, one_settings}
+use Rattle.shared_store.specs.Begin.{BeginCause, HasNoEntry}
+use Rattle.shared_store.specs.Insert.{State, LacksFork, HasFork, IsPastEnd, IsForkFull, Refuses, op_record}
+use Rattle.shared_store.specs.declared.fault.InsertFault.{InsertFault}
+use Rattle.shared_store.specs.declared.fault.InsertFault.TheVariants.{NoFork, ForkExists, PastEnd, ForkFull, NoMemory, WalFull}
+use Rattle.crew.specs.declared.script.Task.{Task}
+use Rattle.crew.specs.declared.script.Line.{Line}
+use Rattle.crew.specs.declared.run.Answer.{Answer}
+use Rattle.crew.specs.declared.run.Answer.TheVariants.{Accepted, Refused, NotRun}
+use Rattle.crew.specs.Run.{op_of, next_of, Progress, progress, IsStateOf, IsAccepted, IsRefused, stops, StepAnswer, Answered}
+use Rattle.pgbackup_cli.specs.declared.run.Report.{Report}
+use Rattle.pgbackup_cli.specs.declared.run.RunFault.{RunFault}
+use Rattle.pgbackup_cli.specs.declared.run.RunFault.TheVariants as run
+use Rattle.pgbackup_cli.specs.Run.{lines_in, IsEnding, RunDone}
+use Rattle.pgbackup_cli.specs.Laws.{IsEnded, HasOneRun}
+use Rattle.pgbackup_cli.proofs.OneAnswer.{at_told}
+
+-- ---- refusals on one store shut each other out
+
+none_some : {A : Type 0} (o : Option A) → o ≡ None → IsSome o → ⊥
+none_some None e some = absurd (cc)
+none_some (Some x) e some = absurd (cc)
+
+none_is : {A : Type 0} (o : Option A) (x : A) → o ≡ None → o ≡ Some x → ⊥
+none_is o x e f = absurd (cc)
+
+some_is : {A : Type 0} (o : Option A) (x y : A) → o ≡ Some x → o ≡ Some y → x ≡ y
+some_is o x y e f = cc
+
+lacks_or_has : (store : Store) (command : Op) → LacksFork store command → HasFork store command → ⊥
+lacks_or_has store (op.Create fork) first second = absurd first
+lacks_or_has store (op.Change at page) first second = absurd second
+
+lacks_or_past : (store : Store) (command : Op) → LacksFork store command → IsPastEnd store command → ⊥
+lacks_or_past store (op.Create fork) first second = absurd first
+lacks_or_past store (op.Change at page) first second = none_is (get store at.fork) second.0 first second.1.0
+
+lacks_or_full : (store : Store) (command : Op) → LacksFork store command → IsForkFull store command → ⊥
+lacks_or_full store (op.Create fork) first second = absurd first
+lacks_or_full store (op.Change at page) first second = none_is (get store at.fork) second.0 first second.1.0
+
+lacks_or_tidy : (store : Store) (command : Op) → LacksFork store command → IsTidy store command → ⊥
+lacks_or_tidy store (op.Create fork) first second = absurd first
+lacks_or_tidy store (op.Change at page) first second = none_is (get store at.fork) second.pages first second.there
+
+has_or_past : (store : Store) (command : Op) → HasFork store command → IsPastEnd store command → ⊥
+has_or_past store (op.Create fork) first second = absurd second
+has_or_past store (op.Change at page) first second = absurd first
+
+has_or_full : (store : Store) (command : Op) → HasFork store command → IsForkFull store command → ⊥
+has_or_full store (op.Create fork) first second = absurd second
+has_or_full store (op.Change at page) first second = absurd first
+
+has_or_tidy : (store : Store) (command : Op) → HasFork store command → IsTidy store command → ⊥
+has_or_tidy store (op.Create fork) first second = none_some (get store fork) second first
+has_or_tidy store (op.Change at page) first second = absurd first
+
+past_or_full : (store : Store) (command : Op) → IsPastEnd store command → IsForkFull store command → ⊥
+past_or_full store (op.Create fork) first second = absurd first
+past_or_full store (op.Change at page) first second =
+    let same = ap (λ (p : Pages). length p) (some_is (get store at.fork) first.0 second.0 first.1.0 second.1.0) in
+    absurd (omega (arith, same, first.1.1, second.1.1.0))
+
+past_or_tidy : (store : Store) (command : Op) → IsPastEnd store command → IsTidy store command → ⊥
+past_or_tidy store (op.Create fork) first second = absurd first
+past_or_tidy store (op.Change at page) first second =
+    let same = ap (λ (p : Pages). length p) (some_is (get store at.fork) first.0 second.pages first.1.0 second.there) in
+    absurd (omega (arith, same, first.1.1, second.reached))
+
+full_or_tidy : (store : Store) (command : Op) → IsForkFull store command → IsTidy store command → ⊥
+full_or_tidy store (op.Create fork) first second = absurd first
+full_or_tidy store (op.Change at page) first second = absurd (omega (arith, first.1.1.1, second.number))
+
+-- a refusal other than for want of memory: of a command whose entry would end there, on a store of so many entries
+abbrev pub Why : Store → ℕ → ℕ → ℕ → Op → InsertFault → Type 0
+Why store count limit end command (NoFork n) = (n ≡ count) × LacksFork store command
+Why store count limit end command (ForkExists n) = (n ≡ count) × HasFork store command
+Why store count limit end command (PastEnd n) = (n ≡ count) × IsPastEnd store command
+Why store count limit end command (ForkFull n) = (n ≡ count) × IsForkFull store command
+Why store count limit end command (WalFull n) = (n ≡ count) × (IsTidy store command × (limit < end))
+Why store count limit end command NoMemory = ⊥
+
+-- the refusals, by their numbers
+no_fork : ℕ → InsertFault
+no_fork n = NoFork n
+
+fork_exists : ℕ → InsertFault
+fork_exists n = ForkExists n
+
+past_end : ℕ → InsertFault
+past_end n = PastEnd n
+
+fork_full : ℕ → InsertFault
+fork_full n = ForkFull n
+
+wal_full : ℕ → InsertFault
+wal_full n = WalFull n
+
+one_why : (store : Store) (count limit end : ℕ) (command : Op) (f g : InsertFault) → Why store count limit end command f → Why store count limit end command g → f ≡ g
+unfolding no_fork fork_exists past_end fork_full wal_full
+one_why store count limit end command (NoFork n) (NoFork m) first second = ap no_fork (first.0 ∙ sym second.0)
+one_why store count limit end command (NoFork n) (ForkExists m) first second = absurd (lacks_or_has store command first.1 second.1)
+one_why store count limit end command (NoFork n) (PastEnd m) first second = absurd (lacks_or_past store command first.1 second.1)
+one_why store count limit end command (NoFork n) (ForkFull m) first second = absurd (lacks_or_full store command first.1 second.1)
+one_why store count limit end command (NoFork n) (WalFull m) first second = absurd (lacks_or_tidy store command first.1 second.1.0)
+one_why store count limit end command (NoFork n) NoMemory first second = absurd second
+one_why store count limit end command (ForkExists n) (NoFork m) first second = absurd (lacks_or_has store command second.1 first.1)
+one_why store count limit end command (ForkExists n) (ForkExists m) first second = ap fork_exists (first.0 ∙ sym second.0)
+one_why store count limit end command (ForkExists n) (PastEnd m) first second = absurd (has_or_past store command first.1 second.1)
+one_why store count limit end command (ForkExists n) (ForkFull m) first second = absurd (has_or_full store command first.1 second.1)
+one_why store count limit end command (ForkExists n) (WalFull m) first second = absurd (has_or_tidy store command first.1 second.1.0)
+one_why store count limit end command (ForkExists n) NoMemory first second = absurd second
+one_why store count limit end command (PastEnd n) (NoFork m) first second = absurd (lacks_or_past store command second.1 first.1)
+one_why store count limit end command (PastEnd n) (ForkExists m) first second = absurd (has_or_past store command second.1 first.1)
+one_why store count limit end command (PastEnd n) (PastEnd m) first second = ap past_end (first.0 ∙ sym second.0)
+one_why store count limit end command (PastEnd n) (ForkFull m) first second = absurd (past_or_full store command first.1 second.1)
+one_why store count limit end command (PastEnd n) (WalFull m) first second = absurd (past_or_tidy store command first.1 second.1.0)
+one_why store count limit end command (PastEnd n) NoMemory first second = absurd second
+one_why store count limit end command (ForkFull n) (NoFork m) first second = absurd (lacks_or_full store command second.1 first.1)
+one_why store count limit end command (ForkFull n) (ForkExists m) first second = absurd (has_or_full store command second.1 first.1)
+one_why store count limit end command (ForkFull n) (PastEnd m) first second = absurd (past_or_full store command second.1 first.1)
+one_why store count limit end command (ForkFull n) (ForkFull m) first second = ap fork_full (first.0 ∙ sym second.0)
+one_why store count limit end command (ForkFull n) (WalFull m) first second = absurd (full_or_tidy store command first.1 second.1.0)
+one_why store count limit end command (ForkFull n) NoMemory first second = absurd second
+one_why store count limit end command (WalFull n) (NoFork m) first second = absurd (lacks_or_tidy store command second.1 first.1.0)
+one_why store count limit end command (WalFull n) (ForkExists m) first second = absurd (has_or_tidy store command second.1 first.1.0)
+one_why store count limit end command (WalFull n) (PastEnd m) first second = absurd (past_or_tidy store command second.1 first.1.0)
+one_why store count limit end command (WalFull n) (ForkFull m) first second = absurd (full_or_tidy store command second.1 first.1.0)
+one_why store count limit end command (WalFull n) (WalFull m) first second = ap wal_full (first.0 ∙ sym second.0)
+one_why store count limit end command (WalFull n) NoMemory first second = absurd second
+one_why store count limit end command NoMemory g first second = absurd first
+
+-- ---- one line
+
+-- where a command's entry would end, on the state of a history
+end_there : (mib : ℕ) (h : List Entry) (s : State) (command : Op) → IsStateOf mib h s → (op_record s.log command).end.0 ≡ (next_of mib h command).end.0
+end_there mib h s command is =
+    ap (λ (m : ℕ). (record_of m s.log.end s.log.prev (act_of_op command)).end.0) is.mib_is
+    ∙ ap (λ (n : ℕ). (record_of mib n s.log.prev (act_of_op command)).end.0) is.end
+
+-- two states of one history have the same pages
+same_pages : (mib : ℕ) (h : List Entry) (s t : State) → IsStateOf mib h s → IsStateOf mib h t → s.pages ≡ t.pages
+same_pages mib h s t first second = some_is (apply_all empty h) s.pages t.pages first.pages second.pages
+
+-- why a command is refused, by the history alone
+why_refused : (mib : ℕ) (h : List Entry) (store : Store) (s : State) (command : Op) (f : InsertFault) → IsStateOf mib h s → s.pages ≡ store → stops f ≡ false → Refuses s command f
+    → Why store (length h) (origin mib + 8192) (next_of mib h command).end.0 command f
+why_refused mib h store s command (NoFork n) is same going why = (why.0 ∙ is.count, subst (λ (p : Store). LacksFork p command) same why.1)
+why_refused mib h store s command (ForkExists n) is same going why = (why.0 ∙ is.count, subst (λ (p : Store). HasFork p command) same why.1)
+why_refused mib h store s command (PastEnd n) is same going why = (why.0 ∙ is.count, subst (λ (p : Store). IsPastEnd p command) same why.1)
+why_refused mib h store s command (ForkFull n) is same going why = (why.0 ∙ is.count, subst (λ (p : Store). IsForkFull p command) same why.1)
+why_refused mib h store s command (WalFull n) is same going why =
+    let limit : origin s.log.mib + 8192 ≡ origin mib + 8192 = ap (λ (m : ℕ). origin m + 8192) is.mib_is in
+    (why.0 ∙ is.count, (subst (λ (p : Store). IsTidy p command) same why.1.0, omega (arith, why.1.1, end_there mib h s command is, limit)))
+why_refused mib h store s command NoMemory is same going why = absurd cc
+
+-- a command that may be done, and whose entry has room, is refused for want of memory alone
+not_both : (store : Store) (count limit end : ℕ) (command : Op) (f : InsertFault) → IsTidy store command → end ≤ limit → Why store count limit end command f → ⊥
+not_both store count limit end command (NoFork n) tidy room why = lacks_or_tidy store command why.1 tidy
+not_both store count limit end command (ForkExists n) tidy room why = has_or_tidy store command why.1 tidy
+not_both store count limit end command (PastEnd n) tidy room why = past_or_tidy store command why.1 tidy
+not_both store count limit end command (ForkFull n) tidy room why = full_or_tidy store command why.1 tidy
+not_both store count limit end command (WalFull n) tidy room why = absurd (omega (arith, room, why.1.1))
+not_both store count limit end command NoMemory tidy room why = absurd why
+
+goes_on : (now next : Progress) (f : InsertFault) → next ≡ progress now.history now.accepted (stops f) → next.stopped ≡ false → stops f ≡ false
+goes_on now next f is going = sym (ap (λ (p : Progress). p.stopped) is) ∙ going
+
+refused_once : (mib : ℕ) (now : Progress) (command : Op) (f g : InsertFault) (next other : Progress) → IsRefused mib now command f next → IsRefused mib now command g other
+    → next.stopped ≡ false → other.stopped ≡ false → f ≡ g
+refused_once mib now command f g next other first second going also =
+    one_why first.state.pages (length now.history) (origin mib + 8192) (next_of mib now.history command).end.0 command f g
+    (why_refused mib now.history first.state.pages first.state command f first.is refl (goes_on now next f first.next_is going) first.why)
+    (why_refused mib now.history first.state.pages second.state command g second.is (same_pages mib now.history second.state first.state second.is first.is) (goes_on now other g second.next_is also) second.why)
+
+accepted_or_refused : (mib : ℕ) (now : Progress) (command : Op) (place : Place) (f : InsertFault) (next other : Progress) → IsAccepted mib now command place next → IsRefused mib now command f other
+    → other.stopped ≡ false → ⊥
+accepted_or_refused mib now command place f next other first second going =
+    not_both first.state.pages (length now.history) (origin mib + 8192) (next_of mib now.history command).end.0 command f first.tidy first.on_page
+    (why_refused mib now.history first.state.pages second.state command f second.is (same_pages mib now.history second.state first.state second.is first.is) (goes_on now other f second.next_is going) second.why)
+
+place_at : ℕ → ℕ → Place
+place_at start end = record { start = record { 0 = start }; end = record { 0 = end } }
+
+same_place : (a b : Place) → a.start ≡ b.start → a.end ≡ b.end → a ≡ b
+unfolding place_at
+same_place a b start end = ap (λ (n : Lsn). place_at n.0 a.end.0) start ∙ ap (λ (n : Lsn). place_at b.start.0 n.0) end
+
+accepted_with : Place → Answer
+accepted_with place = Accepted place
+
+refused_with : InsertFault → Answer
+refused_with fault = Refused fault
+
+same_refused : (mib : ℕ) (now : Progress) (command : Op) (f g : InsertFault) (next other : Progress) → IsRefused mib now command f next → IsRefused mib now command g other
+    → next.stopped ≡ false → other.stopped ≡ false → (refused_with f ≡ refused_with g) × (next ≡ other)
+same_refused mib now command f g next other first second going also =
+    let same : f ≡ g = refused_once mib now command f g next other first second going also in
+    (ap refused_with same, first.next_is ∙ ap (λ (x : InsertFault). progress now.history now.accepted (stops x)) same ∙ sym second.next_is)
+
+same_accepted : (mib : ℕ) (now : Progress) (command : Op) (p q : Place) (next other : Progress) → IsAccepted mib now command p next → IsAccepted mib now command q other
+    → (accepted_with p ≡ accepted_with q) × (next ≡ other)
+same_accepted mib now command p q next other first second =
+    (ap accepted_with (same_place p q (first.start ∙ sym second.start) (first.end ∙ sym second.end)), first.next_is ∙ sym second.next_is)
+
+-- a line that isn't run is one of a run that is stopped
+stays_stopped : (now next : Progress) → now.stopped ≡ true → next ≡ now → next.stopped ≡ false → ⊥
+stays_stopped now next stopped same going = absurd cc
+
+one_step : (mib : ℕ) (now : Progress) (line : Line) (a b : Answer) (next other : Progress) → StepAnswer mib now line a next → StepAnswer mib now line b other
+    → next.stopped ≡ false → other.stopped ≡ false → (a ≡ b) × (next ≡ other)
+unfolding accepted_with refused_with
+one_step mib now line (Accepted p) (Accepted q) next other first second going also = same_accepted mib now (op_of line.command) p q next other first second
+one_step mib now line (Accepted p) (Refused g) next other first second going also = absurd (accepted_or_refused mib now (op_of line.command) p g next other first second also)
+one_step mib now line (Accepted p) NotRun next other first second going also = absurd (stays_stopped now other second.0 second.1 also)
+one_step mib now line (Refused f) (Accepted q) next other first second going also = absurd (accepted_or_refused mib now (op_of line.command) q f other next second first going)
+one_step mib now line (Refused f) (Refused g) next other first second going also = same_refused mib now (op_of line.command) f g next other first second going also
+one_step mib now line (Refused f) NotRun next other first second going also = absurd (stays_stopped now other second.0 second.1 also)
+one_step mib now line NotRun b next other first second going also = absurd (stays_stopped now next first.0 first.1 going)
+
+-- ---- lines
+
+-- a run that isn't stopped at its end wasn't before
+was_going : (mib : ℕ) (now : Progress) (lines : List Line) (answers : List Answer) (last : Progress) → Answered mib now lines answers last → last.stopped ≡ false → now.stopped ≡ false
+was_going mib now [] [] last answered going = sym (ap (λ (p : Progress). p.stopped) answered) ∙ going
+was_going mib now [] (answer ∷ answers) last answered going = absurd answered
+was_going mib now (line ∷ lines) [] last answered going = absurd answered
+was_going mib now (line ∷ lines) (Accepted place ∷ answers) last answered going = answered.1.0.going
+was_going mib now (line ∷ lines) (Refused fault ∷ answers) last answered going = answered.1.0.going
+was_going mib now (line ∷ lines) (NotRun ∷ answers) last answered going =
+    absurd (stays_stopped now answered.0 answered.1.0.0 answered.1.0.1 (was_going mib answered.0 lines answers last answered.1.1 going))
+
+one_more_same : (a b : Answer) (xs ys : List Answer) → a ≡ b → xs ≡ ys → (a ∷ xs) ≡ (b ∷ ys)
+one_more_same a b xs ys head tail = ap (λ (x : Answer). x ∷ xs) head ∙ ap (λ (l : List Answer). b ∷ l) tail
+
+-- lines have one list of answers, and leave one history
+answered_once : (mib : ℕ) (now : Progress) (lines : List Line) (xs ys : List Answer) (last other : Progress) → Answered mib now lines xs last → Answered mib now lines ys other
+    → last.stopped ≡ false → other.stopped ≡ false → (xs ≡ ys) × (last ≡ other)
+answered_once mib now [] [] [] last other first second going also = (refl, first ∙ sym second)
+answered_once mib now [] [] (b ∷ ys) last other first second going also = absurd second
+answered_once mib now [] (a ∷ xs) ys last other first second going also = absurd first
+answered_once mib now (line ∷ lines) [] ys last other first second going also = absurd first
+answered_once mib now (line ∷ lines) (a ∷ xs) [] last other first second going also = absurd second
+answered_once mib now (line ∷ lines) (a ∷ xs) (b ∷ ys) last other first second going also =
+    let step = one_step mib now line a b first.0 second.0 first.1.0 second.1.0 (was_going mib first.0 lines xs last first.1.1 going) (was_going mib second.0 lines ys other second.1.1 also) in
+    let behind = answered_once mib first.0 lines xs ys last other first.1.1 (subst (λ (p : Progress). Answered mib p lines ys other) (sym step.1) second.1.1) going also in
+    (one_more_same a b xs ys step.0 behind.0, behind.1)
+
+-- ---- where the WAL ends
+
+reads_to : (mib : ℕ) (held : List ℕ) (at prev : ℕ) (rs : List Record) (end : ℕ) → Reads mib held at prev rs end → end ≡ last_end at rs
+reads_to mib held at prev [] end reads = reads.1
+reads_to mib held at prev (r ∷ rs) end reads = reads_to mib held r.end.0 r.start.0 rs end reads.1
+
+archive_to : (mib : ℕ) (files : Files) (rs : List Record) (end : ℕ) → IsArchive mib files rs end → end ≡ last_end (origin mib) rs
+archive_to mib files rs end archive = reads_to mib _ (origin mib) 0 rs end archive
+
+lsn_at : ℕ → Lsn
+lsn_at at = record { 0 = at }
+
+same_lsn : (a b : Lsn) → a.0 ≡ b.0 → a ≡ b
+unfolding lsn_at
+same_lsn a b e = ap lsn_at e
+
+ended_at : Lsn → Result Lsn AreaFault
+ended_at end = Ok end
+
+is_going : (mib : ℕ) (entries : List Record) (last : Progress) (w x : AreaState) (ending : Result Lsn AreaFault) → IsEnding mib entries last w x ending → IsEnded ending → last.stopped ≡ false
+is_going mib entries last w x (Ok end) is own = is.0
+is_going mib entries last w x (Err fault) is own = absurd own
+
+ends_once : (mib : ℕ) (entries : List Record) (last : Progress) (w x y : AreaState) (left other_left : Files) (a b : Result Lsn AreaFault) → x.files ≡ Some left → y.files ≡ Some other_left
+    → IsEnding mib entries last w x a → IsEnding mib entries last w y b → IsEnded a → IsEnded b → a ≡ b
+unfolding ended_at
+ends_once mib entries last w x y left other_left (Ok a) (Ok b) told also first second own other =
+    let rs : List Record = entries ++ wal_of mib last.history in
+    let here : a.0 ≡ last_end (origin mib) rs = archive_to mib left rs a.0 (at_told x.files left (λ m. IsArchive mib m rs a.0) told first.1) in
+    let there : b.0 ≡ last_end (origin mib) rs = archive_to mib other_left rs b.0 (at_told y.files other_left (λ m. IsArchive mib m rs b.0) also second.1) in
+    ap ended_at (same_lsn a b (here ∙ sym there))
+ends_once mib entries last w x y left other_left (Ok a) (Err g) told also first second own other = absurd other
+ends_once mib entries last w x y left other_left (Err f) b told also first second own other = absurd own
+
+-- ---- what was done
+
+-- what two runs that were done came to
+abbrev pub IsSameReport : Report → Report → Type 0
+IsSameReport a b = (a.opened ≡ b.opened) × ((a.answers ≡ b.answers) × (a.ending ≡ b.ending))
+
+given_at : (w : AreaState) (files : Files) (s : Settings) → w.files ≡ Some files → HasSettings w.files s → IsSettingsOf files s
+given_at w files s told has = at_told w.files files (λ m. IsSettingsOf m s) told has.given
+
+-- from one beginning, the two lists of answers
+done_from : (mib : ℕ) (entries : List Record) (w x y : AreaState) (left other_left : Files) (a b : Report) (last other : Progress) → x.files ≡ Some left → y.files ≡ Some other_left
+    → a.opened ≡ b.opened → Answered mib (progress (map entry_of entries) 0 false) (lines_in a.script) a.answers last → Answered mib (progress (map entry_of entries) 0 false) (lines_in a.script) b.answers other
+    → IsEnding mib entries last w x a.ending → IsEnding mib entries other w y b.ending → IsEnded a.ending → IsEnded b.ending → IsSameReport a b
+done_from mib entries w x y left other_left a b last other told also open_same first second end end_other own own_other =
+    let once = answered_once mib (progress (map entry_of entries) 0 false) (lines_in a.script) a.answers b.answers last other first second
+    (is_going mib entries last w x a.ending end own) (is_going mib entries other w y b.ending end_other own_other) in
+    let there : IsEnding mib entries last w y b.ending = subst (λ (p : Progress). IsEnding mib entries p w y b.ending) (sym once.1) end_other in
+    (open_same, (once.0, ends_once mib entries last w x y left other_left a.ending b.ending told also end there own own_other))
+
+done_once : (w x y : AreaState) (files left other_left : Files) (a b : Report) → w.files ≡ Some files → x.files ≡ Some left → y.files ≡ Some other_left → RunDone w x a → RunDone w y b
+    → a.script ≡ b.script → IsEnded a.ending → IsEnded b.ending → IsSameReport a b
+done_once w x y files left other_left a b told told_a told_b first second script own other =
+    let mib : ℕ = first.settings.segment in
+    let same : second.settings ≡ first.settings = one_settings files second.settings first.settings (given_at w files second.settings told second.given) (given_at w files first.settings told first.given) in
+    let size : second.settings.segment ≡ mib = ap (λ (s : Settings). s.segment) same in
+    let here : IsArchive mib files first.entries a.opened.0 = at_told w.files files (λ m. IsArchive mib m first.entries a.opened.0) told first.archive in
+    let there : IsArchive mib files second.entries b.opened.0 =
+    subst (λ (n : ℕ). IsArchive n files second.entries b.opened.0) size (at_told w.files files (λ m. IsArchive second.settings.segment m second.entries b.opened.0) told second.archive) in
+    let one = one_reading mib files first.entries second.entries a.opened.0 b.opened.0 here there in
+    let back : second.entries ≡ first.entries = sym one.0 in
+    let answered : Answered mib (progress (map entry_of first.entries) 0 false) (lines_in a.script) b.answers second.last =
+    subst (λ (ts : List Task). Answered mib (progress (map entry_of first.entries) 0 false) (lines_in ts) b.answers second.last) (sym script)
+    (subst (λ (rs : List Record). Answered mib (progress (map entry_of rs) 0 false) (lines_in b.script) b.answers second.last) back
+    (subst (λ (n : ℕ). Answered n (progress (map entry_of second.entries) 0 false) (lines_in b.script) b.answers second.last) size second.answered)) in
+    let ending : IsEnding mib first.entries second.last w y b.ending =
+    subst (λ (rs : List Record). IsEnding mib rs second.last w y b.ending) back
+    (subst (λ (n : ℕ). IsEnding n second.entries second.last w y b.ending) size second.ending) in
+    done_from mib first.entries w x y left other_left a b first.last second.last told_a told_b (same_lsn a.opened b.opened one.1) first.answered answered first.ending ending own other
+
+-- ---- why none was
+
+given_or_damaged : (o : Option (List ℕ)) (mib relseg : ℕ) → GivesSettings o mib relseg → IsDamagedText o → ⊥
+given_or_damaged None mib relseg given damaged = damaged
+given_or_damaged (Some bytes) mib relseg given damaged = damaged mib relseg given
+
+-- settings and an archive that ends leave no cause why the WAL can't be read
+read_or_refused : (files : Files) (s : Settings) (rs : List Record) (end before now : ℕ) (f : WalFault) → HasSettings (Some files) s → IsArchive s.segment files rs end → WalCause (Some files) before now f → IsOfFiles (Err f) → ⊥
+read_or_refused files s rs end before now (wal.Damaged place why) given archive cause own =
+    let same : cause.0 ≡ s = one_settings files cause.0 s cause.1.0.given given.given in
+    ends_or_is_damaged s.segment files rs end place.0 archive (subst (λ (t : Settings). IsDamaged t.segment files place.0) same cause.1.1)
+read_or_refused files s rs end before now wal.SettingsDamaged given archive cause own = given_or_damaged (get files (codes "settings")) s.segment s.relseg given.given.given cause.1
+read_or_refused files s rs end before now wal.NotInit given archive cause own = none_some (get files first_segment) cause given.given.there
+read_or_refused files s rs end before now wal.Failed given archive cause own = absurd own
+read_or_refused files s rs end before now wal.NoMemory given archive cause own = absurd own
+
+empty_or_refused : (files : Files) (before now : ℕ) (f : WalFault) → HasNoEntry (Some files) → WalCause (Some files) before now f → IsOfFiles (Err f) → ⊥
+empty_or_refused files before now f empty cause own = read_or_refused files empty.settings [] empty.archive.0 before now f empty.given empty.archive.1 cause own
+
+-- the WAL can't be read, or has no entry
+cause_is : (files : Option Files) (before now : ℕ) (f : WalFault) → BeginCause files before now f → WalCause files before now f ⊎ (HasNoEntry files × (f ≡ wal.NotInit))
+cause_is files before now (wal.Damaged place why) cause = inl cause
+cause_is files before now wal.SettingsDamaged cause = inl cause
+cause_is files before now wal.NotInit (inl cause) = inl cause
+cause_is files before now wal.NotInit (inr empty) = inr (empty, refl)
+cause_is files before now wal.Failed cause = inl cause
+cause_is files before now wal.NoMemory cause = inl cause
+
+wal_refused : WalFault → Result (Settings × ReadWal) WalFault
+wal_refused fault = Err fault
+
+fault_is : (f g : WalFault) → wal_refused f ≡ wal_refused g → f ≡ g
+unfolding wal_refused
+fault_is f g e = cc
+
+same_cause : (files : Files) (before now start end : ℕ) (f g : WalFault) → WalCause (Some files) before now f → WalCause (Some files) start end g → IsOfFiles (Err f) → IsOfFiles (Err g) → f ≡ g
+unfolding wal_refused
+same_cause files before now start end f g first second own other = fault_is f g (one_wal files before now start end (Err f) (Err g) first second own other)
+
+refused_by_one : (files : Files) (before now start end : ℕ) (f g : WalFault) → WalCause (Some files) before now f ⊎ (HasNoEntry (Some files) × (f ≡ wal.NotInit)) → WalCause (Some files) start end g ⊎ (HasNoEntry (Some files) × (g ≡ wal.NotInit))
+    → IsOfFiles (Err f) → IsOfFiles (Err g) → f ≡ g
+refused_by_one files before now start end f g (inl first) (inl second) own other = same_cause files before now start end f g first second own other
+refused_by_one files before now start end f g (inl first) (inr second) own other = absurd (empty_or_refused files before now f second.0 first own)
+refused_by_one files before now start end f g (inr first) (inl second) own other = absurd (empty_or_refused files start end g first.0 second other)
+refused_by_one files before now start end f g (inr first) (inr second) own other = first.1 ∙ sym second.1
+
+cause_at : (w x : AreaState) (files : Files) (f : WalFault) → w.files ≡ Some files → BeginCause w.files w.faults x.faults f → WalCause (Some files) w.faults x.faults f ⊎ (HasNoEntry (Some files) × (f ≡ wal.NotInit))
+cause_at w x files f told cause = cause_is (Some files) w.faults x.faults f (subst (λ (o : Option Files). BeginCause o w.faults x.faults f) told cause)
+
+same_refusal : (w x y : AreaState) (files : Files) (f g : WalFault) → w.files ≡ Some files → BeginCause w.files w.faults x.faults f → BeginCause w.files w.faults y.faults g → IsOfFiles (Err f) → IsOfFiles (Err g) → f ≡ g
+same_refusal w x y files f g told first second own other = refused_by_one files w.faults x.faults w.faults y.faults f g (cause_at w x files f told first) (cause_at w y files g told second) own other
+
+-- ---- done or refused
+
+-- an archive that has an entry is another than the empty one
+some_or_empty : (files : Files) (s : Settings) (rs : List Record) (end : ℕ) → HasSettings (Some files) s → IsArchive s.segment files rs end → 0 < length rs → HasNoEntry (Some files) → ⊥
+some_or_empty files s rs end given archive some empty =
+    let same : empty.settings ≡ s = one_settings files empty.settings s empty.given.given given.given in
+    let none : IsArchive s.segment files [] empty.archive.0 = subst (λ (t : Settings). IsArchive t.segment files [] empty.archive.0) same empty.archive.1 in
+    let one = one_reading s.segment files rs [] end empty.archive.0 archive none in
+    absurd (omega (arith, some, ap (λ (xs : List Record). length xs) one.0))
+
+begun_or_refused : (files : Files) (s : Settings) (rs : List Record) (end before now : ℕ) (f : WalFault) → HasSettings (Some files) s → IsArchive s.segment files rs end → 0 < length rs
+    → WalCause (Some files) before now f ⊎ (HasNoEntry (Some files) × (f ≡ wal.NotInit)) → IsOfFiles (Err f) → ⊥
+begun_or_refused files s rs end before now f given archive some (inl cause) own = read_or_refused files s rs end before now f given archive cause own
+begun_or_refused files s rs end before now f given archive some (inr empty) own = some_or_empty files s rs end given archive some empty.0
+
+done_or_refused : (w x y : AreaState) (files : Files) (a : Report) (f : WalFault) → w.files ≡ Some files → RunDone w x a → BeginCause w.files w.faults y.faults f → IsOfFiles (Err f) → ⊥
+done_or_refused w x y files a f told done cause own =
+    begun_or_refused files done.settings done.entries a.opened.0 w.faults y.faults f (subst (λ (o : Option Files). HasSettings o done.settings) told done.given)
+    (at_told w.files files (λ m. IsArchive done.settings.segment m done.entries a.opened.0) told done.archive) done.some (cause_at w y files f told cause) own
+
+-- ---- the whole
+
+refused_for : WalFault → RunFault
+refused_for fault = run.Wal fault
+
+pub one_run : HasOneRun
+unfolding refused_for
+one_run w x y files left other_left (Ok a) (Ok b) told told_a told_b first second script own other = done_once w x y files left other_left a b told told_a told_b first second script own other
+one_run w x y files left other_left (Ok a) (Err (run.Wal g)) told told_a told_b first second script own other = absurd (done_or_refused w x y files a g told first second.1 other)
+one_run w x y files left other_left (Ok a) (Err run.NoMemory) told told_a told_b first second script own other = absurd other
+one_run w x y files left other_left (Err (run.Wal f)) (Ok b) told told_a told_b first second script own other = absurd (done_or_refused w y x files b f told second first.1 own)
+one_run w x y files left other_left (Err (run.Wal f)) (Err (run.Wal g)) told told_a told_b first second script own other = ap refused_for (same_refusal w x y files f g told first.1 second.1 own other)
+one_run w x y files left other_left (Err (run.Wal f)) (Err run.NoMemory) told told_a told_b first second script own other = absurd other
+one_run w x y files left other_left (Err run.NoMemory) b told told_a told_b first second script own other = absurd own

@@ -1,0 +1,12 @@
+use Rattle.std.proofs.Common.{◌≡◌, ◌-◌, length, drop}
+use Rattle.pgbackup_cli.specs.Words.{none_given, options_in, IsInRange}
+use Rattle.pgbackup_cli.proofs.options.options_of.Given as goal
+
+abbrev pub invariant-loop-at : goal.invariant-loop-at
+invariant-loop-at l = record {
+  options : options_in none_given l.words ≡ options_in l.given (drop l.at l.words);
+  range : IsInRange l.given;
+}
+
+abbrev pub decreases-loop-at : goal.decreases-loop-at
+decreases-loop-at l = length l.words - l.at

@@ -1,0 +1,17 @@
+-- A run on the store that was begun, flushed.
+use Rattle.std.proofs.Common.{ap, ◌∙◌}
+use Rattle.shared_store.specs.Insert.{state}
+use Rattle.pgbackup_cli.proofs.RunDone.{run_done}
+use Rattle.pgbackup_cli.proofs.run.run_areas.Goals as goal
+
+pub returns-clause-answer : goal.returns-clause-answer
+returns-clause-answer g c =
+    let store = c.in-Ok.store in
+    let ran = c.run_lines.new.store in
+    run_done _ _ _ (state store.wal.tail store.pages store.count) (state ran.wal.tail ran.pages ran.count) (g.V.Vault.files ran.wal.area) (g.V.Vault.faults ran.wal.area)
+    c.in-Ok.ensures.begun c.end-opened.ensures.end
+    (rw c.lines_of.ensures at c.in-Ok-run_lines.ensures.run)
+    (ap (λ v. g.V.Vault.files v) c.run_lines.ensures.area ∙ c.in-Ok.ensures.same)
+    (rw c.run_lines.ensures.area c.in-Ok.ensures.later)
+    (rw (c.close-2.ensures, ← c.as_slice.ensures, ← c.is_stopped.ensures) c.end_run-ending.ensures.answer)
+    (rw c.close-2.ensures c.end_run-ending.ensures.left)

@@ -1,0 +1,51 @@
+-- The lines that the run of a script prints (profile).
+use Rattle.std.specs.Prelude.{ℕ, List, [], ◌∷◌, ◌++◌, Result, Ok, Err, codes}
+use Rattle.std.specs.Fmt.{decimal}
+use Rattle.lsn_core.specs.Names.{lsn_bytes}
+use Rattle.lsn_core.specs.declared.lsn.Lsn.{Lsn}
+use Rattle.lsn_core.specs.declared.fault.AreaFault.{AreaFault}
+use Rattle.lsn_core.specs.declared.fault.AreaFault.TheVariants as area
+use Rattle.shared_store.specs.declared.fault.InsertFault.{InsertFault}
+use Rattle.shared_store.specs.declared.fault.InsertFault.TheVariants as insert_fault
+use Rattle.crew.specs.declared.script.Task.{Task}
+use Rattle.crew.specs.declared.script.Line.{Line}
+use Rattle.crew.specs.declared.run.Answer.{Answer}
+use Rattle.crew.specs.declared.run.Answer.TheVariants as answer
+use Rattle.pgbackup_cli.specs.declared.run.Report.{Report}
+
+-- number and name of a refused command's fault, and its argument
+abbrev pub insert_fault_text : InsertFault → List ℕ
+insert_fault_text (insert_fault.NoFork n) = codes "1 NoFork " ++ decimal n
+insert_fault_text (insert_fault.ForkExists n) = codes "2 ForkExists " ++ decimal n
+insert_fault_text (insert_fault.PastEnd n) = codes "3 PastEnd " ++ decimal n
+insert_fault_text (insert_fault.ForkFull n) = codes "9 ForkFull " ++ decimal n
+insert_fault_text insert_fault.NoMemory = codes "13 NoMemory"
+insert_fault_text (insert_fault.WalFull n) = codes "15 WalFull " ++ decimal n
+
+-- the answer to a line
+abbrev pub answer_text : Answer → List ℕ
+answer_text (answer.Accepted place) = codes "ok " ++ (lsn_bytes place.start.0 ++ (32 ∷ lsn_bytes place.end.0))
+answer_text (answer.Refused fault) = codes "refused " ++ insert_fault_text fault
+answer_text answer.NotRun = codes "not run"
+
+-- the worker, the number of the line, and its answer
+abbrev pub answer_line : List ℕ → Line → Answer → List ℕ
+answer_line name line answer = name ++ (32 ∷ (decimal line.number ++ (32 ∷ (answer_text answer ++ (10 ∷ [])))))
+
+abbrev pub answer_lines : List ℕ → List Line → List Answer → List ℕ
+answer_lines name [] answers = []
+answer_lines name (line ∷ lines) [] = []
+answer_lines name (line ∷ lines) (answer ∷ answers) = answer_line name line answer ++ answer_lines name lines answers
+
+abbrev pub task_lines : List Task → List Answer → List ℕ
+task_lines [] answers = []
+task_lines (task ∷ tasks) answers = answer_lines task.name task.lines answers
+
+-- the last line: where the WAL ends, or why it isn't known to be written
+abbrev pub last_line : Result Lsn AreaFault → List ℕ
+last_line (Ok end) = codes "wal " ++ (lsn_bytes end.0 ++ (10 ∷ []))
+last_line (Err area.Failed) = codes "refused 60 DeviceFault wal" ++ (10 ∷ [])
+last_line (Err area.NoMemory) = codes "refused 61 NoMemory" ++ (10 ∷ [])
+
+abbrev pub report_text : Report → List ℕ
+report_text report = codes "opened " ++ (lsn_bytes report.opened.0 ++ (10 ∷ (task_lines report.script report.answers ++ last_line report.ending)))

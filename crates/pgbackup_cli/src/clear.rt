@@ -1,0 +1,25 @@
+//! Whether an area holds a file.
+
+ghost use Rattle.std.specs.Prelude.{◌≡◌, ◌↔◌, [], IsTrue, IfOk, IfSome};
+ghost use Rattle.std.specs.FinMap.{empty};
+ghost use Rattle.lsn_core.specs.Causes.{HasCause};
+
+use lsn_core::{AreaFault, Text};
+use std::alloc::Global;
+use vault::Vault;
+
+/// Whether an area holds no file.
+pub fn is_clear<V: Vault>(alloc: Global, area: &mut V) -> Result<bool, AreaFault>
+    ensures clear { IfOk result (λ clear. IfSome (V.files area.old) (λ m. IsTrue clear ↔ (m ≡ empty))) }
+    ensures same { V.files area.new ≡ V.files area.old }
+    ensures cause { HasCause (V.faults area.old) (V.faults area.new) result }
+{
+    let names = area.names(alloc)?;
+    Ok(has_none(&names))
+}
+
+fn has_none(names: &[Text]) -> bool
+    ensures { IsTrue result ↔ (names.now ≡ []) }
+{
+    names.is_empty()
+}

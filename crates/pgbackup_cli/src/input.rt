@@ -1,0 +1,55 @@
+//! The script of the input.
+
+ghost use Rattle.std.specs.Prelude.{◌≡◌, ◌≤◌, ◌<◌, ◌+◌, length, IfOk};
+ghost use Rattle.lsn_core.specs.Causes.{HasCause};
+ghost use Rattle.pgbackup_cli.specs.Input.{IsInput, IsMore};
+
+use lsn_core::AreaFault;
+use std::alloc::{AllocError, Global};
+use vault::Source;
+
+/// How many bytes of the input are looked at: one more than a script may have (profile).
+const LIMIT: usize = 4_194_305;
+
+/// How many bytes one read asks for at most.
+const PIECE: usize = 65_536;
+
+/// So many bytes to read into.
+fn buffer(alloc: Global, size: usize) -> Result<Vec<u8>, AllocError>
+    ensures { IfOk result (λ v. length v.items ≡ size) }
+{
+    vec![in alloc; 0u8; size]
+}
+
+/// Reads behind the bytes that were read, at most so many, and says whether the input has ended.
+fn read_more<I: Source>(
+    alloc: Global,
+    input: &mut I,
+    bytes: &mut Vec<u8>,
+    most: usize,
+) -> Result<bool, AreaFault>
+    requires { 0 < most }
+    ensures more { IfOk result (λ ended. IsMore bytes.old.items bytes.new.items most ended (I.left input.old) (I.left input.new)) }
+    ensures cause { HasCause (I.faults input.old) (I.faults input.new) result }
+{
+    let mut piece = buffer(alloc, most.min(PIECE))?;
+    let count = input.read(&mut piece)? as usize;
+    bytes.extend_from_slice(&piece[..count])?;
+    Ok(count == 0)
+}
+
+/// The input to its end; or, where that is longer than a script may be, one byte more than that.
+/// It holds what it read, and one piece of 64 KiB.
+pub fn read_input<I: Source>(alloc: Global, input: &mut I) -> Result<Vec<u8>, AreaFault>
+    ensures input { IfOk result (λ bytes. IsInput bytes.items (I.left input.old) (I.left input.new)) }
+    ensures cause { HasCause (I.faults input.old) (I.faults input.new) result }
+{
+    let mut bytes = Vec::new(alloc);
+    while bytes.len() < LIMIT {
+        let most = LIMIT - bytes.len();
+        if read_more(alloc, input, &mut bytes, most)? {
+            return Ok(bytes);
+        }
+    }
+    Ok(bytes)
+}
