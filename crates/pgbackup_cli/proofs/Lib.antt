@@ -1,7 +1,6 @@
 pub mod NoFile
 pub mod FlushLeft
 pub mod FirstBack
-pub mod StoreFiles
 pub mod OneAnswer
 pub mod OneInit
 pub mod OneRun

@@ -162,12 +162,7 @@ both_written s (Ok end) (Some m) now last clear first second =
     second ∙ ap (option_map (λ m. insert m (segment_name_bytes 1 s.segment) (first_file s))) first
     ∙ ap (λ (n : Files). Some (insert n (segment_name_bytes 1 s.segment) (first_file s))) (written_first m settings_name (settings_text s.segment s.relseg) clear)
 
--- a clear area holds no other file
-pub clear_holds : (s : Settings) (files : Option Files) → Clear files → HoldsAtMost s files
-clear_holds s None clear = tt
-clear_holds s (Some m) clear = λ q a b. nothing_in m q clear
-
--- nor does it after a failure of the first write
+-- an area that was clear holds no other file after a failure of the first write
 pub first_left : (s : Settings) (files now : Option Files) → Clear files → Related (KeepsOthers settings_name) files now → HoldsAtMost s now
 first_left s None None clear left = tt
 first_left s None (Some n) clear left = absurd left

@@ -34,27 +34,30 @@ pub record Outside : Type 0 where
   pub left : Option (List ℕ)
   pub reads : ℕ
 
+abbrev pub outside : Areas → ℕ → Option (List ℕ) → ℕ → Outside
+outside areas own left reads = record { areas = areas; own = own; left = left; reads = reads }
+
 -- ---- `init`
 
 -- why `init` with these settings came to its answer
-abbrev pub InitCauses : Settings → Areas → Areas → ℕ → ℕ → Answer → Type 0
-InitCauses settings old new before now (Ok (output.Initialised end)) = InitAnswer settings (old wal) (new wal) (old sums) (new sums) (Ok end)
-InitCauses settings old new before now (Err (fault.Init why)) = InitAnswer settings (old wal) (new wal) (old sums) (new sums) (Err why)
-InitCauses settings old new before now (Err (fault.Site why)) = (new ≡ old) × TakesCause before now why
-InitCauses settings old new before now (Ok (output.Ran report)) = ⊥
-InitCauses settings old new before now (Ok (output.Replayed done)) = ⊥
-InitCauses settings old new before now (Err fault.Usage) = ⊥
-InitCauses settings old new before now (Err (fault.Script line why)) = ⊥
-InitCauses settings old new before now (Err (fault.Input why)) = ⊥
-InitCauses settings old new before now (Err (fault.Run why)) = ⊥
-InitCauses settings old new before now (Err (fault.Replay why)) = ⊥
-InitCauses settings old new before now (Err fault.NoMemory) = ⊥
+abbrev pub InitRan : Settings → Areas → Areas → ℕ → ℕ → Answer → Type 0
+InitRan settings old new before now (Ok (output.Initialised end)) = InitAnswer settings (old wal) (new wal) (old sums) (new sums) (Ok end)
+InitRan settings old new before now (Err (fault.Init why)) = InitAnswer settings (old wal) (new wal) (old sums) (new sums) (Err why)
+InitRan settings old new before now (Err (fault.Site why)) = (new ≡ old) × TakesCause before now why
+InitRan settings old new before now (Ok (output.Ran report)) = ⊥
+InitRan settings old new before now (Ok (output.Replayed done)) = ⊥
+InitRan settings old new before now (Err fault.Usage) = ⊥
+InitRan settings old new before now (Err (fault.Script line why)) = ⊥
+InitRan settings old new before now (Err (fault.Input why)) = ⊥
+InitRan settings old new before now (Err (fault.Run why)) = ⊥
+InitRan settings old new before now (Err (fault.Replay why)) = ⊥
+InitRan settings old new before now (Err fault.NoMemory) = ⊥
 
 -- `init` with these settings: every area is given back, and no other area's files change
 pub record InitDoes (settings : Settings) (old new : Areas) (before now : ℕ) (answer : Answer) : Type 0 where
   pub site : WritesAt wal old new
   pub own : before ≤ now
-  pub cause : InitCauses settings old new before now answer
+  pub cause : InitRan settings old new before now answer
 
 -- ---- `run`
 
@@ -71,25 +74,25 @@ pub record IsRefusedIn (left now : Option (List ℕ)) (line : ℕ) (why : Why) :
   pub refused : IsRefusedAt bytes line why
 
 -- why the run of a script came to its answer, once the input was read
-abbrev pub ScriptCauses : List Task → Areas → Areas → ℕ → ℕ → Answer → Type 0
-ScriptCauses script old new before now (Ok (output.Ran report)) = (report.script ≡ script) × RunAnswer (old wal) (new wal) (Ok report)
-ScriptCauses script old new before now (Err (fault.Run why)) = RunAnswer (old wal) (new wal) (Err why)
-ScriptCauses script old new before now (Err (fault.Site (First why))) = (new ≡ old) × TakeCause before now why
-ScriptCauses script old new before now (Err (fault.Site (Second why))) = ⊥
-ScriptCauses script old new before now (Ok (output.Initialised end)) = ⊥
-ScriptCauses script old new before now (Ok (output.Replayed done)) = ⊥
-ScriptCauses script old new before now (Err fault.Usage) = ⊥
-ScriptCauses script old new before now (Err (fault.Script line why)) = ⊥
-ScriptCauses script old new before now (Err (fault.Input why)) = ⊥
-ScriptCauses script old new before now (Err (fault.Init why)) = ⊥
-ScriptCauses script old new before now (Err (fault.Replay why)) = ⊥
-ScriptCauses script old new before now (Err fault.NoMemory) = ⊥
+abbrev pub ScriptRan : List Task → Areas → Areas → ℕ → ℕ → Answer → Type 0
+ScriptRan script old new before now (Ok (output.Ran report)) = (report.script ≡ script) × RunAnswer (old wal) (new wal) (Ok report)
+ScriptRan script old new before now (Err (fault.Run why)) = RunAnswer (old wal) (new wal) (Err why)
+ScriptRan script old new before now (Err (fault.Site (First why))) = (new ≡ old) × TakeCause before now why
+ScriptRan script old new before now (Err (fault.Site (Second why))) = ⊥
+ScriptRan script old new before now (Ok (output.Initialised end)) = ⊥
+ScriptRan script old new before now (Ok (output.Replayed done)) = ⊥
+ScriptRan script old new before now (Err fault.Usage) = ⊥
+ScriptRan script old new before now (Err (fault.Script line why)) = ⊥
+ScriptRan script old new before now (Err (fault.Input why)) = ⊥
+ScriptRan script old new before now (Err (fault.Init why)) = ⊥
+ScriptRan script old new before now (Err (fault.Replay why)) = ⊥
+ScriptRan script old new before now (Err fault.NoMemory) = ⊥
 
 -- a script is run: every area is given back, and no other area's files change
 pub record ScriptDoes (script : List Task) (old new : Areas) (before now : ℕ) (answer : Answer) : Type 0 where
   pub site : WritesAt wal old new
   pub own : before ≤ now
-  pub cause : ScriptCauses script old new before now answer
+  pub cause : ScriptRan script old new before now answer
 
 -- no area was asked for
 pub record LeavesSite (old new : Outside) : Type 0 where
@@ -118,24 +121,24 @@ RunDoes old new (Err (fault.Run why)) = RunsScript old new (Err (fault.Run why))
 -- ---- `replay`
 
 -- why `replay` to this area came to its answer
-abbrev pub ReplayCauses : List ℕ → Areas → Areas → ℕ → ℕ → Answer → Type 0
-ReplayCauses out old new before now (Ok (output.Replayed done)) = ReplayAnswer (old wal) (new wal) (old out) (new out) (Ok done)
-ReplayCauses out old new before now (Err (fault.Replay why)) = ReplayAnswer (old wal) (new wal) (old out) (new out) (Err why)
-ReplayCauses out old new before now (Err (fault.Site why)) = (new ≡ old) × TakesCause before now why
-ReplayCauses out old new before now (Err fault.NoMemory) = new ≡ old
-ReplayCauses out old new before now (Ok (output.Initialised end)) = ⊥
-ReplayCauses out old new before now (Ok (output.Ran report)) = ⊥
-ReplayCauses out old new before now (Err fault.Usage) = ⊥
-ReplayCauses out old new before now (Err (fault.Script line why)) = ⊥
-ReplayCauses out old new before now (Err (fault.Input why)) = ⊥
-ReplayCauses out old new before now (Err (fault.Init why)) = ⊥
-ReplayCauses out old new before now (Err (fault.Run why)) = ⊥
+abbrev pub ReplayRan : List ℕ → Areas → Areas → ℕ → ℕ → Answer → Type 0
+ReplayRan out old new before now (Ok (output.Replayed done)) = ReplayAnswer (old wal) (new wal) (old out) (new out) (Ok done)
+ReplayRan out old new before now (Err (fault.Replay why)) = ReplayAnswer (old wal) (new wal) (old out) (new out) (Err why)
+ReplayRan out old new before now (Err (fault.Site why)) = (new ≡ old) × TakesCause before now why
+ReplayRan out old new before now (Err fault.NoMemory) = new ≡ old
+ReplayRan out old new before now (Ok (output.Initialised end)) = ⊥
+ReplayRan out old new before now (Ok (output.Ran report)) = ⊥
+ReplayRan out old new before now (Err fault.Usage) = ⊥
+ReplayRan out old new before now (Err (fault.Script line why)) = ⊥
+ReplayRan out old new before now (Err (fault.Input why)) = ⊥
+ReplayRan out old new before now (Err (fault.Init why)) = ⊥
+ReplayRan out old new before now (Err (fault.Run why)) = ⊥
 
 -- `replay` to this area: every area is given back, and no other area's files change
 pub record ReplayDoes (out : List ℕ) (old new : Areas) (before now : ℕ) (answer : Answer) : Type 0 where
   pub site : WritesAt out old new
   pub own : before ≤ now
-  pub cause : ReplayCauses out old new before now answer
+  pub cause : ReplayRan out old new before now answer
 
 -- ---- the whole
 

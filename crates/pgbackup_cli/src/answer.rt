@@ -2,7 +2,7 @@
 
 ghost use Rattle.std.specs.Prelude.{◌≡◌};
 ghost use Rattle.pgbackup_cli.specs.declared.answer.Fault.TheVariants as fault;
-ghost use Rattle.pgbackup_cli.specs.Answers.{area_status, wal_status, site_status, init_status, run_status, replay_status, fault_status, ending_status, output_status, status_of, code_of};
+ghost use Rattle.pgbackup_cli.specs.Answers.{area_status, wal_status, init_status, run_status, replay_status, fault_status, output_status, status_of, code_of};
 
 use crate::init::InitFault;
 use crate::replay::{ReplayFault, Replayed};

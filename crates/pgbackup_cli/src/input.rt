@@ -1,6 +1,6 @@
 //! The script of the input.
 
-ghost use Rattle.std.specs.Prelude.{◌≡◌, ◌≤◌, ◌<◌, ◌+◌, length, IfOk};
+ghost use Rattle.std.specs.Prelude.{◌≡◌, ◌<◌, length, IfOk};
 ghost use Rattle.lsn_core.specs.Causes.{HasCause};
 ghost use Rattle.pgbackup_cli.specs.Input.{IsInput, IsMore};
 

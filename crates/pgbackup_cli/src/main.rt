@@ -4,7 +4,6 @@
 
 mod answer;
 mod clear;
-mod files;
 mod init;
 mod input;
 mod laws;

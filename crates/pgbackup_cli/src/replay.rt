@@ -12,10 +12,10 @@ ghost use Rattle.pgbackup_cli.specs.declared.replay.ReplayFault.TheVariants as r
 ghost use Rattle.pgbackup_cli.specs.Replay.{ReplayAnswer};
 
 use crate::clear::is_clear;
-use crate::files::write_store;
 use history::PageMap;
 use lsn_core::{AreaFault, Lsn};
 use recovery::read_wal;
+use rel_files::write_store;
 use std::alloc::Global;
 use vault::Vault;
 use wal_reader::WalFault;

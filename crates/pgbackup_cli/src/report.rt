@@ -2,7 +2,7 @@
 
 ghost use Rattle.std.specs.Prelude.{◌≡◌, ◌++◌, ◌∷◌, codes, IfOk, OnOk};
 ghost use Rattle.lsn_core.specs.Names.{lsn_bytes};
-ghost use Rattle.pgbackup_cli.specs.Report.{insert_fault_text, answer_text, answer_line, answer_lines, task_lines, last_line, report_text};
+ghost use Rattle.pgbackup_cli.specs.Report.{insert_fault_text, answer_text, answer_line, answer_lines, last_line, report_text};
 
 use crate::run::Report;
 use crew::{Answer, Line, Task};

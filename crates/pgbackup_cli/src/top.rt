@@ -1,13 +1,13 @@
 //! The top call: all that the program does.
 
-ghost use Rattle.std.specs.Prelude.{◌≡◌, ◌≢◌, ◌≤◌, ◌⊎◌, ℕ, IfOk, IfSome};
+ghost use Rattle.std.specs.Prelude.{◌≡◌, ◌≢◌, ◌≤◌, ◌⊎◌, IfOk, IfSome};
 ghost use Rattle.lsn_core.specs.Segment.{IsSegmentMib};
 ghost use Rattle.vault.specs.Site.{AllHome};
 ghost use Rattle.vault.specs.Stream.{Tells};
 ghost use Rattle.pgbackup_cli.specs.Words.{asked, output_area, IsInRange};
 ghost use Rattle.pgbackup_cli.specs.Init.{new_settings};
 ghost use Rattle.pgbackup_cli.specs.Answers.{area_asked};
-ghost use Rattle.pgbackup_cli.specs.Top.{wal, InitDoes, ScriptDoes, RunDoes, ReplayDoes, Does, ReadsInput, ReadsClock, line_asked, Ran};
+ghost use Rattle.pgbackup_cli.specs.Top.{wal, outside, InitDoes, ScriptDoes, RunDoes, ReplayDoes, Does, ReadsInput, ReadsClock, line_asked, Ran};
 
 use crate::answer::{Fault, Output, Status, exit_status};
 use crate::init::init_areas;
@@ -96,7 +96,7 @@ fn run_input<S: Site, I: Source>(
     input: &mut I,
 ) -> Result<Output, Fault>
     requires { AllHome (S.areas site.old) }
-    ensures does { RunDoes (record { areas = S.areas site.old; own = S.own site.old; left = I.left input.old; reads = I.faults input.old }) (record { areas = S.areas site.new; own = S.own site.new; left = I.left input.new; reads = I.faults input.new }) result }
+    ensures does { RunDoes (outside (S.areas site.old) (S.own site.old) (I.left input.old) (I.faults input.old)) (outside (S.areas site.new) (S.own site.new) (I.left input.new) (I.faults input.new)) result }
     ensures home { AllHome (S.areas site.new) }
 {
     let bytes = match read_input(alloc, input) {
@@ -148,7 +148,7 @@ fn work<S: Site, I: Source, C: Clock>(
     clock: &mut C,
 ) -> Result<Output, Fault>
     requires { AllHome (S.areas site.old) }
-    ensures does { Does words.now (C.moment clock.old) (record { areas = S.areas site.old; own = S.own site.old; left = I.left input.old; reads = I.faults input.old }) (record { areas = S.areas site.new; own = S.own site.new; left = I.left input.new; reads = I.faults input.new }) result }
+    ensures does { Does words.now (C.moment clock.old) (outside (S.areas site.old) (S.own site.old) (I.left input.old) (I.faults input.old)) (outside (S.areas site.new) (S.own site.new) (I.left input.new) (I.faults input.new)) result }
     ensures home { AllHome (S.areas site.new) }
     ensures input { ReadsInput (asked words.now) ⊎ (input.new ≡ input.old) }
     ensures clock { ReadsClock (asked words.now) ⊎ (clock.new ≡ clock.old) }
@@ -203,7 +203,7 @@ pub fn pgbackup<S: Site, I: Source, O: Sink, C: Clock>(
     clock: &mut C,
 ) -> Status
     requires { AllHome (S.areas site.old) }
-    ensures ran { Ran words.now (C.moment clock.old) (record { areas = S.areas site.old; own = S.own site.old; left = I.left input.old; reads = I.faults input.old }) (record { areas = S.areas site.new; own = S.own site.new; left = I.left input.new; reads = I.faults input.new }) (O.bytes out.old) (O.bytes out.new) (O.faults out.old) (O.faults out.new) result }
+    ensures ran { Ran words.now (C.moment clock.old) (outside (S.areas site.old) (S.own site.old) (I.left input.old) (I.faults input.old)) (outside (S.areas site.new) (S.own site.new) (I.left input.new) (I.faults input.new)) (O.bytes out.old) (O.bytes out.new) (O.faults out.old) (O.faults out.new) result }
     ensures home { AllHome (S.areas site.new) }
     ensures input { ReadsInput (asked words.now) ⊎ (input.new ≡ input.old) }
     ensures clock { ReadsClock (asked words.now) ⊎ (clock.new ≡ clock.old) }

@@ -2,7 +2,6 @@
 
 ghost use Rattle.std.specs.Prelude.{◌≡◌, Option, IfOk, IfSome};
 ghost use Rattle.std.specs.Option.{option_map};
-ghost use Rattle.std.specs.List.{list_all};
 ghost use Rattle.pgbackup_cli.specs.Words.{Init, none_given, options_in, run_asked, replay_asked, asked, asks, HasRange, output_area};
 
 use crate::options::{InitOptions, options_of};

@@ -4,8 +4,8 @@ use Rattle.std.specs.List.{flat_map}
 use Rattle.std.specs.FinMap.{keys, entries}
 use Rattle.lsn_core.specs.Store.{with_files, fork_files}
 use Rattle.history.specs.Apply.{pages_of}
-use Rattle.pgbackup_cli.proofs.StoreFiles.{told_step, told_same, files_at, fork_more, all_files}
-use Rattle.pgbackup_cli.proofs.files.write_store.Goals as goal
+use Rattle.rel_files.proofs.StoreFiles.{told_step, told_same, files_at, fork_more, all_files}
+use Rattle.rel_files.proofs.files.write_store.Goals as goal
 
 pub loop-fork-preserved : goal.loop-fork-preserved
 loop-fork-preserved g c =

@@ -2,8 +2,8 @@ use Rattle.std.proofs.Common.{◌≡◌, ◌-◌, ◌*◌, ◌≤◌, length}
 use Rattle.std.specs.Option.{option_map}
 use Rattle.std.specs.FinMap.{insert}
 use Rattle.history.specs.Apply.{pages_of}
-use Rattle.pgbackup_cli.proofs.StoreFiles.{joined_pages}
-use Rattle.pgbackup_cli.proofs.files.write_pages.Given as goal
+use Rattle.rel_files.proofs.StoreFiles.{joined_pages}
+use Rattle.rel_files.proofs.files.write_pages.Given as goal
 
 abbrev pub invariant-loop-block : goal.invariant-loop-block
 invariant-loop-block g l = record {

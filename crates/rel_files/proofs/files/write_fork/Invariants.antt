@@ -2,8 +2,8 @@ use Rattle.std.proofs.Common.{◌≡◌, ◌≤◌}
 use Rattle.std.specs.Option.{option_map}
 use Rattle.lsn_core.specs.Store.{with_files}
 use Rattle.history.specs.Apply.{pages_of}
-use Rattle.pgbackup_cli.proofs.StoreFiles.{first_files}
-use Rattle.pgbackup_cli.proofs.files.write_fork.Given as goal
+use Rattle.rel_files.proofs.StoreFiles.{first_files}
+use Rattle.rel_files.proofs.files.write_fork.Given as goal
 
 abbrev pub invariant-loop-seg : goal.invariant-loop-seg
 invariant-loop-seg g l = record {

@@ -2,8 +2,8 @@ use Rattle.std.proofs.Common.{◌≡◌, ◌+◌, ◌-◌, ◌*◌, ◌≤◌, �
 use Rattle.std.specs.FinMap.{insert}
 use Rattle.history.specs.Apply.{pages_of}
 use Rattle.vault.specs.Area.{after_write}
-use Rattle.pgbackup_cli.proofs.StoreFiles.{told_step, told_same, joined_pages, page_behind, pages_more}
-use Rattle.pgbackup_cli.proofs.files.write_pages.Goals as goal
+use Rattle.rel_files.proofs.StoreFiles.{told_step, told_same, joined_pages, page_behind, pages_more}
+use Rattle.rel_files.proofs.files.write_pages.Goals as goal
 
 pub loop-block-preserved : goal.loop-block-preserved
 loop-block-preserved g c =

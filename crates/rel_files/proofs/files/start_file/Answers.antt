@@ -1,8 +1,8 @@
 use Rattle.std.proofs.Common.{[]}
 use Rattle.std.specs.FinMap.{insert}
 use Rattle.vault.specs.Area.{after_write, after_cut}
-use Rattle.pgbackup_cli.proofs.StoreFiles.{told_last, started}
-use Rattle.pgbackup_cli.proofs.files.start_file.Goals as goal
+use Rattle.rel_files.proofs.StoreFiles.{told_last, started}
+use Rattle.rel_files.proofs.files.start_file.Goals as goal
 
 pub returns-clause-made : goal.returns-clause-made
 returns-clause-made g c =

@@ -3,8 +3,8 @@ use Rattle.std.specs.FinMap.{insert}
 use Rattle.lsn_core.specs.Names.{fork_path_bytes}
 use Rattle.lsn_core.specs.Store.{with_files, segment_content, segment_count}
 use Rattle.history.specs.Apply.{pages_of}
-use Rattle.pgbackup_cli.proofs.StoreFiles.{told_step, told_same, first_files, file_more, segments}
-use Rattle.pgbackup_cli.proofs.files.write_fork.Goals as goal
+use Rattle.rel_files.proofs.StoreFiles.{told_step, told_same, first_files, file_more, segments}
+use Rattle.rel_files.proofs.files.write_fork.Goals as goal
 
 pub loop-seg-preserved : goal.loop-seg-preserved
 loop-seg-preserved g c =

@@ -1,8 +1,8 @@
 use Rattle.std.proofs.Common.{◌≡◌, ◌≤◌, take}
 use Rattle.std.specs.Option.{option_map}
 use Rattle.lsn_core.specs.Store.{with_files}
-use Rattle.pgbackup_cli.proofs.StoreFiles.{files_at}
-use Rattle.pgbackup_cli.proofs.files.write_store.Given as goal
+use Rattle.rel_files.proofs.StoreFiles.{files_at}
+use Rattle.rel_files.proofs.files.write_store.Given as goal
 
 abbrev pub invariant-loop-fork : goal.invariant-loop-fork
 invariant-loop-fork g l = record {
