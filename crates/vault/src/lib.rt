@@ -24,8 +24,3 @@ pub use shelf::{Kept, Shelf};
 pub use site::Site;
 pub use stream::{Clock, Sink, Source};
 pub use whole::{read_in, read_whole, write_in};
-
-#[cfg(test)]
-mod memory_tests;
-#[cfg(test)]
-mod stream_tests;

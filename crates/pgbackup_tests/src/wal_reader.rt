@@ -1,4 +1,4 @@
-use super::*;
+use wal_reader::{WalCursor, WalFault, read_settings, settings_text};
 use lsn_core::{AreaFault, BlockId, ForkId, ForkKind, Lsn, Rel, SegSize};
 use std::alloc::Global;
 use std::test::Fail;

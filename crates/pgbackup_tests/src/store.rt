@@ -3,8 +3,8 @@
 
 ghost use Rattle.vault.specs.Site.{AllHome};
 
-use super::*;
-use crate::tests::words_in;
+use pgbackup_cli::{Status, pgbackup};
+use crate::replay::words_in;
 use std::alloc::Global;
 use std::process::Abort;
 use std::test::Fail;

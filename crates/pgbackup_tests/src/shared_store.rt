@@ -1,6 +1,6 @@
 ghost use Rattle.std.specs.Prelude.{◌≤◌};
 
-use super::*;
+use shared_store::{InsertFault, Receipt, Store};
 use history::{Op, PageMap};
 use lsn_core::{BlockId, ForkId, ForkKind, Lsn, NoMemory, Place, Rel, SegSize, Settings, WalTip};
 use pg_page::make_page;

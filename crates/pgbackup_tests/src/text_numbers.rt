@@ -1,4 +1,4 @@
-use super::*;
+use text_numbers::{decimal_in, digits_in};
 use std::test::Fail;
 
 #[test]

@@ -1,7 +1,8 @@
 //! The command `replay` from the words to the printed line, over areas in memory. The segment and
 //! the page are those of an independent implementation of the formats.
 
-use super::*;
+use lsn_core::Text;
+use pgbackup_cli::{Status, pgbackup};
 use std::alloc::Global;
 use std::process::Abort;
 use std::test::Fail;

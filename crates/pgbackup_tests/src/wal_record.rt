@@ -1,4 +1,4 @@
-use super::*;
+use wal_record::{Blocks, Body, Kind, Record, RecordFault, decode_record, encode_record};
 use lsn_core::{ForkId, ForkKind, Lsn, Place, Rel};
 use std::test::Fail;
 

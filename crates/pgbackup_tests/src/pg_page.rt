@@ -1,4 +1,4 @@
-use super::*;
+use pg_page::{Page, make_page, restored_page, zero_page};
 use byte_words::overwrite;
 use std::test::Fail;
 

@@ -1,6 +1,6 @@
 ghost use Rattle.std.specs.Prelude.{◌≡◌};
 
-use super::*;
+use history::{Op, PageMap, apply};
 use lsn_core::{BlockId, ForkId, ForkKind, Lsn, Rel};
 use pg_page::make_page;
 use std::test::Fail;

@@ -1,4 +1,4 @@
-use super::*;
+use wal_writer::{AppendFault, WalState};
 use lsn_core::{AreaFault, Lsn, SegSize, Settings, WalTip};
 use std::test::Fail;
 use vault::{MemVault, read_whole};

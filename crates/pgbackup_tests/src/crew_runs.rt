@@ -1,7 +1,7 @@
 //! A script that is read and run over a store in memory. The answers and the bytes are those of an
 //! independent implementation of the formats.
 
-use super::*;
+use crew::{Answer, read_script, run_lines};
 use lsn_core::{Lsn, Place};
 use shared_store::{InsertFault, Store};
 use std::test::Fail;
