@@ -9,6 +9,8 @@
 #[cfg(test)]
 mod byte_words;
 #[cfg(test)]
+mod calls;
+#[cfg(test)]
 mod crew;
 #[cfg(test)]
 mod crew_runs;
@@ -20,6 +22,8 @@ mod lsn_core;
 mod pg_page;
 #[cfg(test)]
 mod replay;
+#[cfg(test)]
+mod samples;
 #[cfg(test)]
 mod shared_store;
 #[cfg(test)]

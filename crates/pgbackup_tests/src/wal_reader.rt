@@ -1,44 +1,22 @@
-use wal_reader::{WalCursor, WalFault, read_settings, settings_text};
+use crate::samples::{CHECKPOINT, CREATION, HEAD, IMAGE, SEGMENT};
 use lsn_core::{AreaFault, BlockId, ForkId, ForkKind, Lsn, Rel, SegSize};
 use std::alloc::Global;
 use std::test::Fail;
 use vault::{MemVault, Vault};
+use wal_reader::{WalCursor, WalFault, read_settings, settings_text};
 use wal_record::{Kind, Record};
-
-const NAME: &[u8] = b"000000010000000000000001";
-
-/// The long header of the first page.
-const HEAD: &[u8] =
-    b"\x16\xd1\x02\0\x01\0\0\0\0\0\0\x01\0\0\0\0\0\0\0\0\0\0\0\0\x07\0\0\0\0\0\0\0\0\0\0\x01\0\x20\0\0";
-
-/// A shutdown checkpoint, 50 bytes from 0/1000028 on.
-const CHECKPOINT: &[u8] =
-    b"\x32\0\0\0\0\0\0\0\0\0\0\0\0\0\0\0\0\0\0\0\x29\x15\x01\x33\xff\x18\x28\0\0\x01\0\0\0\0\x01\0\0\0\x01\0\0\0\x01\0\0\0\0\0\0\0";
-
-/// The creation of the main fork of 5/16384, 42 bytes from 0/1000060 on.
-const CREATION: &[u8] =
-    b"\x2a\0\0\0\0\0\0\0\x28\0\0\x01\0\0\0\0\x11\x02\0\0\xd5\xad\x43\x0d\xff\x10\x7f\x06\0\0\x05\0\0\0\0\x40\0\0\0\0\0\0";
-
-/// An image of its block 0 with the hole 32 to 8160, 113 bytes from 0/1000090 on: the header and
-/// the announcement, and the page without its hole.
-const ANNOUNCED: &[u8] =
-    b"\x71\0\0\0\0\0\0\0\x60\0\0\x01\0\0\0\0\0\x14\0\0\xff\x76\x61\xbd\0\x10\0\0\x40\0\x20\0\x03\x7f\x06\0\0\x05\0\0\0\0\x40\0\0\0\0\0\0";
-
-const IMAGE: &[u8] =
-    b"\0\0\0\0\0\0\0\0\0\0\0\0\x20\0\xe0\x1f\0\x20\x04\x20\0\0\0\0AAAAAAAAAAAAAAAAAAAAAAAAAAAAAAAAAAAAAAAA";
 
 /// The bytes of these three entries. The padding of the last one isn't there.
 const SIZE: u64 = 0x101;
 
-/// An area with a segment file of these three entries; it fails at these calls, of which five make
+/// An area with a segment file of these three entries; it fails at these calls, of which four make
 /// the file.
 fn area_with(alloc: Global, fails: &[u64]) -> Result<MemVault, AreaFault> {
     let mut area = MemVault::new(alloc, fails)?;
-    area.write_at(NAME, 0, HEAD)?;
-    area.write_at(NAME, 0x28, CHECKPOINT)?;
-    area.write_at(NAME, 0x60, CREATION)?;
-    area.write_at(NAME, 0x90, ANNOUNCED)?;
-    area.write_at(NAME, 0xc1, IMAGE)?;
+    area.write_at(SEGMENT, 0, &HEAD)?;
+    area.write_at(SEGMENT, 0x28, &CHECKPOINT)?;
+    area.write_at(SEGMENT, 0x60, &CREATION)?;
+    area.write_at(SEGMENT, 0x90, &IMAGE[..113])?;
     Ok(area)
 }
 
@@ -132,8 +110,8 @@ fn the_archive_ends(rt: HostRuntime) -> Result<(), Fail> {
         ("another sum", SIZE, 0x74, 0, 3),
     ] {
         let mut area = area_with(alloc, &[])?;
-        area.cut(NAME, size)?;
-        area.write_at(NAME, at, &[byte])?;
+        area.cut(SEGMENT, size)?;
+        area.write_at(SEGMENT, at, &[byte])?;
         assert_eq!(rt; read_through(alloc, &mut area)?, (entries, None), "{case}");
     }
     Ok(())
@@ -151,7 +129,7 @@ fn the_file_is_cut(rt: HostRuntime) -> Result<(), Fail> {
         (SIZE - 1, 2, Some(0x100_0090)),
     ] {
         let mut area = area_with(alloc, &[])?;
-        area.cut(NAME, size)?;
+        area.cut(SEGMENT, size)?;
         assert_eq!(rt;
             read_through(alloc, &mut area)?,
             (entries, damage),
@@ -178,7 +156,7 @@ fn the_archive_is_damaged(rt: HostRuntime) -> Result<(), Fail> {
         ("a byte on a later page", 20000, 1, 3, 0x100_0108),
     ] {
         let mut area = area_with(alloc, &[])?;
-        area.write_at(NAME, at, &[byte])?;
+        area.write_at(SEGMENT, at, &[byte])?;
         assert_eq!(rt;
             read_through(alloc, &mut area)?,
             (entries, Some(damage)),
@@ -209,10 +187,10 @@ fn an_entry_ends_on_the_first_page(rt: HostRuntime) -> Result<(), Fail> {
     ];
     for (total, extent, hole, entries, damage) in rows {
         let mut area = area_with(alloc, &[])?;
-        area.write_at(NAME, 0x90, total)?;
-        area.write_at(NAME, 0xac, extent)?;
-        area.write_at(NAME, 0xcd, hole)?;
-        area.write_at(NAME, 9000, b"\0")?;
+        area.write_at(SEGMENT, 0x90, total)?;
+        area.write_at(SEGMENT, 0xac, extent)?;
+        area.write_at(SEGMENT, 0xcd, hole)?;
+        area.write_at(SEGMENT, 9000, b"\0")?;
         assert_eq!(rt; read_through(alloc, &mut area)?, (entries, damage));
     }
     Ok(())
@@ -221,11 +199,11 @@ fn an_entry_ends_on_the_first_page(rt: HostRuntime) -> Result<(), Fail> {
 #[test]
 fn a_cursor_goes_on_after_a_failure(rt: HostRuntime) -> Result<(), Fail> {
     let alloc = rt.alloc();
-    for call in 9..=17 {
+    for call in 8..=16 {
         let mut area = area_with(alloc, &[call])?;
         assert_eq!(rt; read_through(alloc, &mut area)?, (4, None), "at {call}");
     }
-    for call in 6..=8 {
+    for call in 5..=7 {
         let mut area = area_with(alloc, &[call])?;
         assert_eq!(rt;
             read_settings(alloc, &mut area).err(),
@@ -307,9 +285,9 @@ fn a_file_of_settings_is_damaged(rt: HostRuntime) -> Result<(), Fail> {
 fn a_wal_has_segments_of_one_mebibyte(rt: HostRuntime) -> Result<(), Fail> {
     let alloc = rt.alloc();
     let mut area = MemVault::new(alloc, &[])?;
-    area.write_at(NAME, 0, HEAD)?;
-    area.write_at(NAME, 8, b"\0\0\x10\0")?;
-    area.write_at(NAME, 32, b"\0\0\x10\0")?;
+    area.write_at(SEGMENT, 0, &HEAD)?;
+    area.write_at(SEGMENT, 8, b"\0\0\x10\0")?;
+    area.write_at(SEGMENT, 32, b"\0\0\x10\0")?;
     area.write_at(
         b"settings",
         0,
@@ -327,7 +305,7 @@ fn a_wal_has_segments_of_one_mebibyte(rt: HostRuntime) -> Result<(), Fail> {
 fn there_is_no_wal(rt: HostRuntime) -> Result<(), Fail> {
     let alloc = rt.alloc();
     let mut area = MemVault::new(alloc, &[])?;
-    area.write_at(b"000000010000000000000002", 0, HEAD)?;
+    area.write_at(b"000000010000000000000002", 0, &HEAD)?;
     assert_eq!(rt;
         read_settings(alloc, &mut area).err(),
         Some(WalFault::NotInit)

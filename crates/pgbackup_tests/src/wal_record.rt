@@ -1,41 +1,7 @@
-use wal_record::{Blocks, Body, Kind, Record, RecordFault, decode_record, encode_record};
+use crate::samples::{CHECKPOINT, CREATION, IMAGE, NEW_WAL};
 use lsn_core::{ForkId, ForkKind, Lsn, Place, Rel};
 use std::test::Fail;
-
-// a checkpoint at 0/1000028, the first entry of its archive
-const CHECKPOINT: [u8; 50] = [
-    0x32, 0x00, 0x00, 0x00, 0x00, 0x00, 0x00, 0x00, 0x00, 0x00, 0x00, 0x00, 0x00, 0x00, 0x00, 0x00,
-    0x00, 0x00, 0x00, 0x00, 0x29, 0x15, 0x01, 0x33, 0xff, 0x18, 0x28, 0x00, 0x00, 0x01, 0x00, 0x00,
-    0x00, 0x00, 0x01, 0x00, 0x00, 0x00, 0x01, 0x00, 0x00, 0x00, 0x01, 0x00, 0x00, 0x00, 0x00, 0x00,
-    0x00, 0x00,
-];
-
-// the creation of fork 5/16384 at 0/1000060
-const CREATION: [u8; 42] = [
-    0x2a, 0x00, 0x00, 0x00, 0x00, 0x00, 0x00, 0x00, 0x28, 0x00, 0x00, 0x01, 0x00, 0x00, 0x00, 0x00,
-    0x11, 0x02, 0x00, 0x00, 0xd5, 0xad, 0x43, 0x0d, 0xff, 0x10, 0x7f, 0x06, 0x00, 0x00, 0x05, 0x00,
-    0x00, 0x00, 0x00, 0x40, 0x00, 0x00, 0x00, 0x00, 0x00, 0x00,
-];
-
-// an image of its block 0 at 0/1000090: a page with 65 before and behind its hole from 32 to 8160
-const IMAGE: [u8; 113] = [
-    0x71, 0x00, 0x00, 0x00, 0x00, 0x00, 0x00, 0x00, 0x60, 0x00, 0x00, 0x01, 0x00, 0x00, 0x00, 0x00,
-    0x00, 0x14, 0x00, 0x00, 0xff, 0x76, 0x61, 0xbd, 0x00, 0x10, 0x00, 0x00, 0x40, 0x00, 0x20, 0x00,
-    0x03, 0x7f, 0x06, 0x00, 0x00, 0x05, 0x00, 0x00, 0x00, 0x00, 0x40, 0x00, 0x00, 0x00, 0x00, 0x00,
-    0x00, 0x00, 0x00, 0x00, 0x00, 0x00, 0x00, 0x00, 0x00, 0x00, 0x00, 0x00, 0x00, 0x20, 0x00, 0xe0,
-    0x1f, 0x00, 0x20, 0x04, 0x20, 0x00, 0x00, 0x00, 0x00, 0x41, 0x41, 0x41, 0x41, 0x41, 0x41, 0x41,
-    0x41, 0x41, 0x41, 0x41, 0x41, 0x41, 0x41, 0x41, 0x41, 0x41, 0x41, 0x41, 0x41, 0x41, 0x41, 0x41,
-    0x41, 0x41, 0x41, 0x41, 0x41, 0x41, 0x41, 0x41, 0x41, 0x41, 0x41, 0x41, 0x41, 0x41, 0x41, 0x41,
-    0x41,
-];
-
-// the first entry of a WAL with segments of 1 MiB: a checkpoint at 0/100028
-const FIRST: [u8; 50] = [
-    0x32, 0x00, 0x00, 0x00, 0x00, 0x00, 0x00, 0x00, 0x00, 0x00, 0x00, 0x00, 0x00, 0x00, 0x00, 0x00,
-    0x00, 0x00, 0x00, 0x00, 0x86, 0x6e, 0x76, 0x81, 0xff, 0x18, 0x28, 0x00, 0x10, 0x00, 0x00, 0x00,
-    0x00, 0x00, 0x01, 0x00, 0x00, 0x00, 0x01, 0x00, 0x00, 0x00, 0x01, 0x00, 0x00, 0x00, 0x00, 0x00,
-    0x00, 0x00,
-];
+use wal_record::{Blocks, Body, Kind, Record, RecordFault, decode_record, encode_record};
 
 const PLACE: Place = Place {
     start: Lsn(0x1000090),
@@ -44,13 +10,13 @@ const PLACE: Place = Place {
 
 #[test]
 fn one_creation_and_one_image(rt: HostRuntime) -> Result<(), Fail> {
-    let first = decode_record(rt.alloc(), &CHECKPOINT, PLACE, Some(Lsn(0)))?;
+    let first = decode_record(rt.alloc(), &CHECKPOINT[..50], PLACE, Some(Lsn(0)))?;
     assert_eq!(rt;
         (first.start, first.end, first.prev, first.xid),
         (PLACE.start, PLACE.end, Lsn(0), 0)
     );
     assert!(rt; matches!(first.kind, Kind::Shutdown(Lsn(0x1000028))));
-    let created = decode_record(rt.alloc(), &CREATION, PLACE, Some(Lsn(0x1000028)))?;
+    let created = decode_record(rt.alloc(), &CREATION[..42], PLACE, Some(Lsn(0x1000028)))?;
     let Kind::Create(fork) = &created.kind else {
         return Err("no creation")?;
     };
@@ -58,7 +24,7 @@ fn one_creation_and_one_image(rt: HostRuntime) -> Result<(), Fail> {
         (fork.rel.db(), fork.rel.rel(), fork.kind),
         (5, 16384, ForkKind::Main)
     );
-    let changed = decode_record(rt.alloc(), &IMAGE, PLACE, None)?;
+    let changed = decode_record(rt.alloc(), &IMAGE[..113], PLACE, None)?;
     let Kind::Generic(blocks) = &changed.kind else {
         return Err("no blocks")?;
     };
@@ -71,7 +37,7 @@ fn one_creation_and_one_image(rt: HostRuntime) -> Result<(), Fail> {
     assert_eq!(rt; page.hole(), Some((32, 8160)));
     assert_eq!(rt; page.bytes()[..32], IMAGE[49..81]);
     assert_eq!(rt; (page.bytes()[32], page.bytes()[8159]), (0, 0));
-    assert_eq!(rt; page.bytes()[8160..], IMAGE[81..]);
+    assert_eq!(rt; page.bytes()[8160..], IMAGE[81..113]);
     Ok(())
 }
 
@@ -105,7 +71,7 @@ fn other_forms_are_refused(rt: HostRuntime) -> Result<(), Fail> {
     ];
     for (at, byte, words) in creations {
         assert_eq!(rt;
-            answer(&rt, &CREATION, at, byte)?,
+            answer(&rt, &CREATION[..42], at, byte)?,
             Some(RecordFault::Form),
             "{words}"
         );
@@ -125,19 +91,19 @@ fn other_forms_are_refused(rt: HostRuntime) -> Result<(), Fail> {
     ];
     for (at, byte, words) in images {
         assert_eq!(rt;
-            answer(&rt, &IMAGE, at, byte)?,
+            answer(&rt, &IMAGE[..113], at, byte)?,
             Some(RecordFault::Form),
             "{words}"
         );
     }
     for (at, byte) in [(34, 2), (42, 0), (49, 1)] {
         assert_eq!(rt;
-            answer(&rt, &CHECKPOINT, at, byte)?,
+            answer(&rt, &CHECKPOINT[..50], at, byte)?,
             Some(RecordFault::Form),
             "{at}"
         );
     }
-    assert_eq!(rt; answer(&rt, &IMAGE, 20, 0)?, None);
+    assert_eq!(rt; answer(&rt, &IMAGE[..113], 20, 0)?, None);
     Ok(())
 }
 
@@ -145,14 +111,14 @@ fn other_forms_are_refused(rt: HostRuntime) -> Result<(), Fail> {
 fn length_and_previous_link_are_exact(rt: HostRuntime) {
     let form = Some(RecordFault::Form);
     let mut longer = [0; 51];
-    longer[..50].copy_from_slice(&CHECKPOINT);
+    longer[..50].copy_from_slice(&CHECKPOINT[..50]);
     assert_eq!(rt; decode_record(rt.alloc(), &longer, PLACE, None).err(), form);
     assert_eq!(rt;
         decode_record(rt.alloc(), &IMAGE[..112], PLACE, None).err(),
         form
     );
     assert_eq!(rt;
-        decode_record(rt.alloc(), &CREATION, PLACE, Some(Lsn(0))).err(),
+        decode_record(rt.alloc(), &CREATION[..42], PLACE, Some(Lsn(0))).err(),
         form
     );
     assert_eq!(rt; decode_record(rt.alloc(), &[], PLACE, None).err(), form);
@@ -169,7 +135,7 @@ fn entries_are_written_with_their_sums(rt: HostRuntime) -> Result<(), Fail> {
         kind: Kind::Shutdown(Lsn(0x100028)),
     };
     let bytes = encode_record(rt.alloc(), &first)?;
-    assert_eq!(rt; bytes.as_slice(), FIRST.as_slice());
+    assert_eq!(rt; bytes.as_slice(), &NEW_WAL[40..90]);
     let rel = Rel::new(5, 16384).ok_or("no relation")?;
     let fork = ForkId {
         rel,
@@ -183,9 +149,9 @@ fn entries_are_written_with_their_sums(rt: HostRuntime) -> Result<(), Fail> {
         kind: Kind::Create(fork),
     };
     let bytes = encode_record(rt.alloc(), &created)?;
-    assert_eq!(rt; bytes.as_slice(), CREATION.as_slice());
-    let changed = decode_record(rt.alloc(), &IMAGE, PLACE, None)?;
+    assert_eq!(rt; bytes.as_slice(), &CREATION[..42]);
+    let changed = decode_record(rt.alloc(), &IMAGE[..113], PLACE, None)?;
     let bytes = encode_record(rt.alloc(), &changed)?;
-    assert_eq!(rt; bytes.as_slice(), IMAGE.as_slice());
+    assert_eq!(rt; bytes.as_slice(), &IMAGE[..113]);
     Ok(())
 }

@@ -1,20 +1,9 @@
-use wal_writer::{AppendFault, WalState};
+use crate::samples::{NEW_WAL, SEGMENT};
 use lsn_core::{AreaFault, Lsn, SegSize, Settings, WalTip};
 use std::test::Fail;
 use vault::{MemVault, read_whole};
 use wal_record::Kind;
-
-const SEGMENT: &[u8] = b"000000010000000000000001";
-
-// the file of segment 1 of a new WAL with segments of 1 MiB and system identifier 7
-const WAL: [u8; 96] = [
-    0x16, 0xd1, 0x02, 0x00, 0x01, 0x00, 0x00, 0x00, 0x00, 0x00, 0x10, 0x00, 0x00, 0x00, 0x00, 0x00,
-    0x00, 0x00, 0x00, 0x00, 0x00, 0x00, 0x00, 0x00, 0x07, 0x00, 0x00, 0x00, 0x00, 0x00, 0x00, 0x00,
-    0x00, 0x00, 0x10, 0x00, 0x00, 0x20, 0x00, 0x00, 0x32, 0x00, 0x00, 0x00, 0x00, 0x00, 0x00, 0x00,
-    0x00, 0x00, 0x00, 0x00, 0x00, 0x00, 0x00, 0x00, 0x00, 0x00, 0x00, 0x00, 0x86, 0x6e, 0x76, 0x81,
-    0xff, 0x18, 0x28, 0x00, 0x10, 0x00, 0x00, 0x00, 0x00, 0x00, 0x01, 0x00, 0x00, 0x00, 0x01, 0x00,
-    0x00, 0x00, 0x01, 0x00, 0x00, 0x00, 0x00, 0x00, 0x00, 0x00, 0x00, 0x00, 0x00, 0x00, 0x00, 0x00,
-];
+use wal_writer::{AppendFault, WalState};
 
 #[test]
 fn first_entry_is_flushed_behind_its_page_head(rt: HostRuntime) -> Result<(), Fail> {
@@ -44,7 +33,7 @@ fn first_entry_is_flushed_behind_its_page_head(rt: HostRuntime) -> Result<(), Fa
     assert_eq!(rt; (wal.flushed(), wal.end()), (first.end, first.end));
     let mut area = wal.detach();
     let bytes = read_whole(alloc, &mut area, SEGMENT)?;
-    assert_eq!(rt; bytes.as_slice(), WAL.as_slice());
+    assert_eq!(rt; bytes.as_slice(), NEW_WAL.as_slice());
     Ok(())
 }
 
@@ -96,6 +85,6 @@ fn what_was_appended_last_is_taken_back(rt: HostRuntime) -> Result<(), Fail> {
     assert_eq!(rt; wal.flush_to(alloc, first.end)?.to(), first.end);
     let mut area = wal.detach();
     let bytes = read_whole(alloc, &mut area, SEGMENT)?;
-    assert_eq!(rt; bytes.as_slice(), WAL.as_slice());
+    assert_eq!(rt; bytes.as_slice(), NEW_WAL.as_slice());
     Ok(())
 }
