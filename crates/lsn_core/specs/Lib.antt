@@ -3,6 +3,7 @@ pub mod Relation
 pub mod Segment
 pub mod Tip
 pub mod Names
+pub mod PathParts
 pub mod Files
 pub mod Store
 pub mod Causes

@@ -5,14 +5,16 @@ mod fault;
 mod ids;
 mod lsn;
 mod names;
+mod paths;
 mod segment;
 mod sizes;
 mod text;
 
 pub use fault::{AreaFault, MarkFault, NoMemory, Side, StoreArea, StoreFault};
 pub use ids::{BlockId, ForkId, ForkKind, ForkLen, Rel};
-pub use lsn::{Lsn, Place, WalTip, lsn_text};
-pub use names::{fork_path, segment_name};
+pub use lsn::{Lsn, Place, WalTip, lsn_read, lsn_text};
+pub use names::{fork_path, segment_name, segment_of, segment_read};
+pub use paths::path_fork;
 pub use segment::{SegSize, Settings};
 pub use sizes::{LONG_HEAD, MOST_BLOCKS, MOST_RELSEG, MOST_SEGMENTS, PAGE, PAGE_MAGIC, SHORT_HEAD};
 pub use text::Text;
