@@ -7,16 +7,16 @@ use Rattle.std.proofs.lemmas.Bool.{eqb-true, ne_eqb}
 use Rattle.std.proofs.lemmas.List.{append_cancel_left}
 use Rattle.std.proofs.lemmas.Fmt.{decimal_injective, decimal_nonempty}
 use Rattle.text_numbers.proofs.Decimal.{decimal_is_digits}
-use Rattle.text_numbers.specs.Numbers.{IsFront}
+use Rattle.text_numbers.specs.Numbers.{IsFront, HasNoFront}
 use Rattle.text_numbers.proofs.DecimalFront.{digit_count, counted, front_once, is_front}
 use Rattle.lsn_core.specs.declared.ids.ForkKind.{ForkKind}
 use Rattle.lsn_core.specs.declared.ids.ForkKind.TheVariants.{Main, Init}
 use Rattle.lsn_core.specs.declared.ids.ForkId.{ForkId}
 use Rattle.lsn_core.specs.Names.{segment_suffix, kind_suffix, file_prefix, file_tail, plain_name, file_name, fork_path_bytes, IsNamed, NamesNoFork}
-use Rattle.lsn_core.specs.PathParts.{HasNoFront, IsNoSuffix, IsNoTail, IsNoPlainName, HasNoPrefix, IsNoFileName, in_database, IsInNoDatabase}
+use Rattle.lsn_core.specs.PathParts.{IsNoSuffix, IsNoTail, IsNoPlainName, HasNoPrefix, IsNoFileName, in_database, IsInNoDatabase}
 
 -- a number that is too large is the only one at the front
-pub too_large : (text tail : List ℕ) (number : ℕ) → IsFront text number tail → number < 2 ^ 64 → 2 ^ 32 ≤ number → HasNoFront text
+pub too_large : (text tail : List ℕ) (number : ℕ) → IsFront text number tail → number < 2 ^ 64 → 2 ^ 32 ≤ number → HasNoFront (2 ^ 32) text
 too_large text tail number is fits large n other small at =
     let same = front_once text number n tail other fits (omega (arith, small)) is at in
     omega (arith, same.0, large, small)

@@ -3,14 +3,10 @@ use Rattle.std.proofs.Common.{◌≡◌, ℕ, ◌+◌, ◌*◌, ◌/◌, ◌%◌
 use Rattle.std.specs.Fmt.{digits}
 use Rattle.std.proofs.lemmas.List.{append-nil}
 use Rattle.std.proofs.Math.Nat.{div-lt_iff_lt-mul, mod-lt, div-le_self}
-use Rattle.text_numbers.specs.Numbers.{eight_digits}
+use Rattle.text_numbers.specs.Numbers.{eight_digits, HasNoEight}
 use Rattle.text_numbers.proofs.EightDigits.{eight_once}
 use Rattle.lsn_core.specs.Segment.{segment_bytes}
 use Rattle.lsn_core.specs.Names.{per_group, segment_name_bytes, segment_file_bytes, HasSegmentName, NamesNoSegment}
-
--- no eight digits of a number stand at the front
-abbrev HasNoGroup : List ℕ → Type 0
-HasNoGroup text = (n : ℕ) (tail : List ℕ) → n < 2 ^ 32 → text ≡ eight_digits n ++ tail → ⊥
 
 -- the two groups behind a timeline
 record Groups (p number : ℕ) : Type 0 where
@@ -25,7 +21,7 @@ groups p number fits =
 most_per_group : (mib : ℕ) → per_group mib ≤ 2 ^ 32
 most_per_group mib = div-le_self (2 ^ 32) (segment_bytes mib)
 
-pub no_high : (name behind : List ℕ) (mib t : ℕ) → name ≡ eight_digits t ++ behind → t < 2 ^ 32 → HasNoGroup behind → NamesNoSegment name mib
+pub no_high : (name behind : List ℕ) (mib t : ℕ) → name ≡ eight_digits t ++ behind → t < 2 ^ 32 → HasNoEight behind → NamesNoSegment name mib
 no_high name behind mib t is fits none timeline number has e =
     let same = eight_once name t timeline behind (eight_digits (number / per_group mib) ++ eight_digits (number % per_group mib)) fits has.timeline_fits is e in
     none (number / per_group mib) (eight_digits (number % per_group mib)) (groups (per_group mib) number has.number_fits).high same.1
@@ -40,7 +36,7 @@ third name behind tail mib t h timeline number is fits at small has e =
 low_fits : (mib timeline number : ℕ) → HasSegmentName timeline number mib → number % per_group mib < 2 ^ 32
 low_fits mib timeline number has = omega (arith, (groups (per_group mib) number has.number_fits).low, most_per_group mib)
 
-pub no_low : (name behind tail : List ℕ) (mib t h : ℕ) → name ≡ eight_digits t ++ behind → t < 2 ^ 32 → behind ≡ eight_digits h ++ tail → h < 2 ^ 32 → HasNoGroup tail → NamesNoSegment name mib
+pub no_low : (name behind tail : List ℕ) (mib t h : ℕ) → name ≡ eight_digits t ++ behind → t < 2 ^ 32 → behind ≡ eight_digits h ++ tail → h < 2 ^ 32 → HasNoEight tail → NamesNoSegment name mib
 no_low name behind tail mib t h is fits at small none timeline number has e =
     none (number % per_group mib) [] (low_fits mib timeline number has) (third name behind tail mib t h timeline number is fits at small has e ∙ sym (append-nil (eight_digits (number % per_group mib))))
 

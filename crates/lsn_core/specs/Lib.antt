@@ -6,4 +6,6 @@ pub mod Names
 pub mod PathParts
 pub mod Files
 pub mod Store
+pub mod Blocks
+pub mod Shown
 pub mod Causes

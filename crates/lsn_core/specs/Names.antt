@@ -30,15 +30,17 @@ segment_number at mib = at / segment_bytes mib
 abbrev pub per_group : ℕ → ℕ
 per_group mib = 2 ^ 32 / segment_bytes mib
 
--- the name of a segment file of timeline 1 (WAL Internals), by its number and the segment size in MiB
+-- a segment's number in two groups of eight digits
+abbrev pub number_groups : ℕ → ℕ → List ℕ
+number_groups number mib = eight_digits (number / per_group mib) ++ eight_digits (number % per_group mib)
+
+-- the name of a segment file of timeline 1 (WAL Internals), by its number and the size in MiB
 abbrev pub segment_name_bytes : ℕ → ℕ → List ℕ
-segment_name_bytes number mib =
-    codes "00000001" ++ (eight_digits (number / per_group mib) ++ eight_digits (number % per_group mib))
+segment_name_bytes number mib = codes "00000001" ++ number_groups number mib
 
 -- the same of any timeline
 abbrev pub segment_file_bytes : ℕ → ℕ → ℕ → List ℕ
-segment_file_bytes timeline number mib =
-    eight_digits timeline ++ (eight_digits (number / per_group mib) ++ eight_digits (number % per_group mib))
+segment_file_bytes timeline number mib = eight_digits timeline ++ number_groups number mib
 
 -- a timeline and a number that stand in the name of a segment file
 pub record HasSegmentName (timeline number mib : ℕ) : Type 0 where
@@ -73,7 +75,8 @@ file_name incr rel kind seg = file_prefix incr ++ plain_name rel kind seg
 
 -- the path of a segment file of a fork (Database File Layout), plain or incremental
 abbrev pub fork_path_bytes : ForkId → ℕ → Bool → List ℕ
-fork_path_bytes fork seg incr = codes "base/" ++ (decimal fork.rel.db ++ (47 ∷ file_name incr fork.rel.rel fork.kind seg))
+fork_path_bytes fork seg incr =
+    codes "base/" ++ (decimal fork.rel.db ++ (47 ∷ file_name incr fork.rel.rel fork.kind seg))
 
 -- a fork and a segment of it that have a path: the relation's numbers are 1 to 2^32 - 1, the
 -- segment's 0 to 2^32 - 1
@@ -86,4 +89,5 @@ pub record IsNamed (fork : ForkId) (seg : ℕ) : Type 0 where
 
 -- no fork has this path
 abbrev pub NamesNoFork : List ℕ → Type 0
-NamesNoFork path = (fork : ForkId) (seg : ℕ) (incr : Bool) → IsNamed fork seg → path ≡ fork_path_bytes fork seg incr → ⊥
+NamesNoFork path = (fork : ForkId) (seg : ℕ) (incr : Bool) → IsNamed fork seg
+    → path ≡ fork_path_bytes fork seg incr → ⊥

@@ -1,13 +1,8 @@
 -- What stands in no part of a fork's path, for the readers of these parts.
 use Rattle.std.specs.Prelude.{◌≡◌, ℕ, ◌^◌, ◌<◌, Bool, true, List, ◌∷◌, ◌++◌, codes}
 use Rattle.std.specs.Fmt.{decimal}
-use Rattle.text_numbers.specs.Numbers.{IsFront}
 use Rattle.lsn_core.specs.declared.ids.ForkKind.{ForkKind}
 use Rattle.lsn_core.specs.Names.{segment_suffix, file_prefix, file_tail, plain_name, file_name}
-
--- no number below 2^32 stands at the front
-abbrev pub HasNoFront : List ℕ → Type 0
-HasNoFront text = (n : ℕ) (tail : List ℕ) → n < 2 ^ 32 → IsFront text n tail → ⊥
 
 abbrev pub IsNoSuffix : List ℕ → Type 0
 IsNoSuffix text = (seg : ℕ) → seg < 2 ^ 32 → text ≡ segment_suffix seg → ⊥

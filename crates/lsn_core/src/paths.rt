@@ -1,9 +1,9 @@
 //! The forks that paths name.
 
 ghost use Rattle.std.specs.Prelude.{◌≡◌, ◌<◌, ◌^◌, ◌++◌, false, IfSome, IfNone};
-ghost use Rattle.text_numbers.specs.Numbers.{IsFront};
+ghost use Rattle.text_numbers.specs.Numbers.{IsFront, HasNoFront};
 ghost use Rattle.lsn_core.specs.Names.{segment_suffix, file_prefix, file_tail, plain_name, file_name, fork_path_bytes, IsNamed, NamesNoFork};
-ghost use Rattle.lsn_core.specs.PathParts.{HasNoFront, IsNoSuffix, IsNoTail, IsNoPlainName, HasNoPrefix, IsNoFileName, in_database, IsInNoDatabase};
+ghost use Rattle.lsn_core.specs.PathParts.{IsNoSuffix, IsNoTail, IsNoPlainName, HasNoPrefix, IsNoFileName, in_database, IsInNoDatabase};
 
 use crate::ids::{ForkId, ForkKind, Rel};
 use byte_words::behind_prefix;
@@ -13,7 +13,7 @@ use text_numbers::{decimal_front, decimal_in};
 fn number_front(text: &[u8]) -> Option<(u32, &[u8])>
     ensures found { IfSome result (λ x. IsFront text.now x.0 x.1.now) }
     ensures small { IfSome result (λ x. x.0 < 2 ^ 32) }
-    ensures none { IfNone result (HasNoFront text.now) }
+    ensures none { IfNone result (HasNoFront (2 ^ 32) text.now) }
 {
     let (number, tail) = decimal_front(text)?;
     match u32::try_from(number) {
