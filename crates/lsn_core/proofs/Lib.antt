@@ -1,2 +1,5 @@
 pub mod ForkOrder
+pub mod ForkPaths
+pub mod LsnTexts
 pub mod Padding
+pub mod SegmentNames

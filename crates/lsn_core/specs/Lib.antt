@@ -1,6 +1,11 @@
+pub mod Sizes
 pub mod Relation
 pub mod Segment
+pub mod Tip
 pub mod Names
+pub mod PathParts
 pub mod Files
 pub mod Store
+pub mod Blocks
+pub mod Shown
 pub mod Causes
