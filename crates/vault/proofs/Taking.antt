@@ -49,7 +49,7 @@ taking_fails s g names done name rest start mid now end held fault is failed giv
         later = omega (arith, is.later, failed.cause.later, gives.take_faults);
         among = elim failed.cause.among [
           | inl named ↦ rw (named, ← is.all) (is_among done name rest)
-          | inr none ↦ absurd none
+          | inr never ↦ absurd never
         ];
         failed = λ e. let rose = failed.cause.failed e in omega (arith, rose, is.later, gives.take_faults);
       };
