@@ -5,9 +5,9 @@ use Rattle.vault.specs.declared.site.Site.{Ghosts as SiteGhosts}
 use Rattle.vault.specs.declared.lending.Held.{Held}
 use Rattle.vault.specs.declared.lending.TakeFault.{TakeFault}
 use Rattle.vault.specs.Site.{AllHome, state_in}
-use Rattle.vault.specs.Lending.{Names, IsOneOf, IsNoneOf, AreDistinct, AreHome, all_away, AreAreasOf, AreOut, TakeCause, IsTaken, IsNotTaken, GivesBack}
+use Rattle.vault.specs.Lending.{Names, IsOneOf, IsNoneOf, AreDistinct, AreHome, names_of, all_away, AreAreasOf, AreOut, TakeCause, IsTaken, IsNotTaken, GivesBack}
 use Rattle.vault.proofs.SetAreas.{same_home}
-use Rattle.vault.proofs.LentAreas.{is_among, distinct_front, distinct_next, away_none, away_push, rest_home, areas_push, taken_are_out, back_again}
+use Rattle.vault.proofs.LentAreas.{is_among, distinct_front, distinct_next, away_none, away_push, rest_home, areas_push, areas_named, taken_are_out, back_again}
 
 -- of these names the first were taken
 pub record Taking {S V : Type 0} (s : SiteGhosts S V) (g : Ghosts V) (names done rest : Names) (start now : S) (held : List (Held V)) : Type 0 where
@@ -58,10 +58,12 @@ taking_fails s g names done name rest start mid now end held fault is failed giv
 pub taking_ends : {S V : Type 0} (s : SiteGhosts S V) (g : Ghosts V) (names done : Names) (start now : S) (held : List (Held V)) → AreDistinct names → Taking s g names done [] start now held → IsTaken s g names start now held
 taking_ends s g names done start now held distinct is =
     let all : done ≡ names = sym (append-nil done) ∙ is.all in
+    let named : names_of held ≡ names = areas_named g (s.areas start) done held is.areas ∙ all in
     record {
       areas = rw (← all) is.areas;
+      named = named;
       away = rw (← all) is.away;
       out = taking_out s g names done [] start now held distinct is;
-      rest = rest_home (s.areas start) (s.areas now) names (rw (← all) is.away);
+      rest = rw named (rest_home (s.areas start) (s.areas now) names (rw (← all) is.away));
       later = is.later;
     }
