@@ -21,8 +21,8 @@ from common import SEGMENT
 NOBODY = 65534
 # Four creations: an entry each, and a file each once they are replayed.
 CREATIONS = "worker w\n" + "".join("create 5/%d\n" % rel for rel in range(1, 5))
-# A page, whose file is larger than the disk that it is to stand on.
-PAGE = CREATIONS + "change 5/1@0=8192,8192,65\n"
+# And a page, whose file is larger than the disk that it is to stand on.
+PAGE = CREATIONS + "change 5/1@0=24,8192,65\n"
 
 
 class Skipped(Exception):
@@ -40,8 +40,11 @@ class Program:
         pipes = {"input": script, "stdout": subprocess.PIPE}
         if "stdin" in options:
             del pipes["input"]
-        ran = subprocess.run([self.path] + words, cwd=self.folder, text=True, check=False,
-                             stderr=subprocess.PIPE, **{**pipes, **options})
+        try:
+            ran = subprocess.run([self.path] + words, cwd=self.folder, text=True, check=False,
+                                 stderr=subprocess.PIPE, **{**pipes, **options})
+        except PermissionError as why:
+            raise Skipped("the program can't run as nobody") from why
         return ran.returncode, (ran.stdout or "").splitlines(), ran.stderr.splitlines()
 
     def at(self, *parts):
