@@ -21,11 +21,7 @@ pub(crate) struct OpenFile {
 
 impl OpenFile {
     /// Opens a file.
-    pub(crate) fn open(
-        rt: &HostRuntime,
-        name: &[u8],
-        path: String,
-    ) -> Result<OpenFile, SystemError>
+    pub(crate) fn open(rt: &HostRuntime, name: &[u8], path: String) -> Result<OpenFile, SystemError>
         ensures { IfOk result (λ file. file.name.items ≡ name.now) }
     {
         let opened = File::open(rt, path.as_str());
@@ -42,12 +38,7 @@ impl OpenFile {
     }
 
     /// Reads from a place on, as much as there is room for.
-    pub(crate) fn read(
-        &self,
-        alloc: Global,
-        at: u64,
-        into: &mut [u8],
-    ) -> Result<u32, SystemError>
+    pub(crate) fn read(&self, alloc: Global, at: u64, into: &mut [u8]) -> Result<u32, SystemError>
         requires { length into.old ≤ 2 ^ 20 }
         ensures { IfOk result (λ count. count ≤ length into.old) }
     {
@@ -79,6 +70,7 @@ impl OpenFile {
         if count == into.len() {
             return Ok(0);
         }
-        self.file.read_at(&mut into[count..], at.saturating_add(count as u64))
+        self.file
+            .read_at(&mut into[count..], at.saturating_add(count as u64))
     }
 }
