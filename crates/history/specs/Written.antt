@@ -8,7 +8,7 @@ use Rattle.wal_record.specs.declared.record.BlockRef.{BlockRef}
 use Rattle.wal_record.specs.declared.record.Body.{Body}
 use Rattle.wal_record.specs.declared.record.Body.TheVariants.{Image}
 use Rattle.wal_record.specs.Places.{origin, start_after, record_behind}
-use Rattle.history.specs.Entry.{Edit, Put, Item, Act, Create, Change, Mark, Entry, is_own}
+use Rattle.history.specs.Entry.{Edit, Put, Item, Act, Create, Change, Mark, Entry, is_of_run}
 
 -- a page that is put is written as an image, with zeros in its hole
 abbrev pub body_of : Edit → Body
@@ -31,7 +31,7 @@ record_of mib end prev act = record_behind (start_after mib end) prev (kind_of a
 abbrev pub written : ℕ → ℕ → ℕ → List Entry → List Record
 written mib end prev [] = []
 written mib end prev (entry ∷ entries) =
-    if is_own entry then record_of mib end prev entry.act ∷ written mib (record_of mib end prev entry.act).end.0 (record_of mib end prev entry.act).start.0 entries else written mib entry.end entry.start entries
+    if is_of_run entry then record_of mib end prev entry.act ∷ written mib (record_of mib end prev entry.act).end.0 (record_of mib end prev entry.act).start.0 entries else written mib entry.end entry.start entries
 
 -- the records of a history from its beginning on
 abbrev pub wal_of : ℕ → List Entry → List Record
