@@ -2,7 +2,8 @@ use Rattle.std.proofs.Common.{◌≡◌, ◌+◌, ◌-◌, ◌*◌, ◌≤◌, �
 use Rattle.std.specs.FinMap.{insert}
 use Rattle.history.specs.Apply.{pages_of}
 use Rattle.vault.specs.Area.{after_write}
-use Rattle.rel_files.proofs.StoreFiles.{told_step, told_same, joined_pages, page_behind, pages_more}
+use Rattle.rel_files.specs.Inner.{joined_pages}
+use Rattle.rel_files.proofs.StoreFiles.{told_step, told_same, page_behind, pages_more}
 use Rattle.rel_files.proofs.files.write_pages.Goals as goal
 
 pub loop-block-preserved : goal.loop-block-preserved
