@@ -19,7 +19,7 @@ use Rattle.wal_reader.proofs.SettingsText.{settings_once}
 use Rattle.wal_reader.proofs.Once.{one_reading, ends_or_is_damaged, one_damage}
 use Rattle.history.specs.Whole.{whole}
 use Rattle.recovery.specs.declared.replaying.ReadWal.{ReadWal}
-use Rattle.recovery.specs.Reading.{HasSettings, IsReadWal}
+use Rattle.recovery.specs.WholeWal.{HasSettings, IsReadWal}
 use Rattle.recovery.specs.Laws.{HasOneWal}
 
 -- ---- the settings

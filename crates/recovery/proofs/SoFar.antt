@@ -20,7 +20,7 @@ use Rattle.wal_reader.proofs.Passing.{Passes, Passes-push, Passes-end, Passes-da
 use Rattle.history.specs.Entry.{Entry}
 use Rattle.history.specs.Apply.{apply}
 use Rattle.history.specs.Whole.{entry_of, apply_all}
-use Rattle.recovery.specs.Reading.{IsReadWal, ReplayAnswer}
+use Rattle.recovery.specs.WholeWal.{IsReadWal, ReplayAnswer}
 use Rattle.recovery.specs.declared.replaying.ReadWal.{ReadWal}
 use Rattle.wal_reader.specs.Appended.{last_start, last_end}
 use Rattle.wal_reader.proofs.Appending.{last_start-append, last_end-append}

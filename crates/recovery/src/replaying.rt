@@ -1,7 +1,7 @@
 //! Replay of a WAL from its beginning into a store in memory.
 
 ghost use Rattle.std.specs.Prelude.{◌≡◌, ◌≤◌};
-ghost use Rattle.recovery.specs.Reading.{ReplayAnswer, WalAnswer};
+ghost use Rattle.recovery.specs.WholeWal.{ReplayAnswer, WalAnswer};
 
 use history::{PageMap, apply};
 use lsn_core::{Settings, WalTip};

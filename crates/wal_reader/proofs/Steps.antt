@@ -5,11 +5,11 @@ use Rattle.byte_words.specs.Told.{when_told, when_both_told}
 use Rattle.lsn_core.specs.Files.{Files}
 use Rattle.wal_record.specs.declared.record.Record.{Record}
 use Rattle.wal_reader.specs.declared.fault.WalFault.{WalFault}
-use Rattle.wal_reader.specs.declared.fault.WalFault.TheVariants.{Damaged, SettingsDamaged, NotInit, Failed, NoMemory}
 use Rattle.wal_reader.specs.Head.{origin, long_head, IsHead}
 use Rattle.wal_reader.specs.Archive.{held_bytes, first_page, start_after, StandsAt, EndsAt, Follows, IsBroken, IsDamagedAt}
-use Rattle.wal_reader.specs.Entry.{EntryAnswer, FollowAnswer}
-use Rattle.wal_reader.specs.Cursor.{FoundAnswer, IsGiven}
+use Rattle.wal_reader.specs.Entry.{entry_causes, follow_causes, EntryAnswer, FollowAnswer}
+use Rattle.wal_reader.specs.Cursor.{FoundAnswer, IsGiven, step_causes}
+use Rattle.wal_reader.proofs.Causing.{cause_passed}
 use Rattle.wal_reader.proofs.Entries.{given}
 
 pub start_at_origin : (mib at : ℕ) → at ≡ origin mib → start_after mib at ≡ at + long_head
@@ -21,11 +21,9 @@ start_behind mib at ne = rw (ne_eqb at (origin mib) ne) refl
 -- an answer on the entry at the place where the next one starts
 pub from_entry : (mib : ℕ) (page : List ℕ) (at prev start : ℕ) (result : Result Record WalFault) → start_after mib at ≡ start → (at ≡ origin mib → IsHead mib page) → EntryAnswer mib page start prev result → FollowAnswer mib page at prev result
 from_entry mib page at prev start (Ok r) e head stands = (head, subst (λ (s : ℕ). StandsAt mib page s prev r) (sym e) stands)
-from_entry mib page at prev start (Err (Damaged place why)) e head none = inr (head, (none.0 ∙ sym e, λ r s. none.1 r (subst (λ (n : ℕ). StandsAt mib page n prev r) e s)))
-from_entry mib page at prev start (Err SettingsDamaged) e head never = never
-from_entry mib page at prev start (Err NotInit) e head never = never
-from_entry mib page at prev start (Err Failed) e head never = never
-from_entry mib page at prev start (Err NoMemory) e head free = tt
+from_entry mib page at prev start (Err fault) e head cause =
+    cause_passed (entry_causes mib page start prev) (follow_causes mib page at prev) 0 0 0 0 fault
+    (λ place why none. inr (head, (none.0 ∙ sym e, λ r s. none.1 r (subst (λ (n : ℕ). StandsAt mib page n prev r) e s)))) (λ never. never) (λ never. never) (λ rose. rose) cause
 
 -- where a place is told not to be the end, the archive goes on
 pub goes_on : (mib at : ℕ) (files : Option Files) (end : Bool) → end ≡ false → IfSome files (λ m. IsTrue end ↔ EndsAt mib (held_bytes mib m) at) → IfSome files (λ m. EndsAt mib (held_bytes mib m) at → ⊥)
@@ -49,10 +47,7 @@ entry_found mib at prev files page r least short page_is goes_on found =
 pub fault_found : (mib at prev : ℕ) (files : Option Files) (before now : ℕ) (page : List ℕ) (fault : WalFault)
     → IfSome files (λ m. page ≡ first_page (held_bytes mib m)) → IfSome files (λ m. EndsAt mib (held_bytes mib m) at → ⊥)
     → FollowAnswer mib page at prev (Err fault) → FoundAnswer mib at prev files before now (Err fault)
-fault_found mib at prev files before now page (Damaged place why) page_is goes_on broken =
-    when_both_told files (λ m. page ≡ first_page (held_bytes mib m)) (λ m. EndsAt mib (held_bytes mib m) at → ⊥) (λ m. IsDamagedAt mib (held_bytes mib m) at prev place.0)
-    (λ m e on. record { goes_on = on; broken = subst (λ (p : List ℕ). IsBroken mib p at prev place.0) e broken }) page_is goes_on
-fault_found mib at prev files before now page SettingsDamaged page_is goes_on never = never
-fault_found mib at prev files before now page NotInit page_is goes_on never = never
-fault_found mib at prev files before now page Failed page_is goes_on never = absurd never
-fault_found mib at prev files before now page NoMemory page_is goes_on free = tt
+fault_found mib at prev files before now page fault page_is goes_on cause =
+    cause_passed (follow_causes mib page at prev) (step_causes mib at prev files) 0 0 before now fault
+    (λ place why broken. when_both_told files (λ m. page ≡ first_page (held_bytes mib m)) (λ m. EndsAt mib (held_bytes mib m) at → ⊥) (λ m. IsDamagedAt mib (held_bytes mib m) at prev place)
+    (λ m e on. record { goes_on = on; broken = subst (λ (p : List ℕ). IsBroken mib p at prev place) e broken }) page_is goes_on) (λ never. never) (λ never. never) (λ rose. absurd (omega (arith, rose))) cause

@@ -1,16 +1,15 @@
 -- A WAL that was read whole, and why one can't be read.
 use Rattle.std.specs.Prelude.{◌≡◌, ℕ, ◌+◌, ◌≤◌, List, map, length, Option, Some, Result, Ok, Err, IfSome}
 use Rattle.std.specs.FinMap.{empty}
-use Rattle.lsn_core.specs.Causes.{Rose}
 use Rattle.lsn_core.specs.Files.{Files}
 use Rattle.lsn_core.specs.declared.segment.Settings.{Settings}
 use Rattle.wal_record.specs.declared.record.Record.{Record}
 use Rattle.wal_reader.specs.declared.fault.WalFault.{WalFault}
-use Rattle.wal_reader.specs.declared.fault.WalFault.TheVariants.{Damaged, SettingsDamaged, NotInit, Failed, NoMemory}
+use Rattle.wal_reader.specs.Causes.{WalCauses, no_causes, CauseOf}
 use Rattle.wal_reader.specs.Head.{origin}
 use Rattle.wal_reader.specs.Archive.{IsArchive, IsDamaged}
 use Rattle.wal_reader.specs.Appended.{last_start, last_end}
-use Rattle.wal_reader.specs.Cursor.{SettingsAnswer}
+use Rattle.wal_reader.specs.Cursor.{settings_causes}
 use Rattle.wal_reader.specs.Settings.{IsSettingsOf}
 use Rattle.history.specs.Whole.{entry_of, apply_all, whole}
 use Rattle.recovery.specs.declared.replaying.ReadWal.{ReadWal}
@@ -27,13 +26,13 @@ pub record IsReadWal (mib : ℕ) (files : Option Files) (read : ReadWal) : Type 
   pub least : origin mib + read.count ≤ read.tip.end.0
   pub most : read.tip.end.0 ≤ origin mib + 8192
 
+-- why the WAL of segments of one size can't be read: its archive is damaged
+abbrev pub archive_causes : ℕ → Option Files → WalCauses
+archive_causes mib files = record no_causes { damaged = λ place why. IfSome files (λ m. IsDamaged mib m place) }
+
 abbrev pub ReplayAnswer : ℕ → Option Files → ℕ → ℕ → Result ReadWal WalFault → Type 0
 ReplayAnswer mib files before now (Ok read) = IsReadWal mib files read
-ReplayAnswer mib files before now (Err (Damaged place why)) = IfSome files (λ m. IsDamaged mib m place.0)
-ReplayAnswer mib files before now (Err SettingsDamaged) = ⊥
-ReplayAnswer mib files before now (Err NotInit) = ⊥
-ReplayAnswer mib files before now (Err Failed) = Rose before now
-ReplayAnswer mib files before now (Err NoMemory) = Unit {0}
+ReplayAnswer mib files before now (Err fault) = CauseOf (archive_causes mib files) before now fault
 
 -- the settings that are read, and the WAL of segments of their size
 pub record HasSettings (files : Option Files) (settings : Settings) : Type 0 where
@@ -42,13 +41,11 @@ pub record HasSettings (files : Option Files) (settings : Settings) : Type 0 whe
   pub most : settings.relseg ≤ 131072
 
 -- why a WAL can't be read: its settings can't, or they can and the archive is damaged
-abbrev pub WalCause : Option Files → ℕ → ℕ → WalFault → Type 0
-WalCause files before now (Damaged place why) = (settings : Settings) × (HasSettings files settings × IfSome files (λ m. IsDamaged settings.segment m place.0))
-WalCause files before now SettingsDamaged = SettingsAnswer files before now (Err SettingsDamaged)
-WalCause files before now NotInit = SettingsAnswer files before now (Err NotInit)
-WalCause files before now Failed = Rose before now
-WalCause files before now NoMemory = Unit {0}
+abbrev pub wal_causes : Option Files → WalCauses
+wal_causes files = record (settings_causes files) {
+  damaged = λ place why. (settings : Settings) × (HasSettings files settings × IfSome files (λ m. IsDamaged settings.segment m place));
+}
 
 abbrev pub WalAnswer : Option Files → ℕ → ℕ → Result (Settings × ReadWal) WalFault → Type 0
 WalAnswer files before now (Ok x) = HasSettings files x.0 × IsReadWal x.0.segment files x.1
-WalAnswer files before now (Err fault) = WalCause files before now fault
+WalAnswer files before now (Err fault) = CauseOf (wal_causes files) before now fault
