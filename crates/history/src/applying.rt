@@ -6,7 +6,7 @@ ghost use Rattle.wal_record.specs.Spelling.{IsWritable};
 ghost use Rattle.lsn_core.specs.Sizes.{most_blocks};
 ghost use Rattle.history.specs.Apply.{apply, edited};
 ghost use Rattle.history.specs.Whole.{entry_of, edit_of};
-ghost use Rattle.history.specs.Inner.{apply_blocks, apply_block};
+ghost use Rattle.history.specs.Inside.{apply_blocks, apply_block};
 
 use crate::page_map::PageMap;
 use lsn_core::{Lsn, NoMemory};

@@ -1,12 +1,13 @@
 //! A store of pages in memory.
 
-ghost use Rattle.std.specs.Prelude.{◌≡◌, ◌<◌, ◌≤◌, ◌^◌, length, slice_get, OnOk, OnErr, IfOk};
+ghost use Rattle.std.specs.Prelude.{◌≡◌, ◌<◌, ◌≤◌, ◌^◌};
+ghost use Rattle.std.specs.Prelude.{length, slice_get, OnOk, OnErr, IfOk};
 ghost use Rattle.std.specs.FinMap.{empty, get, keys, len};
 ghost use Rattle.std.specs.Option.{option_map};
 ghost use Rattle.lsn_core.specs.Sizes.{most_blocks};
 ghost use Rattle.history.specs.Apply.{with_block, with_fork};
 ghost use Rattle.history.specs.Pages.{store_in, block_of, page_count};
-ghost use Rattle.history.specs.Inner.{with_page_at};
+ghost use Rattle.history.specs.Inside.{PutsPage};
 
 use lsn_core::{BlockId, ForkId, NoMemory};
 use pg_page::zero_page;
@@ -103,7 +104,7 @@ impl PageMap {
     /// Puts a page at a block; a missing fork and missing pages before it are made.
     pub(crate) fn put(&mut self, at: &BlockId, page: &[u8; 8192]) -> Result<(), NoMemory>
         requires { at.now.block < most_blocks }
-        ensures put { OnOk result (self.new ≡ with_page_at self.old at.now page.now) }
+        ensures put { OnOk result (PutsPage self.old at.now page.now self.new) }
         ensures same { OnErr result (self.new ≡ self.old) }
     {
         put_in(&mut self.forks, at, page, self.alloc)
@@ -141,7 +142,7 @@ fn put_in(
     alloc: Global,
 ) -> Result<(), NoMemory>
     requires { at.now.block < most_blocks }
-    ensures put { OnOk result (store_in forks.new ≡ with_page_at (store_in forks.old) at.now page.now) }
+    ensures put { OnOk result (PutsPage (store_in forks.old) at.now page.now (store_in forks.new)) }
     ensures same { OnErr result (store_in forks.new ≡ store_in forks.old) }
 {
     if let Some(pages) = forks.get_mut(&at.fork) {

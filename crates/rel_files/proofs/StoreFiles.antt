@@ -23,7 +23,7 @@ use Rattle.lsn_core.proofs.ForkOrder.{fork_cmp_total}
 use Rattle.vault.specs.Area.{bytes_of, file_written, after_write, cut_to, after_cut}
 use Rattle.vault.proofs.Written.{file_written-some}
 use Rattle.history.specs.Apply.{pages_of}
-use Rattle.rel_files.specs.Inner.{joined_pages}
+use Rattle.rel_files.specs.Inside.{joined_pages}
 
 -- One step after others, where the area tells its files.
 

@@ -1,2 +1,2 @@
 pub mod Writes
-pub mod Inner
+pub mod Inside

@@ -1,10 +1,12 @@
 //! The files of a store of pages, written into an area.
 
-ghost use Rattle.std.specs.Prelude.{◌≡◌, ◌^◌, ◌<◌, ◌≤◌, [], length, get_or, IfOk, OnOk};
+ghost use Rattle.std.specs.Prelude.{◌≡◌, ◌^◌, ◌<◌, ◌≤◌};
+ghost use Rattle.std.specs.Prelude.{[], length, get_or, IfOk, OnOk};
 ghost use Rattle.lsn_core.specs.Causes.{HasCause};
 ghost use Rattle.history.specs.Apply.{pages_of};
 ghost use Rattle.rel_files.specs.Writes.{WritesStore};
-ghost use Rattle.rel_files.specs.Inner.{WritesFork, WritesSegment, WritesBlocks, MakesFile, WritesAt};
+ghost use Rattle.rel_files.specs.Inside.{WritesFork, WritesSegment, WritesBlocks};
+ghost use Rattle.rel_files.specs.Inside.{MakesFile, WritesAt};
 
 use history::PageMap;
 use lsn_core::{AreaFault, BlockId, ForkId, NoMemory, fork_path};
@@ -60,7 +62,7 @@ fn write_segment<V: Vault>(
     seg: u32,
     relseg: u32,
 ) -> Result<(), AreaFault>
-    ensures written { OnOk result (WritesSegment V.Vault relseg store.now fork seg out.old out.new) }
+    ensures made { OnOk result (WritesSegment V.Vault relseg store.now fork seg out.old out.new) }
     ensures cause { HasCause (V.faults out.old) (V.faults out.new) result }
 {
     let blocks = u64::from(block_count(store, &fork)?);
@@ -82,7 +84,7 @@ fn write_pages<V: Vault>(
 ) -> Result<(), AreaFault>
     requires there { end ≤ length (pages_of store.now fork.now) }
     requires counted { end < 2 ^ 32 }
-    ensures written { OnOk result
+    ensures made { OnOk result
         (WritesBlocks V.Vault path.now store.now fork.now first end out.old out.new) }
     ensures cause { HasCause (V.faults out.old) (V.faults out.new) result }
 {
