@@ -1,2 +1,3 @@
 pub mod ForkOrder
 pub mod Padding
+pub mod FileNames

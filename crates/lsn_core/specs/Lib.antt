@@ -6,3 +6,4 @@ pub mod Names
 pub mod Files
 pub mod Store
 pub mod Causes
+pub mod Laws

@@ -3,6 +3,7 @@
 
 mod fault;
 mod ids;
+mod laws;
 mod lsn;
 mod names;
 mod segment;
@@ -11,6 +12,7 @@ mod text;
 
 pub use fault::{AreaFault, MarkFault, NoMemory, Side, StoreArea, StoreFault};
 pub use ids::{BlockId, ForkId, ForkKind, ForkLen, Rel};
+pub use laws::paths_tell_their_files;
 pub use lsn::{Lsn, Place, WalTip, lsn_text};
 pub use names::{fork_path, segment_name};
 pub use segment::{SegSize, Settings};
