@@ -3,6 +3,7 @@ use Rattle.std.proofs.Common.{◌≡◌, ℕ, List, [], ◌∷◌, Some, refl, a
 use Rattle.lsn_core.specs.declared.ids.BlockId.{BlockId}
 use Rattle.lsn_core.specs.declared.ids.ForkId.{ForkId}
 use Rattle.lsn_core.specs.Store.{Store}
+use Rattle.lsn_core.specs.Tip.{Tip}
 use Rattle.pg_page.specs.Header.{IsGood, hole_zeroed, with_lsn}
 use Rattle.pg_page.proofs.HeaderLaws.{IsGood-hole_zeroed, hole_zeroed-hole_zeroed}
 use Rattle.wal_record.specs.Spelling.{IsWritable}
@@ -15,20 +16,20 @@ use Rattle.history.specs.Written.{kind_of, record_of}
 use Rattle.history.specs.Op.{act_of_op}
 
 -- a record says its act, but for the bytes in a page's hole
-pub says_creation : (mib end prev : ℕ) (fork : ForkId) → says (record_of mib end prev (act_of_op (op.Create fork))) ≡ Create fork
-says_creation mib end prev fork = refl
+pub says_creation : (mib : ℕ) (tip : Tip) (fork : ForkId) → says (record_of mib tip (act_of_op (op.Create fork))) ≡ Create fork
+says_creation mib tip fork = refl
 
-pub says_change : (mib end prev : ℕ) (at : BlockId) (page : List ℕ) → says (record_of mib end prev (act_of_op (op.Change at page))) ≡ Change (record { fork = at.fork; block = at.block; edit = Put (hole_zeroed page) } ∷ [])
-says_change mib end prev at page = refl
+pub says_change : (mib : ℕ) (tip : Tip) (at : BlockId) (page : List ℕ) → says (record_of mib tip (act_of_op (op.Change at page))) ≡ Change (record { fork = at.fork; block = at.block; edit = Put (hole_zeroed page) } ∷ [])
+says_change mib tip at page = refl
 
 -- what is written changes a store as the command does
 pub acts_again : (end : ℕ) (store : Store) (command : Op) → IsWritable (kind_of (act_of_op command)) → apply_act end store (act_of (kind_of (act_of_op command))) ≡ apply_act end store (act_of_op command)
 acts_again end store (op.Create fork) w = refl
 acts_again end store (op.Change at page) w = ap (λ (p : List ℕ). Some (with_page store at.fork at.block (with_lsn end p))) w.body.1
 
-pub applies_again : (mib end prev : ℕ) (store : Store) (command : Op) → IsWritable (kind_of (act_of_op command))
-    → apply store (entry_of (record_of mib end prev (act_of_op command))) ≡ apply_act (record_of mib end prev (act_of_op command)).end.0 store (act_of_op command)
-applies_again mib end prev store command w = acts_again (record_of mib end prev (act_of_op command)).end.0 store command w
+pub applies_again : (mib : ℕ) (tip : Tip) (store : Store) (command : Op) → IsWritable (kind_of (act_of_op command))
+    → apply store (entry_of (record_of mib tip (act_of_op command))) ≡ apply_act (record_of mib tip (act_of_op command)).end.0 store (act_of_op command)
+applies_again mib tip store command w = acts_again (record_of mib tip (act_of_op command)).end.0 store command w
 
 -- a page with zeros in its hole can be written
 pub zeroed_writable : (page : List ℕ) → IsGood page → IsGood (hole_zeroed page) × (hole_zeroed (hole_zeroed page) ≡ hole_zeroed page)

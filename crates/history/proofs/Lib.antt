@@ -1,2 +1,3 @@
 pub mod StoreMap
 pub mod Commands
+pub mod Histories

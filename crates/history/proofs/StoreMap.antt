@@ -14,7 +14,7 @@ use Rattle.std.specs.BTreeMap as tree
 use Rattle.std.specs.FinMap.{find, get, insert, contains_key, keys, len, len-entries, entries, from_sorted, is_sorted, get-from_entries, get-from_sorted, get-insert, entries-from_sorted, same_map}
 use Rattle.std.specs.FinMap.Entries.{below_all}
 use Rattle.lsn_core.specs.declared.ids.ForkId.{ForkId}
-use Rattle.lsn_core.specs.Store.{Store, Pages, fork_cmp}
+use Rattle.lsn_core.specs.Store.{Store, ForkPages, fork_cmp}
 use Rattle.lsn_core.proofs.ForkOrder.{fork_cmp_total, fork_cmp-IsAntisymmetric, derived_cmp, derived_is}
 use Rattle.history.specs.Apply.{with_block, with_page, with_fork}
 use Rattle.history.specs.Pages.{store_in, page_count}
@@ -22,10 +22,10 @@ use Rattle.history.specs.Pages.{store_in, page_count}
 abbrev Forks : Type 0
 Forks = BTreeMap ForkId (Vec (List ℕ))
 
-abbrev entry_of : ForkId × Vec (List ℕ) → ForkId × Pages
+abbrev entry_of : ForkId × Vec (List ℕ) → ForkId × ForkPages
 entry_of e = (e.0, e.1.items)
 
-abbrev pages : Vec (List ℕ) → Pages
+abbrev pages : Vec (List ℕ) → ForkPages
 pages v = v.items
 
 find-lookup : (q : ForkId) (es : List (ForkId × Vec (List ℕ))) → find fork_cmp q (map entry_of es) ≡ option_map pages (lookup (eq_by_cmp fork_cmp q) es)
@@ -36,7 +36,7 @@ find-lookup q (e ∷ es) =
 get_in : (m : Forks) (q : ForkId) → get (store_in m) q ≡ option_map pages (tree.get fork_cmp m q)
 get_in m q = get-from_entries fork_cmp_total (map entry_of m.entries) q ∙ find-lookup q m.entries
 
-turned : (a b : ForkId) (x y : Option Pages) → cond (eq_by_cmp fork_cmp a b) x y ≡ cond (eq_by_cmp fork_cmp b a) x y
+turned : (a b : ForkId) (x y : Option ForkPages) → cond (eq_by_cmp fork_cmp a b) x y ≡ cond (eq_by_cmp fork_cmp b a) x y
 turned a b x y = ap (λ c. cond c x y) ((eq_by_cmp_equiv fork_cmp_total).symm a b)
 
 mapped : (b : Bool) (x y : Option (Vec (List ℕ))) → option_map pages (cond b x y) ≡ cond b (option_map pages x) (option_map pages y)
@@ -52,7 +52,7 @@ store-insert m n fork v updates =
     ∙ sym (get-insert fork_cmp_total (store_in m) fork v.items q))
 
 -- inserted again, what stands there changes nothing
-insert_same : (store : Store) (fork : ForkId) (found : Pages) → get store fork ≡ Some found → insert store fork found ≡ store
+insert_same : (store : Store) (fork : ForkId) (found : ForkPages) → get store fork ≡ Some found → insert store fork found ≡ store
 insert_same store fork found e =
     same_map fork_cmp_total fork_cmp-IsAntisymmetric _ _ (λ q.
     get-insert fork_cmp_total store fork found q
@@ -81,11 +81,11 @@ entries_in m h =
     let same : store_in m ≡ from_sorted es = same_map fork_cmp_total fork_cmp-IsAntisymmetric _ _ (λ q. get-from_entries fork_cmp_total es q ∙ sym (get-from_sorted fork_cmp es q order)) in
     ap entries same ∙ entries-from_sorted fork_cmp es order
 
-keys_in_entries : (es : List (ForkId × Vec (List ℕ))) → map (λ (e : ForkId × Pages). e.0) (map entry_of es) ≡ keys_of es
+keys_in_entries : (es : List (ForkId × Vec (List ℕ))) → map (λ (e : ForkId × ForkPages). e.0) (map entry_of es) ≡ keys_of es
 keys_in_entries [] = refl
 keys_in_entries (e ∷ es) = ap (λ (ks : List ForkId). e.0 ∷ ks) (keys_in_entries es)
 
-counts_in_entries : (es : List (ForkId × Vec (List ℕ))) → map (λ (e : ForkId × Pages). length e.1) (map entry_of es) ≡ map (λ (v : Vec (List ℕ)). length v.items) (values_of es)
+counts_in_entries : (es : List (ForkId × Vec (List ℕ))) → map (λ (e : ForkId × ForkPages). length e.1) (map entry_of es) ≡ map (λ (v : Vec (List ℕ)). length v.items) (values_of es)
 counts_in_entries [] = refl
 counts_in_entries (e ∷ es) = ap (λ (ns : List ℕ). length e.1.items ∷ ns) (counts_in_entries es)
 
@@ -98,13 +98,13 @@ updated : (m n : Forks) (fork : ForkId) (w : Option (Vec (List ℕ))) → Update
 updated m n fork w u = subst (λ (R : ForkId → ForkId → Ordering). UpdatesBy R (R fork) m n w) derived_is u
 
 pub keys_in : (m : Forks) → IsOrdered derived_cmp m → tree.keys m ≡ keys (store_in m)
-keys_in m h = sym (ap (map (λ (e : ForkId × Pages). e.0)) (entries_in m (ordered m h)) ∙ keys_in_entries m.entries)
+keys_in m h = sym (ap (map (λ (e : ForkId × ForkPages). e.0)) (entries_in m (ordered m h)) ∙ keys_in_entries m.entries)
 
 pub count_in : (m : Forks) → IsOrdered derived_cmp m → length m.entries ≡ len (store_in m)
 count_in m h = sym (len-entries (store_in m) ∙ ap length (entries_in m (ordered m h)) ∙ length-map m.entries entry_of)
 
 pub page_count_in : (m : Forks) → IsOrdered derived_cmp m → sum (map (λ (v : Vec (List ℕ)). length v.items) (tree.values m)) ≡ page_count (store_in m)
-page_count_in m h = sym (ap (λ (es : List (ForkId × Pages)). sum (map (λ e. length e.1) es)) (entries_in m (ordered m h)) ∙ ap sum (counts_in_entries m.entries))
+page_count_in m h = sym (ap (λ (es : List (ForkId × ForkPages)). sum (map (λ e. length e.1) es)) (entries_in m (ordered m h)) ∙ ap sum (counts_in_entries m.entries))
 
 -- what stands at a fork
 pub get_found : (m : Forks) (fork : ForkId) (o : Option (Vec (List ℕ))) → o ≡ tree.get derived_cmp m fork → get (store_in m) fork ≡ option_map pages o
@@ -128,14 +128,14 @@ with_fork_new m n fork v e updates none =
 pub written : (m n : Forks) (fork : ForkId) (block : ℕ) (page : List ℕ) (o : Option (Vec (List ℕ))) (w : Vec (List ℕ)) → o ≡ tree.get derived_cmp m fork → UpdatesBy derived_cmp (derived_cmp fork) m n (Some w)
     → w.items ≡ with_block (unwrap_or (option_map pages o) []) block page → store_in n ≡ with_page (store_in m) fork block page
 written m n fork block page o w found updates e =
-    store-insert m n fork w (updated m n fork (Some w) updates) ∙ ap (insert (store_in m) fork) (e ∙ sym (ap (λ (found : Option Pages). with_block (unwrap_or found []) block page) (get_found m fork o found)))
+    store-insert m n fork w (updated m n fork (Some w) updates) ∙ ap (insert (store_in m) fork) (e ∙ sym (ap (λ (found : Option ForkPages). with_block (unwrap_or found []) block page) (get_found m fork o found)))
 
 pub kept : (m n : Forks) (fork : ForkId) (found w : Vec (List ℕ)) → Some found ≡ tree.get derived_cmp m fork → UpdatesBy derived_cmp (derived_cmp fork) m n (Some w) → w.items ≡ found.items → store_in n ≡ store_in m
 kept m n fork found w e updates same =
-    store-insert m n fork w (updated m n fork (Some w) updates) ∙ insert_same (store_in m) fork w.items (get_found m fork (Some found) e ∙ ap (λ (ps : Pages). Some ps) (sym same))
+    store-insert m n fork w (updated m n fork (Some w) updates) ∙ insert_same (store_in m) fork w.items (get_found m fork (Some found) e ∙ ap (λ (ps : ForkPages). Some ps) (sym same))
 
 -- a fork that was missing and was inserted
 pub written_new : (m same n : Forks) (fork : ForkId) (block : ℕ) (page : List ℕ) (start w : Vec (List ℕ)) → same ≡ m → None ≡ tree.get derived_cmp m fork → UpdatesBy derived_cmp (derived_cmp fork) same n (Some w)
     → start.items ≡ [] → w.items ≡ with_block start.items block page → store_in n ≡ with_page (store_in m) fork block page
 written_new m same n fork block page start w e found updates none put =
-    written m n fork block page None w found (subst (λ m. UpdatesBy derived_cmp (derived_cmp fork) m n (Some w)) e updates) (put ∙ ap (λ (ps : Pages). with_block ps block page) none)
+    written m n fork block page None w found (subst (λ m. UpdatesBy derived_cmp (derived_cmp fork) m n (Some w)) e updates) (put ∙ ap (λ (ps : ForkPages). with_block ps block page) none)

@@ -4,16 +4,16 @@ use Rattle.std.specs.Option.{option_map, unwrap_or}
 use Rattle.std.specs.FinMap.{get, insert, contains_key}
 use Rattle.byte_words.specs.Numbers.{◌>>=◌}
 use Rattle.lsn_core.specs.declared.ids.ForkId.{ForkId}
-use Rattle.lsn_core.specs.Store.{Store, Pages}
+use Rattle.lsn_core.specs.Store.{Store, ForkPages}
 use Rattle.pg_page.specs.Header.{hole_zeroed, with_lsn, zero_page}
 use Rattle.history.specs.Entry.{Edit, Put, Item, Act, Create, Change, Mark, Entry}
 
 -- the pages of a fork; a missing fork has none
-abbrev pub pages_of : Store → ForkId → Pages
+abbrev pub pages_of : Store → ForkId → ForkPages
 pages_of store fork = unwrap_or (get store fork) []
 
 -- the pages with another one at a block; missing pages up to the block are zero pages
-abbrev pub with_block : Pages → ℕ → List ℕ → Pages
+abbrev pub with_block : ForkPages → ℕ → List ℕ → ForkPages
 with_block pages block page = slice_set (pages ++ replicate (block + 1 - length pages) zero_page) block page
 
 -- the store with a page at a block; a missing fork is made

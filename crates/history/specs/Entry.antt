@@ -28,5 +28,5 @@ pub record Entry : Type 0 where
   pub seq : Option ℕ
 
 -- the entry was made by a worker of this run, and not read from an earlier WAL
-abbrev pub is_own : Entry → Bool
-is_own entry = is_some entry.worker
+abbrev pub is_of_run : Entry → Bool
+is_of_run entry = is_some entry.worker

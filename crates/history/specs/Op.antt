@@ -2,7 +2,8 @@
 use Rattle.std.specs.Prelude.{◌≡◌, ◌<◌, ◌≤◌, [], ◌∷◌, length, None, Some}
 use Rattle.std.specs.FinMap.{get}
 use Rattle.lsn_core.specs.declared.ids.BlockId.{BlockId}
-use Rattle.lsn_core.specs.Store.{Store, Pages}
+use Rattle.lsn_core.specs.Sizes.{most_blocks}
+use Rattle.lsn_core.specs.Store.{Store, ForkPages}
 use Rattle.history.specs.declared.op.Op.{Op}
 use Rattle.history.specs.declared.op.Op.TheVariants as op
 use Rattle.history.specs.Entry.{Put, Act, Create, Change}
@@ -14,10 +15,10 @@ act_of_op (op.Change at page) = Change (record { fork = at.fork; block = at.bloc
 
 -- a block up to the end of a fork that is there
 pub record IsReachable (store : Store) (at : BlockId) : Type 0 where
-  pub pages : Pages
+  pub pages : ForkPages
   pub there : get store at.fork ≡ Some pages
   pub reached : at.block ≤ length pages
-  pub number : at.block < 32768
+  pub number : at.block < most_blocks
 
 -- a command may be done: it creates a fork that isn't there, or puts a page at a block up to the end of a fork
 abbrev pub IsTidy : Store → Op → Type 0
@@ -27,4 +28,4 @@ IsTidy store (op.Change at page) = IsReachable store at
 -- the block is below 32,768, so that the command can be written
 abbrev pub IsNumbered : Op → Type 0
 IsNumbered (op.Create fork) = Unit
-IsNumbered (op.Change at page) = at.block < 32768
+IsNumbered (op.Change at page) = at.block < most_blocks

@@ -1,5 +1,6 @@
--- The records that a history's entries are written as.
+-- The records that a history's entries are written as, and where its WAL ends.
 use Rattle.std.specs.Prelude.{ℕ, List, [], ◌∷◌, map, if◌then◌else◌}
+use Rattle.lsn_core.specs.Tip.{Tip}
 use Rattle.pg_page.specs.Header.{hole_zeroed}
 use Rattle.wal_record.specs.declared.record.Record.{Record}
 use Rattle.wal_record.specs.declared.record.Kind.{Kind}
@@ -7,8 +8,8 @@ use Rattle.wal_record.specs.declared.record.Kind.TheVariants as kind
 use Rattle.wal_record.specs.declared.record.BlockRef.{BlockRef}
 use Rattle.wal_record.specs.declared.record.Body.{Body}
 use Rattle.wal_record.specs.declared.record.Body.TheVariants.{Image}
-use Rattle.wal_record.specs.Places.{origin, start_after, record_behind}
-use Rattle.history.specs.Entry.{Edit, Put, Item, Act, Create, Change, Mark, Entry, is_own}
+use Rattle.wal_record.specs.Tips.{first_tip, tip_after, record_at_tip}
+use Rattle.history.specs.Entry.{Edit, Put, Item, Act, Create, Change, Mark, Entry, is_of_run}
 
 -- a page that is put is written as an image, with zeros in its hole
 abbrev pub body_of : Edit → Body
@@ -23,16 +24,40 @@ kind_of (Create fork) = kind.Create fork
 kind_of (Change items) = kind.Generic (map block_of_item items)
 kind_of (Mark kind) = kind
 
--- the record of an act, behind an entry that starts at prev and ends at a place
-abbrev pub record_of : ℕ → ℕ → ℕ → Act → Record
-record_of mib end prev act = record_behind (start_after mib end) prev (kind_of act)
+-- the record of an act that comes next
+abbrev pub record_of : ℕ → Tip → Act → Record
+record_of mib tip act = record_at_tip mib tip (kind_of act)
 
--- the records that a history's own entries are written as, behind an entry that starts at prev and ends at a place
-abbrev pub written : ℕ → ℕ → ℕ → List Entry → List Record
-written mib end prev [] = []
-written mib end prev (entry ∷ entries) =
-    if is_own entry then record_of mib end prev entry.act ∷ written mib (record_of mib end prev entry.act).end.0 (record_of mib end prev entry.act).start.0 entries else written mib entry.end entry.start entries
+-- the record that an entry is, with the last one before it as its link
+abbrev pub record_in_place : Tip → Entry → Record
+record_in_place tip entry = record {
+  start = record { 0 = entry.start };
+  end = record { 0 = entry.end };
+  prev = record { 0 = tip.prev };
+  xid = 0;
+  kind = kind_of entry.act;
+}
 
--- the records of a history from its beginning on
+-- the end of a WAL with one more entry, and with several more, in turn
+abbrev pub tip_past : Tip → Entry → Tip
+tip_past tip entry = tip_after tip (record_in_place tip entry)
+
+abbrev pub tip_over : Tip → List Entry → Tip
+tip_over tip [] = tip
+tip_over tip (entry ∷ entries) = tip_over (tip_past tip entry) entries
+
+-- the end of a history's WAL
+abbrev pub tip_of : ℕ → List Entry → Tip
+tip_of mib history = tip_over (first_tip mib) history
+
+-- the records that entries of a run are written as behind an end of the WAL; entries that were found are passed over
+abbrev pub written : ℕ → Tip → List Entry → List Record
+written mib tip [] = []
+written mib tip (entry ∷ entries) =
+    if is_of_run entry
+    then record_of mib tip entry.act ∷ written mib (tip_after tip (record_of mib tip entry.act)) entries
+    else written mib (tip_past tip entry) entries
+
+-- the records that a history is written as from its beginning on
 abbrev pub wal_of : ℕ → List Entry → List Record
-wal_of mib history = written mib (origin mib) 0 history
+wal_of mib history = written mib (first_tip mib) history

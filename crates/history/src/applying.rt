@@ -1,10 +1,12 @@
 //! An entry of the WAL applied to a store.
 
-ghost use Rattle.std.specs.Prelude.{◌≡◌, ◌<◌, map, Some, OnOk, OnErr};
+ghost use Rattle.std.specs.Prelude.{◌≡◌, ◌<◌, Some, OnOk, OnErr};
 ghost use Rattle.wal_record.specs.declared.record.Kind.TheVariants.{Generic};
 ghost use Rattle.wal_record.specs.Spelling.{IsWritable};
-ghost use Rattle.history.specs.Apply.{apply, apply_items, apply_item, edited};
-ghost use Rattle.history.specs.Whole.{entry_of, item_of, edit_of};
+ghost use Rattle.lsn_core.specs.Sizes.{most_blocks};
+ghost use Rattle.history.specs.Apply.{apply, edited};
+ghost use Rattle.history.specs.Whole.{entry_of, edit_of};
+ghost use Rattle.history.specs.Inside.{apply_blocks, apply_block};
 
 use crate::page_map::PageMap;
 use lsn_core::{Lsn, NoMemory};
@@ -40,10 +42,10 @@ pub fn apply(store: &mut PageMap, rec: &Record) -> Result<(), ApplyFault>
     }
 }
 
-// an entry that can be written has one block
+/// Applies the blocks of an entry, which has one where it can be written.
 fn apply_blocks(store: &mut PageMap, blocks: &[BlockRef], end: Lsn) -> Result<(), ApplyFault>
     requires { IsWritable (Generic blocks.now) }
-    ensures applied { OnOk result (apply_items end.0 store.old (map item_of blocks.now) ≡ Some store.new) }
+    ensures applied { OnOk result (apply_blocks end.0 store.old blocks.now ≡ Some store.new) }
     ensures same { OnErr result (store.new ≡ store.old) }
 {
     match blocks.first() {
@@ -52,9 +54,10 @@ fn apply_blocks(store: &mut PageMap, blocks: &[BlockRef], end: Lsn) -> Result<()
     }
 }
 
+/// Puts at a block the page that an entry leaves there.
 fn apply_block(store: &mut PageMap, block: &BlockRef, end: Lsn) -> Result<(), ApplyFault>
-    requires { block.now.at.block < 32768 }
-    ensures applied { OnOk result (apply_item end.0 store.old (item_of block.now) ≡ Some store.new) }
+    requires { block.now.at.block < most_blocks }
+    ensures applied { OnOk result (apply_block end.0 store.old block.now ≡ Some store.new) }
     ensures same { OnErr result (store.new ≡ store.old) }
 {
     let page = page_after(&block.body, end);
@@ -62,7 +65,7 @@ fn apply_block(store: &mut PageMap, block: &BlockRef, end: Lsn) -> Result<(), Ap
     Ok(())
 }
 
-// the page that the entry leaves at the block
+/// The page that an entry leaves at a block: its hole is zeros, and its LSN is the entry's end.
 fn page_after(body: &Body, end: Lsn) -> Page
     ensures { edited end.0 (edit_of body.now) ≡ Some result }
 {

@@ -40,7 +40,8 @@ impl Op {
     }
 }
 
-// the numbers of a fork's relation
+/// Reads the numbers of a fork's relation. Their clauses tell the prover that they are not 0 and
+/// fit, as a kind that can be written asks.
 fn know(fork: &ForkId)
     ensures some { (0 < fork.now.rel.db) × (0 < fork.now.rel.rel) }
     ensures fits { (fork.now.rel.db < 2 ^ 32) × (fork.now.rel.rel < 2 ^ 32) }
@@ -48,11 +49,12 @@ fn know(fork: &ForkId)
     let _ = (fork.rel.db(), fork.rel.rel());
 }
 
-// the image that a page is written as
+/// The image that a page is written as.
 fn body(page: &Page) -> Body
     ensures body { result ≡ body_of (Put page.now) }
     ensures writable { IsWritableBody result }
 {
+    // its clause tells the prover that the page's header is good
     let _ = page.bytes();
     let mut image = *page;
     image.zero_hole();

@@ -1,10 +1,13 @@
 //! A store of pages in memory.
 
-ghost use Rattle.std.specs.Prelude.{◌≡◌, ◌<◌, ◌≤◌, ◌^◌, ℕ, List, length, slice_get, Option, Some, OnOk, OnErr, IfOk};
+ghost use Rattle.std.specs.Prelude.{◌≡◌, ◌<◌, ◌≤◌, ◌^◌};
+ghost use Rattle.std.specs.Prelude.{length, slice_get, OnOk, OnErr, IfOk};
 ghost use Rattle.std.specs.FinMap.{empty, get, keys, len};
 ghost use Rattle.std.specs.Option.{option_map};
-ghost use Rattle.history.specs.Apply.{with_block, with_page, with_fork};
+ghost use Rattle.lsn_core.specs.Sizes.{most_blocks};
+ghost use Rattle.history.specs.Apply.{with_block, with_fork};
 ghost use Rattle.history.specs.Pages.{store_in, block_of, page_count};
+ghost use Rattle.history.specs.Inside.{PutsPage};
 
 use lsn_core::{BlockId, ForkId, NoMemory};
 use pg_page::zero_page;
@@ -90,7 +93,7 @@ impl PageMap {
         }
     }
 
-    // makes an empty fork, where there is none
+    /// Makes an empty fork, where there is none.
     pub(crate) fn create(&mut self, fork: &ForkId) -> Result<(), NoMemory>
         ensures made { OnOk result (self.new ≡ with_fork self.old fork.now) }
         ensures same { OnErr result (self.new ≡ self.old) }
@@ -98,22 +101,24 @@ impl PageMap {
         create_in(&mut self.forks, fork, self.alloc)
     }
 
-    // puts a page at a block; a missing fork and missing pages before it are made
+    /// Puts a page at a block; a missing fork and missing pages before it are made.
     pub(crate) fn put(&mut self, at: &BlockId, page: &[u8; 8192]) -> Result<(), NoMemory>
-        requires { at.now.block < 32768 }
-        ensures put { OnOk result (self.new ≡ with_page self.old at.now.fork at.now.block page.now) }
+        requires { at.now.block < most_blocks }
+        ensures put { OnOk result (PutsPage self.old at.now page.now self.new) }
         ensures same { OnErr result (self.new ≡ self.old) }
     {
         put_in(&mut self.forks, at, page, self.alloc)
     }
 }
 
+/// The page at a block. None exactly where there is no such block.
 fn page_at(pages: &[[u8; 8192]], block: u32) -> Option<&[u8; 8192]>
     ensures { option_map (λ page. page.now) result ≡ slice_get pages.now block }
 {
     pages.get(block as usize)
 }
 
+/// Makes an empty fork in a map, where there is none.
 fn create_in(
     forks: &mut BTreeMap<ForkId, Vec<[u8; 8192]>>,
     fork: &ForkId,
@@ -129,14 +134,15 @@ fn create_in(
     Ok(())
 }
 
+/// Puts a page at a block of a fork in a map. After a fault it is as before.
 fn put_in(
     forks: &mut BTreeMap<ForkId, Vec<[u8; 8192]>>,
     at: &BlockId,
     page: &[u8; 8192],
     alloc: Global,
 ) -> Result<(), NoMemory>
-    requires { at.now.block < 32768 }
-    ensures put { OnOk result (store_in forks.new ≡ with_page (store_in forks.old) at.now.fork at.now.block page.now) }
+    requires { at.now.block < most_blocks }
+    ensures put { OnOk result (PutsPage (store_in forks.old) at.now page.now (store_in forks.new)) }
     ensures same { OnErr result (store_in forks.new ≡ store_in forks.old) }
 {
     if let Some(pages) = forks.get_mut(&at.fork) {
@@ -148,8 +154,10 @@ fn put_in(
     Ok(())
 }
 
+/// Puts a page at a block; missing pages before it are zero pages. After a fault the pages are as
+/// before.
 fn put_block(pages: &mut Vec<[u8; 8192]>, block: u32, page: &[u8; 8192]) -> Result<(), NoMemory>
-    requires { block < 32768 }
+    requires { block < most_blocks }
     ensures put { OnOk result (pages.new.items ≡ with_block pages.old.items block page.now) }
     ensures same { OnErr result (pages.new.items ≡ pages.old.items) }
 {

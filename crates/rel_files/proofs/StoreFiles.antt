@@ -18,11 +18,12 @@ use Rattle.byte_words.specs.Pieces.{overwritten, zero_filled}
 use Rattle.lsn_core.specs.declared.ids.ForkId.{ForkId}
 use Rattle.lsn_core.specs.Files.{Files}
 use Rattle.lsn_core.specs.Names.{fork_path_bytes}
-use Rattle.lsn_core.specs.Store.{Store, Pages, fork_cmp, segment_count, segment_content, fork_files, with_files}
+use Rattle.lsn_core.specs.Store.{Store, ForkPages, fork_cmp, segment_count, segment_content, fork_files, with_files}
 use Rattle.lsn_core.proofs.ForkOrder.{fork_cmp_total}
 use Rattle.vault.specs.Area.{bytes_of, file_written, after_write, cut_to, after_cut}
 use Rattle.vault.proofs.Written.{file_written-some}
 use Rattle.history.specs.Apply.{pages_of}
+use Rattle.rel_files.specs.Inside.{joined_pages}
 
 -- One step after others, where the area tells its files.
 
@@ -85,12 +86,8 @@ page_behind m name bytes page at e some =
     ∙ insert_twice m name bytes (file_written bytes at page)
     ∙ ap (insert m name) (written_behind bytes page at e some)
 
--- the bytes of so many pages from a block on
-abbrev pub joined_pages : Pages → ℕ → ℕ → List ℕ
-joined_pages pages first count = flat_map (λ page. page) (take count (drop first pages))
-
 -- one page more
-pub pages_more : (pages : Pages) (first block : ℕ) → first ≤ block → block < length pages → joined_pages pages first (block + 1 - first) ≡ joined_pages pages first (block - first) ++ get_or pages block []
+pub pages_more : (pages : ForkPages) (first block : ℕ) → first ≤ block → block < length pages → joined_pages pages first (block + 1 - first) ≡ joined_pages pages first (block - first) ++ get_or pages block []
 pages_more pages first block le lt =
     let next : block + 1 - first ≡ block - first + 1 = omega arith in
     let here : first + (block - first) ≡ block = omega arith in
@@ -106,10 +103,10 @@ with_files-append m [] ys = refl
 with_files-append m (x ∷ xs) ys = with_files-append (insert m x.0 x.1) xs ys
 
 -- the first files of a fork
-abbrev pub first_files : ℕ → ForkId → Pages → ℕ → List (List ℕ × List ℕ)
+abbrev pub first_files : ℕ → ForkId → ForkPages → ℕ → List (List ℕ × List ℕ)
 first_files relseg fork pages count = map (λ seg. (fork_path_bytes fork seg false, segment_content relseg pages seg)) (range_with_len 0 count)
 
-pub file_more : (relseg : ℕ) (fork : ForkId) (pages : Pages) (seg : ℕ) (m : Files) → insert (with_files m (first_files relseg fork pages seg)) (fork_path_bytes fork seg false) (segment_content relseg pages seg) ≡ with_files m (first_files relseg fork pages (seg + 1))
+pub file_more : (relseg : ℕ) (fork : ForkId) (pages : ForkPages) (seg : ℕ) (m : Files) → insert (with_files m (first_files relseg fork pages seg)) (fork_path_bytes fork seg false) (segment_content relseg pages seg) ≡ with_files m (first_files relseg fork pages (seg + 1))
 file_more relseg fork pages seg m =
     sym (ap (with_files m) (map-range_with_len_more (λ seg. (fork_path_bytes fork seg false, segment_content relseg pages seg)) 0 seg seg (omega arith)) ∙ with_files-append m (first_files relseg fork pages seg) _)
 
@@ -150,14 +147,14 @@ less Equal p = absurd p
 less Greater p = absurd p
 
 abbrev Forks : Type 0
-Forks = List (ForkId × Pages)
+Forks = List (ForkId × ForkPages)
 
 -- an entry with what is found at its key
-abbrev read_in : Forks → ForkId × Pages → ForkId × Pages
+abbrev read_in : Forks → ForkId × ForkPages → ForkId × ForkPages
 read_in es x = (x.0, unwrap_or (find fork_cmp x.0 es) [])
 
 -- an entry before all these hides none of them
-skipped : (e : ForkId × Pages) (es fs : Forks) → T (below_all fork_cmp e.0 fs) → map (read_in (e ∷ es)) fs ≡ map (read_in es) fs
+skipped : (e : ForkId × ForkPages) (es fs : Forks) → T (below_all fork_cmp e.0 fs) → map (read_in (e ∷ es)) fs ≡ map (read_in es) fs
 skipped e es [] h = refl
 skipped e es (x ∷ fs) h =
     let apart : eq_by_cmp fork_cmp x.0 e.0 ≡ false = (eq_by_cmp_equiv fork_cmp_total).symm x.0 e.0 ∙ less (fork_cmp e.0 x.0) (left _ _ h) in
@@ -173,8 +170,8 @@ found (e ∷ es) h =
 -- at its forks a store has the pages of its entries
 pub all_files : (relseg : ℕ) (store : Store) → files_at relseg store (keys store) ≡ flat_map (fork_files relseg) (entries store)
 all_files relseg store =
-    flat_map-map (λ (fork : ForkId). fork_files relseg (fork, pages_of store fork)) (λ (e : ForkId × Pages). e.0) (entries store)
-    ∙ sym (flat_map-map (fork_files relseg) (λ (e : ForkId × Pages). (e.0, pages_of store e.0)) (entries store))
+    flat_map-map (λ (fork : ForkId). fork_files relseg (fork, pages_of store fork)) (λ (e : ForkId × ForkPages). e.0) (entries store)
+    ∙ sym (flat_map-map (fork_files relseg) (λ (e : ForkId × ForkPages). (e.0, pages_of store e.0)) (entries store))
     ∙ ap (flat_map (fork_files relseg)) (
-    ap (λ (g : ForkId → Option Pages). map (λ (e : ForkId × Pages). (e.0, unwrap_or (g e.0) [])) (entries store)) (λ i q. get-entries store q i)
+    ap (λ (g : ForkId → Option ForkPages). map (λ (e : ForkId × ForkPages). (e.0, unwrap_or (g e.0) [])) (entries store)) (λ i q. get-entries store q i)
     ∙ found (entries store) (entries_sorted store))

@@ -1,14 +1,12 @@
 //! The files of a store of pages, written into an area.
 
-ghost use Rattle.std.specs.Prelude.{◌≡◌, ◌-◌, ◌^◌, ◌<◌, ◌≤◌, false, [], length, get_or, take, drop, IfOk, OnOk};
-ghost use Rattle.std.specs.Option.{option_map};
-ghost use Rattle.std.specs.List.{flat_map};
-ghost use Rattle.std.specs.FinMap.{entries, insert};
+ghost use Rattle.std.specs.Prelude.{◌≡◌, ◌^◌, ◌<◌, ◌≤◌};
+ghost use Rattle.std.specs.Prelude.{[], length, get_or, IfOk, OnOk};
 ghost use Rattle.lsn_core.specs.Causes.{HasCause};
-ghost use Rattle.lsn_core.specs.Names.{fork_path_bytes};
-ghost use Rattle.lsn_core.specs.Store.{with_files, fork_files, segment_content};
-ghost use Rattle.vault.specs.Area.{after_write};
 ghost use Rattle.history.specs.Apply.{pages_of};
+ghost use Rattle.rel_files.specs.Writes.{WritesStore};
+ghost use Rattle.rel_files.specs.Inside.{WritesFork, WritesSegment, WritesBlocks};
+ghost use Rattle.rel_files.specs.Inside.{MakesFile, WritesAt};
 
 use history::PageMap;
 use lsn_core::{AreaFault, BlockId, ForkId, NoMemory, fork_path};
@@ -25,7 +23,7 @@ pub fn write_store<V: Vault>(
     relseg: u32,
 ) -> Result<(), AreaFault>
     requires { 0 < relseg }
-    ensures written { OnOk result (V.files out.new ≡ option_map (λ m. with_files m (flat_map (fork_files relseg) (entries store.now))) (V.files out.old)) }
+    ensures written { OnOk result (WritesStore V.Vault relseg store.now out.old out.new) }
     ensures cause { HasCause (V.faults out.old) (V.faults out.new) result }
 {
     let forks = store.forks(alloc)?;
@@ -35,8 +33,8 @@ pub fn write_store<V: Vault>(
     Ok(())
 }
 
-// Writes the files of a fork: its first one always, and segment k where it has more than
-// k * `relseg` blocks.
+/// Writes the files of a fork: its first one always, and segment k where it has more than
+/// k * `relseg` blocks.
 fn write_fork<V: Vault>(
     alloc: Global,
     out: &mut V,
@@ -45,7 +43,7 @@ fn write_fork<V: Vault>(
     relseg: u32,
 ) -> Result<(), AreaFault>
     requires { 0 < relseg }
-    ensures written { OnOk result (V.files out.new ≡ option_map (λ m. with_files m (fork_files relseg (fork, pages_of store.now fork))) (V.files out.old)) }
+    ensures written { OnOk result (WritesFork V.Vault relseg store.now fork out.old out.new) }
     ensures cause { HasCause (V.faults out.old) (V.faults out.new) result }
 {
     let segments = block_count(store, &fork)?.div_ceil(relseg).max(1);
@@ -55,7 +53,7 @@ fn write_fork<V: Vault>(
     Ok(())
 }
 
-// Writes a segment file of a fork.
+/// Writes a segment file of a fork.
 fn write_segment<V: Vault>(
     alloc: Global,
     out: &mut V,
@@ -64,7 +62,7 @@ fn write_segment<V: Vault>(
     seg: u32,
     relseg: u32,
 ) -> Result<(), AreaFault>
-    ensures written { OnOk result (V.files out.new ≡ option_map (λ m. insert m (fork_path_bytes fork seg false) (segment_content relseg (pages_of store.now fork) seg)) (V.files out.old)) }
+    ensures made { OnOk result (WritesSegment V.Vault relseg store.now fork seg out.old out.new) }
     ensures cause { HasCause (V.faults out.old) (V.faults out.new) result }
 {
     let blocks = u64::from(block_count(store, &fork)?);
@@ -74,8 +72,8 @@ fn write_segment<V: Vault>(
     write_pages(out, path.as_bytes(), store, &fork, first, end)
 }
 
-// Makes a file of the blocks of a fork from `first` to before `end`, behind each other; of none
-// where `first` is no less.
+/// Makes a file of the blocks of a fork from `first` to before `end`, behind each other; of none
+/// where `first` is no less.
 fn write_pages<V: Vault>(
     out: &mut V,
     path: &[u8],
@@ -86,7 +84,8 @@ fn write_pages<V: Vault>(
 ) -> Result<(), AreaFault>
     requires there { end ≤ length (pages_of store.now fork.now) }
     requires counted { end < 2 ^ 32 }
-    ensures written { OnOk result (V.files out.new ≡ option_map (λ m. insert m path.now (flat_map (λ page. page) (take (end - first) (drop first (pages_of store.now fork.now))))) (V.files out.old)) }
+    ensures made { OnOk result
+        (WritesBlocks V.Vault path.now store.now fork.now first end out.old out.new) }
     ensures cause { HasCause (V.faults out.old) (V.faults out.new) result }
 {
     start_file(out, path)?;
@@ -97,17 +96,17 @@ fn write_pages<V: Vault>(
     Ok(())
 }
 
-// Makes a file empty, whatever stood there: the cut takes the bytes of one that was there, and the
-// write of no bytes makes one that was not.
+/// Makes a file empty, whatever stood there: the cut takes the bytes of one that was there, and the
+/// write of no bytes makes one that was not.
 fn start_file<V: Vault>(out: &mut V, path: &[u8]) -> Result<(), AreaFault>
-    ensures made { OnOk result (V.files out.new ≡ option_map (λ m. insert m path.now []) (V.files out.old)) }
+    ensures made { OnOk result (MakesFile V.Vault path.now [] out.old out.new) }
     ensures cause { HasCause (V.faults out.old) (V.faults out.new) result }
 {
     out.cut(path, 0)?;
     out.write_at(path, 0, &[])
 }
 
-// Writes a page at a place of a file.
+/// Writes a page at a place of a file.
 fn write_page<V: Vault>(
     out: &mut V,
     path: &[u8],
@@ -115,14 +114,14 @@ fn write_page<V: Vault>(
     page: &[u8; 8192],
 ) -> Result<(), AreaFault>
     ensures size { length page.now ≡ 8192 }
-    ensures written { OnOk result (V.files out.new ≡ option_map (after_write path.now at page.now) (V.files out.old)) }
+    ensures written { OnOk result (WritesAt V.Vault path.now at page.now out.old out.new) }
     ensures cause { HasCause (V.faults out.old) (V.faults out.new) result }
 {
     out.write_at(path, at, page)
 }
 
-// How many blocks a fork has, none where it is missing. `NoMemory` where a u32 doesn't count them,
-// which no memory holds.
+/// How many blocks a fork has, none where it is missing. `NoMemory` where a u32 doesn't count them,
+/// which no memory holds.
 fn block_count(store: &PageMap, fork: &ForkId) -> Result<u32, NoMemory>
     ensures { IfOk result (λ count. count ≡ length (pages_of store.now fork.now)) }
 {
@@ -130,7 +129,7 @@ fn block_count(store: &PageMap, fork: &ForkId) -> Result<u32, NoMemory>
     u32::try_from(blocks).map_err(|_| NoMemory)
 }
 
-// The page at a block that a fork has.
+/// The page at a block that a fork has.
 fn page_of<'a>(store: &'a PageMap, fork: &ForkId, block: u32) -> &'a [u8; 8192]
     requires { block < length (pages_of store.now fork.now) }
     ensures { result.now ≡ get_or (pages_of store.now fork.now) block [] }

@@ -1,3 +1,4 @@
+pub mod Causing
 pub mod Zeros
 pub mod Entries
 pub mod Steps

@@ -2,7 +2,7 @@
 
 ghost use Rattle.std.specs.Prelude.{◌≡◌};
 ghost use Rattle.wal_reader.specs.declared.fault.WalFault.TheVariants as wal;
-ghost use Rattle.wal_reader.specs.Cursor.{area_fault};
+ghost use Rattle.wal_reader.specs.Causes.{area_fault};
 
 use lsn_core::{AreaFault, Lsn, NoMemory};
 

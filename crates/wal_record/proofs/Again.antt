@@ -16,7 +16,7 @@ use Rattle.wal_record.specs.declared.fields.Extent.{Extent}
 use Rattle.wal_record.specs.declared.fields.Announced.{Announced}
 use Rattle.wal_record.specs.Heads.{rel_bytes}
 use Rattle.wal_record.specs.Spelling.{fork_number, rel_name, body_of, IsWritable}
-use Rattle.wal_record.specs.Reading.{front_at, main_at, rel_at, kind_numbered, kind_flagged, shutdown_at, create_at, extent_at, announced_at}
+use Rattle.wal_record.specs.Decoding.{front_at, main_at, rel_at, kind_numbered, kind_flagged, shutdown_at, create_at, extent_at, announced_at}
 
 -- a test that passes
 pub passes : {A : Type 0} (b : Bool) (x y : A) → b ≡ true → cond b x y ≡ x

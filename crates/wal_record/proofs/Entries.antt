@@ -26,7 +26,7 @@ use Rattle.wal_record.specs.declared.fields.Extent.{Extent}
 use Rattle.wal_record.specs.declared.fields.Announced.{Announced}
 use Rattle.wal_record.specs.Heads.{rel_bytes}
 use Rattle.wal_record.specs.Spelling.{fork_number, rel_name, manager_of, info_of, body_of, total_of, spelling, IsWritable, IsWritableBlock, IsEntry}
-use Rattle.wal_record.specs.Reading.{Answers, extent_of, block_at, kind_at, is_linked, record_at}
+use Rattle.wal_record.specs.Decoding.{Answers, extent_of, block_at, kind_at, is_linked, record_at}
 use Rattle.wal_record.proofs.Taken.{passed_on, took, FrontTaken, front_takes, shutdown_takes, create_takes, announced_takes}
 use Rattle.wal_record.proofs.Images.{page_takes, page_again, image_fits}
 use Rattle.wal_record.proofs.Again.{passes, takes_again, front_again, shutdown_again, create_again, announced_again}

@@ -7,7 +7,7 @@ use Rattle.pg_page.specs.Image.{restored, image_of}
 use Rattle.pg_page.proofs.ImageLaws.{restored_image, restored_whole, hole_zeroed-None, image_of-Some, image_of-None, length-image_of-Some, length-image_of-None, hole_bounds, restored_zeroed, restored_left_out}
 use Rattle.wal_record.specs.declared.fields.Extent.{Extent}
 use Rattle.wal_record.specs.Spelling.{image_head_of}
-use Rattle.wal_record.specs.Reading.{is_good, good_page, extent_of, is_same_extent, page_at}
+use Rattle.wal_record.specs.Decoding.{is_good, good_page, extent_of, is_same_extent, page_at}
 use Rattle.wal_record.proofs.Taken.{passed, passed_on, took}
 
 pub good_told : (page : List ℕ) → is_good page ≡ true → IsGood page

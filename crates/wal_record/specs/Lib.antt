@@ -1,4 +1,5 @@
 pub mod Heads
 pub mod Spelling
-pub mod Reading
+pub mod Decoding
 pub mod Places
+pub mod Tips

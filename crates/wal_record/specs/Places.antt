@@ -1,8 +1,10 @@
 -- Where entries stand on the first page of the WAL (PostgreSQL manual, WAL Internals).
 use Rattle.std.specs.Prelude.{ℕ, ◌+◌, ◌-◌, ◌*◌, ◌/◌, List, ◌++◌, ◌==◌, if◌then◌else◌}
 use Rattle.std.specs.Int.{w16, w32, w64, to_le_bytes}
+use Rattle.byte_words.specs.Numbers.{aligned}
 use Rattle.byte_words.specs.Pieces.{zero_filled}
 use Rattle.lsn_core.specs.Segment.{segment_bytes}
+use Rattle.lsn_core.specs.Sizes.{long_head, page_magic, page_size}
 use Rattle.lsn_core.specs.declared.lsn.Place.{Place}
 use Rattle.wal_record.specs.declared.record.Record.{Record}
 use Rattle.wal_record.specs.declared.record.Kind.{Kind}
@@ -12,17 +14,9 @@ use Rattle.wal_record.specs.Spelling.{total_of, sealed}
 abbrev pub origin : ℕ → ℕ
 origin mib = segment_bytes mib
 
--- how many bytes a long page header has
-abbrev pub long_head : ℕ
-long_head = 40
-
 -- the first entry starts behind the long header of the first page
 abbrev pub first_start : ℕ → ℕ
 first_start mib = origin mib + long_head
-
--- a place rounded up to a multiple of 8
-abbrev pub aligned : ℕ → ℕ
-aligned at = (at + 7) / 8 * 8
 
 -- an entry of so many bytes from a start on ends at the next multiple of 8
 abbrev pub place_of : ℕ → ℕ → Place
@@ -45,5 +39,5 @@ written_entry r = zero_filled (sealed r) (r.end.0 - r.start.0)
 -- of a segment and a page
 unfoldable pub page_head : ℕ → ℕ → List ℕ
 page_head mib system =
-    to_le_bytes w16 0xD116 ++ (to_le_bytes w16 2 ++ (to_le_bytes w32 1 ++ (to_le_bytes w64 (origin mib) ++ (to_le_bytes w32 0 ++ (to_le_bytes w32 0
-    ++ (to_le_bytes w64 system ++ (to_le_bytes w32 (segment_bytes mib) ++ to_le_bytes w32 8192)))))))
+    to_le_bytes w16 page_magic ++ (to_le_bytes w16 2 ++ (to_le_bytes w32 1 ++ (to_le_bytes w64 (origin mib) ++ (to_le_bytes w32 0 ++ (to_le_bytes w32 0
+    ++ (to_le_bytes w64 system ++ (to_le_bytes w32 (segment_bytes mib) ++ to_le_bytes w32 page_size)))))))

@@ -6,7 +6,7 @@ ghost use Rattle.wal_record.specs.declared.record.Record.{Record};
 ghost use Rattle.wal_record.specs.declared.record.Kind.TheVariants.{Generic};
 ghost use Rattle.wal_record.specs.declared.record.RecordFault.TheVariants.{Form};
 ghost use Rattle.wal_record.specs.Spelling.{IsEntry};
-ghost use Rattle.wal_record.specs.Reading.{Answers, shutdown_at, create_at, good_page, is_same_extent, page_at, block_at, kind_at, is_linked, record_at};
+ghost use Rattle.wal_record.specs.Decoding.{Answers, shutdown_at, create_at, good_page, is_same_extent, page_at, block_at, kind_at, is_linked, record_at};
 
 use crate::fields::{Extent, announced_at, extent_of, front_of, kind_numbered, main_of, rel_of};
 use crate::record::{BlockRef, Blocks, Body, Kind, Record, RecordFault};
@@ -31,7 +31,7 @@ pub fn decode_record(
 }
 
 // as the reading function says
-#[tactic(auto, unfolding(crate::specs::Reading::record_at))]
+#[tactic(auto, unfolding(crate::specs::Decoding::record_at))]
 fn read(alloc: Global, bytes: &[u8], place: Place, prev: Option<Lsn>) -> Result<Record, RecordFault>
     ensures { Answers (record_at place prev bytes.now) result }
 {
@@ -61,7 +61,7 @@ fn is_linked(prev: Option<Lsn>, at: u64) -> bool
 }
 
 // what an entry of this manager and info says
-#[tactic(auto, unfolding(crate::specs::Reading::kind_at))]
+#[tactic(auto, unfolding(crate::specs::Decoding::kind_at))]
 fn kind_of(alloc: Global, manager: u8, info: u8, bytes: &[u8]) -> Result<Kind, RecordFault>
     ensures { Answers (kind_at manager info bytes.now) result }
 {
@@ -84,7 +84,7 @@ fn one_block(alloc: Global, bytes: &[u8]) -> Result<Kind, RecordFault>
     Ok(Kind::Generic(Blocks::one(alloc, block.at, block.body)?))
 }
 
-#[tactic(auto, unfolding(crate::specs::Reading::shutdown_at))]
+#[tactic(auto, unfolding(crate::specs::Decoding::shutdown_at))]
 fn shutdown_of(bytes: &[u8]) -> Option<Lsn>
     ensures { result ≡ shutdown_at bytes.now }
 {
@@ -100,7 +100,7 @@ fn shutdown_of(bytes: &[u8]) -> Option<Lsn>
     }
 }
 
-#[tactic(auto, unfolding(crate::specs::Reading::create_at))]
+#[tactic(auto, unfolding(crate::specs::Decoding::create_at))]
 fn create_of(bytes: &[u8]) -> Option<ForkId>
     ensures { result ≡ create_at bytes.now }
 {
@@ -117,7 +117,7 @@ fn create_of(bytes: &[u8]) -> Option<ForkId>
     }
 }
 
-#[tactic(auto, unfolding(crate::specs::Reading::block_at))]
+#[tactic(auto, unfolding(crate::specs::Decoding::block_at))]
 fn block_of(bytes: &[u8]) -> Option<BlockRef>
     ensures { result ≡ block_at bytes.now }
 {
@@ -132,7 +132,7 @@ fn block_of(bytes: &[u8]) -> Option<BlockRef>
 }
 
 // the page of an image, where what was left out is just the page's hole
-#[tactic(auto, unfolding(crate::specs::Reading::page_at))]
+#[tactic(auto, unfolding(crate::specs::Decoding::page_at))]
 fn page_of(extent: Extent, image: &[u8]) -> Option<Page>
     ensures { result ≡ page_at extent image.now }
 {
@@ -147,7 +147,7 @@ fn page_of(extent: Extent, image: &[u8]) -> Option<Page>
     }
 }
 
-#[tactic(auto, unfolding(crate::specs::Reading::good_page))]
+#[tactic(auto, unfolding(crate::specs::Decoding::good_page))]
 fn good_page(bytes: &[u8; 8192]) -> Option<Page>
     ensures { result ≡ good_page bytes.now }
 {

@@ -3,7 +3,7 @@
 ghost use Rattle.std.specs.Prelude.{◌≡◌};
 ghost use Rattle.std.specs.Option.{option_map};
 ghost use Rattle.pg_page.specs.Header.{hole_of};
-ghost use Rattle.wal_record.specs.Reading.{extent_of, front_at, main_at, rel_at, kind_numbered, kind_flagged, extent_at, announced_at};
+ghost use Rattle.wal_record.specs.Decoding.{extent_of, front_at, main_at, rel_at, kind_numbered, kind_flagged, extent_at, announced_at};
 
 use byte_words::{u8_at, u16_at, u32_at, u64_at};
 use lsn_core::{BlockId, ForkId, ForkKind, Rel};
@@ -35,7 +35,7 @@ pub struct Announced {
 }
 
 /// The header, and the bytes after it.
-#[tactic(auto, unfolding(crate::specs::Reading::front_at))]
+#[tactic(auto, unfolding(crate::specs::Decoding::front_at))]
 pub fn front_of(bytes: &[u8]) -> Option<(Front, &[u8])>
     ensures { option_map (λ x. (x.0, x.1.now)) result ≡ front_at bytes.now }
 {
@@ -62,7 +62,7 @@ pub fn front_of(bytes: &[u8]) -> Option<(Front, &[u8])>
 }
 
 /// Main data of so many bytes, behind its announcement by one byte of length.
-#[tactic(auto, unfolding(crate::specs::Reading::main_at))]
+#[tactic(auto, unfolding(crate::specs::Decoding::main_at))]
 pub fn main_of(size: u8, bytes: &[u8]) -> Option<&[u8]>
     ensures { option_map (λ x. x.now) result ≡ main_at size bytes.now }
 {
@@ -76,7 +76,7 @@ pub fn main_of(size: u8, bytes: &[u8]) -> Option<&[u8]>
 }
 
 /// A relation of tablespace 1663, and the bytes after it.
-#[tactic(auto, unfolding(crate::specs::Reading::rel_at))]
+#[tactic(auto, unfolding(crate::specs::Decoding::rel_at))]
 pub fn rel_of(bytes: &[u8]) -> Option<(Rel, &[u8])>
     ensures { option_map (λ x. (x.0, x.1.now)) result ≡ rel_at bytes.now }
 {
@@ -112,7 +112,7 @@ pub fn kind_flagged(flags: u8) -> Option<ForkKind>
 }
 
 /// An image's extent, and the bytes after it.
-#[tactic(auto, unfolding(crate::specs::Reading::extent_at))]
+#[tactic(auto, unfolding(crate::specs::Decoding::extent_at))]
 pub fn extent_at(bytes: &[u8]) -> Option<(Extent, &[u8])>
     ensures { option_map (λ x. (x.0, x.1.now)) result ≡ extent_at bytes.now }
 {
@@ -123,7 +123,7 @@ pub fn extent_at(bytes: &[u8]) -> Option<(Extent, &[u8])>
 }
 
 /// The announcement of the one block of an entry, and the bytes after it.
-#[tactic(auto, unfolding(crate::specs::Reading::announced_at))]
+#[tactic(auto, unfolding(crate::specs::Decoding::announced_at))]
 pub fn announced_at(bytes: &[u8]) -> Option<(Announced, &[u8])>
     ensures { option_map (λ x. (x.0, x.1.now)) result ≡ announced_at bytes.now }
 {

@@ -5,8 +5,10 @@
 mod decode;
 mod encode;
 mod fields;
+mod places;
 mod record;
 
 pub use decode::decode_record;
 pub use encode::encode_record;
+pub use places::{end_of, first_tip, start_after, tip_after, wal_limit};
 pub use record::{BlockRef, Blocks, Body, Kind, Record, RecordFault};

@@ -14,7 +14,7 @@ loop-seg-preserved g c =
     let fork = c.args.fork in
     record {
       files = told_step (λ m. with_files m (first_files relseg fork pages seg)) (λ m. insert m (fork_path_bytes fork seg false) (segment_content relseg pages seg)) (λ m. with_files m (first_files relseg fork pages (seg + 1)))
-          (g.V.Vault.files c.args.out.now) (g.V.Vault.files c.loop-seg.out) (g.V.Vault.files c.write_segment.new.out) c.loop-seg.invariant.files c.in_ok-write_segment.ensures.written (file_more relseg fork pages seg);
+          (g.V.Vault.files c.args.out.now) (g.V.Vault.files c.loop-seg.out) (g.V.Vault.files c.write_segment.new.out) c.loop-seg.invariant.files c.in_ok-write_segment.ensures.made (file_more relseg fork pages seg);
       later = omega (arith, c.loop-seg.invariant.later, c.in_ok-write_segment.ensures.cause.later);
     }
 

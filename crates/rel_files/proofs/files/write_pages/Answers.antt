@@ -2,7 +2,8 @@ use Rattle.std.proofs.Common.{◌≡◌, ◌+◌, ◌-◌, ◌*◌, ◌≤◌, �
 use Rattle.std.specs.FinMap.{insert}
 use Rattle.history.specs.Apply.{pages_of}
 use Rattle.vault.specs.Area.{after_write}
-use Rattle.rel_files.proofs.StoreFiles.{told_step, told_same, joined_pages, page_behind, pages_more}
+use Rattle.rel_files.specs.Inside.{joined_pages}
+use Rattle.rel_files.proofs.StoreFiles.{told_step, told_same, page_behind, pages_more}
 use Rattle.rel_files.proofs.files.write_pages.Goals as goal
 
 pub loop-block-preserved : goal.loop-block-preserved
@@ -24,8 +25,8 @@ loop-block-preserved g c =
       later = omega (arith, c.loop-block.invariant.later, c.in_ok-write_page.ensures.cause.later);
     }
 
-pub returns-clause-written : goal.returns-clause-written
-returns-clause-written g c =
+pub returns-clause-made : goal.returns-clause-made
+returns-clause-made g c =
     let pages = pages_of c.args.store.now c.args.fork.now in
     let path = c.args.path.now in
     let start = c.args.first in
