@@ -1,7 +1,6 @@
--- Texts cut at bytes: into lines, into words, and in two.
-use Rattle.std.specs.Prelude.{ℕ, ◌+◌, Bool, List, [], ◌∷◌, length, take, drop, Option, nat_le, nat_lt, ◌==◌, ◌&&◌, ◌||◌, if◌then◌else◌}
-use Rattle.std.specs.Option.{option_map}
-use Rattle.std.specs.List.{list_all, position, filter}
+-- Texts cut at bytes, into lines and into words; and what these may hold.
+use Rattle.std.specs.Prelude.{ℕ, Bool, List, [], ◌∷◌, length, nat_le, nat_lt, ◌==◌, ◌&&◌, ◌||◌, if◌then◌else◌}
+use Rattle.std.specs.List.{list_all, filter}
 
 -- a byte before the first of some pieces
 abbrev pub first_with : ℕ → List (List ℕ) → List (List ℕ)
@@ -29,10 +28,6 @@ lines_of bytes = pieces_of is_feed bytes
 -- the words of a line, between spaces and tabs
 abbrev pub words_of : List ℕ → List (List ℕ)
 words_of line = filter has_bytes (pieces_of is_blank line)
-
--- what stands before and behind the first such byte
-abbrev pub cut_at : ℕ → List ℕ → Option (List ℕ × List ℕ)
-cut_at byte text = option_map (λ i. (take i text, drop (i + 1) text)) (position (λ b. b == byte) text)
 
 -- a byte that a line may hold: printable ASCII or a tab
 abbrev pub is_allowed : ℕ → Bool

@@ -1,7 +1,9 @@
 //! A list of bytes with a name or a line of text in it.
 
-ghost use Rattle.std.specs.Prelude.{◌≡◌};
+ghost use Rattle.std.specs.Prelude.{◌≡◌, IfOk};
 
+use crate::fault::NoMemory;
+use std::alloc::Global;
 use std::marker::Model;
 
 /// A list of bytes, as names of files and areas are. Contracts see the list.
@@ -24,6 +26,15 @@ impl Text {
         ensures { result ≡ bytes.items }
     {
         Text { bytes }
+    }
+
+    /// A copy of these bytes as a text.
+    pub fn from_slice(alloc: Global, bytes: &[u8]) -> Result<Text, NoMemory>
+        ensures { IfOk result (λ t. t ≡ bytes.now) }
+    {
+        Ok(Text {
+            bytes: Vec::from_slice(alloc, bytes)?,
+        })
     }
 
     /// The bytes as a vector again. Takes no memory.

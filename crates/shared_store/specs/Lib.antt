@@ -1,2 +1,5 @@
+pub mod State
+pub mod Refusals
 pub mod Insert
 pub mod Begin
+pub mod Inside

@@ -1,81 +1,59 @@
 //! A command inserted into a store.
 
-ghost use Rattle.std.specs.Prelude.{◌≡◌, ◌+◌, ◌<◌, ◌≤◌, Some, IfOk, IfErr, OnOk, OnErr};
-ghost use Rattle.wal_record.specs.Places.{origin};
-ghost use Rattle.wal_writer.specs.Log.{appended};
-ghost use Rattle.history.specs.Apply.{apply_act};
-ghost use Rattle.history.specs.Op.{act_of_op, IsNumbered};
-ghost use Rattle.shared_store.specs.Insert.{state, op_record, HasNoRoom, InsertAnswer};
+ghost use Rattle.std.specs.Prelude.{◌≡◌};
+ghost use Rattle.history.specs.Op.{IsTidy};
+ghost use Rattle.shared_store.specs.State.{state_of};
+ghost use Rattle.shared_store.specs.Insert.{InsertAnswer};
 
 use crate::fault::{InsertFault, Receipt};
 use crate::judge::judge;
-use history::{Op, PageMap, apply};
+use crate::store::Store;
+use history::{Op, apply};
 use lsn_core::Place;
 use std::alloc::Global;
 use vault::Vault;
-use wal_writer::{AppendFault, WalState};
+use wal_writer::AppendFault;
 
-/// Inserts a command into the parts of a store.
-pub fn insert_into<V: Vault>(
-    alloc: Global,
-    wal: &mut WalState<V>,
-    pages: &mut PageMap,
-    count: &mut u64,
-    op: &Op,
-) -> Result<Receipt, InsertFault>
-    requires { count.old ≤ wal.old.tail.end }
-    ensures answer { InsertAnswer op.now (state wal.old.tail pages.old count.old) (state wal.new.tail pages.new count.new) result }
-    ensures counted { count.new ≤ wal.new.tail.end }
-    ensures area { wal.new.area ≡ wal.old.area }
-{
-    if let Err(fault) = judge(pages, *count, op) {
-        return Err(fault);
-    }
-    match write(alloc, wal, pages, *count, op) {
-        Ok(place) => {
-            let number = *count;
-            *count = number + 1;
-            Ok(Receipt { number, place })
+impl<V: Vault> Store<V> {
+    /// Inserts a command: judges it against the store, appends its entry to the WAL, and changes
+    /// the pages. The entry isn't durable before a flush. A refusal changes nothing.
+    pub fn insert(&mut self, alloc: Global, op: &Op) -> Result<Receipt, InsertFault>
+        ensures answer { InsertAnswer op.now (state_of self.old) (state_of self.new) result }
+        ensures area { self.new.wal.area ≡ self.old.wal.area }
+    {
+        let count = self.wal.tip().count;
+        if let Err(fault) = judge(&self.pages, count, op) {
+            return Err(fault);
         }
-        Err(fault) => Err(fault),
+        self.write(alloc, op)
     }
-}
 
-/// Appends the entry of a command to the WAL, and applies it to the pages. Where memory runs out
-/// in between, the WAL goes back.
-fn write<V: Vault>(
-    alloc: Global,
-    wal: &mut WalState<V>,
-    pages: &mut PageMap,
-    count: u64,
-    op: &Op,
-) -> Result<Place, InsertFault>
-    requires { IsNumbered op.now }
-    ensures on_page { OnOk result ((op_record wal.old.tail op.now).end.0 ≤ origin wal.old.tail.mib + 8192) }
-    ensures start { IfOk result (λ place. place.start ≡ (op_record wal.old.tail op.now).start) }
-    ensures end { IfOk result (λ place. place.end ≡ (op_record wal.old.tail op.now).end) }
-    ensures log { OnOk result (wal.new.tail ≡ appended wal.old.tail (op_record wal.old.tail op.now)) }
-    ensures pages { OnOk result (apply_act (op_record wal.old.tail op.now).end.0 pages.old (act_of_op op.now) ≡ Some pages.new) }
-    ensures refused { IfErr result (λ fault. HasNoRoom wal.old.tail count op.now fault) }
-    ensures same_log { OnErr result (wal.new.tail ≡ wal.old.tail) }
-    ensures same_pages { OnErr result (pages.new ≡ pages.old) }
-    ensures area { wal.new.area ≡ wal.old.area }
-{
-    let Ok(kind) = op.kind(alloc) else {
-        return Err(InsertFault::NoMemory);
-    };
-    let tip = wal.tip();
-    let record = match wal.append(alloc, kind) {
-        Ok(record) => record,
-        Err(AppendFault::WalFull) => return Err(InsertFault::WalFull(count)),
-        Err(AppendFault::NoMemory) => return Err(InsertFault::NoMemory),
-    };
-    if apply(pages, &record).is_err() {
-        wal.rewind(tip);
-        return Err(InsertFault::NoMemory);
+    /// Appends the entry of a command that may be done to the WAL, and applies it to the pages.
+    /// Where memory runs out in between, the WAL goes back.
+    fn write(&mut self, alloc: Global, op: &Op) -> Result<Receipt, InsertFault>
+        requires { IsTidy self.old.pages op.now }
+        ensures answer { InsertAnswer op.now (state_of self.old) (state_of self.new) result }
+        ensures area { self.new.wal.area ≡ self.old.wal.area }
+    {
+        let Ok(kind) = op.kind(alloc) else {
+            return Err(InsertFault::NoMemory);
+        };
+        let tip = self.wal.tip();
+        let record = match self.wal.append(alloc, kind) {
+            Ok(record) => record,
+            Err(AppendFault::WalFull) => return Err(InsertFault::WalFull(tip.count)),
+            Err(AppendFault::NoMemory) => return Err(InsertFault::NoMemory),
+        };
+        if apply(&mut self.pages, &record).is_err() {
+            self.wal.rewind(tip);
+            return Err(InsertFault::NoMemory);
+        }
+        Ok(Receipt {
+            number: tip.count,
+            place: Place {
+                start: record.start,
+                end: record.end,
+            },
+        })
     }
-    Ok(Place {
-        start: record.start,
-        end: record.end,
-    })
 }
