@@ -7,6 +7,8 @@ use Rattle.std.proofs.lemmas.List.Folds.{list_all-append}
 use Rattle.byte_words.specs.Numbers.{u16_in, u32_in, u64_in}
 use Rattle.byte_words.specs.Pieces.{overwritten, zero_filled}
 use Rattle.lsn_core.specs.Segment.{IsSegmentMib, segment_bytes}
+use Rattle.lsn_core.specs.Sizes.{long_head}
+use Rattle.lsn_core.specs.Tip.{Tip}
 use Rattle.lsn_core.specs.Names.{segment_name_bytes}
 use Rattle.lsn_core.specs.declared.lsn.Lsn.{Lsn}
 use Rattle.vault.specs.Area.{bytes_of, file_written}
@@ -16,37 +18,39 @@ use Rattle.wal_record.specs.declared.record.Record.{Record}
 use Rattle.wal_record.specs.declared.record.Kind.{Kind}
 use Rattle.wal_record.specs.declared.record.Kind.TheVariants.{Shutdown, Generic, Create}
 use Rattle.wal_record.specs.Spelling.{sealed, total_of, IsEntry}
-use Rattle.wal_record.specs.Places.{place_of, start_after, aligned, record_behind, written_entry}
+use Rattle.wal_record.specs.Places.{origin, first_start, place_of, start_after, aligned, record_behind, written_entry}
+use Rattle.wal_record.specs.Tips.{first_tip, tip_after, tip_behind, wal_limit, IsWithin}
+use Rattle.wal_record.proofs.Tips.{start_at_origin, start_behind, later_start, first_within, stays_within}
 use Rattle.wal_record.proofs.Sealed.{sealed_is_entry, length-sealed, length-written}
-use Rattle.wal_reader.specs.Head.{origin, first_start, long_head, IsHead}
+use Rattle.wal_reader.specs.Head.{IsHead}
 use Rattle.wal_reader.specs.Scan.{all_zero}
-use Rattle.wal_reader.specs.Archive.{first_page, StandsAt, EndsAt, IsAllowed, Follows, Reads}
-use Rattle.wal_reader.specs.Appended.{IsLater, IsNext, IsChain, written_entries, last_start, last_end, AppendedIsRead, WrittenIsRead}
-use Rattle.wal_reader.proofs.Entries.{has_size, given}
-use Rattle.wal_reader.proofs.Steps.{start_at_origin, start_behind}
+use Rattle.wal_reader.specs.Archive.{first_page, bytes_at, StandsAt, EndsAt, IsAllowed, Follows, Reads}
+use Rattle.wal_reader.specs.Appended.{IsLater, IsNext, IsChain, written_entries, AppendedIsRead, WrittenIsRead}
+use Rattle.wal_reader.proofs.Entries.{has_size, stands_from}
 
 -- ---- lists that are continued
-
-pub last_start-append : (prev : ℕ) (rs qs : List Record) → last_start prev (rs ++ qs) ≡ last_start (last_start prev rs) qs
-last_start-append prev [] qs = refl
-last_start-append prev (r ∷ rs) qs = last_start-append r.start.0 rs qs
-
-pub last_end-append : (at : ℕ) (rs qs : List Record) → last_end at (rs ++ qs) ≡ last_end (last_end at rs) qs
-last_end-append at [] qs = refl
-last_end-append at (r ∷ rs) qs = last_end-append r.end.0 rs qs
 
 pub written_entries-append : (rs qs : List Record) → written_entries (rs ++ qs) ≡ written_entries rs ++ written_entries qs
 written_entries-append [] qs = refl
 written_entries-append (r ∷ rs) qs = ap (λ (l : List ℕ). written_entry r ++ l) (written_entries-append rs qs) ∙ sym (append_assoc (written_entry r) (written_entries rs) (written_entries qs))
 
 -- a chain, and one that goes on where it ends
-pub IsChain-append : (mib at prev : ℕ) (rs qs : List Record) (end last : ℕ) → IsChain mib at prev rs end → IsChain mib end (last_start prev rs) qs last → IsChain mib at prev (rs ++ qs) last
-IsChain-append mib at prev [] qs end last chain more = subst (λ (n : ℕ). IsChain mib n prev qs last) chain more
-IsChain-append mib at prev (r ∷ rs) qs end last chain more = (chain.0, IsChain-append mib r.end.0 r.start.0 rs qs end last chain.1 more)
+pub IsChain-append : (mib : ℕ) (tip : Tip) (rs qs : List Record) (end last : Tip) → IsChain mib tip rs end → IsChain mib end qs last → IsChain mib tip (rs ++ qs) last
+IsChain-append mib tip [] qs end last chain more = subst (λ (t : Tip). IsChain mib t qs last) chain more
+IsChain-append mib tip (r ∷ rs) qs end last chain more = (chain.0, IsChain-append mib (tip_after tip r) rs qs end last chain.1 more)
 
 -- one more entry of a chain, and its bytes
-pub IsChain-push : (mib at prev : ℕ) (rs : List Record) (end : ℕ) (r : Record) → IsChain mib at prev rs end → IsNext mib end (last_start prev rs) r → IsChain mib at prev (rs ++ (r ∷ [])) r.end.0
-IsChain-push mib at prev rs end r chain next = IsChain-append mib at prev rs (r ∷ []) end r.end.0 chain (next, refl)
+pub IsChain-push : (mib : ℕ) (tip : Tip) (rs : List Record) (end : Tip) (r : Record) → IsChain mib tip rs end → IsNext mib end r → IsChain mib tip (rs ++ (r ∷ [])) (tip_after end r)
+IsChain-push mib tip rs end r chain next = IsChain-append mib tip rs (r ∷ []) end (tip_after end r) chain (next, refl)
+
+-- where a chain ends, and an archive that is read from a tip on
+pub chain_tip : (mib : ℕ) (tip : Tip) (rs : List Record) (end : Tip) → IsChain mib tip rs end → end ≡ tip_behind tip rs
+chain_tip mib tip [] end chain = chain
+chain_tip mib tip (r ∷ rs) end chain = chain_tip mib (tip_after tip r) rs end chain.1
+
+pub reads_tip : (mib : ℕ) (held : List ℕ) (tip : Tip) (rs : List Record) (end : Tip) → Reads mib held tip rs end → end ≡ tip_behind tip rs
+reads_tip mib held tip [] end reads = reads.1
+reads_tip mib held tip (r ∷ rs) end reads = reads_tip mib held (tip_after tip r) rs end reads.1
 
 pub written_entries-push : (rs : List Record) (r : Record) → written_entries (rs ++ (r ∷ [])) ≡ written_entries rs ++ written_entry r
 written_entries-push rs r = written_entries-append rs (r ∷ []) ∙ ap (λ (l : List ℕ). written_entries rs ++ l) (append-nil (written_entry r))
@@ -94,75 +98,71 @@ same_u64 k old new at same within = omega (arith, same_u32 k old new at same (om
 
 -- ---- steps from one end to the next
 
--- an entry that is read or written behind a place: it has a header at least, and ends on the first page
-pub record IsStep (mib at : ℕ) (r : Record) : Type 0 where
-  pub from_place : start_after mib at + 24 ≤ r.end.0
+-- an entry that is read or written behind a tip: it has a header at least, and ends within the WAL's room
+pub record IsStep (mib : ℕ) (tip : Tip) (r : Record) : Type 0 where
+  pub from_place : start_after mib tip.end + 24 ≤ r.end.0
   pub from_start : r.start.0 + 24 ≤ r.end.0
-  pub on_page : r.end.0 ≤ origin mib + 8192
+  pub within : r.end.0 ≤ wal_limit mib
 
--- the place where the next entry starts isn't before the end of the last one
-later_start : (mib at : ℕ) → at ≤ start_after mib at
-later_start mib at = elim (cases_eq at (origin mib)) [
-  | inl e ↦ omega (arith, start_at_origin mib at e)
-  | inr ne ↦ omega (arith, start_behind mib at ne)
-]
+pub follows_step : (mib : ℕ) (held : List ℕ) (tip : Tip) (r : Record) → origin mib ≤ tip.end → Follows mib held tip r → IsStep mib tip r
+follows_step mib held tip r least f =
+    let h = has_size mib (first_page held) tip r f.entry in
+    let end : r.end.0 ≡ aligned (start_after mib tip.end + f.entry.size) = ap (λ (l : Lsn). l.0) f.entry.entry.end in
+    let start : r.start.0 ≡ start_after mib tip.end = ap (λ (l : Lsn). l.0) f.entry.entry.start in
+    record {
+      from_place = omega (arith, h.least, end);
+      from_start = omega (arith, h.least, end, start);
+      within = omega (arith, f.entry.whole, length-take 8192 held, end, least, later_start mib tip.end);
+    }
 
-pub follows_step : (mib : ℕ) (held : List ℕ) (at prev : ℕ) (r : Record) → origin mib ≤ at → Follows mib held at prev r → IsStep mib at r
-follows_step mib held at prev r least f =
-    let h = has_size mib (first_page held) (start_after mib at) prev r f.entry in
-    let end : r.end.0 ≡ aligned (start_after mib at + f.entry.size) = ap (λ (l : Lsn). l.0) f.entry.entry.end in
-    let start : r.start.0 ≡ start_after mib at = ap (λ (l : Lsn). l.0) f.entry.entry.start in
-    let behind = given mib (first_page held) at (start_after mib at) prev r (omega (arith, length-take 8192 held)) (later_start mib at) (omega (arith, least, later_start mib at)) f.entry in
-    record { from_place = omega (arith, h.least, end); from_start = omega (arith, h.least, end, start); on_page = behind.on_page }
+pub next_step : (mib : ℕ) (tip : Tip) (r : Record) → IsNext mib tip r → IsStep mib tip r
+next_step mib tip r next =
+    let end : r.end.0 ≡ aligned (start_after mib tip.end + total_of r.kind) = ap (λ (x : Record). x.end.0) next.is in
+    let start : r.start.0 ≡ start_after mib tip.end = ap (λ (x : Record). x.start.0) next.is in
+    record { from_place = omega (arith, end); from_start = omega (arith, end, start); within = next.within }
 
-pub next_step : (mib at prev : ℕ) (r : Record) → IsNext mib at prev r → IsStep mib at r
-next_step mib at prev r next =
-    let end : r.end.0 ≡ aligned (start_after mib at + total_of r.kind) = ap (λ (x : Record). x.end.0) next.is in
-    let start : r.start.0 ≡ start_after mib at = ap (λ (x : Record). x.start.0) next.is in
-    record { from_place = omega (arith, end); from_start = omega (arith, end, start); on_page = next.on_page }
+pub step_within : (mib : ℕ) (tip : Tip) (r : Record) → IsWithin mib tip → IsStep mib tip r → IsWithin mib (tip_after tip r)
+step_within mib tip r within step = stays_within mib tip r within (omega (arith, step.from_place, later_start mib tip.end)) (omega (arith, step.from_start)) step.within
 
--- what is known of the end of some entries that are read or written one behind the other from a place on
-pub record HasBounds (mib at prev : ℕ) (rs : List Record) (end : ℕ) : Type 0 where
-  pub least : at ≤ end
-  pub most : at ≤ origin mib + 8192 → end ≤ origin mib + 8192
-  pub end_is : end ≡ last_end at rs
-  pub start : prev ≤ at → last_start prev rs ≤ end
+-- of an archive that is read from a tip on: it ends within the WAL's room, and not before that tip
+pub record EndsWithin (mib : ℕ) (tip end : Tip) : Type 0 where
+  pub least : tip.end ≤ end.end
+  pub within : IsWithin mib end
 
-no_entries : (mib at prev end : ℕ) → end ≡ at → HasBounds mib at prev [] end
-no_entries mib at prev end e = record { least = omega (arith, e); most = λ le. omega (arith, e, le); end_is = e; start = λ le. omega (arith, e, le) }
+ends_there : (mib : ℕ) (tip end : Tip) → IsWithin mib tip → end ≡ tip → EndsWithin mib tip end
+ends_there mib tip end within e = record { least = omega (arith, ap (λ (t : Tip). t.end) e); within = subst (IsWithin mib) (sym e) within }
 
-one_more : (mib at prev : ℕ) (r : Record) (rs : List Record) (end : ℕ) → IsStep mib at r → HasBounds mib r.end.0 r.start.0 rs end → HasBounds mib at prev (r ∷ rs) end
-one_more mib at prev r rs end step b = record {
-  least = omega (arith, step.from_place, later_start mib at, b.least);
-  most = λ le. b.most step.on_page;
-  end_is = b.end_is;
-  start = λ le. b.start (omega (arith, step.from_start));
-}
+ends_later : (mib : ℕ) (tip : Tip) (r : Record) (end : Tip) → IsStep mib tip r → EndsWithin mib (tip_after tip r) end → EndsWithin mib tip end
+ends_later mib tip r end step rest = record { least = omega (arith, step.from_place, later_start mib tip.end, rest.least); within = rest.within }
 
--- of an archive that is read from a place on
-pub reads_bounds : (mib : ℕ) (held : List ℕ) (at prev : ℕ) (rs : List Record) (end : ℕ) → origin mib ≤ at → Reads mib held at prev rs end → HasBounds mib at prev rs end
-reads_bounds mib held at prev [] end least reads = no_entries mib at prev end reads.1
-reads_bounds mib held at prev (r ∷ rs) end least reads =
-    let step = follows_step mib held at prev r least reads.0 in
-    one_more mib at prev r rs end step (reads_bounds mib held r.end.0 r.start.0 rs end (omega (arith, least, later_start mib at, step.from_place)) reads.1)
+-- the place of a tip within the room
+least_of : (mib : ℕ) (tip : Tip) → IsWithin mib tip → origin mib ≤ tip.end
+least_of mib tip within = omega (arith, within.count)
 
--- of a chain
-pub chain_bounds : (mib at prev : ℕ) (rs : List Record) (end : ℕ) → IsChain mib at prev rs end → HasBounds mib at prev rs end
-chain_bounds mib at prev [] end chain = no_entries mib at prev end chain
-chain_bounds mib at prev (r ∷ rs) end chain = one_more mib at prev r rs end (next_step mib at prev r chain.0) (chain_bounds mib r.end.0 r.start.0 rs end chain.1)
+pub reads_within : (mib : ℕ) (held : List ℕ) (tip : Tip) (rs : List Record) (end : Tip) → IsWithin mib tip → Reads mib held tip rs end → EndsWithin mib tip end
+reads_within mib held tip [] end within reads = ends_there mib tip end within reads.1
+reads_within mib held tip (r ∷ rs) end within reads =
+    let step = follows_step mib held tip r (least_of mib tip within) reads.0 in
+    ends_later mib tip r end step (reads_within mib held (tip_after tip r) rs end (step_within mib tip r within step) reads.1)
+
+pub chain_within : (mib : ℕ) (tip : Tip) (rs : List Record) (end : Tip) → IsWithin mib tip → IsChain mib tip rs end → EndsWithin mib tip end
+chain_within mib tip [] end within chain = ends_there mib tip end within chain
+chain_within mib tip (r ∷ rs) end within chain =
+    let step = next_step mib tip r chain.0 in
+    ends_later mib tip r end step (chain_within mib (tip_after tip r) rs end (step_within mib tip r within step) chain.1)
 
 -- where an archive ends nothing more is read
-pub reads_end : (mib : ℕ) (held : List ℕ) (at prev : ℕ) (rs : List Record) (end : ℕ) → Reads mib held at prev rs end → EndsAt mib held end
-reads_end mib held at prev [] end reads = subst (EndsAt mib held) (sym reads.1) reads.0
-reads_end mib held at prev (r ∷ rs) end reads = reads_end mib held r.end.0 r.start.0 rs end reads.1
+pub reads_end : (mib : ℕ) (held : List ℕ) (tip : Tip) (rs : List Record) (end : Tip) → Reads mib held tip rs end → EndsAt mib held end.end
+reads_end mib held tip [] end reads = subst (λ (t : Tip). EndsAt mib held t.end) (sym reads.1) reads.0
+reads_end mib held tip (r ∷ rs) end reads = reads_end mib held (tip_after tip r) rs end reads.1
 
 -- an archive that has an entry ends behind the place of the first one's header
-first_behind : (mib : ℕ) (held : List ℕ) (at prev : ℕ) (rs : List Record) (end : ℕ) → at ≡ origin mib → Reads mib held at prev rs end → origin mib < end → first_start mib < end
-first_behind mib held at prev [] end e reads some = absurd (omega (arith, e, reads.1, some))
-first_behind mib held at prev (r ∷ rs) end e reads some =
-    let step = follows_step mib held at prev r (omega (arith, e)) reads.0 in
-    let b = reads_bounds mib held r.end.0 r.start.0 rs end (omega (arith, e, later_start mib at, step.from_place)) reads.1 in
-    omega (arith, start_at_origin mib at e, e, step.from_place, b.least)
+first_behind : (mib : ℕ) (held : List ℕ) (rs : List Record) (end : Tip) → Reads mib held (first_tip mib) rs end → origin mib < end.end → first_start mib < end.end
+first_behind mib held [] end reads some = absurd (omega (arith, ap (λ (t : Tip). t.end) reads.1, some))
+first_behind mib held (r ∷ rs) end reads some =
+    let step = follows_step mib held (first_tip mib) r (omega arith) reads.0 in
+    let rest = reads_within mib held (tip_after (first_tip mib) r) rs end (step_within mib (first_tip mib) r (first_within mib) step) reads.1 in
+    omega (arith, start_at_origin mib (origin mib) refl, step.from_place, rest.least)
 
 ends_zero : (mib : ℕ) (held : List ℕ) (end : ℕ) → origin mib < end → EndsAt mib held end → all_zero (drop (end - origin mib) held) ≡ true
 ends_zero mib held end some (inl zeros) = zeros
@@ -170,16 +170,17 @@ ends_zero mib held end some (inr head) = absurd (omega (arith, some, head.0))
 
 -- ---- where an entry stands the archive goes on
 
-number_zero : (mib : ℕ) (held page : List ℕ) (n start prev from : ℕ) (r : Record) → page ≡ take n held → StandsAt mib page start prev r → from ≤ start - origin mib → all_zero (drop from held) ≡ true → ⊥
-number_zero mib held page n start prev from r e s le zeros =
-    let h = has_size mib page start prev r s in
+number_zero : (mib : ℕ) (held page : List ℕ) (n : ℕ) (tip : Tip) (from : ℕ) (r : Record) → page ≡ take n held → StandsAt mib page tip r → from ≤ start_after mib tip.end - origin mib → all_zero (drop from held) ≡ true → ⊥
+number_zero mib held page n tip from r e s le zeros =
+    let offset : ℕ = start_after mib tip.end - origin mib in
+    let h = has_size mib page tip r s in
     let short : length page ≤ n = omega (arith, ap length e, length-take n held) in
-    let same : u32_in page (start - origin mib) ≡ u32_in held (start - origin mib) = ap (λ (l : List ℕ). u32_in l (start - origin mib)) e ∙ number_taken n held (start - origin mib) (omega (arith, h.least, s.whole, short)) in
-    omega (arith, h.size_is, h.least, same, zero_number held from (start - origin mib) le zeros)
+    let same : u32_in page offset ≡ u32_in held offset = ap (λ (l : List ℕ). u32_in l offset) e ∙ number_taken n held offset (omega (arith, h.least, s.whole, short)) in
+    omega (arith, h.size_is, h.least, same, zero_number held from offset le zeros)
 
-stands_on : (mib : ℕ) (held : List ℕ) (at prev : ℕ) (r : Record) → StandsAt mib (first_page held) (start_after mib at) prev r → EndsAt mib held at → ⊥
-stands_on mib held at prev r s (inl zeros) = number_zero mib held (first_page held) 8192 (start_after mib at) prev (at - origin mib) r refl s (omega (arith, later_start mib at)) zeros
-stands_on mib held at prev r s (inr head) = number_zero mib held (first_page held) 8192 (start_after mib at) prev long_head r refl s (omega (arith, start_at_origin mib at head.0, head.0)) head.1.1
+stands_on : (mib : ℕ) (held : List ℕ) (tip : Tip) (r : Record) → StandsAt mib (first_page held) tip r → EndsAt mib held tip.end → ⊥
+stands_on mib held tip r s (inl zeros) = number_zero mib held (first_page held) 8192 tip (tip.end - origin mib) r refl s (omega (arith, later_start mib tip.end)) zeros
+stands_on mib held tip r s (inr head) = number_zero mib held (first_page held) 8192 tip long_head r refl s (omega (arith, start_at_origin mib tip.end head.0, head.0)) head.1.1
 
 -- ---- what a write behind a place keeps
 
@@ -187,15 +188,16 @@ stands_on mib held at prev r s (inr head) = number_zero mib held (first_page hel
 abbrev Keeps : ℕ → List ℕ → List ℕ → Type 0
 Keeps n old new = (k : ℕ) → k ≤ n → k ≤ length old → take k new ≡ take k old
 
-stands_kept : (mib n : ℕ) (old new : List ℕ) (start prev : ℕ) (r : Record) → Keeps n old new → (s : StandsAt mib old start prev r) → start - origin mib + s.size ≤ n → StandsAt mib new start prev r
-stands_kept mib n old new start prev r keeps s within =
+stands_kept : (mib n : ℕ) (old new : List ℕ) (tip : Tip) (r : Record) → Keeps n old new → (s : StandsAt mib old tip r) → start_after mib tip.end - origin mib + s.size ≤ n → StandsAt mib new tip r
+stands_kept mib n old new tip r keeps s within =
+    let start : ℕ = start_after mib tip.end in
     let at : ℕ = start - origin mib in
     let same : take (at + s.size) new ≡ take (at + s.size) old = keeps (at + s.size) within s.whole in
-    let own : take s.size (drop at new) ≡ take s.size (drop at old) = sym (drop-take at s.size new) ∙ ap (drop at) same ∙ drop-take at s.size old in
+    let own : bytes_at mib new start s.size ≡ bytes_at mib old start s.size = sym (drop-take at s.size new) ∙ ap (drop at) same ∙ drop-take at s.size old in
     record {
       size = s.size;
       whole = omega (arith, ap length same, length-take (at + s.size) new, length-take (at + s.size) old, s.whole);
-      entry = subst (λ (l : List ℕ). IsEntry l (place_of start s.size) (Some (record { 0 = prev })) r) (sym own) s.entry;
+      entry = subst (λ (l : List ℕ). IsEntry l (place_of start s.size) (Some (record { 0 = tip.prev })) r) (sym own) s.entry;
       allowed = s.allowed;
     }
 
@@ -214,28 +216,28 @@ head_kept mib n old new keeps within h =
       page_size = same_u32 long_head old new 36 same (omega arith) ∙ h.page_size;
     }
 
-follows_kept : (mib n : ℕ) (held new : List ℕ) (at prev : ℕ) (r : Record) → origin mib ≤ at → r.end.0 ≤ origin mib + n → Keeps n (first_page held) (first_page new) → Follows mib held at prev r → Follows mib new at prev r
-follows_kept mib n held new at prev r least most keeps f =
-    let step = follows_step mib held at prev r least f in
-    let end : r.end.0 ≡ aligned (start_after mib at + f.entry.size) = ap (λ (l : Lsn). l.0) f.entry.entry.end in
-    let stands : StandsAt mib (first_page new) (start_after mib at) prev r =
-    stands_kept mib n (first_page held) (first_page new) (start_after mib at) prev r keeps f.entry (omega (arith, end, most, least, later_start mib at)) in
+follows_kept : (mib n : ℕ) (held new : List ℕ) (tip : Tip) (r : Record) → origin mib ≤ tip.end → r.end.0 ≤ origin mib + n → Keeps n (first_page held) (first_page new) → Follows mib held tip r → Follows mib new tip r
+follows_kept mib n held new tip r least most keeps f =
+    let step = follows_step mib held tip r least f in
+    let end : r.end.0 ≡ aligned (start_after mib tip.end + f.entry.size) = ap (λ (l : Lsn). l.0) f.entry.entry.end in
+    let stands : StandsAt mib (first_page new) tip r = stands_kept mib n (first_page held) (first_page new) tip r keeps f.entry (omega (arith, end, most, least, later_start mib tip.end)) in
     record {
-      goes_on = stands_on mib new at prev r stands;
-      head = λ e. head_kept mib n (first_page held) (first_page new) keeps (omega (arith, e, start_at_origin mib at e, step.from_place, most)) (f.head e);
+      goes_on = stands_on mib new tip r stands;
+      head = λ e. head_kept mib n (first_page held) (first_page new) keeps (omega (arith, e, start_at_origin mib tip.end e, step.from_place, most)) (f.head e);
       entry = stands;
     }
 
 -- entries that are read up to a place, in bytes that keep what stands before it, and what follows from there on
-reads_behind : (mib n : ℕ) (held new : List ℕ) (at prev : ℕ) (rs news : List Record) (end last : ℕ) → origin mib ≤ at → end ≤ origin mib + n → Keeps n (first_page held) (first_page new)
-    → Reads mib held at prev rs end → Reads mib new end (last_start prev rs) news last → Reads mib new at prev (rs ++ news) last
-reads_behind mib n held new at prev [] news end last least most keeps reads more = subst (λ (x : ℕ). Reads mib new x prev news last) reads.1 more
-reads_behind mib n held new at prev (r ∷ rs) news end last least most keeps reads more =
-    let step = follows_step mib held at prev r least reads.0 in
-    let least_next : origin mib ≤ r.end.0 = omega (arith, least, later_start mib at, step.from_place) in
-    let b = reads_bounds mib held r.end.0 r.start.0 rs end least_next reads.1 in (
-      follows_kept mib n held new at prev r least (omega (arith, b.least, most)) keeps reads.0,
-      reads_behind mib n held new r.end.0 r.start.0 rs news end last least_next most keeps reads.1 more,
+reads_behind : (mib n : ℕ) (held new : List ℕ) (tip : Tip) (rs news : List Record) (end last : Tip) → IsWithin mib tip → end.end ≤ origin mib + n → Keeps n (first_page held) (first_page new)
+    → Reads mib held tip rs end → Reads mib new end news last → Reads mib new tip (rs ++ news) last
+reads_behind mib n held new tip [] news end last within most keeps reads more = subst (λ (t : Tip). Reads mib new t news last) reads.1 more
+reads_behind mib n held new tip (r ∷ rs) news end last within most keeps reads more =
+    let least = least_of mib tip within in
+    let step = follows_step mib held tip r least reads.0 in
+    let next : IsWithin mib (tip_after tip r) = step_within mib tip r within step in
+    let b = reads_within mib held (tip_after tip r) rs end next reads.1 in (
+      follows_kept mib n held new tip r least (omega (arith, b.least, most)) keeps reads.0,
+      reads_behind mib n held new (tip_after tip r) rs news end last next most keeps reads.1 more,
     )
 
 -- ---- entries that are written one behind the other
@@ -254,10 +256,14 @@ later_allowed mib start (Create fork) behind later = λ e. omega (arith, e, behi
 part_taken : (n at size : ℕ) (bytes : List ℕ) → at + size ≤ n → take size (drop at (take n bytes)) ≡ take size (drop at bytes)
 part_taken n at size bytes within = sym (drop-take at size (take n bytes)) ∙ ap (drop at) (take-take (at + size) n bytes within) ∙ drop-take at size bytes
 
--- an entry that is written at a place stands there
-stands_written : (mib n size : ℕ) (front rest held page : List ℕ) (at prev : ℕ) (r : Record) → size ≡ total_of r.kind → first_start mib < at → prev < 2 ^ 64 → length front ≡ at - origin mib
-    → held ≡ front ++ (written_entry r ++ rest) → page ≡ take n held → r.end.0 ≤ origin mib + n → r ≡ record_behind at prev r.kind → IsNext mib at prev r → StandsAt mib page at prev r
-stands_written mib n size front rest held page at prev r sized behind small len e page_is most is next =
+-- an entry that is written behind a tip stands there
+stands_written : (mib n size : ℕ) (front rest held page : List ℕ) (tip : Tip) (r : Record) → size ≡ total_of r.kind → first_start mib < tip.end → tip.prev < 2 ^ 64 → length front ≡ tip.end - origin mib
+    → held ≡ front ++ (written_entry r ++ rest) → page ≡ take n held → r.end.0 ≤ origin mib + n → IsNext mib tip r → StandsAt mib page tip r
+stands_written mib n size front rest held page tip r sized behind small len e page_is most next =
+    let at : ℕ = tip.end in
+    let prev : ℕ = tip.prev in
+    let here : start_after mib at ≡ at = start_behind mib at (λ same. omega (arith, same, behind)) in
+    let is : r ≡ record_behind at prev r.kind = next.is ∙ ap (λ (m : ℕ). record_behind m prev r.kind) here in
     let end : r.end.0 ≡ aligned (at + size) = ap (λ (x : Record). x.end.0) is ∙ ap (λ (m : ℕ). aligned (at + m)) (sym sized) in
     let start : r.start.0 ≡ at = ap (λ (x : Record). x.start.0) is in
     let prev_is : r.prev.0 ≡ prev = ap (λ (x : Record). x.prev.0) is in
@@ -265,47 +271,44 @@ stands_written mib n size front rest held page at prev r sized behind small len 
     let zeros : List ℕ = replicate (r.end.0 - r.start.0 - length (sealed r)) 0 in
     let there : drop (at - origin mib) held ≡ sealed r ++ (zeros ++ rest) =
     ap (drop (at - origin mib)) e ∙ drop_at front (written_entry r ++ rest) (at - origin mib) len ∙ ap (λ (l : List ℕ). l ++ rest) (written_begins r) ∙ append_assoc (sealed r) zeros rest in
-    let own : take size (drop (at - origin mib) page) ≡ sealed r =
+    let own : bytes_at mib page at size ≡ sealed r =
     ap (λ (l : List ℕ). take size (drop (at - origin mib) l)) page_is ∙ part_taken n (at - origin mib) size held (omega (arith, end, most, behind)) ∙ ap (take size) there ∙ take_at (sealed r) (zeros ++ rest) size (length-sealed r ∙ sym sized) in
     let room : length (written_entry r) ≡ r.end.0 - r.start.0 = length-written r (omega (arith, end, start, sized)) in
-    record {
-      size = size;
-      whole = omega (arith, ap length page_is, length-take n held, ap length e, length-append front (written_entry r ++ rest), length-append (written_entry r) rest, len, room, end, start, most, behind);
-      entry = subst (λ (l : List ℕ). IsEntry l (place_of at size) (Some (record { 0 = prev })) r) (sym own)
-          (sealed_is_entry r (place_of at size) (Some (record { 0 = prev })) next.writable (ap (λ (x : Record). x.start) is)
-          (ap (λ (x : Record). x.end) is ∙ ap (λ (m : ℕ). let l : Lsn = record { 0 = aligned (at + m) } in l) (sym sized)) (omega (arith, prev_is, small)) (ap (λ (x : Record). x.prev) is) (omega (arith, xid_is)));
-      allowed = later_allowed mib at r.kind behind next.later;
-    }
+    stands_from mib page tip at size r here
+    (omega (arith, ap length page_is, length-take n held, ap length e, length-append front (written_entry r ++ rest), length-append (written_entry r) rest, len, room, end, start, most, behind))
+    (subst (λ (l : List ℕ). IsEntry l (place_of at size) (Some (record { 0 = prev })) r) (sym own)
+    (sealed_is_entry r (place_of at size) (Some (record { 0 = prev })) next.writable (ap (λ (x : Record). x.start) is)
+    (ap (λ (x : Record). x.end) is ∙ ap (λ (m : ℕ). let l : Lsn = record { 0 = aligned (at + m) } in l) (sym sized)) (omega (arith, prev_is, small)) (ap (λ (x : Record). x.prev) is) (omega (arith, xid_is))))
+    (later_allowed mib at r.kind behind next.later)
 
-length_next : (mib at prev : ℕ) (r : Record) → first_start mib < at → IsNext mib at prev r → at + length (written_entry r) ≡ r.end.0
-length_next mib at prev r behind next =
-    let here : start_after mib at ≡ at = start_behind mib at (λ e. omega (arith, e, behind)) in
-    let end : r.end.0 ≡ aligned (start_after mib at + total_of r.kind) = ap (λ (x : Record). x.end.0) next.is in
-    let start : r.start.0 ≡ start_after mib at = ap (λ (x : Record). x.start.0) next.is in
+length_next : (mib : ℕ) (tip : Tip) (r : Record) → first_start mib < tip.end → IsNext mib tip r → tip.end + length (written_entry r) ≡ r.end.0
+length_next mib tip r behind next =
+    let here : start_after mib tip.end ≡ tip.end = start_behind mib tip.end (λ e. omega (arith, e, behind)) in
+    let end : r.end.0 ≡ aligned (start_after mib tip.end + total_of r.kind) = ap (λ (x : Record). x.end.0) next.is in
+    let start : r.start.0 ≡ start_after mib tip.end = ap (λ (x : Record). x.start.0) next.is in
     omega (arith, length-written r (omega (arith, end, start)), here, end, start)
 
 -- the bytes of a chain reach from its place to its end
-pub length_chain : (mib at prev : ℕ) (rs : List Record) (end : ℕ) → first_start mib < at → IsChain mib at prev rs end → at + length (written_entries rs) ≡ end
-length_chain mib at prev [] end behind chain = omega (arith, chain)
-length_chain mib at prev (r ∷ rs) end behind chain =
-    let first = length_next mib at prev r behind chain.0 in
-    omega (arith, first, length_chain mib r.end.0 r.start.0 rs end (omega (arith, behind, first)) chain.1, length-append (written_entry r) (written_entries rs))
+pub length_chain : (mib : ℕ) (tip : Tip) (rs : List Record) (end : Tip) → first_start mib < tip.end → IsChain mib tip rs end → tip.end + length (written_entries rs) ≡ end.end
+length_chain mib tip [] end behind chain = omega (arith, ap (λ (t : Tip). t.end) chain)
+length_chain mib tip (r ∷ rs) end behind chain =
+    let first = length_next mib tip r behind chain.0 in
+    omega (arith, first, length_chain mib (tip_after tip r) rs end (omega (arith, behind, first)) chain.1, length-append (written_entry r) (written_entries rs))
 
 -- the entries of a chain are read where their bytes stand and all is zero behind them
-pub chain_reads : (mib : ℕ) (held front behind : List ℕ) (at prev : ℕ) (news : List Record) (last : ℕ) → mib ≤ 1024 → first_start mib < at → prev < 2 ^ 64 → length front ≡ at - origin mib
-    → held ≡ front ++ (written_entries news ++ behind) → all_zero behind ≡ true → IsChain mib at prev news last → Reads mib held at prev news last
-chain_reads mib held front behind at prev [] last size later small len e zeros chain = (inl (ap all_zero (ap (drop (at - origin mib)) e ∙ drop_at front behind (at - origin mib) len) ∙ zeros), chain)
-chain_reads mib held front behind at prev (r ∷ rs) last size later small len e zeros chain =
-    let here : start_after mib at ≡ at = start_behind mib at (λ same. omega (arith, same, later)) in
-    let is : r ≡ record_behind at prev r.kind = chain.0.is ∙ ap (λ (n : ℕ). record_behind n prev r.kind) here in
-    let room = length_next mib at prev r later chain.0 in
-    let start : r.start.0 ≡ at = ap (λ (x : Record). x.start.0) is in
+pub chain_reads : (mib : ℕ) (held front behind : List ℕ) (tip : Tip) (news : List Record) (last : Tip) → mib ≤ 1024 → first_start mib < tip.end → tip.prev < 2 ^ 64 → length front ≡ tip.end - origin mib
+    → held ≡ front ++ (written_entries news ++ behind) → all_zero behind ≡ true → IsChain mib tip news last → Reads mib held tip news last
+chain_reads mib held front behind tip [] last size later small len e zeros chain = (inl (ap all_zero (ap (drop (tip.end - origin mib)) e ∙ drop_at front behind (tip.end - origin mib) len) ∙ zeros), chain)
+chain_reads mib held front behind tip (r ∷ rs) last size later small len e zeros chain =
+    let here : start_after mib tip.end ≡ tip.end = start_behind mib tip.end (λ same. omega (arith, same, later)) in
+    let room = length_next mib tip r later chain.0 in
+    let start : r.start.0 ≡ tip.end = ap (λ (x : Record). x.start.0) chain.0.is ∙ here in
     let e_first : held ≡ front ++ (written_entry r ++ (written_entries rs ++ behind)) = e ∙ ap (λ (l : List ℕ). front ++ l) (append_assoc (written_entry r) (written_entries rs) behind) in
     let e_rest : held ≡ (front ++ written_entry r) ++ (written_entries rs ++ behind) = e_first ∙ sym (append_assoc front (written_entry r) (written_entries rs ++ behind)) in
-    let stands : StandsAt mib (first_page held) (start_after mib at) prev r = subst (λ (n : ℕ). StandsAt mib (first_page held) n prev r) (sym here)
-    (stands_written mib 8192 (total_of r.kind) front (written_entries rs ++ behind) held (first_page held) at prev r refl later small len e_first refl chain.0.on_page is chain.0) in (
-      record { goes_on = stands_on mib held at prev r stands; head = λ same. absurd (omega (arith, same, later)); entry = stands },
-      chain_reads mib held (front ++ written_entry r) behind r.end.0 r.start.0 rs last size (omega (arith, later, room)) (omega (arith, start, room, size, chain.0.on_page))
+    let stands : StandsAt mib (first_page held) tip r =
+    stands_written mib 8192 (total_of r.kind) front (written_entries rs ++ behind) held (first_page held) tip r refl later small len e_first refl chain.0.within chain.0 in (
+      record { goes_on = stands_on mib held tip r stands; head = λ same. absurd (omega (arith, same, later)); entry = stands },
+      chain_reads mib held (front ++ written_entry r) behind (tip_after tip r) rs last size (omega (arith, later, room)) (omega (arith, start, room, size, chain.0.within))
           (omega (arith, length-append front (written_entry r), len, room, later)) e_rest zeros chain.1,
     )
 
@@ -344,55 +347,55 @@ three_parts front piece rest size q e within =
     ∙ take-append-add front (piece ++ rest) (length piece + (size - q)) ∙ ap (λ (l : List ℕ). front ++ l) (take-append-add piece rest (size - q))
 
 -- the entries that were read in a file of some size, and those of a chain that is written where they end
-written_reads : (mib : ℕ) (old new : List ℕ) (rs news : List Record) (end last : ℕ) → IsSegmentMib mib → origin mib < end → Reads mib (take (segment_bytes mib) old) (origin mib) 0 rs end → IsChain mib end (last_start 0 rs) news last
-    → new ≡ overwritten (zero_filled old (end - origin mib)) (end - origin mib) (written_entries news) → Reads mib (take (segment_bytes mib) new) (origin mib) 0 (rs ++ news) last
-written_reads mib old new rs news end last size some reads chain e =
-    let off : ℕ = end - origin mib in
+written_reads : (mib : ℕ) (old new : List ℕ) (rs news : List Record) (tip last : Tip) → IsSegmentMib mib → origin mib < tip.end → Reads mib (take (segment_bytes mib) old) (first_tip mib) rs tip → IsChain mib tip news last
+    → new ≡ overwritten (zero_filled old (tip.end - origin mib)) (tip.end - origin mib) (written_entries news) → Reads mib (take (segment_bytes mib) new) (first_tip mib) (rs ++ news) last
+written_reads mib old new rs news tip last size some reads chain e =
+    let off : ℕ = tip.end - origin mib in
     let filled : List ℕ = zero_filled old off in
     let piece : List ℕ = written_entries news in
     let q : ℕ = off + length piece in
     let rest : List ℕ = drop q filled in
     let least : 1 ≤ mib = size.least in
     let most : mib ≤ 1024 = size.most in
-    let b = reads_bounds mib (take (segment_bytes mib) old) (origin mib) 0 rs end (omega arith) reads in
-    let on_page : end ≤ origin mib + 8192 = b.most (omega arith) in
-    let behind : first_start mib < end = first_behind mib (take (segment_bytes mib) old) (origin mib) 0 rs end refl reads some in
-    let small : last_start 0 rs < 2 ^ 64 = omega (arith, b.start (omega arith), on_page, most) in
-    let reach : end + length piece ≡ last = length_chain mib end (last_start 0 rs) news last behind chain in
-    let page : last ≤ origin mib + 8192 = (chain_bounds mib end (last_start 0 rs) news last chain).most on_page in
+    let b = reads_within mib (take (segment_bytes mib) old) (first_tip mib) rs tip (first_within mib) reads in
+    let behind : first_start mib < tip.end = first_behind mib (take (segment_bytes mib) old) rs tip reads some in
+    let small : tip.prev < 2 ^ 64 = omega (arith, b.within.prev, b.within.most, most) in
+    let reach : tip.end + length piece ≡ last.end = length_chain mib tip news last behind chain in
+    let page : last.end ≤ wal_limit mib = (chain_within mib tip news last b.within chain).within.most in
     let within : q ≤ segment_bytes mib = omega (arith, reach, page, least, some) in
     let front : length (take off filled) ≡ off = length-take-le off filled (omega (arith, length-append old (replicate (off - length old) 0), length-replicate {A = ℕ} (off - length old) 0)) in
     let held : take (segment_bytes mib) new ≡ take off filled ++ (piece ++ take (segment_bytes mib - q) rest) = ap (take (segment_bytes mib)) e ∙ three_parts (take off filled) piece rest (segment_bytes mib) q (omega (arith, front)) within in
     let zeros : all_zero (take (segment_bytes mib - q) rest) ≡ true =
     ap all_zero (sym (drop-take q (segment_bytes mib - q) filled) ∙ ap (λ (n : ℕ). drop q (take n filled)) (let same : q + (segment_bytes mib - q) ≡ segment_bytes mib = omega (arith, within) in same))
-    ∙ kept_zeros old (segment_bytes mib) off q (omega arith) (ends_zero mib (take (segment_bytes mib) old) end some (reads_end mib (take (segment_bytes mib) old) (origin mib) 0 rs end reads)) in
+    ∙ kept_zeros old (segment_bytes mib) off q (omega arith) (ends_zero mib (take (segment_bytes mib) old) tip.end some (reads_end mib (take (segment_bytes mib) old) (first_tip mib) rs tip reads)) in
     let keeps : Keeps off (first_page (take (segment_bytes mib) old)) (first_page (take (segment_bytes mib) new)) =
     subst (λ (l : List ℕ). Keeps off (first_page (take (segment_bytes mib) old)) (first_page (take (segment_bytes mib) l))) (sym e) (kept_page 8192 (segment_bytes mib) off old (piece ++ rest)) in
-    reads_behind mib off (take (segment_bytes mib) old) (take (segment_bytes mib) new) (origin mib) 0 rs news end last (omega arith) (omega (arith, some)) keeps reads
-    (chain_reads mib (take (segment_bytes mib) new) (take off filled) (take (segment_bytes mib - q) rest) end (last_start 0 rs) news last most behind small front held zeros chain)
+    reads_behind mib off (take (segment_bytes mib) old) (take (segment_bytes mib) new) (first_tip mib) rs news tip last (first_within mib) (omega (arith, some)) keeps reads
+    (chain_reads mib (take (segment_bytes mib) new) (take off filled) (take (segment_bytes mib - q) rest) tip news last most behind small front held zeros chain)
 
 -- where nothing is written all is as it was
-nothing_written : (mib : ℕ) (old new : List ℕ) (rs : List Record) (end last : ℕ) → new ≡ old → last ≡ end → Reads mib old (origin mib) 0 rs end → Reads mib new (origin mib) 0 (rs ++ []) last
-nothing_written mib old new rs end last e same reads =
-    subst (λ (xs : List Record). Reads mib new (origin mib) 0 xs last) (sym (append-nil rs)) (subst (λ (n : ℕ). Reads mib new (origin mib) 0 rs n) (sym same) (subst (λ (l : List ℕ). Reads mib l (origin mib) 0 rs end) (sym e) reads))
+nothing_written : (mib : ℕ) (old new : List ℕ) (rs : List Record) (tip last : Tip) → new ≡ old → last ≡ tip → Reads mib old (first_tip mib) rs tip → Reads mib new (first_tip mib) (rs ++ []) last
+nothing_written mib old new rs tip last e same reads =
+    subst (λ (xs : List Record). Reads mib new (first_tip mib) xs last) (sym (append-nil rs)) (subst (λ (t : Tip). Reads mib new (first_tip mib) rs t) (sym same) (subst (λ (l : List ℕ). Reads mib l (first_tip mib) rs tip) (sym e) reads))
 
-appended_reads : (mib : ℕ) (old new : List ℕ) (rs news : List Record) (end last : ℕ) → IsSegmentMib mib → Reads mib (take (segment_bytes mib) old) (origin mib) 0 rs end → origin mib < end → IsChain mib end (last_start 0 rs) news last
-    → new ≡ file_written old (end - origin mib) (written_entries news) → Reads mib (take (segment_bytes mib) new) (origin mib) 0 (rs ++ news) last
-appended_reads mib old new rs [] end last size reads some chain e =
-    nothing_written mib (take (segment_bytes mib) old) (take (segment_bytes mib) new) rs end last (ap (take (segment_bytes mib)) e) chain reads
-appended_reads mib old new rs (r ∷ news) end last size reads some chain e =
-    let behind : first_start mib < end = first_behind mib (take (segment_bytes mib) old) (origin mib) 0 rs end refl reads some in
-    let step = next_step mib end (last_start 0 rs) r chain.0 in
+appended_reads : (mib : ℕ) (old new : List ℕ) (rs news : List Record) (tip last : Tip) → IsSegmentMib mib → Reads mib (take (segment_bytes mib) old) (first_tip mib) rs tip → origin mib < tip.end → IsChain mib tip news last
+    → new ≡ file_written old (tip.end - origin mib) (written_entries news) → Reads mib (take (segment_bytes mib) new) (first_tip mib) (rs ++ news) last
+appended_reads mib old new rs [] tip last size reads some chain e =
+    nothing_written mib (take (segment_bytes mib) old) (take (segment_bytes mib) new) rs tip last (ap (take (segment_bytes mib)) e) chain reads
+appended_reads mib old new rs (r ∷ news) tip last size reads some chain e =
+    let behind : first_start mib < tip.end = first_behind mib (take (segment_bytes mib) old) rs tip reads some in
+    let step = next_step mib tip r chain.0 in
+    let within : IsWithin mib tip = (reads_within mib (take (segment_bytes mib) old) (first_tip mib) rs tip (first_within mib) reads).within in
     let long : 0 < length (written_entries (r ∷ news)) =
-    omega (arith, length_chain mib end (last_start 0 rs) (r ∷ news) last behind chain, (chain_bounds mib r.end.0 r.start.0 news last chain.1).least, step.from_place, later_start mib end) in
-    written_reads mib old new rs (r ∷ news) end last size some reads chain (e ∙ file_written-some old (end - origin mib) (written_entries (r ∷ news)) long)
+    omega (arith, length_chain mib tip (r ∷ news) last behind chain, (chain_within mib (tip_after tip r) news last (step_within mib tip r within step) chain.1).least, step.from_place, later_start mib tip.end) in
+    written_reads mib old new rs (r ∷ news) tip last size some reads chain (e ∙ file_written-some old (tip.end - origin mib) (written_entries (r ∷ news)) long)
 
 -- what is appended to an archive is read behind what was there
 pub appended_archive : AppendedIsRead
-appended_archive mib files new rs news end last size reads some chain e =
-    appended_reads mib (bytes_of files (segment_name_bytes 1 mib)) (bytes_of new (segment_name_bytes 1 mib)) rs news end last size reads some chain e
+appended_archive mib files new rs news tip last size reads some chain e =
+    appended_reads mib (bytes_of files (segment_name_bytes 1 mib)) (bytes_of new (segment_name_bytes 1 mib)) rs news tip last size reads some chain e
 
 -- so it is after a write of the chain's bytes
 pub written_archive : WrittenIsRead
-written_archive mib files rs news end last size reads some chain =
-    appended_archive mib files _ rs news end last size reads some chain (bytes_written (segment_name_bytes 1 mib) (end - origin mib) (written_entries news) files)
+written_archive mib files rs news tip last size reads some chain =
+    appended_archive mib files _ rs news tip last size reads some chain (bytes_written (segment_name_bytes 1 mib) (tip.end - origin mib) (written_entries news) files)

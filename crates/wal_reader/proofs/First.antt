@@ -8,12 +8,14 @@ use Rattle.vault.specs.Area.{bytes_of}
 use Rattle.wal_record.specs.declared.record.Record.{Record}
 use Rattle.wal_record.specs.declared.record.Kind.TheVariants.{Shutdown}
 use Rattle.wal_record.specs.Spelling.{sealed, spelling, IsEntry}
-use Rattle.wal_record.specs.Places.{place_of, record_behind, written_entry, page_head}
+use Rattle.wal_record.specs.Places.{origin, first_start, place_of, record_behind, written_entry, page_head}
+use Rattle.wal_record.specs.Tips.{first_tip, tip_after}
+use Rattle.wal_record.proofs.Tips.{start_at_origin}
 use Rattle.wal_record.proofs.Sealed.{sealed_is_entry, length-sealed, length-written, length-page_head}
-use Rattle.wal_reader.specs.Head.{origin, first_start, IsHead}
+use Rattle.wal_reader.specs.Head.{IsHead}
 use Rattle.wal_reader.specs.Scan.{all_zero}
 use Rattle.wal_reader.specs.Archive.{held_bytes, first_page, StandsAt, EndsAt, Follows, IsArchive}
-use Rattle.wal_reader.proofs.Steps.{start_at_origin}
+use Rattle.wal_reader.proofs.Entries.{stands_from}
 
 -- four bytes of a number below 2 ^ 32
 whole_u32 : (n : ℕ) → n < 2 ^ 32 → n % 256 + 256 * (n / 256 % 256) + 65536 * (n / 65536 % 256 + 256 * (n / 16777216 % 256)) ≡ n
@@ -63,7 +65,7 @@ checkpoint_room : (mib : ℕ) → length (written_entry (checkpoint (first_start
 checkpoint_room mib = omega (arith, length-written (checkpoint (first_start mib)) (omega arith))
 
 -- the first entry stands behind the page head
-stands_first : (mib : ℕ) (head rest page : List ℕ) → IsSegmentMib mib → length head ≡ 40 → page ≡ head ++ (sealed (checkpoint (first_start mib)) ++ rest) → StandsAt mib page (first_start mib) 0 (checkpoint (first_start mib))
+stands_first : (mib : ℕ) (head rest page : List ℕ) → IsSegmentMib mib → length head ≡ 40 → page ≡ head ++ (sealed (checkpoint (first_start mib)) ++ rest) → StandsAt mib page (first_tip mib) (checkpoint (first_start mib))
 stands_first mib head rest page size len e =
     let r : Record = checkpoint (first_start mib) in
     let most : mib ≤ 1024 = size.most in
@@ -72,13 +74,9 @@ stands_first mib head rest page size len e =
     let own : take 50 (drop (first_start mib - origin mib) page) ≡ sealed r =
     ap (λ (n : ℕ). take 50 (drop n page)) offset ∙ ap (λ (l : List ℕ). take 50 (drop 40 l)) e
     ∙ ap (take 50) (drop_at head (sealed r ++ rest) 40 len) ∙ take_at (sealed r) rest 50 (length-sealed r) in
-    record {
-      size = 50;
-      whole = omega (arith, ap length e, len, length-append head (sealed r ++ rest), length-append (sealed r) rest, length-sealed r);
-      entry = subst (λ (l : List ℕ). IsEntry l (place_of (first_start mib) 50) (Some (record { 0 = 0 })) r) (sym own)
-          (sealed_is_entry r (place_of (first_start mib) 50) (Some (record { 0 = 0 })) small refl refl (omega arith) refl (omega arith));
-      allowed = (refl, refl);
-    }
+    stands_from mib page (first_tip mib) (first_start mib) 50 r (start_at_origin mib (origin mib) refl) (omega (arith, ap length e, len, length-append head (sealed r ++ rest), length-append (sealed r) rest, length-sealed r))
+    (subst (λ (l : List ℕ). IsEntry l (place_of (first_start mib) 50) (Some (record { 0 = 0 })) r) (sym own)
+    (sealed_is_entry r (place_of (first_start mib) 50) (Some (record { 0 = 0 })) small refl refl (omega arith) refl (omega arith))) (refl, refl)
 
 length-held : (mib system : ℕ) (held : List ℕ) → held ≡ page_head mib system ++ written_entry (checkpoint (first_start mib)) → length held ≡ 96
 length-held mib system held e =
@@ -100,7 +98,7 @@ ends_behind mib held size =
     let nothing : drop ((checkpoint (first_start mib)).end.0 - origin mib) held ≡ [] = drop_all _ held (omega (arith, size, checkpoint_end mib)) in
     inl (ap all_zero nothing)
 
-follows_first : (mib system : ℕ) (held : List ℕ) → IsSegmentMib mib → held ≡ page_head mib system ++ written_entry (checkpoint (first_start mib)) → Follows mib held (origin mib) 0 (checkpoint (first_start mib))
+follows_first : (mib system : ℕ) (held : List ℕ) → IsSegmentMib mib → held ≡ page_head mib system ++ written_entry (checkpoint (first_start mib)) → Follows mib held (first_tip mib) (checkpoint (first_start mib))
 unfolding written_entry
 follows_first mib system held size e =
     let r : Record = checkpoint (first_start mib) in
@@ -108,13 +106,12 @@ follows_first mib system held size e =
     record {
       goes_on = goes_on_first mib system held e;
       head = λ start. subst (IsHead mib) (sym page) (head_passes mib system (written_entry r) size);
-      entry = subst (λ (n : ℕ). StandsAt mib (first_page held) n 0 r) (sym (start_at_origin mib (origin mib) refl))
-          (stands_first mib (page_head mib system) (replicate (r.end.0 - r.start.0 - length (sealed r)) 0) (first_page held) size (length-page_head mib system) page);
+      entry = stands_first mib (page_head mib system) (replicate (r.end.0 - r.start.0 - length (sealed r)) 0) (first_page held) size (length-page_head mib system) page;
     }
 
 -- a file that is a page head and a checkpoint behind it, whose redo point is its own start, is an archive of that one entry
 pub first_archive : (mib system : ℕ) (files : Files) → IsSegmentMib mib → bytes_of files (segment_name_bytes 1 mib) ≡ page_head mib system ++ written_entry (checkpoint (first_start mib))
-    → IsArchive mib files (checkpoint (first_start mib) ∷ []) (checkpoint (first_start mib)).end.0
+    → IsArchive mib files (checkpoint (first_start mib) ∷ []) (tip_after (first_tip mib) (checkpoint (first_start mib)))
 first_archive mib system files size e =
     let least : 1 ≤ mib = size.least in
     let held : held_bytes mib files ≡ page_head mib system ++ written_entry (checkpoint (first_start mib)) =

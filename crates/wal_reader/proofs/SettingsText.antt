@@ -13,13 +13,13 @@ use Rattle.std.proofs.Math.Seq.{take-append_seam, drop-append-add, drop-cons}
 use Rattle.std.proofs.lemmas.Fmt.{decimal_injective, length-decimal-le}
 use Rattle.text_numbers.specs.Numbers.{all_digits}
 use Rattle.text_numbers.proofs.Decimal.{tells, decimal_is_digits}
-use Rattle.lsn_core.specs.Segment.{IsSegmentMib, segment_bytes}
+use Rattle.lsn_core.specs.Segment.{IsSegmentMib, IsRelseg, StoreSettings, segment_bytes}
 use Rattle.lsn_core.specs.Names.{segment_name_bytes, eight_digits}
 use Rattle.lsn_core.specs.Files.{Files}
-use Rattle.lsn_core.specs.declared.segment.Settings.{Settings}
 use Rattle.wal_reader.specs.Head.{system_in}
 use Rattle.wal_reader.specs.Archive.{held_bytes, first_page}
-use Rattle.wal_reader.specs.Settings.{first_segment, settings_text, cut_line, IsSettingsText, GivesSettings, IsDamagedText, IsSettingsOf, Tells}
+use Rattle.wal_reader.specs.Settings.{first_segment, settings_text, cut_line, IsSettingsText, GivesSettings, IsDamagedText, IsSettingsOf}
+use Rattle.wal_reader.specs.Inside.{line_of, HasNoLine, HasNoNumbers, Tells, TellsSettings, IsSystemOf}
 
 -- a line end behind digits is the first one
 end_of_digits : (text tail : List ℕ) → all_digits text ≡ true → position_or_len (λ b. b == 10) (text ++ (10 ∷ tail)) ≡ length text
@@ -93,7 +93,7 @@ numbers_once m n p q sm sn sp sq e =
 
 pub settings_once : (bytes : List ℕ) (m n p q : ℕ) → IsSettingsText bytes m n → IsSettingsText bytes p q → (m ≡ p) × (n ≡ q)
 settings_once bytes m n p q a b =
-    numbers_once m n p q (omega (arith, a.segment.most)) (omega (arith, a.most)) (omega (arith, b.segment.most)) (omega (arith, b.most)) (sym a.text ∙ b.text)
+    numbers_once m n p q (omega (arith, a.segment.most)) (omega (arith, a.blocks.most)) (omega (arith, b.segment.most)) (omega (arith, b.blocks.most)) (sym a.text ∙ b.text)
 
 -- files give one pair of numbers at most, and none where the file is damaged
 pub gives_once : (file : Option (List ℕ)) (m n p q : ℕ) → GivesSettings file m n → GivesSettings file p q → (m ≡ p) × (n ≡ q)
@@ -108,7 +108,7 @@ gives_or_is_damaged (Some bytes) m n gives damaged = damaged m n gives
 pub length_settings : (bytes : List ℕ) (m n : ℕ) → IsSettingsText bytes m n → length bytes ≤ 43
 length_settings bytes m n is =
     let first : length (decimal m) ≤ 4 = length-decimal-le 4 m (omega arith) (omega (arith, is.segment.most)) (omega (arith, is.segment.most)) in
-    let second : length (decimal n) ≤ 6 = length-decimal-le 6 n (omega arith) (omega (arith, is.most)) (omega (arith, is.most)) in
+    let second : length (decimal n) ≤ 6 = length-decimal-le 6 n (omega arith) (omega (arith, is.blocks.most)) (omega (arith, is.blocks.most)) in
     omega (arith, ap length is.text, first, second, length-append (decimal m) (10 ∷ (codes "blocks-per-segment " ++ (decimal n ++ (10 ∷ [])))), length-append (decimal n) (10 ∷ []))
 
 -- the name of segment 1 is one at every segment size
@@ -138,13 +138,13 @@ never_some : {A : Type 0} (x : A) → None ≡ Some x → ⊥
 never_some x e = cc
 
 -- a line that isn't cut, or whose front is no number's text, is no line of a key and a number
-pub not_cut : (key bytes line : List ℕ) → bytes ≡ key ++ line → cut_line line ≡ None → (n : ℕ) (tail : List ℕ) → n < 2 ^ 64 → bytes ≡ key ++ (decimal n ++ (10 ∷ tail)) → ⊥
+pub not_cut : (key bytes line : List ℕ) → bytes ≡ key ++ line → cut_line line ≡ None → HasNoLine bytes key
 not_cut key bytes line behind none n tail small e =
     let same : line ≡ decimal n ++ (10 ∷ tail) = append_cancel_left key line (decimal n ++ (10 ∷ tail)) (sym behind ∙ e) in
     let some : cut_line line ≡ Some (decimal n, tail) = ap cut_line same ∙ cut_digits (decimal n) tail (decimal_is_digits n small) in
     never_some (decimal n, tail) (sym none ∙ some)
 
-pub not_number : (key bytes line text after : List ℕ) → bytes ≡ key ++ line → cut_line line ≡ Some (text, after) → ((n : ℕ) → n < 2 ^ 64 → text ≡ decimal n → ⊥) → (n : ℕ) (tail : List ℕ) → n < 2 ^ 64 → bytes ≡ key ++ (decimal n ++ (10 ∷ tail)) → ⊥
+pub not_number : (key bytes line text after : List ℕ) → bytes ≡ key ++ line → cut_line line ≡ Some (text, after) → ((n : ℕ) → n < 2 ^ 64 → text ≡ decimal n → ⊥) → HasNoLine bytes key
 not_number key bytes line text after behind cut none n tail small e =
     let same : line ≡ decimal n ++ (10 ∷ tail) = append_cancel_left key line (decimal n ++ (10 ∷ tail)) (sym behind ∙ e) in
     let some : cut_line line ≡ Some (decimal n, tail) = ap cut_line same ∙ cut_digits (decimal n) tail (decimal_is_digits n small) in
@@ -178,17 +178,16 @@ pub is_something : (tail : List ℕ) → false ≡ (length tail == 0) → tail �
 is_something [] e nothing = cc
 is_something (b ∷ bs) e nothing = cc
 
-pub none_read : (bytes : List ℕ) → ((mib relseg : ℕ) → mib < 2 ^ 64 → relseg < 2 ^ 64 → bytes ≡ settings_text mib relseg → ⊥) → (mib relseg : ℕ) → IsSettingsText bytes mib relseg → ⊥
-none_read bytes none mib relseg is = none mib relseg (omega (arith, is.segment.most)) (omega (arith, is.most)) is.text
+pub none_read : (bytes : List ℕ) → HasNoNumbers bytes → IsDamagedText (Some bytes)
+none_read bytes none mib relseg is = none mib relseg (omega (arith, is.segment.most)) (omega (arith, is.blocks.most)) is.text
 
 -- numbers out of range
-pub none_in_range : (bytes : List ℕ) (m n : ℕ) → m < 2 ^ 64 → n < 2 ^ 64 → bytes ≡ settings_text m n → (IsSettingsText (settings_text m n) m n → ⊥) → (mib relseg : ℕ) → IsSettingsText bytes mib relseg → ⊥
+pub none_in_range : (bytes : List ℕ) (m n : ℕ) → m < 2 ^ 64 → n < 2 ^ 64 → bytes ≡ settings_text m n → (IsSettingsText (settings_text m n) m n → ⊥) → IsDamagedText (Some bytes)
 none_in_range bytes m n sm sn e out mib relseg is =
-    let same : (m ≡ mib) × (n ≡ relseg) = numbers_once m n mib relseg sm sn (omega (arith, is.segment.most)) (omega (arith, is.most)) (sym e ∙ is.text) in
+    let same : (m ≡ mib) × (n ≡ relseg) = numbers_once m n mib relseg sm sn (omega (arith, is.segment.most)) (omega (arith, is.blocks.most)) (sym e ∙ is.text) in
     out (record {
       segment = subst IsSegmentMib (sym same.0) is.segment;
-      least = omega (arith, is.least, same.1);
-      most = omega (arith, is.most, same.1);
+      blocks = subst IsRelseg (sym same.1) is.blocks;
       text = refl;
     })
 
@@ -196,7 +195,7 @@ pub range_found : (bytes : List ℕ) (m n : ℕ) (o : Option (ℕ × ℕ)) → b
 range_found bytes m n None e found = tt
 range_found bytes m n (Some x) e found = subst (λ (l : List ℕ). IsSettingsText l x.0 x.1) (sym e) found
 
-pub range_none : (bytes : List ℕ) (m n : ℕ) (o : Option (ℕ × ℕ)) → m < 2 ^ 64 → n < 2 ^ 64 → bytes ≡ settings_text m n → IfNone o (IsSettingsText (settings_text m n) m n → ⊥) → IfNone o ((mib relseg : ℕ) → IsSettingsText bytes mib relseg → ⊥)
+pub range_none : (bytes : List ℕ) (m n : ℕ) (o : Option (ℕ × ℕ)) → m < 2 ^ 64 → n < 2 ^ 64 → bytes ≡ settings_text m n → IfNone o (IsSettingsText (settings_text m n) m n → ⊥) → IfNone o (IsDamagedText (Some bytes))
 range_none bytes m n None sm sn e out = none_in_range bytes m n sm sn e out
 range_none bytes m n (Some x) sm sn e out = tt
 
@@ -205,7 +204,7 @@ whole_front : (bytes : List ℕ) → length (take 8192 bytes) ≤ 43 → take 81
 whole_front bytes short = take_all 8192 bytes (omega (arith, length-take 8192 bytes, short))
 
 pub told_by : (file : Option (List ℕ)) (front : List ℕ) (o : Option (ℕ × ℕ)) → Some front ≡ option_map (take 8192) file
-    → IfSome o (λ x. IsSettingsText front x.0 x.1) → IfNone o ((mib relseg : ℕ) → IsSettingsText front mib relseg → ⊥) → Tells file o
+    → IfSome o (λ x. IsSettingsText front x.0 x.1) → IfNone o (IsDamagedText (Some front)) → Tells file o
 told_by None front o e found none = absurd (cc)
 told_by (Some bytes) front (Some x) e found none =
     let cut : front ≡ take 8192 bytes = cc in
@@ -226,8 +225,8 @@ is_there None size e some = absurd (cc)
 is_there (Some bytes) size e some = refl
 
 -- what is asked of an area, taken together
-pub are_settings : (files : Option Files) (size : Option ℕ) (told : Option (ℕ × ℕ)) (s : Settings) → is_some size ≡ true → told ≡ Some (s.segment, s.relseg)
-    → IfSome files (λ m. size ≡ option_map length (get m first_segment)) → IfSome files (λ m. Tells (get m (codes "settings")) told) → IfSome files (λ m. s.system ≡ system_in (first_page (held_bytes s.segment m)))
+pub are_settings : (files : Option Files) (size : Option ℕ) (told : Option (ℕ × ℕ)) (s : StoreSettings) → is_some size ≡ true → told ≡ Some (s.segment, s.relseg)
+    → IfSome files (λ m. size ≡ option_map length (get m first_segment)) → TellsSettings files told → IsSystemOf s.segment files s.system
     → IfSome files (λ m. IsSettingsOf m s)
 are_settings None size told s some numbers has tells system = tt
 are_settings (Some m) size told s some numbers has tells system = record {

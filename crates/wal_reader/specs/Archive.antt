@@ -3,14 +3,17 @@
 use Rattle.std.specs.Prelude.{◌≡◌, ◌≢◌, ℕ, ◌+◌, ◌-◌, ◌≤◌, ◌⊎◌, List, [], ◌∷◌, length, take, drop, Some, true}
 use Rattle.lsn_core.specs.Files.{Files}
 use Rattle.lsn_core.specs.Segment.{segment_bytes}
+use Rattle.lsn_core.specs.Sizes.{page_size, long_head}
 use Rattle.lsn_core.specs.Names.{segment_name_bytes}
+use Rattle.lsn_core.specs.Tip.{Tip}
 use Rattle.vault.specs.Area.{bytes_of}
 use Rattle.wal_record.specs.declared.record.Record.{Record}
 use Rattle.wal_record.specs.declared.record.Kind.{Kind}
 use Rattle.wal_record.specs.declared.record.Kind.TheVariants.{Shutdown, Generic, Create}
 use Rattle.wal_record.specs.Spelling.{IsEntry}
-pub use Rattle.wal_record.specs.Places.{aligned, place_of, start_after}
-use Rattle.wal_reader.specs.Head.{origin, long_head, first_start, IsHead}
+use Rattle.wal_record.specs.Places.{origin, first_start, place_of, start_after}
+use Rattle.wal_record.specs.Tips.{first_tip, tip_after}
+use Rattle.wal_reader.specs.Head.{IsHead}
 use Rattle.wal_reader.specs.Scan.{all_zero}
 
 -- the bytes that the archive holds, from the start of segment 1 on. So far these are those of one file;
@@ -20,7 +23,7 @@ held_bytes mib files = take (segment_bytes mib) (bytes_of files (segment_name_by
 
 -- those of them that lie on the first page
 abbrev pub first_page : List ℕ → List ℕ
-first_page held = take 8192 held
+first_page held = take page_size held
 
 -- no byte at that offset or behind it is held, or each one that is held is zero
 abbrev pub IsZeroFrom : List ℕ → ℕ → Type 0
@@ -33,51 +36,55 @@ IsAllowed first start (Shutdown redo) = (start ≡ first) × (redo.0 ≡ start)
 IsAllowed first start (Generic blocks) = start ≢ first
 IsAllowed first start (Create fork) = start ≢ first
 
--- an entry stands at a place, after one that starts at prev (0 where there is none): all its own bytes are held
--- and lie on the first page, they are its written form with prev as its link, and its kind may stand there.
+-- so many bytes of the first page, from a place on
+abbrev pub bytes_at : ℕ → List ℕ → ℕ → ℕ → List ℕ
+bytes_at mib page start size = take size (drop (start - origin mib) page)
+
+-- an entry stands behind a tip: all its own bytes are held and lie on the first page, they are its written form
+-- with the start of the last entry as its link, and its kind may stand there.
 -- The padding up to its end may be missing, and may be any bytes
-pub record StandsAt (mib : ℕ) (page : List ℕ) (start prev : ℕ) (r : Record) : Type 0 where
+pub record StandsAt (mib : ℕ) (page : List ℕ) (tip : Tip) (r : Record) : Type 0 where
   pub size : ℕ
-  pub whole : start - origin mib + size ≤ length page
-  pub entry : IsEntry (take size (drop (start - origin mib) page)) (place_of start size) (Some (record { 0 = prev })) r
-  pub allowed : IsAllowed (first_start mib) start r.kind
+  pub whole : start_after mib tip.end - origin mib + size ≤ length page
+  pub entry : IsEntry (bytes_at mib page (start_after mib tip.end) size) (place_of (start_after mib tip.end) size) (Some (record { 0 = tip.prev })) r
+  pub allowed : IsAllowed (first_start mib) (start_after mib tip.end) r.kind
 
 -- the archive ends at a place: all that is held from there on is zero; or the place is the start of the page,
 -- its head passes, and all that is held behind the head is zero
 abbrev pub EndsAt : ℕ → List ℕ → ℕ → Type 0
 EndsAt mib held at = IsZeroFrom held (at - origin mib) ⊎ ((at ≡ origin mib) × (IsHead mib (first_page held) × IsZeroFrom held long_head))
 
--- after a place the archive goes on with this entry, behind a head that passes if the place is the start of the page
-pub record Follows (mib : ℕ) (held : List ℕ) (at prev : ℕ) (r : Record) : Type 0 where
-  pub goes_on : EndsAt mib held at → ⊥
-  pub head : at ≡ origin mib → IsHead mib (first_page held)
-  pub entry : StandsAt mib (first_page held) (start_after mib at) prev r
+-- behind a tip the archive goes on with this entry, behind a head that passes if the tip is at the start of the page
+pub record Follows (mib : ℕ) (held : List ℕ) (tip : Tip) (r : Record) : Type 0 where
+  pub goes_on : EndsAt mib held tip.end → ⊥
+  pub head : tip.end ≡ origin mib → IsHead mib (first_page held)
+  pub entry : StandsAt mib (first_page held) tip r
 
--- what stands after a place of the page is broken: the head, at the start of the page; or else the entry, where it would start
-abbrev pub IsBroken : ℕ → List ℕ → ℕ → ℕ → ℕ → Type 0
-IsBroken mib page at prev place =
-    ((at ≡ origin mib) × ((IsHead mib page → ⊥) × (place ≡ at)))
-    ⊎ ((at ≡ origin mib → IsHead mib page) × ((place ≡ start_after mib at) × ((r : Record) → StandsAt mib page (start_after mib at) prev r → ⊥)))
+-- what stands behind a tip is broken: the head, at the start of the page; or else the entry, where it would start
+abbrev pub IsBroken : ℕ → List ℕ → Tip → ℕ → Type 0
+IsBroken mib page tip place =
+    ((tip.end ≡ origin mib) × ((IsHead mib page → ⊥) × (place ≡ tip.end)))
+    ⊎ ((tip.end ≡ origin mib → IsHead mib page) × ((place ≡ start_after mib tip.end) × ((r : Record) → StandsAt mib page tip r → ⊥)))
 
--- the archive goes on after a place, and is damaged there
-pub record IsDamagedAt (mib : ℕ) (held : List ℕ) (at prev place : ℕ) : Type 0 where
-  pub goes_on : EndsAt mib held at → ⊥
-  pub broken : IsBroken mib (first_page held) at prev place
+-- the archive goes on behind a tip, and is damaged there
+pub record IsDamagedAt (mib : ℕ) (held : List ℕ) (tip : Tip) (place : ℕ) : Type 0 where
+  pub goes_on : EndsAt mib held tip.end → ⊥
+  pub broken : IsBroken mib (first_page held) tip place
 
--- from a place on, after an entry that starts at prev, just these entries follow, and the archive ends at end
-abbrev pub Reads : ℕ → List ℕ → ℕ → ℕ → List Record → ℕ → Type 0
-Reads mib held at prev [] end = EndsAt mib held at × (end ≡ at)
-Reads mib held at prev (r ∷ rs) end = Follows mib held at prev r × Reads mib held r.end.0 r.start.0 rs end
+-- behind a tip just these entries follow, and the archive ends with this other tip
+abbrev pub Reads : ℕ → List ℕ → Tip → List Record → Tip → Type 0
+Reads mib held tip [] end = EndsAt mib held tip.end × (end ≡ tip)
+Reads mib held tip (r ∷ rs) end = Follows mib held tip r × Reads mib held (tip_after tip r) rs end
 
--- from a place on, after an entry that starts at prev, these entries follow, and behind them there is damage at place
-abbrev pub Breaks : ℕ → List ℕ → ℕ → ℕ → List Record → ℕ → Type 0
-Breaks mib held at prev [] place = IsDamagedAt mib held at prev place
-Breaks mib held at prev (r ∷ rs) place = Follows mib held at prev r × Breaks mib held r.end.0 r.start.0 rs place
+-- behind a tip these entries follow, and behind them there is damage at place
+abbrev pub Breaks : ℕ → List ℕ → Tip → List Record → ℕ → Type 0
+Breaks mib held tip [] place = IsDamagedAt mib held tip place
+Breaks mib held tip (r ∷ rs) place = Follows mib held tip r × Breaks mib held (tip_after tip r) rs place
 
--- the archive of these files is just these entries, and ends at end
-abbrev pub IsArchive : ℕ → Files → List Record → ℕ → Type 0
-IsArchive mib files rs end = Reads mib (held_bytes mib files) (origin mib) 0 rs end
+-- the archive of these files is just these entries, and ends with a tip
+abbrev pub IsArchive : ℕ → Files → List Record → Tip → Type 0
+IsArchive mib files rs tip = Reads mib (held_bytes mib files) (first_tip mib) rs tip
 
 -- the archive of these files is damaged at a place, behind some entries
 abbrev pub IsDamaged : ℕ → Files → ℕ → Type 0
-IsDamaged mib files place = (rs : List Record) × Breaks mib (held_bytes mib files) (origin mib) 0 rs place
+IsDamaged mib files place = (rs : List Record) × Breaks mib (held_bytes mib files) (first_tip mib) rs place

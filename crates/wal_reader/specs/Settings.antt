@@ -5,8 +5,8 @@ use Rattle.std.specs.Option.{option_map}
 use Rattle.std.specs.Fmt.{decimal}
 use Rattle.std.specs.FinMap.{get}
 use Rattle.lsn_core.specs.Files.{Files}
-use Rattle.lsn_core.specs.Segment.{IsSegmentMib}
-use Rattle.lsn_core.specs.declared.segment.Settings.{Settings}
+use Rattle.lsn_core.specs.Segment.{IsSegmentMib, IsRelseg, StoreSettings}
+use Rattle.lsn_core.specs.Sizes.{most_relseg}
 use Rattle.wal_reader.specs.Head.{system_in}
 use Rattle.wal_reader.specs.Archive.{held_bytes, first_page}
 
@@ -25,13 +25,12 @@ cut_line text = option_map (λ i. (take i text, drop (i + 1) text)) (position (�
 -- it gives these numbers, in their ranges
 pub record IsSettingsText (bytes : List ℕ) (mib relseg : ℕ) : Type 0 where
   pub segment : IsSegmentMib mib
-  pub least : 1 ≤ relseg
-  pub most : relseg ≤ 131072
+  pub blocks : IsRelseg relseg
   pub text : bytes ≡ settings_text mib relseg
 
 -- the settings that files give: those of the file `settings`, or 16 MiB and 131072 blocks where it isn't there
 abbrev pub GivesSettings : Option (List ℕ) → ℕ → ℕ → Type 0
-GivesSettings None mib relseg = (mib ≡ 16) × (relseg ≡ 131072)
+GivesSettings None mib relseg = (mib ≡ 16) × (relseg ≡ most_relseg)
 GivesSettings (Some bytes) mib relseg = IsSettingsText bytes mib relseg
 
 -- the file is there and not of its grammar
@@ -39,13 +38,8 @@ abbrev pub IsDamagedText : Option (List ℕ) → Type 0
 IsDamagedText None = ⊥
 IsDamagedText (Some bytes) = (mib relseg : ℕ) → IsSettingsText bytes mib relseg → ⊥
 
--- what a reader of the file tells: its numbers, or none where it is damaged
-abbrev pub Tells : Option (List ℕ) → Option (ℕ × ℕ) → Type 0
-Tells file (Some numbers) = GivesSettings file numbers.0 numbers.1
-Tells file None = IsDamagedText file
-
 -- the settings of a WAL: the file of segment 1 is there, and the identifier stands in its head
-pub record IsSettingsOf (files : Files) (s : Settings) : Type 0 where
+pub record IsSettingsOf (files : Files) (s : StoreSettings) : Type 0 where
   pub there : IsSome (get files first_segment)
   pub given : GivesSettings (get files (codes "settings")) s.segment s.relseg
   pub system : s.system ≡ system_in (first_page (held_bytes s.segment files))

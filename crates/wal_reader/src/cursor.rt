@@ -3,42 +3,40 @@
 //! Where the archive goes on, where it ends and where it is damaged is said in `specs/Archive.antt`;
 //! what each call answers and how it leaves the cursor, in `specs/Cursor.antt`.
 
-ghost use Rattle.std.specs.Prelude.{◌≡◌, ◌+◌, ◌≤◌, ◌↔◌, length, IsTrue, IfSome, IfOk};
+ghost use Rattle.std.specs.Prelude.{◌≡◌, ◌≤◌, length, IfOk};
 ghost use Rattle.lsn_core.specs.Causes.{HasCause};
-ghost use Rattle.wal_reader.specs.Head.{origin};
-ghost use Rattle.wal_reader.specs.Archive.{held_bytes, first_page, EndsAt};
-ghost use Rattle.wal_reader.specs.Entry.{FollowAnswer};
-ghost use Rattle.wal_reader.specs.Cursor.{at_start, NextAnswer, FoundAnswer};
+ghost use Rattle.wal_record.specs.Tips.{IsWithin};
+ghost use Rattle.wal_reader.specs.Cursor.{at_start, NextAnswer, StepAnswer};
+ghost use Rattle.wal_reader.specs.Inside.{IsFirstPage, TellsEnd, FollowAnswer};
 
-use crate::entry::entry_at;
+use crate::entry::entry_behind;
 use crate::fault::{Damage, WalFault};
-use crate::head::{LONG_HEAD, is_head};
+use crate::head::is_head;
 use crate::page::{is_zero_from, page_of};
-use lsn_core::{AreaFault, Lsn, SegSize, Settings, WalTip};
+use lsn_core::{AreaFault, LONG_HEAD, SegSize, Settings, WalTip};
 use std::alloc::Global;
 use std::marker::Model;
 use vault::Vault;
-use wal_record::Record;
+use wal_record::{Record, first_tip, tip_after};
 
 /// A cursor over the archive. It holds nothing of the area, which is given to each step. Contracts
-/// see where it stands, and the fault that it goes on to answer (`Reading`).
+/// see a `Cursor`: where it stands, and the fault that it goes on to answer.
 #[derive(Debug, Drop)]
 pub struct WalCursor {
     segment: SegSize,
-    at: u64,
-    prev: u64,
+    tip: WalTip,
     fault: Option<WalFault>,
 }
 
 impl Model for WalCursor {
-    ghost use Rattle.std.specs.Prelude.{ℕ};
-    ghost use Rattle.wal_reader.specs.Cursor.{Reading, IsOnPage};
+    ghost use Rattle.wal_record.specs.Tips.{IsWithin};
+    ghost use Rattle.wal_reader.specs.Cursor.{Cursor};
 
-    ghost Value = { Reading };
+    ghost Value = { Cursor };
 
-    ghost view = { λ c. record { mib = c.segment; at = c.at; prev = c.prev; fault = c.fault } };
+    ghost view = { λ c. record { mib = c.segment; tip = c.tip; fault = c.fault } };
 
-    ghost invariant = { λ c. IsOnPage (record { mib = c.segment; at = c.at; prev = c.prev; fault = c.fault }) };
+    ghost invariant = { λ c. IsWithin c.segment c.tip };
 }
 
 impl WalCursor {
@@ -46,27 +44,21 @@ impl WalCursor {
     pub fn first(settings: &Settings) -> WalCursor
         ensures { result ≡ at_start settings.now.segment }
     {
-        let segment = settings.segment;
+        let segment = settings.segment();
         WalCursor {
             segment,
-            at: segment.bytes(),
-            prev: 0,
+            tip: first_tip(segment),
             fault: None,
         }
     }
 
-    /// Where the last entry that it gave ends and starts; before the first one, where the archive
-    /// begins, and 0.
+    /// The end of the WAL as far as the cursor gave its entries, and at the archive's end that of
+    /// the WAL.
     pub fn tip(&self) -> WalTip
-        ensures end { result.end.0 ≡ self.now.at }
-        ensures least { origin self.now.mib ≤ result.end.0 }
-        ensures most { result.end.0 ≤ origin self.now.mib + 8192 }
-        ensures prev { result.prev.0 ≡ self.now.prev }
+        ensures tip { result ≡ self.now.tip }
+        ensures within { IsWithin self.now.mib self.now.tip }
     {
-        WalTip {
-            end: Lsn(self.at),
-            prev: Lsn(self.prev),
-        }
+        self.tip
     }
 
     /// The next entry, in order. None exactly at the archive's end, where the cursor stays and may
@@ -76,21 +68,18 @@ impl WalCursor {
     pub fn next<V: Vault>(
         &mut self,
         alloc: Global,
-        area: &mut V,
+        wal: &mut V,
     ) -> Result<Option<Record>, WalFault>
-        ensures answer { NextAnswer self.old.fault self.old self.new (V.files area.old) (V.faults area.old) (V.faults area.new) result }
-        ensures same { V.files area.new ≡ V.files area.old }
-        ensures later { V.faults area.old ≤ V.faults area.new }
+        ensures answer { NextAnswer self.old.fault self.old self.new (V.files wal.old) (V.faults wal.old) (V.faults wal.new) result }
+        ensures same { V.files wal.new ≡ V.files wal.old }
+        ensures later { V.faults wal.old ≤ V.faults wal.new }
     {
         if let Some(fault) = self.fault {
             return Err(fault);
         }
-        let answer = found(alloc, area, self.segment, self.at, self.prev);
+        let answer = step(alloc, wal, self.segment, self.tip);
         match &answer {
-            Ok(Some(record)) => {
-                self.at = record.end.0;
-                self.prev = record.start.0;
-            }
+            Ok(Some(record)) => self.tip = tip_after(self.tip, record),
             Ok(None) | Err(WalFault::Failed) => {}
             Err(fault) => self.fault = Some(*fault),
         }
@@ -98,72 +87,64 @@ impl WalCursor {
     }
 }
 
-/// Whether the archive ends at a place, by its first page and by what is zero behind the place.
+/// Whether the archive ends with a tip, by its first page and by what is zero behind the tip.
 fn is_end<V: Vault>(
     alloc: Global,
-    area: &mut V,
+    wal: &mut V,
     segment: SegSize,
-    at: u64,
+    tip: WalTip,
     page: &[u8],
 ) -> Result<bool, AreaFault>
-    requires least { origin segment ≤ at }
-    requires most { at ≤ origin segment + 8192 }
-    requires page { IfSome (V.files area.old) (λ m. page.now ≡ first_page (held_bytes segment m)) }
-    ensures end { IfOk result (λ end. IfSome (V.files area.old) (λ m. IsTrue end ↔ EndsAt segment (held_bytes segment m) at)) }
-    ensures same { V.files area.new ≡ V.files area.old }
-    ensures cause { HasCause (V.faults area.old) (V.faults area.new) result }
+    requires tip { IsWithin segment tip }
+    requires page { IsFirstPage segment (V.files wal.old) page.now }
+    ensures end { IfOk result (λ end. TellsEnd segment (V.files wal.old) tip.end end) }
+    ensures same { V.files wal.new ≡ V.files wal.old }
+    ensures cause { HasCause (V.faults wal.old) (V.faults wal.new) result }
 {
     let origin = segment.bytes();
-    if is_zero_from(alloc, area, segment, at - origin)? {
+    if is_zero_from(alloc, wal, segment, tip.end.0 - origin)? {
         return Ok(true);
     }
-    if at > origin || !is_head(page, segment) {
+    if tip.end.0 > origin || !is_head(page, segment) {
         return Ok(false);
     }
-    is_zero_from(alloc, area, segment, LONG_HEAD)
+    is_zero_from(alloc, wal, segment, LONG_HEAD)
 }
 
-/// The entry that follows a place of the first page, where the archive goes on.
+/// The entry that follows behind a tip, where the archive goes on.
 fn follows(
     alloc: Global,
     page: &[u8],
     segment: SegSize,
-    at: u64,
-    prev: u64,
+    tip: WalTip,
 ) -> Result<Record, WalFault>
-    requires least { origin segment ≤ at }
-    requires most { at ≤ origin segment + 8192 }
+    requires tip { IsWithin segment tip }
     requires page { length page.now ≤ 8192 }
-    ensures { FollowAnswer segment page.now at prev result }
+    ensures { FollowAnswer segment page.now tip result }
 {
-    if at == segment.bytes() {
-        if !is_head(page, segment) {
-            return Err(WalFault::Damaged(Lsn(at), Damage::Form));
-        }
-        return entry_at(alloc, page, segment, at + LONG_HEAD, prev);
+    if tip.end.0 == segment.bytes() && !is_head(page, segment) {
+        return Err(WalFault::Damaged(tip.end, Damage::Form));
     }
-    entry_at(alloc, page, segment, at, prev)
+    entry_behind(alloc, page, segment, tip)
 }
 
-/// What stands after a place.
-fn found<V: Vault>(
+/// What stands behind a tip.
+fn step<V: Vault>(
     alloc: Global,
-    area: &mut V,
+    wal: &mut V,
     segment: SegSize,
-    at: u64,
-    prev: u64,
+    tip: WalTip,
 ) -> Result<Option<Record>, WalFault>
-    requires least { origin segment ≤ at }
-    requires most { at ≤ origin segment + 8192 }
-    ensures answer { FoundAnswer segment at prev (V.files area.old) (V.faults area.old) (V.faults area.new) result }
-    ensures same { V.files area.new ≡ V.files area.old }
-    ensures later { V.faults area.old ≤ V.faults area.new }
+    requires { IsWithin segment tip }
+    ensures answer { StepAnswer segment tip (V.files wal.old) (V.faults wal.old) (V.faults wal.new) result }
+    ensures same { V.files wal.new ≡ V.files wal.old }
+    ensures later { V.faults wal.old ≤ V.faults wal.new }
 {
-    let page = page_of(alloc, area, segment)?;
-    if is_end(alloc, area, segment, at, &page)? {
+    let page = page_of(alloc, wal, segment)?;
+    if is_end(alloc, wal, segment, tip, &page)? {
         return Ok(None);
     }
-    match follows(alloc, &page, segment, at, prev) {
+    match follows(alloc, &page, segment, tip) {
         Ok(record) => Ok(Some(record)),
         Err(fault) => Err(fault),
     }

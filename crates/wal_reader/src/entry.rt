@@ -1,24 +1,15 @@
-//! The entry that stands at a place of the first page.
+//! The entry that stands behind a tip on the first page.
 
-ghost use Rattle.std.specs.Prelude.{◌≡◌, ◌+◌, ◌^◌, ◌≤◌, ◌↔◌, ℕ, IsTrue, IfSome, IfNone, length};
-ghost use Rattle.lsn_core.specs.Segment.{segment_bytes};
-ghost use Rattle.wal_reader.specs.Archive.{IsAllowed, aligned};
-ghost use Rattle.wal_reader.specs.Entry.{IsOwn, IsCutOff, EntryAnswer, fault_at};
+ghost use Rattle.std.specs.Prelude.{◌≡◌, ◌^◌, ◌≤◌, ◌↔◌, IsTrue, IfSome, IfNone, length};
+ghost use Rattle.wal_record.specs.Tips.{IsWithin};
+ghost use Rattle.wal_reader.specs.Archive.{IsAllowed};
+ghost use Rattle.wal_reader.specs.Inside.{IsWhole, IsCutOff, EntryAnswer, fault_at};
 
 use crate::fault::{Damage, WalFault};
-use crate::head::LONG_HEAD;
 use byte_words::u32_in;
-use lsn_core::{Lsn, Place, SegSize};
+use lsn_core::{LONG_HEAD, Lsn, Place, SegSize, WalTip};
 use std::alloc::Global;
-use wal_record::{Kind, Record, RecordFault, decode_record};
-
-/// A place rounded up to a multiple of 8, as entries are (PostgreSQL's MAXALIGN).
-fn aligned(at: u64) -> u64
-    requires { at ≤ 2 ^ 32 }
-    ensures { result ≡ aligned at }
-{
-    (at + 7) / 8 * 8
-}
+use wal_record::{Kind, Record, RecordFault, decode_record, end_of, start_after};
 
 /// Whether an entry of this kind may start at a place, where the archive's first one starts at
 /// `first`.
@@ -33,9 +24,9 @@ fn is_allowed(first: u64, start: u64, kind: &Kind) -> bool
 
 /// The bytes of an entry that begins there, as many as its total length says. None exactly where
 /// they aren't all held.
-fn own_bytes(page: &[u8], offset: usize) -> Option<&[u8]>
+fn whole_bytes(page: &[u8], offset: usize) -> Option<&[u8]>
     requires { offset ≤ 2 ^ 32 }
-    ensures own { IfSome result (λ bytes. IsOwn page.now offset bytes.now) }
+    ensures whole { IfSome result (λ bytes. IsWhole page.now offset bytes.now) }
     ensures cut_off { IfNone result (IsCutOff page.now offset) }
 {
     if page.len() < 4 || page.len() - 4 < offset {
@@ -49,41 +40,38 @@ fn own_bytes(page: &[u8], offset: usize) -> Option<&[u8]>
 }
 
 /// What a refusal of the bytes from `start` on is to the cursor.
-fn fault_of(fault: RecordFault, start: u64) -> WalFault
-    ensures { result ≡ fault_at start fault }
+fn fault_of(fault: RecordFault, start: Lsn) -> WalFault
+    ensures { result ≡ fault_at start.0 fault }
 {
     match fault {
-        RecordFault::Form => WalFault::Damaged(Lsn(start), Damage::Form),
+        RecordFault::Form => WalFault::Damaged(start, Damage::Form),
         RecordFault::NoMemory => WalFault::NoMemory,
     }
 }
 
-/// The entry that stands at a place of the first page, after one that starts at `prev` (0 where
-/// there is none). Damage exactly where none stands there.
-pub fn entry_at(
+/// The entry that stands behind a tip on the first page. Damage exactly where none stands there.
+pub fn entry_behind(
     alloc: Global,
     page: &[u8],
     size: SegSize,
-    start: u64,
-    prev: u64,
+    tip: WalTip,
 ) -> Result<Record, WalFault>
-    requires least { segment_bytes size ≤ start }
-    requires most { start ≤ segment_bytes size + 8192 }
+    requires tip { IsWithin size tip }
     requires page { length page.now ≤ 8192 }
-    ensures { EntryAnswer size page.now start prev result }
+    ensures { EntryAnswer size page.now tip result }
 {
-    let damaged = WalFault::Damaged(Lsn(start), Damage::Form);
-    let Some(bytes) = own_bytes(page, (start - size.bytes()) as usize) else {
+    let start = start_after(size, tip.end);
+    let damaged = WalFault::Damaged(start, Damage::Form);
+    let Some(bytes) = whole_bytes(page, (start.0 - size.bytes()) as usize) else {
         return Err(damaged);
     };
-    let end = aligned(start + bytes.len() as u64);
     let place = Place {
-        start: Lsn(start),
-        end: Lsn(end),
+        start,
+        end: end_of(start, bytes.len()),
     };
-    match decode_record(alloc, bytes, place, Some(Lsn(prev))) {
+    match decode_record(alloc, bytes, place, Some(tip.prev)) {
         Ok(record) => {
-            if is_allowed(size.bytes() + LONG_HEAD, start, &record.kind) {
+            if is_allowed(size.bytes() + LONG_HEAD, start.0, &record.kind) {
                 return Ok(record);
             }
             Err(damaged)

@@ -4,16 +4,7 @@ ghost use Rattle.std.specs.Prelude.{◌≡◌, ◌↔◌, IsTrue};
 ghost use Rattle.wal_reader.specs.Head.{IsHead, system_in};
 
 use byte_words::{u16_in, u32_in, u64_in};
-use lsn_core::SegSize;
-
-/// How many bytes a long page header has (access/xlog_internal.h, SizeOfXLogLongPHD).
-pub const LONG_HEAD: u64 = 40;
-
-/// The magic number of a page (profile).
-const MAGIC: u16 = 0xD116;
-
-/// How many bytes a page of the WAL has.
-const PAGE_SIZE: u32 = 8192;
+use lsn_core::{LONG_HEAD, PAGE, PAGE_MAGIC, SegSize};
 
 /// Whether a page begins with the long header of the start of segment 1, with no entry continued.
 pub fn is_head(page: &[u8], size: SegSize) -> bool
@@ -23,13 +14,13 @@ pub fn is_head(page: &[u8], size: SegSize) -> bool
         return false;
     }
     let info = u16_in(page, 2);
-    u16_in(page, 0) == MAGIC
+    u16_in(page, 0) == PAGE_MAGIC
         && (info == 2 || info == 6)
         && u32_in(page, 4) == 1
         && u64_in(page, 8) == size.bytes()
         && u32_in(page, 16) == 0
         && u64::from(u32_in(page, 32)) == size.bytes()
-        && u32_in(page, 36) == PAGE_SIZE
+        && u64::from(u32_in(page, 36)) == PAGE
 }
 
 /// The system identifier that stands in a page head; 0 where its first 32 bytes aren't held.

@@ -1,20 +1,15 @@
-//! Reading the archive from its area: the first page, and whether all behind an offset is zero.
+//! Reading the archive from its wal: the first page, and whether all behind an offset is zero.
 
-ghost use Rattle.std.specs.Prelude.{◌≡◌, ◌^◌, ◌≤◌, IfOk, IfSome, length, take, drop};
-ghost use Rattle.std.specs.FinMap.{get};
+ghost use Rattle.std.specs.Prelude.{◌≡◌, ◌^◌, ◌≤◌, IfOk, length};
 ghost use Rattle.std.specs.Option.{option_map};
 ghost use Rattle.lsn_core.specs.Causes.{HasCause};
-ghost use Rattle.vault.specs.Area.{bytes_of};
-ghost use Rattle.wal_reader.specs.Head.{origin};
-ghost use Rattle.wal_reader.specs.Archive.{held_bytes, first_page};
-ghost use Rattle.wal_reader.specs.Scan.{all_zero, IsZeroRun};
+ghost use Rattle.wal_record.specs.Places.{origin};
+ghost use Rattle.wal_reader.specs.Scan.{all_zero};
+ghost use Rattle.wal_reader.specs.Inside.{IsFront, IsFrontIfThere, IsFrontRead, IsFirstPage, RunsIn, TellsZeros, TellsZerosFrom};
 
-use lsn_core::{AreaFault, SegSize, segment_name};
+use lsn_core::{AreaFault, PAGE, SegSize, segment_name};
 use std::alloc::{AllocError, Global};
 use vault::Vault;
-
-/// How many bytes a page of the WAL has, and how many one read asks for.
-const PAGE: usize = 8192;
 
 /// So many bytes to read into.
 fn buffer(alloc: Global, size: usize) -> Result<Vec<u8>, AllocError>
@@ -24,25 +19,25 @@ fn buffer(alloc: Global, size: usize) -> Result<Vec<u8>, AllocError>
 }
 
 /// Reads the front of a file.
-fn read_front<V: Vault>(area: &mut V, name: &[u8], into: &mut [u8]) -> Result<u32, AreaFault>
+fn read_front<V: Vault>(wal: &mut V, name: &[u8], into: &mut [u8]) -> Result<u32, AreaFault>
     requires { length into.old ≤ 2 ^ 20 }
     ensures count { IfOk result (λ count. count ≤ length into.old) }
-    ensures front { IfOk result (λ count. IfSome (V.files area.old) (λ m. take count into.new ≡ take (length into.old) (bytes_of m name.now))) }
-    ensures same { V.files area.new ≡ V.files area.old }
-    ensures cause { HasCause (V.faults area.old) (V.faults area.new) result }
+    ensures front { IfOk result (λ count. IsFrontRead (V.files wal.old) name.now (length into.old) into.new count) }
+    ensures same { V.files wal.new ≡ V.files wal.old }
+    ensures cause { HasCause (V.faults wal.old) (V.faults wal.new) result }
 {
-    area.read_at(name, 0, into)
+    wal.read_at(name, 0, into)
 }
 
 /// The first 8192 bytes of a file, or all that it has.
-fn front<V: Vault>(alloc: Global, area: &mut V, name: &[u8]) -> Result<Vec<u8>, AreaFault>
-    ensures bytes { IfOk result (λ page. IfSome (V.files area.old) (λ m. page.items ≡ take 8192 (bytes_of m name.now))) }
+fn front<V: Vault>(alloc: Global, wal: &mut V, name: &[u8]) -> Result<Vec<u8>, AreaFault>
+    ensures bytes { IfOk result (λ page. IsFront (V.files wal.old) name.now page.items) }
     ensures size { IfOk result (λ page. length page.items ≤ 8192) }
-    ensures same { V.files area.new ≡ V.files area.old }
-    ensures cause { HasCause (V.faults area.old) (V.faults area.new) result }
+    ensures same { V.files wal.new ≡ V.files wal.old }
+    ensures cause { HasCause (V.faults wal.old) (V.faults wal.new) result }
 {
-    let mut page = buffer(alloc, PAGE)?;
-    let count = read_front(area, name, &mut page)?;
+    let mut page = buffer(alloc, PAGE as usize)?;
+    let count = read_front(wal, name, &mut page)?;
     page.truncate(count as usize);
     Ok(page)
 }
@@ -50,15 +45,15 @@ fn front<V: Vault>(alloc: Global, area: &mut V, name: &[u8]) -> Result<Vec<u8>, 
 /// The first 8192 bytes of a file, or all that it has. None exactly where it isn't there.
 pub fn front_if_there<V: Vault>(
     alloc: Global,
-    area: &mut V,
+    wal: &mut V,
     name: &[u8],
 ) -> Result<Option<Vec<u8>>, AreaFault>
-    ensures bytes { IfOk result (λ found. IfSome (V.files area.old) (λ m. option_map (λ v. v.items) found ≡ option_map (take 8192) (get m name.now))) }
-    ensures same { V.files area.new ≡ V.files area.old }
-    ensures cause { HasCause (V.faults area.old) (V.faults area.new) result }
+    ensures bytes { IfOk result (λ found. IsFrontIfThere (V.files wal.old) name.now (option_map (λ v. v.items) found)) }
+    ensures same { V.files wal.new ≡ V.files wal.old }
+    ensures cause { HasCause (V.faults wal.old) (V.faults wal.new) result }
 {
-    match area.size(name)? {
-        Some(_) => Ok(Some(front(alloc, area, name)?)),
+    match wal.size(name)? {
+        Some(_) => Ok(Some(front(alloc, wal, name)?)),
         None => Ok(None),
     }
 }
@@ -66,18 +61,18 @@ pub fn front_if_there<V: Vault>(
 /// The held bytes of the archive's first page.
 pub fn page_of<V: Vault>(
     alloc: Global,
-    area: &mut V,
+    wal: &mut V,
     segment: SegSize,
 ) -> Result<Vec<u8>, AreaFault>
-    ensures bytes { IfOk result (λ page. IfSome (V.files area.old) (λ m. page.items ≡ first_page (held_bytes segment m))) }
+    ensures bytes { IfOk result (λ page. IsFirstPage segment (V.files wal.old) page.items) }
     ensures size { IfOk result (λ page. length page.items ≤ 8192) }
-    ensures same { V.files area.new ≡ V.files area.old }
-    ensures cause { HasCause (V.faults area.old) (V.faults area.new) result }
+    ensures same { V.files wal.new ≡ V.files wal.old }
+    ensures cause { HasCause (V.faults wal.old) (V.faults wal.new) result }
 {
     let bytes = segment.bytes();
     prove!(8192 <= bytes);
     let name = segment_name(alloc, 1, segment)?;
-    let page = front(alloc, area, name.as_bytes())?;
+    let page = front(alloc, wal, name.as_bytes())?;
     Ok(page)
 }
 
@@ -90,25 +85,25 @@ fn is_all_zero(bytes: &[u8]) -> bool
 
 /// Reads a piece of a file, and says how many bytes it has and whether each is zero.
 fn zero_run<V: Vault>(
-    area: &mut V,
+    wal: &mut V,
     name: &[u8],
     at: u64,
     into: &mut [u8],
 ) -> Result<(u32, bool), AreaFault>
     requires { length into.old ≤ 2 ^ 20 }
-    ensures run { IfOk result (λ run. IfSome (V.files area.old) (λ m. IsZeroRun (bytes_of m name.now) at (length into.old) run.0 run.1)) }
+    ensures run { IfOk result (λ run. RunsIn (V.files wal.old) name.now at (length into.old) run) }
     ensures count { IfOk result (λ run. run.0 ≤ length into.old) }
-    ensures same { V.files area.new ≡ V.files area.old }
-    ensures cause { HasCause (V.faults area.old) (V.faults area.new) result }
+    ensures same { V.files wal.new ≡ V.files wal.old }
+    ensures cause { HasCause (V.faults wal.old) (V.faults wal.new) result }
 {
-    let count = area.read_at(name, at, into)?;
+    let count = wal.read_at(name, at, into)?;
     Ok((count, is_all_zero(&into[..count as usize])))
 }
 
 /// Whether all bytes of a file between two offsets are zero, as far as it has them. It reads piece
 /// by piece, up to the first byte other than zero.
 fn scan<V: Vault>(
-    area: &mut V,
+    wal: &mut V,
     name: &[u8],
     from: u64,
     limit: u64,
@@ -116,14 +111,14 @@ fn scan<V: Vault>(
 ) -> Result<bool, AreaFault>
     requires order { from ≤ limit }
     requires piece { length piece.old ≡ 8192 }
-    ensures zero { IfOk result (λ zero. IfSome (V.files area.old) (λ m. zero ≡ all_zero (drop from (take limit (bytes_of m name.now))))) }
-    ensures same { V.files area.new ≡ V.files area.old }
-    ensures cause { HasCause (V.faults area.old) (V.faults area.new) result }
+    ensures zero { IfOk result (λ zero. TellsZeros (V.files wal.old) name.now from limit zero) }
+    ensures same { V.files wal.new ≡ V.files wal.old }
+    ensures cause { HasCause (V.faults wal.old) (V.faults wal.new) result }
 {
     let mut at = from;
     while at < limit {
-        let wanted = (limit - at).min(PAGE as u64) as usize;
-        let (count, zero) = zero_run(area, name, at, &mut piece[..wanted])?;
+        let wanted = (limit - at).min(PAGE) as usize;
+        let (count, zero) = zero_run(wal, name, at, &mut piece[..wanted])?;
         if !zero {
             return Ok(false);
         }
@@ -139,16 +134,16 @@ fn scan<V: Vault>(
 /// up to the first byte other than zero.
 pub fn is_zero_from<V: Vault>(
     alloc: Global,
-    area: &mut V,
+    wal: &mut V,
     segment: SegSize,
     from: u64,
 ) -> Result<bool, AreaFault>
     requires { from ≤ origin segment }
-    ensures zero { IfOk result (λ zero. IfSome (V.files area.old) (λ m. zero ≡ all_zero (drop from (held_bytes segment m)))) }
-    ensures same { V.files area.new ≡ V.files area.old }
-    ensures cause { HasCause (V.faults area.old) (V.faults area.new) result }
+    ensures zero { IfOk result (λ zero. TellsZerosFrom segment (V.files wal.old) from zero) }
+    ensures same { V.files wal.new ≡ V.files wal.old }
+    ensures cause { HasCause (V.faults wal.old) (V.faults wal.new) result }
 {
     let name = segment_name(alloc, 1, segment)?;
-    let mut piece = buffer(alloc, PAGE)?;
-    scan(area, name.as_bytes(), from, segment.bytes(), &mut piece)
+    let mut piece = buffer(alloc, PAGE as usize)?;
+    scan(wal, name.as_bytes(), from, segment.bytes(), &mut piece)
 }

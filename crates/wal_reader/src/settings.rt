@@ -1,20 +1,18 @@
 //! The settings of a WAL: the file `settings`, and the system identifier in the first page.
 
-ghost use Rattle.std.specs.Prelude.{◌≡◌, ◌^◌, ◌+◌, ◌<◌, ◌≤◌, ℕ, List, ◌∷◌, ◌++◌, take, drop, codes, IfOk, IfSome, IfNone, ◌==◌};
-ghost use Rattle.std.specs.Fmt.{decimal};
-ghost use Rattle.std.specs.FinMap.{get};
+ghost use Rattle.std.specs.Prelude.{◌≡◌, ◌^◌, ◌<◌, ◌≤◌, ℕ, List, ◌++◌, IfOk, IfSome, IfNone, ◌==◌};
 ghost use Rattle.std.specs.List.{position};
 ghost use Rattle.std.specs.Option.{option_map};
 ghost use Rattle.lsn_core.specs.Causes.{HasCause};
-ghost use Rattle.wal_reader.specs.Head.{system_in};
-ghost use Rattle.wal_reader.specs.Archive.{held_bytes, first_page};
-ghost use Rattle.wal_reader.specs.Settings.{settings_text, cut_line, IsSettingsText, Tells};
+ghost use Rattle.lsn_core.specs.Segment.{IsRelseg};
+ghost use Rattle.wal_reader.specs.Settings.{settings_text, cut_line, IsSettingsText, IsDamagedText};
+ghost use Rattle.wal_reader.specs.Inside.{line_of, HasNoLine, HasNoNumbers, TellsSettings, IsSystemOf};
 ghost use Rattle.wal_reader.specs.Cursor.{SettingsAnswer};
 
 use crate::fault::WalFault;
 use crate::head::system_in;
 use crate::page::{front_if_there, page_of};
-use lsn_core::{AreaFault, NoMemory, SegSize, Settings, Text};
+use lsn_core::{AreaFault, MOST_RELSEG, NoMemory, SegSize, Settings, Text};
 use std::alloc::Global;
 use text_numbers::decimal_in;
 use vault::Vault;
@@ -30,7 +28,7 @@ const SETTINGS: &[u8] = b"settings";
 pub fn settings_text(alloc: Global, segment: SegSize, relseg: u32) -> Result<Text, NoMemory>
     ensures { IfOk result (λ t. t ≡ settings_text segment relseg) }
 {
-    let mib = segment.bytes() / 1_048_576;
+    let mib = segment.mib();
     Ok(Text::from_vec(format!(in alloc;
         "segment-mib {mib}\nblocks-per-segment {relseg}\n"
     )?.into_bytes()))
@@ -63,9 +61,9 @@ fn first_line(bytes: &[u8]) -> Option<(&[u8], &[u8])>
 
 /// The number of a line of a key and a number, and what stands behind the line.
 fn number_line<'a>(bytes: &'a [u8], key: &[u8]) -> Option<(u64, &'a [u8])>
-    ensures found { IfSome result (λ x. bytes.now ≡ key.now ++ (decimal x.0 ++ (10 ∷ x.1.now))) }
+    ensures found { IfSome result (λ x. bytes.now ≡ line_of key.now x.0 x.1.now) }
     ensures small { IfSome result (λ x. x.0 < 2 ^ 64) }
-    ensures none { IfNone result ((n : ℕ) (tail : List ℕ) → n < 2 ^ 64 → bytes.now ≡ key.now ++ (decimal n ++ (10 ∷ tail)) → ⊥) }
+    ensures none { IfNone result (HasNoLine bytes.now key.now) }
 {
     let Some(line) = behind_key(bytes, key) else {
         return None;
@@ -83,7 +81,7 @@ fn number_line<'a>(bytes: &'a [u8], key: &[u8]) -> Option<(u64, &'a [u8])>
 fn two_numbers(bytes: &[u8]) -> Option<(u64, u64)>
     ensures found { IfSome result (λ x. bytes.now ≡ settings_text x.0 x.1) }
     ensures small { IfSome result (λ x. (x.0 < 2 ^ 64) × (x.1 < 2 ^ 64)) }
-    ensures none { IfNone result ((mib relseg : ℕ) → mib < 2 ^ 64 → relseg < 2 ^ 64 → bytes.now ≡ settings_text mib relseg → ⊥) }
+    ensures none { IfNone result (HasNoNumbers bytes.now) }
 {
     let Some((mib, tail)) = number_line(bytes, b"segment-mib ") else {
         return None;
@@ -102,7 +100,7 @@ fn in_range(mib: u64, relseg: u64) -> Option<(SegSize, u32)>
     ensures found { IfSome result (λ x. IsSettingsText (settings_text mib relseg) x.0 x.1) }
     ensures none { IfNone result (IsSettingsText (settings_text mib relseg) mib relseg → ⊥) }
 {
-    if mib > 1024 || relseg < 1 || relseg > 131_072 {
+    if mib > 1024 || relseg < 1 || relseg > u64::from(MOST_RELSEG) {
         return None;
     }
     match SegSize::new(mib as u32) {
@@ -114,7 +112,7 @@ fn in_range(mib: u64, relseg: u64) -> Option<(SegSize, u32)>
 /// The settings that stand in the file. None exactly where it is not of its grammar.
 fn settings_in(bytes: &[u8]) -> Option<(SegSize, u32)>
     ensures found { IfSome result (λ x. IsSettingsText bytes.now x.0 x.1) }
-    ensures none { IfNone result ((mib relseg : ℕ) → IsSettingsText bytes.now mib relseg → ⊥) }
+    ensures none { IfNone result (IsDamagedText (Some bytes.now)) }
 {
     match two_numbers(bytes) {
         Some((mib, relseg)) => in_range(mib, relseg),
@@ -125,25 +123,25 @@ fn settings_in(bytes: &[u8]) -> Option<(SegSize, u32)>
 /// What the file tells: 16 MiB and 131072 blocks where it isn't there (PostgreSQL manual, initdb
 /// --wal-segsize, configure --with-segsize), and none where it is damaged. It has 43 bytes at most,
 /// so that its first 8192 are looked at.
-fn told_settings<V: Vault>(alloc: Global, area: &mut V) -> Result<Option<(SegSize, u32)>, AreaFault>
-    ensures told { IfOk result (λ told. IfSome (V.files area.old) (λ m. Tells (get m (codes "settings")) told)) }
-    ensures range { IfOk result (λ told. IfSome told (λ x. (1 ≤ x.1) × (x.1 ≤ 131072))) }
-    ensures same { V.files area.new ≡ V.files area.old }
-    ensures cause { HasCause (V.faults area.old) (V.faults area.new) result }
+fn told_settings<V: Vault>(alloc: Global, wal: &mut V) -> Result<Option<(SegSize, u32)>, AreaFault>
+    ensures told { IfOk result (TellsSettings (V.files wal.old)) }
+    ensures range { IfOk result (λ told. IfSome told (λ x. IsRelseg x.1)) }
+    ensures same { V.files wal.new ≡ V.files wal.old }
+    ensures cause { HasCause (V.faults wal.old) (V.faults wal.new) result }
 {
-    match front_if_there(alloc, area, SETTINGS)? {
+    match front_if_there(alloc, wal, SETTINGS)? {
         Some(bytes) => Ok(settings_in(&bytes)),
-        None => Ok(Some((SegSize::standard(), 131_072))),
+        None => Ok(Some((SegSize::standard(), MOST_RELSEG))),
     }
 }
 
 /// The system identifier that stands in the head of the first page.
-fn system_of<V: Vault>(alloc: Global, area: &mut V, segment: SegSize) -> Result<u64, AreaFault>
-    ensures system { IfOk result (λ system. IfSome (V.files area.old) (λ m. system ≡ system_in (first_page (held_bytes segment m)))) }
-    ensures same { V.files area.new ≡ V.files area.old }
-    ensures cause { HasCause (V.faults area.old) (V.faults area.new) result }
+fn system_of<V: Vault>(alloc: Global, wal: &mut V, segment: SegSize) -> Result<u64, AreaFault>
+    ensures system { IfOk result (IsSystemOf segment (V.files wal.old)) }
+    ensures same { V.files wal.new ≡ V.files wal.old }
+    ensures cause { HasCause (V.faults wal.old) (V.faults wal.new) result }
 {
-    let page = page_of(alloc, area, segment)?;
+    let page = page_of(alloc, wal, segment)?;
     Ok(system_in(&page))
 }
 
@@ -153,21 +151,20 @@ fn system_of<V: Vault>(alloc: Global, area: &mut V, segment: SegSize) -> Result<
 /// from 1 to 1024 and N from 1 to 131072, in decimal without leading zeros (profile). Without that
 /// file M is 16 and N 131072. The system identifier is that of the first page's head, 0 where its
 /// first 32 bytes aren't held.
-pub fn read_settings<V: Vault>(alloc: Global, area: &mut V) -> Result<Settings, WalFault>
-    ensures answer { SettingsAnswer (V.files area.old) (V.faults area.old) (V.faults area.new) result }
-    ensures same { V.files area.new ≡ V.files area.old }
-    ensures later { V.faults area.old ≤ V.faults area.new }
+pub fn read_settings<V: Vault>(alloc: Global, wal: &mut V) -> Result<Settings, WalFault>
+    ensures answer { SettingsAnswer (V.files wal.old) (V.faults wal.old) (V.faults wal.new) result }
+    ensures same { V.files wal.new ≡ V.files wal.old }
+    ensures later { V.faults wal.old ≤ V.faults wal.new }
 {
-    if area.size(FIRST_SEGMENT)?.is_none() {
+    if wal.size(FIRST_SEGMENT)?.is_none() {
         return Err(WalFault::NotInit);
     }
-    let Some(told) = told_settings(alloc, area)? else {
+    let Some(told) = told_settings(alloc, wal)? else {
         return Err(WalFault::SettingsDamaged);
     };
-    let system = system_of(alloc, area, told.0)?;
-    Ok(Settings {
-        segment: told.0,
-        relseg: told.1,
-        system,
-    })
+    let system = system_of(alloc, wal, told.0)?;
+    match Settings::new(told.0, told.1, system) {
+        Some(settings) => Ok(settings),
+        None => Err(WalFault::SettingsDamaged),
+    }
 }

@@ -4,3 +4,4 @@ pub mod Images
 pub mod Again
 pub mod Entries
 pub mod Sealed
+pub mod Tips

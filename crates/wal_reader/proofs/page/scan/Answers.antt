@@ -2,14 +2,15 @@
 use Rattle.std.proofs.Common.{◌≡◌, ◌+◌, ◌≤◌, false, length, take, drop, sym, ◌∙◌, arith, length-take}
 use Rattle.byte_words.specs.Told.{when_both_told}
 use Rattle.vault.specs.Area.{bytes_of}
-use Rattle.wal_reader.specs.Scan.{all_zero, IsZeroRun}
+use Rattle.wal_reader.specs.Scan.{all_zero}
+use Rattle.wal_reader.specs.Inside.{IsZeroRun}
 use Rattle.wal_reader.proofs.Zeros.{run_stops, run_goes_on}
 use Rattle.wal_reader.proofs.page.scan.Goals as goal
 
 pub returns-then-not-zero-clause-zero : goal.returns-then-not-zero-clause-zero
 returns-then-not-zero-clause-zero g c =
     let within : c.loop-at.at + c.in_ok-count.count ≤ c.args.limit = omega (arith, c.in_ok-count.ensures.count, c.min-wanted.ensures, length-take c.min-wanted.result c.loop-at.piece, c.loop-at.invariant.within) in
-    when_both_told (g.V.Vault.files c.args.area.now)
+    when_both_told (g.V.Vault.files c.args.wal.now)
     (λ m. all_zero (drop c.args.from (take c.args.limit (bytes_of m c.args.name.now))) ≡ all_zero (drop c.loop-at.at (take c.args.limit (bytes_of m c.args.name.now))))
     (λ m. IsZeroRun (bytes_of m c.args.name.now) c.loop-at.at (length (take c.min-wanted.result c.loop-at.piece)) c.in_ok-count.count c.in_ok-count.zero)
     (λ m. false ≡ all_zero (drop c.args.from (take c.args.limit (bytes_of m c.args.name.now))))
@@ -24,7 +25,7 @@ loop-at-preserved g c =
       within = omega (arith, c.from-at.ensures, within);
       same = c.zero_run.ensures.same ∙ c.loop-at.invariant.same;
       later = omega (arith, c.zero_run.ensures.cause.later, c.loop-at.invariant.later);
-      zero = when_both_told (g.V.Vault.files c.args.area.now)
+      zero = when_both_told (g.V.Vault.files c.args.wal.now)
           (λ m. all_zero (drop c.args.from (take c.args.limit (bytes_of m c.args.name.now))) ≡ all_zero (drop c.loop-at.at (take c.args.limit (bytes_of m c.args.name.now))))
           (λ m. IsZeroRun (bytes_of m c.args.name.now) c.loop-at.at (length (take c.min-wanted.result c.loop-at.piece)) c.in_ok-count.count c.in_ok-count.zero)
           (λ m. all_zero (drop c.args.from (take c.args.limit (bytes_of m c.args.name.now))) ≡ all_zero (drop (c.loop-at.at + c.from-at.result) (take c.args.limit (bytes_of m c.args.name.now))))

@@ -7,9 +7,9 @@ use Rattle.wal_reader.proofs.page.scan.Given as goal
 abbrev pub invariant-loop-at : goal.invariant-loop-at
 invariant-loop-at g l = record {
   within : l.at ≤ l.limit;
-  same : g.V.Vault.files l.area ≡ g.V.Vault.files l.fn.area;
-  later : g.V.Vault.faults l.fn.area ≤ g.V.Vault.faults l.area;
-  zero : IfSome (g.V.Vault.files l.fn.area) (λ m. all_zero (drop l.from (take l.limit (bytes_of m l.name))) ≡ all_zero (drop l.at (take l.limit (bytes_of m l.name))));
+  same : g.V.Vault.files l.wal ≡ g.V.Vault.files l.fn.wal;
+  later : g.V.Vault.faults l.fn.wal ≤ g.V.Vault.faults l.wal;
+  zero : IfSome (g.V.Vault.files l.fn.wal) (λ m. all_zero (drop l.from (take l.limit (bytes_of m l.name))) ≡ all_zero (drop l.at (take l.limit (bytes_of m l.name))));
 }
 
 abbrev pub decreases-loop-at : goal.decreases-loop-at
