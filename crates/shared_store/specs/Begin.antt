@@ -2,6 +2,7 @@
 use Rattle.std.specs.Prelude.{◌≡◌, ℕ, ◌<◌, ◌⊎◌, [], Option, IfSome}
 use Rattle.lsn_core.specs.Files.{Files}
 use Rattle.lsn_core.specs.Segment.{StoreSettings}
+use Rattle.vault.specs.declared.area.Vault.{Ghosts}
 use Rattle.wal_record.specs.Places.{origin}
 use Rattle.wal_record.specs.Tips.{first_tip}
 use Rattle.wal_reader.specs.Archive.{IsArchive}
@@ -10,6 +11,7 @@ use Rattle.wal_reader.specs.declared.fault.WalFault.{WalFault}
 use Rattle.wal_writer.specs.Log.{log_at}
 use Rattle.recovery.specs.WholeWal.{HasSettings, IsReadWal, wal_causes}
 use Rattle.recovery.specs.declared.replaying.ReadWal.{ReadWal}
+use Rattle.shared_store.specs.declared.begin.BeginFault.{BeginFault}
 use Rattle.shared_store.specs.State.{State}
 
 -- the WAL has settings and no entry
@@ -24,6 +26,9 @@ begin_causes files = record (wal_causes files) { missing = (wal_causes files).mi
 
 abbrev pub BeginCause : Option Files → ℕ → ℕ → WalFault → Type 0
 BeginCause files before now fault = CauseOf (begin_causes files) before now fault
+
+abbrev pub HasBeginCause : {V : Type 0} → Ghosts V → V → BeginFault V → Type 0
+HasBeginCause g area fault = BeginCause (g.files area) (g.faults area) (g.faults fault.area) fault.why
 
 -- the settings and all that the WAL makes, which has an entry
 pub record IsOpen (files : Option Files) (settings : StoreSettings) (read : ReadWal) : Type 0 where

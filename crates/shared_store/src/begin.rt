@@ -2,7 +2,7 @@
 
 ghost use Rattle.std.specs.Prelude.{◌≡◌, ◌≤◌, IfOk, IfErr};
 ghost use Rattle.shared_store.specs.State.{state_of};
-ghost use Rattle.shared_store.specs.Begin.{IsBegun, BeginCause};
+ghost use Rattle.shared_store.specs.Begin.{IsBegun, HasBeginCause};
 ghost use Rattle.shared_store.specs.Inside.{OpenAnswer};
 
 use crate::store::Store;
@@ -44,7 +44,7 @@ impl<V: Vault> Store<V> {
         ensures begun { IfOk result (λ store. IsBegun (V.files area) (state_of store)) }
         ensures same { IfOk result (λ store. V.files store.wal.area ≡ V.files area) }
         ensures later { IfOk result (λ store. V.faults area ≤ V.faults store.wal.area) }
-        ensures refused { IfErr result (λ fault. IsNotBegun V.Vault area fault.area fault.why) }
+        ensures refused { IfErr result (HasBeginCause V.Vault area) }
         ensures back { IfErr result (λ fault. V.files fault.area ≡ V.files area) }
         ensures back_later { IfErr result (λ fault. V.faults area ≤ V.faults fault.area) }
     {

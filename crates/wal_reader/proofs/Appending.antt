@@ -157,7 +157,7 @@ reads_end mib held tip [] end reads = subst (λ (t : Tip). EndsAt mib held t.end
 reads_end mib held tip (r ∷ rs) end reads = reads_end mib held (tip_after tip r) rs end reads.1
 
 -- an archive that has an entry ends behind the place of the first one's header
-first_behind : (mib : ℕ) (held : List ℕ) (rs : List Record) (end : Tip) → Reads mib held (first_tip mib) rs end → origin mib < end.end → first_start mib < end.end
+pub first_behind : (mib : ℕ) (held : List ℕ) (rs : List Record) (end : Tip) → Reads mib held (first_tip mib) rs end → origin mib < end.end → first_start mib < end.end
 first_behind mib held [] end reads some = absurd (omega (arith, ap (λ (t : Tip). t.end) reads.1, some))
 first_behind mib held (r ∷ rs) end reads some =
     let step = follows_step mib held (first_tip mib) r (omega arith) reads.0 in
