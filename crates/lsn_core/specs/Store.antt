@@ -43,6 +43,10 @@ abbrev pub with_files : Files → List (List ℕ × List ℕ) → Files
 with_files files [] = files
 with_files files (f ∷ fs) = with_files (insert files f.0 f.1) fs
 
--- the files of a store, and no others (Database File Layout)
+-- the files of a store, fork after fork
+abbrev pub store_files : ℕ → Store → List (List ℕ × List ℕ)
+store_files relseg store = flat_map (fork_files relseg) (entries store)
+
+-- a directory of these files, and no others (Database File Layout)
 abbrev pub files_of : ℕ → Store → Files
-files_of relseg store = with_files empty (flat_map (fork_files relseg) (entries store))
+files_of relseg store = with_files empty (store_files relseg store)
