@@ -4,7 +4,7 @@ use Rattle.std.proofs.Math.Seq.{take-append-add}
 use Rattle.std.proofs.lemmas.Bool.{and_parts, eqb-true, cases_lt, cases_eq}
 use Rattle.std.proofs.lemmas.List.{append_assoc, append-nil, take_at, drop_at, drop_all, take-take, drop-take, drop-drop, take-append-le, take-append-drop, length-append, length-replicate, length-take, length-take-le, get_or-take, get_or-drop}
 use Rattle.std.proofs.lemmas.List.Folds.{list_all-append}
-use Rattle.byte_words.specs.Numbers.{u16_in, u32_in, u64_in}
+use Rattle.byte_words.specs.Numbers.{aligned, u16_in, u32_in, u64_in}
 use Rattle.byte_words.specs.Pieces.{overwritten, zero_filled}
 use Rattle.lsn_core.specs.Segment.{IsSegmentMib, segment_bytes}
 use Rattle.lsn_core.specs.Sizes.{long_head}
@@ -18,7 +18,7 @@ use Rattle.wal_record.specs.declared.record.Record.{Record}
 use Rattle.wal_record.specs.declared.record.Kind.{Kind}
 use Rattle.wal_record.specs.declared.record.Kind.TheVariants.{Shutdown, Generic, Create}
 use Rattle.wal_record.specs.Spelling.{sealed, total_of, IsEntry}
-use Rattle.wal_record.specs.Places.{origin, first_start, place_of, start_after, aligned, record_behind, written_entry}
+use Rattle.wal_record.specs.Places.{origin, first_start, place_of, start_after, record_behind, written_entry}
 use Rattle.wal_record.specs.Tips.{first_tip, tip_after, tip_behind, wal_limit, IsWithin}
 use Rattle.wal_record.proofs.Tips.{start_at_origin, start_behind, later_start, first_within, stays_within}
 use Rattle.wal_record.proofs.Sealed.{sealed_is_entry, length-sealed, length-written}

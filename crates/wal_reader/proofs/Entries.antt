@@ -2,14 +2,14 @@
 use Rattle.std.proofs.Common.{◌≡◌, ℕ, ◌+◌, ◌-◌, ◌<◌, ◌≤◌, List, length, take, drop, get_or, Some, Result, Err, refl, sym, ap, subst, ◌∙◌, arith}
 use Rattle.std.proofs.lemmas.List.{length-take, length-drop, get_or-drop, get_or-take}
 use Rattle.byte_words.proofs.Fields.{number_is}
-use Rattle.byte_words.specs.Numbers.{u32_in}
+use Rattle.byte_words.specs.Numbers.{aligned, u32_in}
 use Rattle.lsn_core.specs.declared.lsn.Lsn.{Lsn}
 use Rattle.lsn_core.specs.declared.lsn.Place.{Place}
 use Rattle.wal_record.specs.declared.record.Record.{Record}
 use Rattle.wal_record.specs.Spelling.{IsEntry}
 use Rattle.wal_record.proofs.Entries.{entry_once, entry_total}
 use Rattle.lsn_core.specs.Tip.{Tip}
-use Rattle.wal_record.specs.Places.{origin, first_start, start_after, place_of, aligned}
+use Rattle.wal_record.specs.Places.{origin, first_start, start_after, place_of}
 use Rattle.wal_record.specs.Tips.{IsWithin}
 use Rattle.wal_record.proofs.Tips.{later_start, stays_within}
 use Rattle.wal_reader.specs.Archive.{StandsAt, bytes_at, IsAllowed}

@@ -1,6 +1,7 @@
 -- Where entries stand on the first page of the WAL (PostgreSQL manual, WAL Internals).
 use Rattle.std.specs.Prelude.{ℕ, ◌+◌, ◌-◌, ◌*◌, ◌/◌, List, ◌++◌, ◌==◌, if◌then◌else◌}
 use Rattle.std.specs.Int.{w16, w32, w64, to_le_bytes}
+use Rattle.byte_words.specs.Numbers.{aligned}
 use Rattle.byte_words.specs.Pieces.{zero_filled}
 use Rattle.lsn_core.specs.Segment.{segment_bytes}
 use Rattle.lsn_core.specs.Sizes.{long_head, page_magic, page_size}
@@ -16,10 +17,6 @@ origin mib = segment_bytes mib
 -- the first entry starts behind the long header of the first page
 abbrev pub first_start : ℕ → ℕ
 first_start mib = origin mib + long_head
-
--- a place rounded up to a multiple of 8
-abbrev pub aligned : ℕ → ℕ
-aligned at = (at + 7) / 8 * 8
 
 -- an entry of so many bytes from a start on ends at the next multiple of 8
 abbrev pub place_of : ℕ → ℕ → Place

@@ -1,10 +1,12 @@
 //! Where entries stand and where a WAL ends, on its first page (PostgreSQL manual, WAL Internals).
 
 ghost use Rattle.std.specs.Prelude.{◌≡◌, ◌+◌, ◌<◌, ◌≤◌, ◌^◌};
-ghost use Rattle.wal_record.specs.Places.{aligned, start_after};
+ghost use Rattle.byte_words.specs.Numbers.{aligned};
+ghost use Rattle.wal_record.specs.Places.{start_after};
 ghost use Rattle.wal_record.specs.Tips.{first_tip, tip_after, wal_limit};
 
 use crate::record::Record;
+use byte_words::aligned;
 use lsn_core::{LONG_HEAD, Lsn, PAGE, SegSize, WalTip};
 
 /// Where the entry after this place starts: at the start of segment 1 behind its page's head, and
@@ -19,14 +21,13 @@ pub fn start_after(size: SegSize, at: Lsn) -> Lsn
     }
 }
 
-/// Where an entry of so many bytes ends that starts there: at the next multiple of 8 (PostgreSQL's
-/// MAXALIGN).
+/// Where an entry of so many bytes ends that starts there: at the next multiple of 8.
 pub fn end_of(start: Lsn, total: usize) -> Lsn
     requires start { start.0 ≤ 2 ^ 52 }
     requires total { total ≤ 2 ^ 52 }
     ensures { result.0 ≡ aligned (start.0 + total) }
 {
-    Lsn((start.0 + total as u64 + 7) / 8 * 8)
+    Lsn(aligned(start.0 + total as u64))
 }
 
 /// The end of a WAL without an entry.

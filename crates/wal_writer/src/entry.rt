@@ -1,45 +1,38 @@
-//! An entry that comes next, and its bytes.
+//! The entry that comes next, and its bytes.
 
-ghost use Rattle.std.specs.Prelude.{◌≡◌, ◌+◌, ◌<◌, ◌≤◌, ◌^◌, length, IfOk, OnOk};
+ghost use Rattle.std.specs.Prelude.{◌≡◌, ◌≤◌, length, IfOk, OnOk};
 ghost use Rattle.byte_words.specs.Pieces.{zero_filled};
-ghost use Rattle.wal_record.specs.Places.{aligned, record_behind, written_entry};
+ghost use Rattle.wal_record.specs.Places.{written_entry};
 ghost use Rattle.wal_record.specs.Spelling.{IsWritable};
+ghost use Rattle.wal_record.specs.Tips.{record_at_tip, IsWithin};
 
-use lsn_core::{Lsn, NoMemory};
+use lsn_core::{NoMemory, SegSize, WalTip};
 use std::alloc::{AllocError, Global};
-use wal_record::{Kind, Record, encode_record};
+use wal_record::{Kind, Record, encode_record, end_of, start_after};
 
-/// A place rounded up to a multiple of 8.
-fn aligned(at: u64) -> u64
-    requires { at < 2 ^ 63 }
-    ensures { result ≡ aligned at }
-{
-    (at + 7) / 8 * 8
-}
-
-/// The entry of a kind at a place, behind an entry that starts at `prev`, and its bytes with zeros
-/// up to its end.
-pub fn entry_of(
+/// The entry of a kind that comes next behind a tip, and its bytes with zeros up to its end.
+pub fn entry_behind(
     alloc: Global,
-    start: u64,
-    prev: u64,
+    size: SegSize,
+    tip: WalTip,
     kind: Kind,
 ) -> Result<(Record, Vec<u8>), NoMemory>
     requires kind { IsWritable kind }
-    requires place { start < 2 ^ 62 }
-    ensures record { IfOk result (λ x. x.0 ≡ record_behind start prev kind) }
+    requires tip { IsWithin size tip }
+    ensures record { IfOk result (λ x. x.0 ≡ record_at_tip size tip kind) }
     ensures bytes { IfOk result (λ x. x.1.items ≡ written_entry x.0) }
 {
+    let start = start_after(size, tip.end);
     let mut record = Record {
-        start: Lsn(start),
-        end: Lsn(start),
-        prev: Lsn(prev),
+        start,
+        end: start,
+        prev: tip.prev,
         xid: 0,
         kind,
     };
     let mut bytes = encode_record(alloc, &record)?;
-    record.end = Lsn(aligned(start + bytes.len() as u64));
-    pad(&mut bytes, (record.end.0 - start) as usize)?;
+    record.end = end_of(start, bytes.len());
+    pad(&mut bytes, (record.end.0 - start.0) as usize)?;
     Ok((record, bytes))
 }
 

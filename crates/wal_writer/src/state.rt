@@ -1,15 +1,12 @@
 //! The WAL of an area, with the entries that aren't flushed yet.
 
-ghost use Rattle.std.specs.Prelude.{◌≡◌, ◌+◌, ◌<◌, ◌≤◌, length, IsOk, IfOk, OnOk, OnErr};
-ghost use Rattle.std.specs.Option.{option_map};
+ghost use Rattle.std.specs.Prelude.{◌≡◌, ◌<◌, ◌≤◌, IsOk, IfOk, OnOk, OnErr};
 ghost use Rattle.lsn_core.specs.Causes.{HasCause};
-ghost use Rattle.lsn_core.specs.Names.{segment_name_bytes};
-ghost use Rattle.vault.specs.Area.{after_write, IsTorn, Related};
-ghost use Rattle.wal_record.specs.Places.{origin};
 ghost use Rattle.wal_record.specs.Spelling.{IsWritable};
-ghost use Rattle.wal_writer.specs.Log.{Log, IsLog, log_at, appended, flushed_to, rewound};
-ghost use Rattle.wal_record.specs.declared.record.Record.{Record};
-ghost use Rattle.wal_writer.specs.Answers.{AppendAnswer, to_flush, after_flush, IsLeft};
+ghost use Rattle.wal_record.specs.Tips.{IsWithin};
+ghost use Rattle.wal_writer.specs.Log.{IsLog, log_at, flushed_to, rewound};
+ghost use Rattle.wal_writer.specs.Answers.{AppendAnswer, to_flush, IsWrittenOut, IsLeft, IsUndone};
+ghost use Rattle.wal_writer.specs.Inside.{HasWritten, IsPieceTorn};
 
 use crate::fault::AppendFault;
 use crate::tail::Tail;
@@ -44,8 +41,7 @@ impl<V: Vault> WalState<V> {
     /// The WAL of an area with these settings whose archive ends so: at the start of segment 1,
     /// or behind an entry of its first page. Nothing waits to be flushed.
     pub fn attach(alloc: Global, area: V, settings: Settings, tip: WalTip) -> WalState<V>
-        requires least { origin settings.segment ≤ tip.end.0 }
-        requires most { tip.end.0 ≤ origin settings.segment + 8192 }
+        requires { IsWithin settings.segment tip }
         ensures area { result.area ≡ area }
         ensures log { result.tail ≡ log_at settings tip }
     {
@@ -76,10 +72,10 @@ impl<V: Vault> WalState<V> {
     /// flushed position nothing is to be done. After a fault the flushed position stands, and the
     /// next flush writes the same bytes again.
     pub fn flush_to(&mut self, alloc: Global, to: Lsn) -> Result<Flushed, AreaFault>
-        requires { to.0 ≤ self.old.tail.end }
+        requires { to.0 ≤ self.old.tail.tip.end }
         ensures idle { to.0 ≤ self.old.tail.flushed → self.new ≡ self.old }
         ensures succeeds { to.0 ≤ self.old.tail.flushed → IsOk result }
-        ensures written { OnOk result (self.old.tail.flushed < to.0 → V.files self.new.area ≡ option_map (after_flush self.old.tail to.0) (V.files self.old.area)) }
+        ensures written { OnOk result (self.old.tail.flushed < to.0 → IsWrittenOut self.old.tail to.0 (V.files self.old.area) (V.files self.new.area)) }
         ensures flushed { OnOk result (self.new.tail ≡ flushed_to self.old.tail to.0) }
         ensures mark { IfOk result (λ mark. mark.to.0 ≡ self.new.tail.flushed) }
         ensures stands { OnErr result (self.new.tail ≡ self.old.tail) }
@@ -105,29 +101,28 @@ impl<V: Vault> WalState<V> {
 
     /// Where the last entry ends; before the first one, where the segment begins.
     pub fn end(&self) -> Lsn
-        ensures end { result.0 ≡ self.now.tail.end }
+        ensures end { result.0 ≡ self.now.tail.tip.end }
         ensures known { IsLog self.now.tail }
     {
-        Lsn(self.tail.end())
+        self.tail.tip().end
     }
 
-    /// Where the last entry ends, and where it starts (0 where there is none).
+    /// The end of the WAL, behind all that was appended.
     pub fn tip(&self) -> WalTip
-        ensures end { result.end.0 ≡ self.now.tail.end }
-        ensures prev { result.prev.0 ≡ self.now.tail.prev }
+        ensures tip { result ≡ self.now.tail.tip }
         ensures known { IsLog self.now.tail }
     {
-        let _ = self.tail.end();
         self.tail.tip()
     }
 
     /// Goes back to an earlier end: what was appended since is dropped, as if it had never been.
     /// Takes no memory. What is flushed stays.
     pub fn rewind(&mut self, tip: WalTip)
-        requires from { self.old.tail.flushed ≤ tip.end.0 }
-        requires to { tip.end.0 ≤ self.old.tail.end }
+        requires from { self.old.tail.flushed ≤ tip.end }
+        requires to { tip.end ≤ self.old.tail.tip.end }
+        requires tip { IsWithin self.old.tail.mib tip }
         ensures rewound { self.new.tail ≡ rewound self.old.tail tip }
-        ensures undone { (log : Log) (r : Record) → IsLog log → log.end ≡ tip.end.0 → log.prev ≡ tip.prev.0 → self.old.tail ≡ appended log r → self.new.tail ≡ log }
+        ensures undone { IsUndone self.old.tail self.new.tail tip }
         ensures area { self.new.area ≡ self.old.area }
     {
         self.tail.rewind(tip);
@@ -137,8 +132,8 @@ impl<V: Vault> WalState<V> {
 /// Writes what stands before a place and isn't flushed yet, and syncs the area.
 fn write_out<V: Vault>(alloc: Global, area: &mut V, tail: &Tail, to: u64) -> Result<(), AreaFault>
     requires from { tail.now.flushed ≤ to }
-    requires to { to ≤ tail.now.end }
-    ensures written { OnOk result (V.files area.new ≡ option_map (after_flush tail.now to) (V.files area.old)) }
+    requires to { to ≤ tail.now.tip.end }
+    ensures written { OnOk result (IsWrittenOut tail.now to (V.files area.old) (V.files area.new)) }
     ensures left { OnErr result (IsLeft tail.now to (V.files area.old) (V.files area.new)) }
     ensures cause { HasCause (V.faults area.old) (V.faults area.new) result }
 {
@@ -148,8 +143,8 @@ fn write_out<V: Vault>(alloc: Global, area: &mut V, tail: &Tail, to: u64) -> Res
 
 /// Writes bytes at a place of a file and syncs the area.
 fn write_synced<V: Vault>(area: &mut V, name: &[u8], at: u64, piece: &[u8]) -> Result<(), AreaFault>
-    ensures written { OnOk result (V.files area.new ≡ option_map (after_write name.now at piece.now) (V.files area.old)) }
-    ensures left { OnErr result (Related (IsTorn name.now at (length piece.now)) (V.files area.old) (V.files area.new)) }
+    ensures written { OnOk result (HasWritten name.now at piece.now (V.files area.old) (V.files area.new)) }
+    ensures left { OnErr result (IsPieceTorn name.now at piece.now (V.files area.old) (V.files area.new)) }
     ensures cause { HasCause (V.faults area.old) (V.faults area.new) result }
 {
     area.write_at(name, at, piece)?;
