@@ -46,7 +46,8 @@ pub record IsLine (bytes : List ℕ) (at : ℕ) (line : List ℕ) (end : ℕ) : 
 
 -- what a line that is taken says, or why it is refused, behind lines that name these workers
 abbrev pub JudgedAnswer : List (List ℕ) → ℕ → List ℕ → Result Said Why → Type 0
-JudgedAnswer names end line (Ok what) = (why_line end names line ≡ None) × (meaning line ≡ Some (said what))
+JudgedAnswer names end line (Ok what) =
+    (why_line end names line ≡ None) × (meaning line ≡ Some (said what))
 JudgedAnswer names end line (Err why) = why_line end names line ≡ Some why
 
 -- what a line says stands behind what stood
@@ -71,7 +72,7 @@ DraftAnswer old new end number line (Err fault.NoMemory) = Unit {0}
 -- what a command was answered that was run
 abbrev pub CommandAnswer : Command → State → State → Answer → Type 0
 CommandAnswer command old new (Accepted place) =
-    (receipt : Receipt) × ((place ≡ receipt.place) × InsertAnswer (op_of command) old new (Ok receipt))
+    (r : Receipt) × ((place ≡ r.place) × InsertAnswer (op_of command) old new (Ok r))
 CommandAnswer command old new (Refused fault) = InsertAnswer (op_of command) old new (Err fault)
 CommandAnswer command old new NotRun = ⊥
 

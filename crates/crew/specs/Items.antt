@@ -13,7 +13,8 @@ use Rattle.crew.specs.Shape.{Shape, shape_with}
 -- a fork by its numbers, neither of them 0
 abbrev pub fork_of : ForkKind → ℕ → ℕ → Option ForkId
 fork_of kind db rel =
-    if nat_lt 0 db && nat_lt 0 rel then Some (record { rel = record { db = db; rel = rel }; kind = kind }) else None
+    let fork : ForkId = record { rel = record { db = db; rel = rel }; kind = kind } in
+    if nat_lt 0 db && nat_lt 0 rel then Some fork else None
 
 -- two numbers with a slash between them
 abbrev pub numbers_in : ForkKind → List ℕ → Option ForkId
@@ -27,7 +28,8 @@ numbers_in kind text = do
 abbrev pub fork_in : List ℕ → Option ForkId
 fork_in text =
     let front = length text - 5 in
-    if bytes_eq (drop front text) (codes "_init") then numbers_in Init (take front text) else numbers_in Main text
+    let is_init = bytes_eq (drop front text) (codes "_init") in
+    if is_init then numbers_in Init (take front text) else numbers_in Main text
 
 -- how a page is made, by its numbers
 abbrev pub shape_of : ℕ → ℕ → ℕ → Option Shape

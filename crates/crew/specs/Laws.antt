@@ -14,5 +14,5 @@ IsDecided (Err fault.NoMemory) = ⊥
 -- a script has one such answer
 abbrev pub HasOneAnswer : Type 0
 HasOneAnswer =
-    (bytes : List ℕ) (a b : Result (List Task) ScriptFault) → ScriptAnswer bytes a → ScriptAnswer bytes b
-    → IsDecided a → IsDecided b → a ≡ b
+    (bytes : List ℕ) (a b : Result (List Task) ScriptFault)
+    → ScriptAnswer bytes a → ScriptAnswer bytes b → IsDecided a → IsDecided b → a ≡ b

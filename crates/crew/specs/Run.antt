@@ -66,16 +66,20 @@ pub record Progress : Type 0 where
   pub stopped : Bool
 
 abbrev pub progress : List Entry → ℕ → Bool → Progress
-progress history accepted stopped = record { history = history; accepted = accepted; stopped = stopped }
+progress history accepted stopped =
+    record { history = history; accepted = accepted; stopped = stopped }
 
 -- with one more command accepted
 abbrev pub progress_by : ℕ → Progress → Op → Progress
 progress_by mib now command =
-    progress (now.history ++ (run_entry mib now.history now.accepted command ∷ [])) (now.accepted + 1) false
+    let entry = run_entry mib now.history now.accepted command in
+    progress (now.history ++ (entry ∷ [])) (now.accepted + 1) false
 
--- a command was accepted: it may be done on the store of the history, and its entry stands at this place behind those of the
--- history, within the room of the WAL
-pub record IsAccepted (mib : ℕ) (now : Progress) (command : Op) (place : Place) (next : Progress) : Type 0 where
+-- a command was accepted: it may be done on the store of the history, and its entry stands at this
+-- place behind those of the history, within the room of the WAL
+pub record IsAccepted
+    (mib : ℕ) (now : Progress) (command : Op) (place : Place) (next : Progress)
+    : Type 0 where
   pub going : now.stopped ≡ false
   pub store : Store
   pub state : apply_all empty now.history ≡ Some store
@@ -91,7 +95,9 @@ stops insert.NoMemory = true
 stops fault = false
 
 -- a command was refused: what the refusal says is true of the store of the history, which stays
-pub record IsRefused (mib : ℕ) (now : Progress) (command : Op) (fault : InsertFault) (next : Progress) : Type 0 where
+pub record IsRefused
+    (mib : ℕ) (now : Progress) (command : Op) (fault : InsertFault) (next : Progress)
+    : Type 0 where
   pub going : now.stopped ≡ false
   pub store : Store
   pub state : apply_all empty now.history ≡ Some store
@@ -125,9 +131,12 @@ pub record IsStateOf (mib : ℕ) (history : List Entry) (s : State) : Type 0 whe
   pub mib_is : s.log.mib ≡ mib
   pub tip : s.log.tip ≡ tip_of mib history
 
--- lines were run on a store of this history: each was answered on what those before it left. The entries that were added
--- stand behind those of the history, and at the end of the WAL, where they aren't flushed
-pub record RunFrom (mib : ℕ) (history : List Entry) (lines : List Line) (answers : List Answer) (old new : State) : Type 0 where
+-- lines were run on a store of this history: each was answered on what those before it left. The
+-- entries that were added stand behind those of the history, and at the end of the WAL, where they
+-- aren't flushed
+pub record RunFrom
+    (mib : ℕ) (history : List Entry) (lines : List Line) (answers : List Answer) (old new : State)
+    : Type 0 where
   pub added : List Entry
   pub last : Progress
   pub answered : Answered mib (progress history 0 false) lines answers last
@@ -142,24 +151,30 @@ pub record RunFrom (mib : ℕ) (history : List Entry) (lines : List Line) (answe
 -- so it is of each history that a store with an entry has
 abbrev pub RunsLines : List Line → State → State → List Answer → Type 0
 RunsLines lines old new answers =
-    (history : List Entry) → IsStateOf old.log.mib history old → origin old.log.mib < old.log.tip.end
-    → RunFrom old.log.mib history lines answers old new
+    (history : List Entry) → IsStateOf old.log.mib history old
+    → origin old.log.mib < old.log.tip.end → RunFrom old.log.mib history lines answers old new
 
 -- a store of an archive that is all flushed
 pub record IsFlushed (s : State) : Type 0 where
   pub place : s.log.flushed ≡ s.log.tip.end
   pub pending : s.log.pending ≡ []
 
--- the archive is some entries and then those that a history is written as, and all of them make the store
-pub record IsArchiveOf (mib : ℕ) (files : Files) (rs : List Record) (history : List Entry) (s : State) : Type 0 where
+-- the archive is some entries and then those that a history is written as, and all of them make the
+-- store
+pub record IsArchiveOf
+    (mib : ℕ) (files : Files) (rs : List Record) (history : List Entry) (s : State)
+    : Type 0 where
   pub archive : IsArchive mib files (rs ++ wal_of mib history) s.log.tip
   pub store : apply_all empty (map entry_of (rs ++ wal_of mib history)) ≡ Some s.pages
 
--- a run on a store of an archive that is all flushed, once it is flushed too, is read again: the archive is then the entries
--- that it had and those that the run's history is written as, and they make the store that the run left
+-- a run on a store of an archive that is all flushed, once it is flushed too, is read again: the
+-- archive is then the entries that it had and those that the run's history is written as, and they
+-- make the store that the run left
 abbrev pub IsReadAgain : Type 0
 IsReadAgain =
-    (mib : ℕ) (files : Files) (rs : List Record) (lines : List Line) (answers : List Answer) (old new : State)
+    (mib : ℕ) (files : Files) (rs : List Record)
+    → (lines : List Line) (answers : List Answer) (old new : State)
     → IsSegmentMib mib → IsArchive mib files rs old.log.tip → origin mib < old.log.tip.end
-    → IsStateOf mib (map entry_of rs) old → IsFlushed old → (run : RunFrom mib (map entry_of rs) lines answers old new)
+    → IsStateOf mib (map entry_of rs) old → IsFlushed old
+    → (run : RunFrom mib (map entry_of rs) lines answers old new)
     → IsArchiveOf mib (after_flush new.log new.log.tip.end files) rs run.last.history new

@@ -22,13 +22,16 @@ pub record HasNoEntry (files : Option Files) : Type 0 where
 
 -- a WAL can't be begun on where it can't be read; one without an entry is missing too
 abbrev pub begin_causes : Option Files → WalCauses
-begin_causes files = record (wal_causes files) { missing = (wal_causes files).missing ⊎ HasNoEntry files }
+begin_causes files = record (wal_causes files) {
+  missing = (wal_causes files).missing ⊎ HasNoEntry files;
+}
 
 abbrev pub BeginCause : Option Files → ℕ → ℕ → WalFault → Type 0
 BeginCause files before now fault = CauseOf (begin_causes files) before now fault
 
 abbrev pub HasBeginCause : {V : Type 0} → Ghosts V → V → BeginFault V → Type 0
-HasBeginCause g area fault = BeginCause (g.files area) (g.faults area) (g.faults fault.area) fault.why
+HasBeginCause g area fault =
+    BeginCause (g.files area) (g.faults area) (g.faults fault.area) fault.why
 
 -- the settings and all that the WAL makes, which has an entry
 pub record IsOpen (files : Option Files) (settings : StoreSettings) (read : ReadWal) : Type 0 where
@@ -36,7 +39,8 @@ pub record IsOpen (files : Option Files) (settings : StoreSettings) (read : Read
   pub read_is : IsReadWal settings.segment files read
   pub some : origin settings.segment < read.tip.end
 
--- the store's WAL ends where the one that was read does, with nothing to be flushed; its pages are those that were read
+-- the store's WAL ends where the one that was read does, with nothing to be flushed; its pages are
+-- those that were read
 pub record IsBegun (files : Option Files) (s : State) : Type 0 where
   pub settings : StoreSettings
   pub read : ReadWal

@@ -21,4 +21,5 @@ WritesAll g old new =
 
 -- what waited was written in part, or not at all
 abbrev pub WritesPart : {V : Type 0} → Ghosts V → OpenStore V → OpenStore V → Type 0
-WritesPart g old new = IsLeft old.wal.tail old.wal.tail.tip.end (g.files old.wal.area) (g.files new.wal.area)
+WritesPart g old new =
+    IsLeft old.wal.tail old.wal.tail.tip.end (g.files old.wal.area) (g.files new.wal.area)

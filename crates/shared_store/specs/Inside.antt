@@ -12,10 +12,12 @@ use Rattle.shared_store.specs.declared.fault.InsertFault.{InsertFault}
 use Rattle.shared_store.specs.Refusals.{Refuses}
 use Rattle.shared_store.specs.Begin.{BeginCause, IsOpen}
 
--- a command may be done on the store that so many entries make, or is refused, whatever the end of the WAL is
+-- a command may be done on the store that so many entries make, or is refused, whatever the end of
+-- the WAL is
 abbrev pub JudgeAnswer : Store → ℕ → Op → Result Unit InsertFault → Type 0
 JudgeAnswer store count command (Ok done) = IsTidy store command
-JudgeAnswer store count command (Err fault) = (mib : ℕ) (tip : Tip) → tip.count ≡ count → Refuses mib store tip command fault
+JudgeAnswer store count command (Err fault) =
+    (mib : ℕ) (tip : Tip) → tip.count ≡ count → Refuses mib store tip command fault
 
 abbrev pub OpenAnswer : Option Files → ℕ → ℕ → Result (StoreSettings × ReadWal) WalFault → Type 0
 OpenAnswer files before now (Ok x) = IsOpen files x.0 x.1

@@ -25,20 +25,27 @@ HasFork store (op.Change at page) = ⊥
 -- the fork is there, and the block lies behind its end
 abbrev pub IsPastEnd : Store → Op → Type 0
 IsPastEnd store (op.Create fork) = ⊥
-IsPastEnd store (op.Change at page) = (pages : ForkPages) × ((get store at.fork ≡ Some pages) × (length pages < at.block))
+IsPastEnd store (op.Change at page) =
+    (pages : ForkPages) × ((get store at.fork ≡ Some pages) × (length pages < at.block))
+
+-- a fork of these pages has the block or ends with it, and it is one too many
+abbrev pub IsTooMany : ForkPages → ℕ → Type 0
+IsTooMany pages block = (block ≤ length pages) × (most_blocks ≤ block)
 
 -- the fork is there up to the block, and the block is one too many
 abbrev pub IsForkFull : Store → Op → Type 0
 IsForkFull store (op.Create fork) = ⊥
 IsForkFull store (op.Change at page) =
-    (pages : ForkPages) × ((get store at.fork ≡ Some pages) × ((at.block ≤ length pages) × (most_blocks ≤ at.block)))
+    (pages : ForkPages) × ((get store at.fork ≡ Some pages) × IsTooMany pages at.block)
 
 -- the command may be done, and its entry would end past the room of the WAL
 abbrev pub IsWalFull : ℕ → Store → Tip → Op → Type 0
-IsWalFull mib store tip command = IsTidy store command × (wal_limit mib < (record_of mib tip (act_of_op command)).end.0)
+IsWalFull mib store tip command =
+    IsTidy store command × (wal_limit mib < (record_of mib tip (act_of_op command)).end.0)
 
--- what each refusal of a command says: of how many entries the history was, and what is true of the store that they make, of
--- the end of its WAL, and of the command. Those of the store come before that of the WAL
+-- what each refusal of a command says: of how many entries the history was, and what is true of the
+-- store that they make, of the end of its WAL and of the command. Those of the store come before
+-- that of the WAL
 abbrev pub Refuses : ℕ → Store → Tip → Op → InsertFault → Type 0
 Refuses mib store tip command (NoFork n) = (n ≡ tip.count) × LacksFork store command
 Refuses mib store tip command (ForkExists n) = (n ≡ tip.count) × HasFork store command

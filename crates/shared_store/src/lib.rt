@@ -5,9 +5,9 @@
 //! So the pages are at all times what the entries make. Which refusal comes when is one table,
 //! `specs/Refusals.antt`; contracts see a store as a `State` (`specs/State.antt`).
 //!
-//! Left to others: reading the WAL (`recovery`) and writing it (`wal_writer`), what an entry does to
-//! pages (`history`), and the area and its failures (`vault`). So far it serves one thread, and all
-//! pages are in memory.
+//! Left to others: reading the WAL (`recovery`) and writing it (`wal_writer`), what an entry does
+//! to pages (`history`), and the area and its failures (`vault`). So far it serves one thread, and
+//! all pages are in memory.
 #![tactic(auto)]
 
 mod begin;
