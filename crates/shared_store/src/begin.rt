@@ -50,7 +50,8 @@ impl<V: Vault> Store<V> {
     {
         let mut area = area;
         match open(alloc, &mut area) {
-            Ok((settings, read)) => {
+            Ok(opened) => {
+                let (settings, read) = opened;
                 let wal = WalState::attach(alloc, area, settings, read.tip);
                 Ok(Store::new(wal, read.store))
             }
