@@ -9,13 +9,11 @@ use std::alloc::Global;
 use vault::Vault;
 use wal_reader::{WalCursor, WalFault, read_settings};
 
-/// A WAL that was read whole: the store that it makes from nothing, where its last entry ends and
-/// starts, and how many entries it has.
+/// A WAL that was read whole: its end, and the store that it makes from nothing.
 #[derive(Drop)]
 pub struct ReadWal {
-    pub store: PageMap,
     pub tip: WalTip,
-    pub count: u64,
+    pub store: PageMap,
 }
 
 /// Reads the WAL of these settings whole, and applies it to an empty store in memory. It holds the
@@ -31,24 +29,13 @@ pub fn replay<V: Vault>(
 {
     let mut cursor = WalCursor::first(settings);
     let mut store = PageMap::new(alloc);
-    let mut count: u64 = 0;
-    loop {
-        let record = match cursor.next(alloc, wal) {
-            Ok(Some(record)) => record,
-            Ok(None) => {
-                return Ok(ReadWal {
-                    store,
-                    tip: cursor.tip(),
-                    count,
-                });
-            }
-            Err(fault) => return Err(fault),
-        };
+    while let Some(record) = cursor.next(alloc, wal)? {
         let Ok(()) = apply(&mut store, &record) else {
             return Err(WalFault::NoMemory);
         };
-        count += 1;
     }
+    let tip = cursor.tip();
+    Ok(ReadWal { tip, store })
 }
 
 /// The settings of the WAL and all its entries, applied to an empty store in memory. Refused where

@@ -1,22 +1,29 @@
 -- Each answer of the cursor carries on what was read so far.
+use Rattle.std.proofs.Common.{rules, Err}
+use Rattle.recovery.specs.WholeWal.{ReplayAnswer}
 use Rattle.recovery.proofs.SoFar.{next_kept, end_kept, fault_kept}
 use Rattle.recovery.proofs.replaying.replay.Goals as goal
 
-pub returns-in-Ok-None-clause-answer : goal.returns-in-Ok-None-clause-answer
-returns-in-Ok-None-clause-answer g c =
-    end_kept c.args.settings.now.segment (g.V.Vault.files c.args.wal.now) (g.V.Vault.files c.loop-record.wal) (g.V.Vault.faults c.args.wal.now) (g.V.Vault.faults c.loop-record.wal) (g.V.Vault.faults c.next.new.area) c.loop-record.cursor c.next.new.self
-    (record { store = c.loop-record.store; tip = c.tip.result; count = c.loop-record.count }) c.loop-record.invariant (rw c.in-Ok-None.field-0-is at c.in-Ok-None.ensures.answer) c.tip.ensures.end c.tip.ensures.prev
+pub returns-in_err-record-clause-answer : goal.returns-in_err-record-clause-answer
+returns-in_err-record-clause-answer g c =
+    let kept : ReplayAnswer c.args.settings.now.segment (g.V.Vault.files c.args.wal.now) (g.V.Vault.faults c.args.wal.now) (g.V.Vault.faults c.next.new.wal) (Err c.in_err-record.field-0.0) =
+    fault_kept c.args.settings.now.segment (g.V.Vault.files c.args.wal.now) (g.V.Vault.files c.loop-store.wal) (g.V.Vault.faults c.args.wal.now) (g.V.Vault.faults c.loop-store.wal) (g.V.Vault.faults c.next.new.wal)
+    c.loop-store.cursor c.next.new.self c.loop-store.store c.in_err-record.field-0.0 c.loop-store.invariant c.in_err-record.ensures.answer in
+    search rules
 
-pub returns-in-Err-clause-answer : goal.returns-in-Err-clause-answer
-returns-in-Err-clause-answer g c =
-    fault_kept c.args.settings.now.segment (g.V.Vault.files c.args.wal.now) (g.V.Vault.files c.loop-record.wal) (g.V.Vault.faults c.args.wal.now) (g.V.Vault.faults c.loop-record.wal) (g.V.Vault.faults c.next.new.area) c.loop-record.cursor c.next.new.self c.loop-record.store c.loop-record.count c.in-Err.fault c.loop-record.invariant c.in-Err.ensures.answer
+pub returns-clause-answer : goal.returns-clause-answer
+returns-clause-answer g c =
+    end_kept c.args.settings.now.segment (g.V.Vault.files c.args.wal.now) (g.V.Vault.files c.loop-store.wal) (g.V.Vault.faults c.args.wal.now) (g.V.Vault.faults c.loop-store.wal) (g.V.Vault.faults c.next.new.wal) c.loop-store.cursor c.next.new.self
+    (record { tip = c.tip-tip.result; store = c.loop-store.store }) c.loop-store.invariant (rw c.in_default.is at c.in_ok-record.ensures.answer) c.tip-tip.ensures.tip
 
-pub loop-record-preserved-in-Ok : goal.loop-record-preserved-in-Ok
-loop-record-preserved-in-Ok g c =
-    next_kept c.args.settings.now.segment (g.V.Vault.files c.args.wal.now) (g.V.Vault.files c.loop-record.wal) (g.V.Vault.files c.next.new.area) (g.V.Vault.faults c.args.wal.now) (g.V.Vault.faults c.loop-record.wal) (g.V.Vault.faults c.next.new.area) c.loop-record.cursor c.next.new.self c.loop-record.store c.apply.new.store c.loop-record.count c.in-Ok-Some.record c.loop-record.invariant
-    (rw c.in-Ok-Some.field-0-is at c.in-Ok-Some.ensures.answer) c.next.ensures.same c.next.ensures.later c.in-Ok.ensures.applied
+pub loop-store-preserved : goal.loop-store-preserved
+loop-store-preserved g c =
+    next_kept c.args.settings.now.segment (g.V.Vault.files c.args.wal.now) (g.V.Vault.files c.loop-store.wal) (g.V.Vault.files c.next.new.wal) (g.V.Vault.faults c.args.wal.now) (g.V.Vault.faults c.loop-store.wal) (g.V.Vault.faults c.next.new.wal)
+    c.loop-store.cursor c.next.new.self c.loop-store.store c.apply.new.store c.in-Some.record c.loop-store.invariant
+    (rw c.in-Some.is at c.in_ok-record.ensures.answer) c.next.ensures.same c.next.ensures.later c.in-Ok.ensures.applied
 
-pub loop-record-preserved : goal.loop-record-preserved
-loop-record-preserved g c =
-    next_kept c.args.settings.now.segment (g.V.Vault.files c.args.wal.now) (g.V.Vault.files c.loop-record.wal) (g.V.Vault.files c.next.new.area) (g.V.Vault.faults c.args.wal.now) (g.V.Vault.faults c.loop-record.wal) (g.V.Vault.faults c.next.new.area) c.loop-record.cursor c.next.new.self c.loop-record.store c.apply.new.store c.loop-record.count c.in-Ok-Some.record c.loop-record.invariant
-    (rw c.in-Ok-Some.field-0-is at c.in-Ok-Some.ensures.answer) c.next.ensures.same c.next.ensures.later c.in-Ok.ensures.applied
+pub loop-store-preserved-in-Ok : goal.loop-store-preserved-in-Ok
+loop-store-preserved-in-Ok g c =
+    next_kept c.args.settings.now.segment (g.V.Vault.files c.args.wal.now) (g.V.Vault.files c.loop-store.wal) (g.V.Vault.files c.next.new.wal) (g.V.Vault.faults c.args.wal.now) (g.V.Vault.faults c.loop-store.wal) (g.V.Vault.faults c.next.new.wal)
+    c.loop-store.cursor c.next.new.self c.loop-store.store c.apply.new.store c.in-Some.record c.loop-store.invariant
+    (rw c.in-Some.is at c.in_ok-record.ensures.answer) c.next.ensures.same c.next.ensures.later c.in-Ok.ensures.applied
