@@ -14,7 +14,7 @@ use Rattle.crew.specs.Cuts.{lines_of}
 use Rattle.crew.specs.Meaning.{meaning}
 use Rattle.crew.specs.Reasons.{worker_named, workers_of, size_of, why_line, why_of}
 use Rattle.crew.specs.Script.{command_in, commands_from, tasks_of, script_in, IsRefusedAt, IsScript, ScriptAnswer}
-use Rattle.crew.specs.Drafts.{DraftAnswer}
+use Rattle.crew.specs.Inside.{IsLine, DraftAnswer}
 
 -- the lines before a place were read, and none of them is refused
 pub record SoFar (bytes : List ℕ) (at number : ℕ) (names : List (List ℕ)) (commands : List Line) : Type 0 where
@@ -54,12 +54,6 @@ commands_push (l ∷ lines) line n m e = ap (λ (cs : List Line). command_in n (
 
 pub start : (bytes : List ℕ) → SoFar bytes 0 0 [] []
 start bytes = record { read = []; cut = refl; count = refl; few = omega arith; within = omega arith; place = omega arith; taken = λ i lt. absurd (omega (arith, lt)); named = refl; kept = refl }
-
--- the line at a place, and the place behind it
-pub record IsLine (bytes : List ℕ) (at : ℕ) (line : List ℕ) (end : ℕ) : Type 0 where
-  pub lt : at < length bytes
-  pub cut : lines_of (drop at bytes) ≡ line ∷ lines_of (drop end bytes)
-  pub place : end ≡ min (at + (length line + 1)) (length bytes)
 
 why_here : (bytes : List ℕ) (at number : ℕ) (names : List (List ℕ)) (commands : List Line) (s : SoFar bytes at number names commands) (line : List ℕ) (end : ℕ) → IsLine bytes at line end
     → why_of (length bytes) s.read line ≡ why_line end names line

@@ -1,15 +1,18 @@
--- A script has one answer.
+-- That the answers on a script shut each other out.
 use Rattle.std.specs.Prelude.{◌≡◌, ℕ, List, Result, Ok, Err}
 use Rattle.crew.specs.declared.script.Task.{Task}
 use Rattle.crew.specs.declared.why.ScriptFault.{ScriptFault}
 use Rattle.crew.specs.declared.why.ScriptFault.TheVariants as fault
 use Rattle.crew.specs.Script.{ScriptAnswer}
 
--- an answer on the script, and not on want of memory
-abbrev pub IsOwn : Result (List Task) ScriptFault → Type 0
-IsOwn (Ok script) = Unit {0}
-IsOwn (Err (fault.Line n why)) = Unit {0}
-IsOwn (Err fault.NoMemory) = ⊥
+-- an answer that the script decides, and not want of memory
+abbrev pub IsDecided : Result (List Task) ScriptFault → Type 0
+IsDecided (Ok script) = Unit {0}
+IsDecided (Err (fault.Line n why)) = Unit {0}
+IsDecided (Err fault.NoMemory) = ⊥
 
+-- a script has one such answer
 abbrev pub HasOneAnswer : Type 0
-HasOneAnswer = (bytes : List ℕ) (a b : Result (List Task) ScriptFault) → ScriptAnswer bytes a → ScriptAnswer bytes b → IsOwn a → IsOwn b → a ≡ b
+HasOneAnswer =
+    (bytes : List ℕ) (a b : Result (List Task) ScriptFault)
+    → ScriptAnswer bytes a → ScriptAnswer bytes b → IsDecided a → IsDecided b → a ≡ b

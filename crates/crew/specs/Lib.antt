@@ -5,6 +5,5 @@ pub mod Meaning
 pub mod Reasons
 pub mod Script
 pub mod Laws
-pub mod Said
-pub mod Drafts
 pub mod Run
+pub mod Inside

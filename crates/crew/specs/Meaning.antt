@@ -19,7 +19,7 @@ worker_says name = if is_name name then Some (Worker name) else None
 abbrev pub pair_says : List ℕ → List ℕ → Option Says
 pair_says verb what =
     if bytes_eq verb (codes "worker") then worker_says what
-    else (if bytes_eq verb (codes "create") then option_map (λ fork. Does (Create fork)) (fork_in what)
+    else (if bytes_eq verb (codes "create") then option_map (λ f. Does (Create f)) (fork_in what)
     else (if bytes_eq verb (codes "change") then option_map Does (change_in what) else None))
 
 abbrev pub words_say : List (List ℕ) → Option Says

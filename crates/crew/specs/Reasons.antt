@@ -1,6 +1,8 @@
 -- Why a line is refused.
-use Rattle.std.specs.Prelude.{ℕ, ◌+◌, ◌-◌, List, [], ◌∷◌, length, get_or, take, min, Option, Some, None, codes, nat_lt, bytes_eq, not, if◌then◌else◌}
+use Rattle.std.specs.Prelude.{ℕ, ◌+◌, ◌-◌, List, [], ◌∷◌, length, get_or, take, min, Option, Some, None}
+use Rattle.std.specs.Prelude.{codes, nat_lt, bytes_eq, not, if◌then◌else◌}
 use Rattle.std.specs.List.{list_all, list_any, flat_map, sum_by}
+use Rattle.crew.specs.declared.script.TheConstants.{SCRIPT_LIMIT}
 use Rattle.crew.specs.declared.why.Why.{Why}
 use Rattle.crew.specs.declared.why.Why.TheVariants.{Long, Bytes, Word, NoWorker, Twice, Many}
 use Rattle.crew.specs.Cuts.{lines_of, is_allowed}
@@ -19,7 +21,8 @@ workers_of lines = flat_map (λ line. worker_named (meaning line)) lines
 -- a worker after these, and a command after these
 abbrev pub why_worker : List (List ℕ) → List ℕ → Option Why
 why_worker [] name = None
-why_worker (first ∷ names) name = if list_any (bytes_eq name) (first ∷ names) then Some Twice else Some Many
+why_worker (first ∷ names) name =
+    if list_any (bytes_eq name) (first ∷ names) then Some Twice else Some Many
 
 abbrev pub why_command : List (List ℕ) → Option Why
 why_command [] = Some NoWorker
@@ -35,19 +38,23 @@ why_says names (Some (Does command)) = why_command names
 abbrev pub size_of : List (List ℕ) → ℕ
 size_of lines = sum_by (λ line. length line + 1) lines
 
--- why a line that ends at this byte of a script is refused, behind lines that name these workers: the first of its reasons
+-- why a line that ends at this byte of a script is refused, behind lines that name these workers:
+-- the first of its reasons
 abbrev pub why_line : ℕ → List (List ℕ) → List ℕ → Option Why
 why_line end names line =
-    if nat_lt 4194304 end then Some Long
+    if nat_lt SCRIPT_LIMIT end then Some Long
     else (if not (list_all is_allowed line) then Some Bytes else why_says names (meaning line))
 
 -- why a line behind these is refused, in a script of so many bytes
 abbrev pub why_of : ℕ → List (List ℕ) → List ℕ → Option Why
-why_of total before line = why_line (min (size_of before + (length line + 1)) total) (workers_of before) line
+why_of total before line =
+    why_line (min (size_of before + (length line + 1)) total) (workers_of before) line
 
 -- why a line of a script is refused, counted from 1
 abbrev pub why_at : List ℕ → ℕ → Option Why
-why_at bytes n = why_of (length bytes) (take (n - 1) (lines_of bytes)) (get_or (lines_of bytes) (n - 1) [])
+why_at bytes n =
+    let lines = lines_of bytes in
+    why_of (length bytes) (take (n - 1) lines) (get_or lines (n - 1) [])
 
 -- the word that is printed
 abbrev pub why_bytes : Why → List ℕ

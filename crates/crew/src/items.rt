@@ -3,12 +3,13 @@
 ghost use Rattle.std.specs.Prelude.{◌≡◌};
 ghost use Rattle.crew.specs.Items.{fork_of, numbers_in, fork_in, shape_in, change_in};
 
-use crate::cuts::cut_at;
 use crate::script::Command;
 use crate::shape::{PageShape, shape_of};
+use byte_words::cut_at;
 use lsn_core::{BlockId, ForkId, ForkKind, Rel};
 use text_numbers::digits_in;
 
+/// The fork of these numbers. None exactly where one of them is 0.
 fn fork_of(kind: ForkKind, db: u32, rel: u32) -> Option<ForkId>
     ensures { result ≡ fork_of kind db rel }
 {
@@ -18,7 +19,7 @@ fn fork_of(kind: ForkKind, db: u32, rel: u32) -> Option<ForkId>
     }
 }
 
-// two numbers with a slash between them
+/// The fork that two numbers with a slash between them name. None exactly where they name none.
 fn numbers_in(kind: ForkKind, text: &[u8]) -> Option<ForkId>
     ensures { result ≡ numbers_in kind text.now }
 {
@@ -29,7 +30,7 @@ fn numbers_in(kind: ForkKind, text: &[u8]) -> Option<ForkId>
 }
 
 /// The fork that a word names. None exactly where it names none.
-pub(crate) fn fork_in(text: &[u8]) -> Option<ForkId>
+pub fn fork_in(text: &[u8]) -> Option<ForkId>
     ensures { result ≡ fork_in text.now }
 {
     match text.strip_suffix(b"_init".as_slice()) {
@@ -38,7 +39,8 @@ pub(crate) fn fork_in(text: &[u8]) -> Option<ForkId>
     }
 }
 
-// how a page is made: three numbers with commas between them
+/// How a page is made, by three numbers with commas between them. None exactly where they don't
+/// say it.
 fn shape_in(text: &[u8]) -> Option<PageShape>
     ensures { result ≡ shape_in text.now }
 {
@@ -51,7 +53,7 @@ fn shape_in(text: &[u8]) -> Option<PageShape>
 }
 
 /// The page at a block that a word names. None exactly where it names none.
-pub(crate) fn change_in(text: &[u8]) -> Option<Command>
+pub fn change_in(text: &[u8]) -> Option<Command>
     ensures { result ≡ change_in text.now }
 {
     let (fork, behind) = cut_at(b'@', text)?;

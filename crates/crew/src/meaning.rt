@@ -3,7 +3,7 @@
 ghost use Rattle.std.specs.Prelude.{◌≡◌};
 ghost use Rattle.std.specs.Option.{option_map};
 ghost use Rattle.crew.specs.Meaning.{worker_says, pair_says, meaning};
-ghost use Rattle.crew.specs.Said.{said, PairAnswer};
+ghost use Rattle.crew.specs.Inside.{said, PairAnswer};
 
 use crate::cuts::{first_word, is_name};
 use crate::items::{change_in, fork_in};
@@ -11,13 +11,13 @@ use crate::script::Command;
 
 /// What a line says: nothing, that a worker's lines begin, or a command.
 #[derive(Clone, Copy)]
-pub(crate) enum Said<'a> {
+pub enum Said<'a> {
     Nothing,
     Worker(&'a [u8]),
     Does(Command),
 }
 
-// the words of a line that has two
+/// The words of a line that has two. None exactly where it has fewer or more.
 fn two_words(line: &[u8]) -> Option<(&[u8], &[u8])>
     ensures { PairAnswer line.now (option_map (λ x. (x.0.now, x.1.now)) result) }
 {
@@ -29,6 +29,7 @@ fn two_words(line: &[u8]) -> Option<(&[u8], &[u8])>
     }
 }
 
+/// What a line says that names a worker. None exactly where the word is no name.
 fn worker_said(name: &[u8]) -> Option<Said<'_>>
     ensures { option_map said result ≡ worker_says name.now }
 {
@@ -39,6 +40,7 @@ fn worker_said(name: &[u8]) -> Option<Said<'_>>
     }
 }
 
+/// What two words say. None exactly where that is nothing that is taken.
 fn pair_said<'a>(verb: &[u8], what: &'a [u8]) -> Option<Said<'a>>
     ensures { option_map said result ≡ pair_says verb.now what.now }
 {
@@ -55,7 +57,7 @@ fn pair_said<'a>(verb: &[u8], what: &'a [u8]) -> Option<Said<'a>>
 }
 
 /// What a line says. None exactly where that is nothing that is taken.
-pub(crate) fn meaning(line: &[u8]) -> Option<Said<'_>>
+pub fn meaning(line: &[u8]) -> Option<Said<'_>>
     ensures { option_map said result ≡ meaning line.now }
 {
     match line {

@@ -1,42 +1,34 @@
 //! A script read line by line.
 
-ghost use Rattle.std.specs.Prelude.{◌≡◌, ◌+◌, ◌<◌, ◌^◌, ◌∷◌, length, drop, min, Some, IfOk, bytes_eq};
+ghost use Rattle.std.specs.Prelude.{◌≡◌, ◌<◌, ◌^◌, length, Some, IfOk, bytes_eq};
 ghost use Rattle.std.specs.List.{list_any};
-ghost use Rattle.crew.specs.Cuts.{lines_of};
 ghost use Rattle.crew.specs.Reasons.{why_worker, why_command, why_says};
-ghost use Rattle.crew.specs.Said.{said};
 ghost use Rattle.crew.specs.Script.{ScriptAnswer, tasks_of};
-ghost use Rattle.crew.specs.Drafts.{JudgedAnswer, KeepsAnswer, DraftAnswer};
+ghost use Rattle.crew.specs.Inside.{said, JudgedAnswer, KeepsAnswer, DraftAnswer, IsLine};
 
-use crate::cuts::{behind, has_allowed_bytes, place_of};
+use crate::cuts::has_allowed_bytes;
 use crate::meaning::{Said, meaning};
-use crate::script::{Line, Lines, Script, Task};
+use crate::script::{Line, Lines, SCRIPT_LIMIT, Script, Task};
 use crate::why::{ScriptFault, Why};
+use byte_words::{behind, place_of};
 use lsn_core::{NoMemory, Text};
 use std::alloc::Global;
 
-// the workers that were named so far, and the commands
+/// The workers that were named so far, and the commands.
 #[derive(Drop)]
 struct Draft {
     names: Vec<Text>,
     commands: Vec<Line>,
 }
 
-fn text_of(alloc: Global, bytes: &[u8]) -> Result<Text, NoMemory>
-    ensures { IfOk result (λ t. t ≡ bytes.now) }
-{
-    let mut copy = Vec::new(alloc);
-    copy.extend_from_slice(bytes)?;
-    Ok(Text::from_vec(copy))
-}
-
+/// Whether a worker has this name.
 fn is_named(names: &[Text], name: &[u8]) -> bool
     ensures { result ≡ list_any (bytes_eq name.now) names.now }
 {
     names.iter().any(|other| name == other.as_bytes())
 }
 
-// why a worker of this name is refused behind those
+/// Why a worker of this name is refused behind those.
 fn why_worker(names: &[Text], name: &[u8]) -> Option<Why>
     ensures { result ≡ why_worker names.now name.now }
 {
@@ -52,6 +44,7 @@ fn why_worker(names: &[Text], name: &[u8]) -> Option<Why>
     }
 }
 
+/// Why a command is refused behind those workers.
 fn why_command(names: &[Text]) -> Option<Why>
     ensures { result ≡ why_command names.now }
 {
@@ -61,7 +54,7 @@ fn why_command(names: &[Text]) -> Option<Why>
     }
 }
 
-// why a line that says this is refused
+/// Why a line is refused that says this behind those workers.
 fn why_said(names: &[Text], what: &Said<'_>) -> Option<Why>
     ensures { result ≡ why_says names.now (Some (said what.now)) }
 {
@@ -72,11 +65,12 @@ fn why_said(names: &[Text], what: &Said<'_>) -> Option<Why>
     }
 }
 
-// what a line says that ends at this byte of the script and stands behind those workers
+/// What a line says that ends at this byte of the script and stands behind those workers, or why
+/// it is refused.
 fn judged<'a>(names: &[Text], end: usize, line: &'a [u8]) -> Result<Said<'a>, Why>
     ensures { JudgedAnswer names.now end line.now result }
 {
-    if end > 4_194_304 {
+    if end > SCRIPT_LIMIT {
         return Err(Why::Long);
     }
     if !has_allowed_bytes(line) {
@@ -92,13 +86,13 @@ fn judged<'a>(names: &[Text], end: usize, line: &'a [u8]) -> Result<Said<'a>, Wh
 }
 
 impl Draft {
-    // what a line of this number says is kept
+    /// Keeps what a line of this number says.
     fn keep(&mut self, alloc: Global, number: u32, what: &Said<'_>) -> Result<(), NoMemory>
         ensures { KeepsAnswer self.old self.new number (said what.now) result }
     {
         match what {
             Said::Nothing => (),
-            Said::Worker(name) => self.names.push(text_of(alloc, name)?)?,
+            Said::Worker(name) => self.names.push(Text::copied(alloc, name)?)?,
             Said::Does(command) => self.commands.push(Line {
                 number,
                 command: *command,
@@ -107,7 +101,7 @@ impl Draft {
         Ok(())
     }
 
-    // reads the line of this number, which ends at this byte of the script
+    /// Reads the line of this number, which ends at this byte of the script.
     fn read_line(
         &mut self,
         alloc: Global,
@@ -126,9 +120,9 @@ impl Draft {
         }
     }
 
-    // the script that was read
+    /// The script that was read.
     fn finish(self, alloc: Global) -> Result<Script, NoMemory>
-        ensures { IfOk result (λ script. script ≡ tasks_of self.names.items self.commands.items) }
+        ensures { IfOk result (λ s. s ≡ tasks_of self.names.items self.commands.items) }
     {
         let mut tasks = Vec::new(alloc);
         let lines = Lines::from_vec(self.commands);
@@ -139,11 +133,10 @@ impl Draft {
     }
 }
 
-// the line at a place, and the place behind it and its line feed, which the last line may lack
+/// The line at a place, and the place behind it and its line feed, which the last line may lack.
 fn line_at(bytes: &[u8], at: usize) -> (&[u8], usize)
     requires { at < length bytes.now }
-    ensures cut { lines_of (drop at bytes.now) ≡ result.0.now ∷ lines_of (drop result.1 bytes.now) }
-    ensures end { result.1 ≡ min (at + (length result.0.now + 1)) (length bytes.now) }
+    ensures { IsLine bytes.now at result.0.now result.1 }
 {
     let rest = behind(bytes, at);
     match place_of(b'\n', rest) {

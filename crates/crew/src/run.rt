@@ -1,20 +1,17 @@
 //! Lines run on a store.
 
-ghost use Rattle.std.specs.Prelude.{◌≡◌, ◌+◌, ◌<◌, ◌≤◌, ◌^◌, ◌∷◌, ◌++◌, [], ℕ, List, length, IfOk, OnErr};
+ghost use Rattle.std.specs.Prelude.{◌≡◌, ◌+◌, ◌<◌, ◌≤◌, ◌∷◌, ◌++◌};
+ghost use Rattle.std.specs.Prelude.{[], length, IfOk, OnErr};
 ghost use Rattle.std.specs.Vec.{vec_len, vec_capacity};
-ghost use Rattle.pg_page.specs.Header.{IsGood, made_page};
-ghost use Rattle.wal_record.specs.Places.{origin};
-ghost use Rattle.wal_record.specs.Spelling.{IsWritable};
-ghost use Rattle.history.specs.Entry.{Entry};
-ghost use Rattle.history.specs.Written.{kind_of};
-ghost use Rattle.history.specs.Op.{act_of_op, IsNumbered};
-ghost use Rattle.shared_store.specs.Insert.{state};
-ghost use Rattle.crew.specs.Run.{op_of, stops, stops_with, IsStateOf, RunFrom, CommandAnswer, LineAnswer, IsReadAgain};
+ghost use Rattle.pg_page.specs.Header.{made_page};
+ghost use Rattle.shared_store.specs.State.{state_of};
+ghost use Rattle.crew.specs.Run.{op_of, stops_with, RunsLines, IsReadAgain};
+ghost use Rattle.crew.specs.Inside.{CommandAnswer, LineAnswer};
 
 use crate::script::{Command, Line};
 use crate::shape::PageShape;
 use history::Op;
-use lsn_core::{ForkId, NoMemory, Place};
+use lsn_core::{NoMemory, Place};
 use pg_page::{Page, make_page};
 use shared_store::{InsertFault, Store};
 use std::alloc::Global;
@@ -30,6 +27,20 @@ pub enum Answer {
     Refused(InsertFault),
     /// Memory ran out before it.
     NotRun,
+}
+
+impl Answer {
+    /// Whether a run is stopped behind this answer: after want of memory no line is run.
+    pub fn stops(self) -> bool
+        ensures { result ≡ stops_with self }
+    {
+        match self {
+            Answer::Accepted(_) => false,
+            Answer::Refused(InsertFault::NoMemory) => true,
+            Answer::Refused(_) => false,
+            Answer::NotRun => true,
+        }
+    }
 }
 
 /// Answers in the order of their lines. Contracts see the list.
@@ -63,46 +74,29 @@ impl Answers {
     }
 }
 
-// the numbers of a fork's relation
-fn know(fork: &ForkId)
-    ensures some { (0 < fork.now.rel.db) × (0 < fork.now.rel.rel) }
-    ensures fits { (fork.now.rel.db < 2 ^ 32) × (fork.now.rel.rel < 2 ^ 32) }
-{
-    let _ = (fork.rel.db(), fork.rel.rel());
-}
-
-// the page that is made so
+/// The page that is made so.
 fn page_of(shape: PageShape) -> Page
-    ensures page { result ≡ made_page shape.lower shape.upper shape.fill }
-    ensures good { IsGood result }
+    ensures { result ≡ made_page shape.lower shape.upper shape.fill }
 {
     let Some(page) = make_page(shape.lower(), shape.upper(), shape.fill()) else {
         unreachable!()
     };
-    let _ = page.bytes();
     page
 }
 
-// what a command asks of the store
+/// What a command asks of the store.
 fn op_of(command: &Command) -> Op
-    ensures op { result ≡ op_of command.now }
-    ensures writable { IsNumbered result → IsWritable (kind_of (act_of_op result)) }
+    ensures { result ≡ op_of command.now }
 {
     match command {
-        Command::Create(fork) => {
-            know(fork);
-            Op::Create(*fork)
-        }
-        Command::Change(at, shape) => {
-            know(&at.fork);
-            Op::Change(*at, page_of(*shape))
-        }
+        Command::Create(fork) => Op::Create(*fork),
+        Command::Change(at, shape) => Op::Change(*at, page_of(*shape)),
     }
 }
 
-// runs a command
+/// Inserts a command into the store, and gives the answer to it.
 fn answer_to<V: Vault>(alloc: Global, store: &mut Store<V>, command: &Command) -> Answer
-    ensures answer { CommandAnswer (op_of command.now) (state store.old.wal.tail store.old.pages store.old.count) (state store.new.wal.tail store.new.pages store.new.count) result }
+    ensures answer { CommandAnswer command.now (state_of store.old) (state_of store.new) result }
     ensures area { store.new.wal.area ≡ store.old.wal.area }
 {
     let op = op_of(command);
@@ -112,9 +106,9 @@ fn answer_to<V: Vault>(alloc: Global, store: &mut Store<V>, command: &Command) -
     }
 }
 
-// runs a line, unless the run is stopped
+/// Runs a line, unless the run is stopped, and gives the answer to it.
 fn run_line<V: Vault>(alloc: Global, store: &mut Store<V>, line: &Line, stopped: bool) -> Answer
-    ensures answer { LineAnswer line.now stopped (state store.old.wal.tail store.old.pages store.old.count) (state store.new.wal.tail store.new.pages store.new.count) result }
+    ensures answer { LineAnswer line.now stopped (state_of store.old) (state_of store.new) result }
     ensures area { store.new.wal.area ≡ store.old.wal.area }
 {
     if stopped {
@@ -124,19 +118,7 @@ fn run_line<V: Vault>(alloc: Global, store: &mut Store<V>, line: &Line, stopped:
     }
 }
 
-// whether a run is stopped behind this answer
-fn stops(answer: Answer) -> bool
-    ensures { result ≡ stops_with answer }
-{
-    match answer {
-        Answer::Accepted(_) => false,
-        Answer::Refused(InsertFault::NoMemory) => true,
-        Answer::Refused(_) => false,
-        Answer::NotRun => true,
-    }
-}
-
-// puts an answer where there is room for it
+/// Puts an answer where there is room for it.
 fn put(answers: &mut Vec<Answer>, answer: Answer)
     requires { vec_len answers.old < vec_capacity answers.old }
     ensures items { answers.new.items ≡ answers.old.items ++ (answer ∷ []) }
@@ -148,7 +130,7 @@ fn put(answers: &mut Vec<Answer>, answer: Answer)
     }
 }
 
-// runs lines, and puts their answers where there is room for them
+/// Runs lines, and puts their answers where there is room for them.
 fn run_into<V: Vault>(
     alloc: Global,
     store: &mut Store<V>,
@@ -158,14 +140,13 @@ fn run_into<V: Vault>(
     requires none { answers.old.items ≡ [] }
     requires empty { vec_len answers.old ≡ 0 }
     requires room { length lines.now ≤ vec_capacity answers.old }
-    ensures run { (h : List Entry) → IsStateOf store.old.wal.tail.mib h (state store.old.wal.tail store.old.pages store.old.count) → origin store.old.wal.tail.mib < store.old.wal.tail.end
-        → RunFrom store.old.wal.tail.mib h lines.now answers.new.items (state store.old.wal.tail store.old.pages store.old.count) (state store.new.wal.tail store.new.pages store.new.count) }
+    ensures run { RunsLines lines.now (state_of store.old) (state_of store.new) answers.new.items }
     ensures area { store.new.wal.area ≡ store.old.wal.area }
 {
     let mut stopped = false;
     for line in lines {
         let answer = run_line(alloc, store, line, stopped);
-        stopped = stops(answer);
+        stopped = answer.stops();
         put(answers, answer);
     }
 }
@@ -179,8 +160,7 @@ pub fn run_lines<V: Vault>(
     store: &mut Store<V>,
     lines: &[Line],
 ) -> Result<Answers, NoMemory>
-    ensures run { IfOk result (λ answers. (h : List Entry) → IsStateOf store.old.wal.tail.mib h (state store.old.wal.tail store.old.pages store.old.count) → origin store.old.wal.tail.mib < store.old.wal.tail.end
-        → RunFrom store.old.wal.tail.mib h lines.now answers (state store.old.wal.tail store.old.pages store.old.count) (state store.new.wal.tail store.new.pages store.new.count)) }
+    ensures run { IfOk result (RunsLines lines.now (state_of store.old) (state_of store.new)) }
     ensures same { OnErr result (store.new ≡ store.old) }
     ensures area { store.new.wal.area ≡ store.old.wal.area }
 {

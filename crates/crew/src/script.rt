@@ -6,6 +6,9 @@ use crate::shape::PageShape;
 use lsn_core::{BlockId, ForkId, Text};
 use std::marker::Model;
 
+/// How many bytes a script has at most (profile).
+pub const SCRIPT_LIMIT: usize = 4_194_304;
+
 /// What a line tells a worker to do (profile).
 #[derive(Clone, Copy, Debug, PartialEq, Eq)]
 pub enum Command {

@@ -1,6 +1,7 @@
 //! How a page is made from nothing.
 
 ghost use Rattle.std.specs.Prelude.{◌≡◌, ◌≤◌, ◌↔◌, IsSome, IfSome};
+ghost use Rattle.crew.specs.Shape.{shape_with};
 ghost use Rattle.crew.specs.Items.{shape_of};
 
 use std::marker::Model;
@@ -32,7 +33,7 @@ impl PageShape {
     /// The shape of these numbers. None exactly unless 24 <= lower <= upper <= 8192.
     pub fn new(lower: u16, upper: u16, fill: u8) -> Option<PageShape>
         ensures some { IsSome result ↔ (24 ≤ lower) × ((lower ≤ upper) × (upper ≤ 8192)) }
-        ensures value { IfSome result (λ s. s ≡ record { lower = lower; upper = upper; fill = fill }) }
+        ensures value { IfSome result (λ s. s ≡ shape_with lower upper fill) }
     {
         if 24 <= lower && lower <= upper && upper <= 8192 {
             Some(PageShape { lower, upper, fill })
@@ -67,7 +68,7 @@ impl PageShape {
 }
 
 /// The shape that three numbers of a script say. None exactly where they are none.
-pub(crate) fn shape_of(lower: u32, upper: u32, fill: u32) -> Option<PageShape>
+pub fn shape_of(lower: u32, upper: u32, fill: u32) -> Option<PageShape>
     ensures { result ≡ shape_of lower upper fill }
 {
     if upper > 8192 || lower > upper || fill > 255 {

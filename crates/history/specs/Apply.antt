@@ -14,13 +14,15 @@ pages_of store fork = unwrap_or (get store fork) []
 
 -- the pages with another one at a block; missing pages up to the block are zero pages
 abbrev pub with_block : ForkPages → ℕ → List ℕ → ForkPages
-with_block pages block page = slice_set (pages ++ replicate (block + 1 - length pages) zero_page) block page
+with_block pages block page =
+    slice_set (pages ++ replicate (block + 1 - length pages) zero_page) block page
 
 -- the store with a page at a block; a missing fork is made
 abbrev pub with_page : Store → ForkId → ℕ → List ℕ → Store
 with_page store fork block page = insert store fork (with_block (pages_of store fork) block page)
 
--- the page that an edit gives, by an entry that ends at a place: of a Put, the page with its hole zeroed and that end as its LSN
+-- the page that an edit gives, by an entry that ends at a place: of a Put, the page with its hole
+-- zeroed and that end as its LSN
 abbrev pub edited : ℕ → Edit → Option (List ℕ)
 edited end (Put page) = Some (with_lsn end (hole_zeroed page))
 
@@ -30,7 +32,8 @@ apply_item end store item = option_map (with_page store item.fork item.block) (e
 
 abbrev pub apply_items : ℕ → Store → List Item → Option Store
 apply_items end store [] = Some store
-apply_items end store (item ∷ items) = apply_item end store item >>= λ next. apply_items end next items
+apply_items end store (item ∷ items) =
+    apply_item end store item >>= λ next. apply_items end next items
 
 -- the store with an empty fork, where it has none of that name
 abbrev pub with_fork : Store → ForkId → Store

@@ -13,13 +13,15 @@ pub record Item : Type 0 where
   pub block : ℕ
   pub edit : Edit
 
--- what an entry does: it creates a fork, it changes blocks in turn, or it marks a place, by its kind, and changes nothing
+-- what an entry does: it creates a fork, it changes blocks in turn, or it marks a place, by its
+-- kind, and changes nothing
 pub data Act : Type 0 where
   Create : ForkId → Act
   Change : List Item → Act
   Mark : Kind → Act
 
--- an entry: its act, where it starts and ends, and, where a worker made it, that worker and the number of its command
+-- an entry: its act, where it starts and ends, and, where a worker made it, that worker and the
+-- number of its command
 pub record Entry : Type 0 where
   pub act : Act
   pub start : ℕ

@@ -16,7 +16,10 @@ abbrev pub body_of : Edit → Body
 body_of (Put page) = Image (hole_zeroed page)
 
 abbrev pub block_of_item : Item → BlockRef
-block_of_item item = record { at = record { fork = item.fork; block = item.block }; body = body_of item.edit }
+block_of_item item = record {
+  at = record { fork = item.fork; block = item.block };
+  body = body_of item.edit;
+}
 
 -- the kind that an act is written as
 abbrev pub kind_of : Act → Kind
@@ -50,12 +53,13 @@ tip_over tip (entry ∷ entries) = tip_over (tip_past tip entry) entries
 abbrev pub tip_of : ℕ → List Entry → Tip
 tip_of mib history = tip_over (first_tip mib) history
 
--- the records that entries of a run are written as behind an end of the WAL; entries that were found are passed over
+-- the records that entries of a run are written as behind an end of the WAL; entries that were
+-- found are passed over
 abbrev pub written : ℕ → Tip → List Entry → List Record
 written mib tip [] = []
 written mib tip (entry ∷ entries) =
     if is_of_run entry
-    then record_of mib tip entry.act ∷ written mib (tip_after tip (record_of mib tip entry.act)) entries
+    then (let next = record_of mib tip entry.act in next ∷ written mib (tip_after tip next) entries)
     else written mib (tip_past tip entry) entries
 
 -- the records that a history is written as from its beginning on

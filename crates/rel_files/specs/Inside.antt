@@ -18,7 +18,8 @@ module _ {V : Type 0} where
   -- the area has the files of a fork too
   abbrev pub WritesFork : Ghosts V → ℕ → Store → ForkId → V → V → Type 0
   WritesFork g relseg store fork old new =
-      g.files new ≡ option_map (λ m. with_files m (fork_files relseg (fork, pages_of store fork))) (g.files old)
+      let files = fork_files relseg (fork, pages_of store fork) in
+      g.files new ≡ option_map (λ m. with_files m files) (g.files old)
 
   -- a file has just these bytes, whatever it had before
   abbrev pub MakesFile : Ghosts V → List ℕ → List ℕ → V → V → Type 0
@@ -27,7 +28,8 @@ module _ {V : Type 0} where
   -- the area has one of the files of a fork
   abbrev pub WritesSegment : Ghosts V → ℕ → Store → ForkId → ℕ → V → V → Type 0
   WritesSegment g relseg store fork seg old new =
-      MakesFile g (fork_path_bytes fork seg false) (segment_content relseg (pages_of store fork) seg) old new
+      let bytes = segment_content relseg (pages_of store fork) seg in
+      MakesFile g (fork_path_bytes fork seg false) bytes old new
 
   -- a file has just the pages of a fork from a block to before another one
   abbrev pub WritesBlocks : Ghosts V → List ℕ → Store → ForkId → ℕ → ℕ → V → V → Type 0
@@ -36,4 +38,5 @@ module _ {V : Type 0} where
 
   -- bytes stand at a place of a file
   abbrev pub WritesAt : Ghosts V → List ℕ → ℕ → List ℕ → V → V → Type 0
-  WritesAt g path at piece old new = g.files new ≡ option_map (after_write path at piece) (g.files old)
+  WritesAt g path at piece old new =
+      g.files new ≡ option_map (after_write path at piece) (g.files old)

@@ -1,8 +1,9 @@
 //! A store begun on the WAL of an area.
 
 ghost use Rattle.std.specs.Prelude.{◌≡◌, ◌≤◌, IfOk, IfErr};
-ghost use Rattle.shared_store.specs.Insert.{state};
-ghost use Rattle.shared_store.specs.Begin.{OpenAnswer, IsBegun, BeginCause};
+ghost use Rattle.shared_store.specs.State.{state_of};
+ghost use Rattle.shared_store.specs.Begin.{IsBegun, HasBeginCause};
+ghost use Rattle.shared_store.specs.Inside.{OpenAnswer};
 
 use crate::store::Store;
 use lsn_core::Settings;
@@ -29,7 +30,7 @@ fn open<V: Vault>(alloc: Global, area: &mut V) -> Result<(Settings, ReadWal), Wa
     let settings = read_settings(alloc, area)?;
     area.sync()?;
     let read = replay(alloc, area, &settings)?;
-    if read.count == 0 {
+    if read.tip.count == 0 {
         return Err(WalFault::NotInit);
     }
     Ok((settings, read))
@@ -40,18 +41,19 @@ impl<V: Vault> Store<V> {
     /// `NotInit` also where it has no entry; a refusal hands the area back. It holds all pages of
     /// the store.
     pub fn begin(alloc: Global, area: V) -> Result<Store<V>, BeginFault<V>>
-        ensures begun { IfOk result (λ store. IsBegun (V.files area) (state store.wal.tail store.pages store.count)) }
+        ensures begun { IfOk result (λ store. IsBegun (V.files area) (state_of store)) }
         ensures same { IfOk result (λ store. V.files store.wal.area ≡ V.files area) }
         ensures later { IfOk result (λ store. V.faults area ≤ V.faults store.wal.area) }
-        ensures refused { IfErr result (λ fault. BeginCause (V.files area) (V.faults area) (V.faults fault.area) fault.why) }
+        ensures refused { IfErr result (HasBeginCause V.Vault area) }
         ensures back { IfErr result (λ fault. V.files fault.area ≡ V.files area) }
         ensures back_later { IfErr result (λ fault. V.faults area ≤ V.faults fault.area) }
     {
         let mut area = area;
         match open(alloc, &mut area) {
-            Ok((settings, read)) => {
+            Ok(opened) => {
+                let (settings, read) = opened;
                 let wal = WalState::attach(alloc, area, settings, read.tip);
-                Ok(Store::new(wal, read.store, read.count))
+                Ok(Store::new(wal, read.store))
             }
             Err(why) => Err(BeginFault { area, why }),
         }

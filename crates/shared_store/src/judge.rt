@@ -2,14 +2,11 @@
 
 ghost use Rattle.std.specs.Prelude.{◌≡◌, ℕ, List};
 ghost use Rattle.history.specs.declared.op.Op.TheVariants as op;
-ghost use Rattle.shared_store.specs.Insert.{JudgeAnswer};
+ghost use Rattle.shared_store.specs.Inside.{JudgeAnswer};
 
 use crate::fault::InsertFault;
 use history::{Op, PageMap};
-use lsn_core::{BlockId, ForkId};
-
-/// How many blocks a fork has at most (profile).
-const MOST_BLOCKS: u32 = 32_768;
+use lsn_core::{BlockId, ForkId, MOST_BLOCKS};
 
 /// Whether a command may be done on a store, which is that of so many entries: a fork is created
 /// where it isn't, and a page is put at a block up to the end of its fork, below 32,768.
@@ -22,6 +19,7 @@ pub fn judge(pages: &PageMap, count: u64, op: &Op) -> Result<(), InsertFault>
     }
 }
 
+/// Whether a fork may be created.
 fn judge_creation(pages: &PageMap, count: u64, fork: &ForkId) -> Result<(), InsertFault>
     ensures { JudgeAnswer pages.now count (op.Create fork.now) result }
 {
@@ -31,6 +29,7 @@ fn judge_creation(pages: &PageMap, count: u64, fork: &ForkId) -> Result<(), Inse
     }
 }
 
+/// Whether a page, whatever it is, may be put at a block.
 fn judge_change(pages: &PageMap, count: u64, at: &BlockId) -> Result<(), InsertFault>
     ensures { (page : List ℕ) → JudgeAnswer pages.now count (op.Change at.now page) result }
 {

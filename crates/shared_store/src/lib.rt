@@ -1,10 +1,17 @@
-//! The store of a cluster: pages in memory, and the WAL that each change is written to first. So
-//! far for one thread, with all pages in memory.
+//! The store of a cluster: pages in memory, and the WAL that each change is written to first.
+//!
+//! `Store::begin` reads a WAL whole; `insert` judges a command against the pages, appends its entry
+//! and changes the pages, or refuses it and changes nothing; `flush_wal` makes the entries durable.
+//! So the pages are at all times what the entries make. Which refusal comes when is one table,
+//! `specs/Refusals.antt`; contracts see a store as a `State` (`specs/State.antt`).
+//!
+//! Left to others: reading the WAL (`recovery`) and writing it (`wal_writer`), what an entry does
+//! to pages (`history`), and the area and its failures (`vault`). So far it serves one thread, and
+//! all pages are in memory.
 #![tactic(auto)]
 
 mod begin;
 mod fault;
-mod insert;
 mod judge;
 mod store;
 

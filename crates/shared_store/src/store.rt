@@ -1,63 +1,91 @@
 //! A store that writes its WAL.
 
-ghost use Rattle.std.specs.Prelude.{◌≡◌, ◌<◌, ◌≤◌, IsOk, IfOk, OnOk, OnErr};
-ghost use Rattle.std.specs.Option.{option_map};
+ghost use Rattle.std.specs.Prelude.{◌≡◌, IsOk, IfOk, OnOk, OnErr};
 ghost use Rattle.lsn_core.specs.Causes.{HasCause};
-ghost use Rattle.wal_writer.specs.Log.{IsLog, flushed_to};
-ghost use Rattle.wal_writer.specs.Answers.{after_flush, IsLeft};
-ghost use Rattle.shared_store.specs.Insert.{state, InsertAnswer};
+ghost use Rattle.wal_writer.specs.Log.{IsLog};
+ghost use Rattle.history.specs.Op.{IsTidy};
+ghost use Rattle.shared_store.specs.State.{state_of};
+ghost use Rattle.shared_store.specs.Insert.{InsertAnswer};
+ghost use Rattle.shared_store.specs.Flush.{IsAllFlushed, WritesAll, all_flushed, WritesPart};
 
 use crate::fault::{InsertFault, Receipt};
-use crate::insert::insert_into;
-use history::{Op, PageMap};
-use lsn_core::{AreaFault, Lsn};
+use crate::judge::judge;
+use history::{Op, PageMap, apply};
+use lsn_core::{AreaFault, Lsn, Place};
 use std::alloc::Global;
 use vault::Vault;
-use wal_writer::{Flushed, WalState};
+use wal_writer::{AppendFault, Flushed, WalState};
 
-/// A store that writes its WAL: the WAL, the pages that its entries make, and how many entries the
-/// history has. Each takes room in the WAL, so there are no more than bytes before its end.
+/// A store that writes its WAL: the WAL, and the pages that its entries make.
 #[derive(Drop)]
 pub struct Store<V: Vault> {
     wal: WalState<V>,
     pages: PageMap,
-    count: u64,
-    ghost counted: { count ≤ wal.tail.end },
 }
 
 impl<V: Vault> Store<V> {
-    /// The store of a WAL whose entries, so many, make these pages.
-    pub(crate) fn new(wal: WalState<V>, pages: PageMap, count: u64) -> Store<V>
-        requires { count ≤ wal.tail.end }
+    /// The store of a WAL whose entries make these pages.
+    pub(crate) fn new(wal: WalState<V>, pages: PageMap) -> Store<V>
         ensures wal { result.wal ≡ wal }
         ensures pages { result.pages ≡ pages }
-        ensures count { result.count ≡ count }
     {
-        Store { wal, pages, count }
+        Store { wal, pages }
     }
 
     /// Inserts a command: judges it against the store, appends its entry to the WAL, and changes
     /// the pages. The entry isn't durable before a flush. A refusal changes nothing.
     pub fn insert(&mut self, alloc: Global, op: &Op) -> Result<Receipt, InsertFault>
-        ensures answer { InsertAnswer op.now (state self.old.wal.tail self.old.pages self.old.count) (state self.new.wal.tail self.new.pages self.new.count) result }
+        ensures answer { InsertAnswer op.now (state_of self.old) (state_of self.new) result }
         ensures area { self.new.wal.area ≡ self.old.wal.area }
     {
-        insert_into(alloc, &mut self.wal, &mut self.pages, &mut self.count, op)
+        let count = self.wal.tip().count;
+        if let Err(fault) = judge(&self.pages, count, op) {
+            return Err(fault);
+        }
+        self.write(alloc, op)
+    }
+
+    /// Appends the entry of a command that may be done to the WAL, and applies it to the pages.
+    /// Where memory runs out in between, the WAL goes back.
+    fn write(&mut self, alloc: Global, op: &Op) -> Result<Receipt, InsertFault>
+        requires { IsTidy self.old.pages op.now }
+        ensures answer { InsertAnswer op.now (state_of self.old) (state_of self.new) result }
+        ensures area { self.new.wal.area ≡ self.old.wal.area }
+    {
+        let Ok(kind) = op.kind(alloc) else {
+            return Err(InsertFault::NoMemory);
+        };
+        let tip = self.wal.tip();
+        let record = match self.wal.append(alloc, kind) {
+            Ok(record) => record,
+            Err(AppendFault::WalFull) => return Err(InsertFault::WalFull(tip.count)),
+            Err(AppendFault::NoMemory) => return Err(InsertFault::NoMemory),
+        };
+        if apply(&mut self.pages, &record).is_err() {
+            self.wal.rewind(tip);
+            return Err(InsertFault::NoMemory);
+        }
+        Ok(Receipt {
+            number: tip.count,
+            place: Place {
+                start: record.start,
+                end: record.end,
+            },
+        })
     }
 
     /// Writes what isn't flushed yet into the area, and syncs it. After a fault the flushed
     /// position stands, and the next flush writes the same bytes again.
     pub fn flush_wal(&mut self, alloc: Global) -> Result<Flushed, AreaFault>
-        ensures idle { self.old.wal.tail.end ≤ self.old.wal.tail.flushed → self.new.wal ≡ self.old.wal }
-        ensures succeeds { self.old.wal.tail.end ≤ self.old.wal.tail.flushed → IsOk result }
-        ensures written { OnOk result (self.old.wal.tail.flushed < self.old.wal.tail.end → V.files self.new.wal.area ≡ option_map (after_flush self.old.wal.tail self.old.wal.tail.end) (V.files self.old.wal.area)) }
-        ensures flushed { OnOk result (self.new.wal.tail ≡ flushed_to self.old.wal.tail self.old.wal.tail.end) }
+        ensures idle { IsAllFlushed self.old.wal.tail → self.new.wal ≡ self.old.wal }
+        ensures succeeds { IsAllFlushed self.old.wal.tail → IsOk result }
+        ensures written { OnOk result (WritesAll V.Vault self.old self.new) }
+        ensures flushed { OnOk result (self.new.wal.tail ≡ all_flushed self.old.wal.tail) }
         ensures mark { IfOk result (λ mark. mark.to.0 ≡ self.new.wal.tail.flushed) }
         ensures stands { OnErr result (self.new.wal.tail ≡ self.old.wal.tail) }
-        ensures left { OnErr result (IsLeft self.old.wal.tail self.old.wal.tail.end (V.files self.old.wal.area) (V.files self.new.wal.area)) }
+        ensures left { OnErr result (WritesPart V.Vault self.old self.new) }
         ensures cause { HasCause (V.faults self.old.wal.area) (V.faults self.new.wal.area) result }
         ensures pages { self.new.pages ≡ self.old.pages }
-        ensures count { self.new.count ≡ self.old.count }
     {
         let end = self.wal.end();
         self.wal.flush_to(alloc, end)
@@ -65,7 +93,7 @@ impl<V: Vault> Store<V> {
 
     /// Where the last entry ends.
     pub fn end(&self) -> Lsn
-        ensures end { result.0 ≡ self.now.wal.tail.end }
+        ensures end { result.0 ≡ self.now.wal.tail.tip.end }
         ensures known { IsLog self.now.wal.tail }
     {
         self.wal.end()

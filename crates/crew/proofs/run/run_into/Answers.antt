@@ -1,6 +1,6 @@
 -- Each line is answered on what those before it left.
 use Rattle.std.proofs.Common.{refl, sym, ◌∙◌, arith}
-use Rattle.shared_store.specs.Insert.{state}
+use Rattle.shared_store.specs.State.{state_of}
 use Rattle.crew.proofs.Runs.{begun, line_run}
 use Rattle.crew.proofs.run.run_into.Goals as goal
 
@@ -9,7 +9,7 @@ loop-line-init g c = record {
   count = c.requires.empty;
   room = c.requires.room;
   area = refl;
-  running = λ h is behind. begun c.args.store.now.wal.tail.mib h c.args.answers.now.items (state c.args.store.now.wal.tail c.args.store.now.pages c.args.store.now.count) c.requires.none is;
+  running = λ h is behind. begun c.args.store.now.wal.tail.mib h c.args.answers.now.items (state_of c.args.store.now) c.requires.none is;
 }
 
 pub loop-line-preserved : goal.loop-line-preserved
@@ -18,7 +18,6 @@ loop-line-preserved g c = record {
   room = omega (arith, c.put.ensures.capacity, c.loop-line.invariant.room);
   area = c.run_line-answer.ensures.area ∙ c.loop-line.invariant.area;
   running = λ h is behind. line_run c.args.store.now.wal.tail.mib h c.args.lines.now c.loop-line.line-index c.line-item.result c.loop-line.answers.items c.put.new.answers.items c.run_line-answer.result
-      (state c.args.store.now.wal.tail c.args.store.now.pages c.args.store.now.count) (state c.loop-line.store.wal.tail c.loop-line.store.pages c.loop-line.store.count)
-      (state c.run_line-answer.new.store.wal.tail c.run_line-answer.new.store.pages c.run_line-answer.new.store.count) c.loop-line.stopped c.stops-stopped.result
+      (state_of c.args.store.now) (state_of c.loop-line.store) (state_of c.run_line-answer.new.store) c.loop-line.stopped c.stops-stopped.result
       behind (omega arith) (sym c.line-item.is) c.put.ensures.items c.stops-stopped.ensures (c.loop-line.invariant.running h is behind) c.run_line-answer.ensures.answer;
 }

@@ -1,7 +1,7 @@
 -- A page that is to be put doesn't matter to the judgement.
 use Rattle.std.proofs.Common.{sym, subst}
 use Rattle.history.specs.declared.op.Op.{Op}
-use Rattle.shared_store.specs.Insert.{JudgeAnswer}
+use Rattle.shared_store.specs.Inside.{JudgeAnswer}
 use Rattle.shared_store.proofs.judge.judge.Goals as goal
 
 pub returns-in-Change : goal.returns-in-Change

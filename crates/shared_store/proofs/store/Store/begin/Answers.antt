@@ -2,12 +2,8 @@
 use Rattle.std.proofs.Common.{◌∙◌, ap}
 use Rattle.shared_store.proofs.store.Store.begin.Goals as goal
 
+pub attach-wal-requires : goal.attach-wal-requires
+attach-wal-requires g c = let h = c in ?
+
 pub returns-in-Ok-clause-begun : goal.returns-in-Ok-clause-begun
-returns-in-Ok-clause-begun g c = record {
-  settings = c.in-Ok.settings;
-  read = c.in-Ok.read;
-  open_is = c.in-Ok.ensures.answer;
-  log = ap (λ w. w.tail) c.new.ensures.wal ∙ c.attach-wal.ensures.log;
-  pages = c.new.ensures.pages;
-  count = c.new.ensures.count;
-}
+returns-in-Ok-clause-begun g c = ?

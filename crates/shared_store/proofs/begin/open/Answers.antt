@@ -1,0 +1,23 @@
+-- A WAL whose tip counts no entry has none.
+use Rattle.std.proofs.Common.{◌≡◌, ◌<◌, [], IfSome, sym, ap, subst, ◌∙◌, inr, arith}
+use Rattle.wal_record.specs.Tips.{first_tip}
+use Rattle.wal_reader.specs.Archive.{IsArchive}
+use Rattle.recovery.specs.declared.replaying.ReadWal.{ReadWal}
+use Rattle.shared_store.proofs.Entries.{none_read, some_read}
+use Rattle.shared_store.proofs.begin.open.Goals as goal
+
+pub returns-then-read-eq0-clause-answer : goal.returns-then-read-eq0-clause-answer
+returns-then-read-eq0-clause-answer g c =
+    let settings = c.in_ok-settings.settings in
+    let read = c.in_ok-read.read in
+    let same = c.in_ok-sync.ensures.same ∙ c.in_ok-settings.ensures.same in
+    let none : read.tip.count ≡ 0 = ap (λ (r : ReadWal). r.tip.count) (sym c.read.view_is) ∙ c.if-read-eq0.true in
+    inr (record {
+      settings = settings;
+      given = record { given = c.in_ok-settings.ensures.answer.0; blocks = c.in_ok-settings.ensures.answer.1 };
+      archive = subst (λ fs. IfSome fs (λ m. IsArchive settings.segment m [] (first_tip settings.segment))) same
+          (none_read settings.segment _ read c.in_ok-read.ensures.answer none);
+    })
+
+pub returns-clause-answer : goal.returns-clause-answer
+returns-clause-answer g c = ?
