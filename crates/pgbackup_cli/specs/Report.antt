@@ -4,14 +4,15 @@ use Rattle.std.specs.Fmt.{decimal}
 use Rattle.lsn_core.specs.Names.{lsn_bytes}
 use Rattle.lsn_core.specs.declared.lsn.Lsn.{Lsn}
 use Rattle.lsn_core.specs.declared.fault.AreaFault.{AreaFault}
-use Rattle.lsn_core.specs.declared.fault.AreaFault.TheVariants as area
 use Rattle.shared_store.specs.declared.fault.InsertFault.{InsertFault}
 use Rattle.shared_store.specs.declared.fault.InsertFault.TheVariants as insert_fault
 use Rattle.crew.specs.declared.script.Task.{Task}
 use Rattle.crew.specs.declared.script.Line.{Line}
 use Rattle.crew.specs.declared.run.Answer.{Answer}
 use Rattle.crew.specs.declared.run.Answer.TheVariants as answer
-use Rattle.pgbackup_cli.specs.declared.run.Report.{Report}
+use Rattle.pgbackup_cli.specs.Areas.{wal_name}
+use Rattle.pgbackup_cli.specs.Faults.{refused_line, area_text}
+use Rattle.pgbackup_cli.specs.declared.run.RunReport.{RunReport}
 
 -- number and name of a refused command's fault, and its argument
 abbrev pub insert_fault_text : InsertFault → List ℕ
@@ -44,8 +45,7 @@ task_lines (task ∷ tasks) answers = answer_lines task.name task.lines answers
 -- the last line: where the WAL ends, or why it isn't known to be written
 abbrev pub last_line : Result Lsn AreaFault → List ℕ
 last_line (Ok end) = codes "wal " ++ (lsn_bytes end.0 ++ (10 ∷ []))
-last_line (Err area.Failed) = codes "refused 60 DeviceFault wal" ++ (10 ∷ [])
-last_line (Err area.NoMemory) = codes "refused 61 NoMemory" ++ (10 ∷ [])
+last_line (Err why) = refused_line (area_text wal_name why)
 
-abbrev pub report_text : Report → List ℕ
+abbrev pub report_text : RunReport → List ℕ
 report_text report = codes "opened " ++ (lsn_bytes report.opened.0 ++ (10 ∷ (task_lines report.script report.answers ++ last_line report.ending)))
