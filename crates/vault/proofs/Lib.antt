@@ -5,3 +5,6 @@ pub mod Reading
 pub mod Slots
 pub mod Written
 pub mod Torn
+pub mod Undone
+pub mod Through
+pub mod Honest
