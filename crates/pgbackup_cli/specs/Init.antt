@@ -8,7 +8,7 @@ use Rattle.lsn_core.specs.declared.lsn.Lsn.{Lsn}
 use Rattle.lsn_core.specs.declared.segment.Settings.{Settings}
 use Rattle.vault.specs.Area.{IsTorn, Related}
 use Rattle.vault.specs.Site.{AreaState}
-use Rattle.vault.specs.Lending.{WritesAmong}
+use Rattle.vault.specs.Lending.{Names}
 use Rattle.vault.specs.declared.lending.TakeFault.{TakeFault}
 use Rattle.wal_record.specs.declared.record.Record.{Record}
 use Rattle.wal_record.specs.declared.record.Kind.TheVariants.{Shutdown}
@@ -21,7 +21,7 @@ use Rattle.pgbackup_cli.specs.declared.options.InitOptions.{InitOptions}
 use Rattle.pgbackup_cli.specs.declared.init.InitFault.{InitFault}
 use Rattle.pgbackup_cli.specs.declared.init.InitFault.TheVariants as init
 use Rattle.pgbackup_cli.specs.Areas.{wal_name, sums_name, IsClear, IsFull, AreaCause}
-use Rattle.pgbackup_cli.specs.Outside.{Outside, IsUntaken}
+use Rattle.pgbackup_cli.specs.Outside.{Outside, Works, IsUntaken}
 use Rattle.pgbackup_cli.specs.Faults.{refused_line, area_text, full_text, take_text, area_status}
 
 -- ---- what a new store is
@@ -75,10 +75,10 @@ pub record InitAreas : Type 0 where
 abbrev pub init_areas : Outside → InitAreas
 init_areas o = record { wal = o.areas wal_name; sums = o.areas sums_name }
 
-abbrev pub init_asks : List (List ℕ)
+abbrev pub init_asks : Names
 init_asks = wal_name ∷ (sums_name ∷ [])
 
-abbrev pub init_writes : List (List ℕ)
+abbrev pub init_writes : Names
 init_writes = wal_name ∷ []
 
 -- a new store was made, where neither area held a file
@@ -100,27 +100,27 @@ HoldsPart s old new =
 abbrev pub IsPartMade : Settings → AreaState → AreaState → Type 0
 IsPartMade s old new = (new.files ≡ old.files) ⊎ (IsClear old × HoldsPart s old.files new.files)
 
--- why none was made. A WAL or summaries that are there change nothing
-abbrev pub InitCause : Settings → InitAreas → InitAreas → (TakeFault → Type 0) → InitFault → Type 0
-InitCause s old new Untaken (init.Site fault) = Untaken fault
-InitCause s old new Untaken init.AlreadyInit = IsFull old.wal × (new.wal.files ≡ old.wal.files)
-InitCause s old new Untaken init.SumsNotEmpty = IsClear old.wal × IsFull old.sums × (new.wal.files ≡ old.wal.files)
-InitCause s old new Untaken (init.Wal why) = AreaCause old.wal.faults new.wal.faults why × IsPartMade s old.wal new.wal
-InitCause s old new Untaken (init.Sums why) = AreaCause old.sums.faults new.sums.faults why × (new.wal.files ≡ old.wal.files)
+-- why `init` with these settings comes to its answer, where an area that isn't handed out means this. A WAL or summaries that are
+-- there change nothing
+abbrev pub InitAnswer : Settings → (TakeFault → Type 0) → InitAreas → InitAreas → Result Lsn InitFault → Type 0
+InitAnswer s Untaken old new (Ok end) = InitDone s old new end
+InitAnswer s Untaken old new (Err (init.Site fault)) = Untaken fault
+InitAnswer s Untaken old new (Err init.AlreadyInit) = IsFull old.wal × (new.wal.files ≡ old.wal.files)
+InitAnswer s Untaken old new (Err init.SumsNotEmpty) = IsClear old.wal × IsFull old.sums × (new.wal.files ≡ old.wal.files)
+InitAnswer s Untaken old new (Err (init.Wal why)) =
+    AreaCause old.wal.faults new.wal.faults why × IsPartMade s old.wal new.wal
+InitAnswer s Untaken old new (Err (init.Sums why)) =
+    AreaCause old.sums.faults new.sums.faults why × (new.wal.files ≡ old.wal.files)
 
--- the answer, where an area that isn't handed out means this
-abbrev pub InitAnswer : Settings → InitAreas → InitAreas → (TakeFault → Type 0) → Result Lsn InitFault → Type 0
-InitAnswer s old new Untaken (Ok end) = InitDone s old new end
-InitAnswer s old new Untaken (Err fault) = InitCause s old new Untaken fault
+-- the same of the whole outside
+abbrev pub InitRan : Settings → Outside → Outside → Result Lsn InitFault → Type 0
+InitRan s old new r = InitAnswer s (IsUntaken init_asks old new) (init_areas old) (init_areas new) r
 
--- `init` with these options, at the clock's moment where no system identifier is given. Every area is given back, and no other
--- area's files change
-pub record InitDoes (options : InitOptions) (old new : Outside) (r : Result Lsn InitFault) : Type 0 where
-  pub site : WritesAmong init_writes old.areas new.areas
-  pub take_faults : old.take_faults ≤ new.take_faults
-  pub moment : ℕ
-  pub moment_is : IfSome old.moment (λ told. options.system ≡ None → moment ≡ told)
-  pub cause : InitAnswer (new_settings options moment) (init_areas old) (init_areas new) (IsUntaken init_asks old new) r
+-- `init` with these options, at the clock's moment where no system identifier is given
+abbrev pub InitDoes : InitOptions → Outside → Outside → Result Lsn InitFault → Type 0
+InitDoes options old new r =
+    Works init_writes old new
+    × ((moment : ℕ) × IfSome old.moment (λ told. options.system ≡ None → moment ≡ told) × InitRan (new_settings options moment) old new r)
 
 -- ---- what it prints, and its status
 

@@ -1,12 +1,12 @@
 -- What the program works on: the areas of a site, an input, a clock and a sink.
-use Rattle.std.specs.Prelude.{◌≡◌, ℕ, List, Contains, Option, IsSome}
+use Rattle.std.specs.Prelude.{◌≡◌, ◌≤◌, ℕ, List, Option, IsSome}
 use Rattle.vault.specs.Site.{AreaState, Areas}
+use Rattle.vault.specs.Lending.{Names, WritesAmong, TakeCause}
 use Rattle.vault.specs.declared.lending.TakeFault.{TakeFault}
 use Rattle.vault.specs.declared.site.Site.{Ghosts as Sites}
 use Rattle.vault.specs.declared.stream.Source.{Ghosts as Sources}
 use Rattle.vault.specs.declared.stream.Sink.{Ghosts as Sinks}
 use Rattle.vault.specs.declared.stream.Clock.{Ghosts as Clocks}
-use Rattle.pgbackup_cli.specs.Areas.{AreaCause}
 
 -- all that is known of it at a moment. What is told of contents is an option
 pub record Outside : Type 0 where
@@ -23,10 +23,10 @@ pub record Outside : Type 0 where
   pub prints : ℕ
 
 -- these objects, as their traits' meanings tell of them
-abbrev pub outside : {S I O C : Type 0} → Sites S → Sources I → Sinks O → Clocks C → S → I → O → C → Outside
+abbrev pub outside : {S V I O C : Type 0} → Sites S V → Sources I → Sinks O → Clocks C → S → I → O → C → Outside
 outside sites sources sinks clocks site input out clock = record {
   areas = sites.areas site;
-  take_faults = sites.own site;
+  take_faults = sites.take_faults site;
   left = sources.left input;
   reads = sources.faults input;
   moment = clocks.moment clock;
@@ -34,16 +34,17 @@ outside sites sources sinks clocks site input out clock = record {
   prints = sinks.faults out;
 }
 
+-- every area is given back, only the files of these may have changed, and no count of faults fell
+abbrev pub Works : Names → Outside → Outside → Type 0
+Works names old new = WritesAmong names old.areas new.areas × (old.take_faults ≤ new.take_faults)
+
 -- no area was asked for
-pub record LeavesSite (old new : Outside) : Type 0 where
-  pub areas : new.areas ≡ old.areas
-  pub take_faults : new.take_faults ≡ old.take_faults
+abbrev pub LeavesSite : Outside → Outside → Type 0
+LeavesSite old new = (new.areas ≡ old.areas) × (new.take_faults ≡ old.take_faults)
 
 -- one of these areas wasn't handed out, and none changed
-pub record IsUntaken (names : List (List ℕ)) (old new : Outside) (fault : TakeFault) : Type 0 where
-  pub areas : new.areas ≡ old.areas
-  pub among : Contains names fault.area
-  pub cause : AreaCause old.take_faults new.take_faults fault.why
+abbrev pub IsUntaken : Names → Outside → Outside → TakeFault → Type 0
+IsUntaken names old new fault = (new.areas ≡ old.areas) × TakeCause names old.take_faults new.take_faults fault
 
 -- the contents of all areas and of the input are told, and the clock's moment
 pub record AllTold (old : Outside) : Type 0 where

@@ -7,7 +7,7 @@ use Rattle.lsn_core.specs.Names.{lsn_bytes}
 use Rattle.lsn_core.specs.Store.{files_of}
 use Rattle.lsn_core.specs.declared.segment.Settings.{Settings}
 use Rattle.vault.specs.Site.{AreaState}
-use Rattle.vault.specs.Lending.{WritesAmong}
+use Rattle.vault.specs.Lending.{Names}
 use Rattle.vault.specs.declared.lending.TakeFault.{TakeFault}
 use Rattle.history.specs.Pages.{page_count}
 use Rattle.recovery.specs.Reading.{HasSettings, IsReadWal, WalCause}
@@ -18,7 +18,7 @@ use Rattle.pgbackup_cli.specs.declared.replay.ReplayReport.{ReplayReport}
 use Rattle.pgbackup_cli.specs.declared.replay.ReplayFault.{ReplayFault}
 use Rattle.pgbackup_cli.specs.declared.replay.ReplayFault.TheVariants as replay
 use Rattle.pgbackup_cli.specs.Areas.{wal_name, output_name, IsClear, IsFull, AreaCause}
-use Rattle.pgbackup_cli.specs.Outside.{Outside, IsUntaken}
+use Rattle.pgbackup_cli.specs.Outside.{Outside, Works, IsUntaken}
 use Rattle.pgbackup_cli.specs.Faults.{refused_line, area_text, full_text, take_text, wal_text, area_status, wal_status}
 
 -- the areas that it looks at: the WAL's, and the output's
@@ -29,7 +29,7 @@ pub record ReplayAreas : Type 0 where
 abbrev pub replay_areas : List ℕ → Outside → ReplayAreas
 replay_areas out o = record { wal = o.areas wal_name; out = o.areas out }
 
-abbrev pub replay_asks : List ℕ → List (List ℕ)
+abbrev pub replay_asks : List ℕ → Names
 replay_asks out = wal_name ∷ (out ∷ [])
 
 -- a replay that was done: the output's files are those of the store that the whole WAL makes
@@ -48,27 +48,24 @@ pub record ReplayDone (old new : ReplayAreas) (report : ReplayReport) : Type 0 w
 abbrev pub KeepsFull : AreaState → AreaState → Type 0
 KeepsFull old new = IfSome old.files (λ m. m ≢ empty → new.files ≡ old.files)
 
--- why a replay was refused. A full output and a WAL that can't be read leave the output as it was; of one that was empty a failed
--- device or want of memory says nothing
-abbrev pub ReplayCause : ReplayAreas → ReplayAreas → (TakeFault → Type 0) → ReplayFault → Type 0
-ReplayCause old new Untaken (replay.Site fault) = Untaken fault
-ReplayCause old new Untaken replay.NotEmpty = IsFull old.out × (new.out.files ≡ old.out.files)
-ReplayCause old new Untaken (replay.Wal why) =
+-- why `replay` comes to its answer, where an area that isn't handed out means this. A full output and a WAL that can't be read
+-- leave the output as it was; of one that was empty a failed device or want of memory says nothing
+abbrev pub ReplayAnswer : (TakeFault → Type 0) → ReplayAreas → ReplayAreas → Result ReplayReport ReplayFault → Type 0
+ReplayAnswer Untaken old new (Ok report) = ReplayDone old new report
+ReplayAnswer Untaken old new (Err (replay.Site fault)) = Untaken fault
+ReplayAnswer Untaken old new (Err replay.NotEmpty) = IsFull old.out × (new.out.files ≡ old.out.files)
+ReplayAnswer Untaken old new (Err (replay.Wal why)) =
     IsClear old.out × (new.out.files ≡ old.out.files) × WalCause old.wal.files old.wal.faults new.wal.faults why
-ReplayCause old new Untaken (replay.Out why) = AreaCause old.out.faults new.out.faults why × KeepsFull old.out new.out
+ReplayAnswer Untaken old new (Err (replay.Out why)) =
+    AreaCause old.out.faults new.out.faults why × KeepsFull old.out new.out
 
--- the answer, where an area that isn't handed out means this
-abbrev pub ReplayAnswer : ReplayAreas → ReplayAreas → (TakeFault → Type 0) → Result ReplayReport ReplayFault → Type 0
-ReplayAnswer old new Untaken (Ok report) = ReplayDone old new report
-ReplayAnswer old new Untaken (Err fault) = ReplayCause old new Untaken fault
+-- the same of the whole outside, to this area
+abbrev pub ReplayRan : List ℕ → Outside → Outside → Result ReplayReport ReplayFault → Type 0
+ReplayRan out old new r = ReplayAnswer (IsUntaken (replay_asks out) old new) (replay_areas out old) (replay_areas out new) r
 
--- `replay` to an output of this name: every area is given back, and no other area's files change
-pub record ReplayDoes (name : List ℕ) (old new : Outside) (r : Result ReplayReport ReplayFault) : Type 0 where
-  pub site : WritesAmong (output_name name ∷ []) old.areas new.areas
-  pub take_faults : old.take_faults ≤ new.take_faults
-  pub cause :
-    ReplayAnswer (replay_areas (output_name name) old) (replay_areas (output_name name) new)
-    (IsUntaken (replay_asks (output_name name)) old new) r
+-- `replay` to an output of this name
+abbrev pub ReplayDoes : List ℕ → Outside → Outside → Result ReplayReport ReplayFault → Type 0
+ReplayDoes name old new r = Works (output_name name ∷ []) old new × ReplayRan (output_name name) old new r
 
 -- ---- what it prints, where this is the output's area, and its status
 

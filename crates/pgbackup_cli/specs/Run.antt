@@ -12,7 +12,7 @@ use Rattle.lsn_core.specs.declared.fault.AreaFault.{AreaFault}
 use Rattle.lsn_core.specs.declared.fault.AreaFault.TheVariants.{NoMemory}
 use Rattle.vault.specs.Area.{after_write, IsTorn, Related}
 use Rattle.vault.specs.Site.{AreaState}
-use Rattle.vault.specs.Lending.{WritesAmong}
+use Rattle.vault.specs.Lending.{Names}
 use Rattle.wal_record.specs.declared.record.Record.{Record}
 use Rattle.wal_record.specs.Places.{origin}
 use Rattle.wal_reader.specs.Archive.{IsArchive}
@@ -35,7 +35,7 @@ use Rattle.pgbackup_cli.specs.declared.run.RunReport.{RunReport}
 use Rattle.pgbackup_cli.specs.declared.run.RunFault.{RunFault}
 use Rattle.pgbackup_cli.specs.declared.run.RunFault.TheVariants as run
 use Rattle.pgbackup_cli.specs.Areas.{wal_name, AreaCause}
-use Rattle.pgbackup_cli.specs.Outside.{Outside, LeavesSite, IsUntaken}
+use Rattle.pgbackup_cli.specs.Outside.{Outside, Works, LeavesSite, IsUntaken}
 use Rattle.pgbackup_cli.specs.Input.{script_limit, IsInput, TakesAtMost}
 use Rattle.pgbackup_cli.specs.Faults.{refused_line, area_text, take_text, wal_text, memory_text, area_status, wal_status}
 use Rattle.pgbackup_cli.specs.Report.{report_text}
@@ -43,15 +43,15 @@ use Rattle.pgbackup_cli.specs.Report.{report_text}
 -- ---- the script
 
 -- the input was read, and it is a script that is taken
-pub record HasScript (old new : Outside) (script : List Task) : Type 0 where
+pub record HasScript (left now : Option (List ℕ)) (script : List Task) : Type 0 where
   pub bytes : List ℕ
-  pub input : IsInput bytes old.left new.left
+  pub input : IsInput bytes left now
   pub script_is : IsScript bytes script
 
 -- the input was read, and this line is the first that is refused
-pub record HasRefusedLine (old new : Outside) (line : ℕ) (why : Why) : Type 0 where
+pub record HasRefusedLine (left now : Option (List ℕ)) (line : ℕ) (why : Why) : Type 0 where
   pub bytes : List ℕ
-  pub input : IsInput bytes old.left new.left
+  pub input : IsInput bytes left now
   pub refused : IsRefusedAt bytes line why
 
 -- ---- what the run of a script comes to, over the area of the WAL
@@ -106,7 +106,7 @@ pub record RunDone (old new : AreaState) (report : RunReport) : Type 0 where
 -- ---- what `run` comes to
 
 -- the areas that it asks for, which it may change
-abbrev pub run_asks : List (List ℕ)
+abbrev pub run_asks : Names
 run_asks = wal_name ∷ []
 
 -- a WAL that can't be run on is as it was
@@ -114,27 +114,26 @@ pub record IsUnread (old new : AreaState) (why : WalFault) : Type 0 where
   pub same : new.files ≡ old.files
   pub cause : BeginCause old.files old.faults new.faults why
 
--- why no script was run: the input failed, a line is refused, memory ran out, or the WAL wasn't handed out or can't be run on
-abbrev pub RunCause : Outside → Outside → RunFault → Type 0
-RunCause old new (run.Input why) = LeavesSite old new × AreaCause old.reads new.reads why
-RunCause old new (run.Script line why) = LeavesSite old new × HasRefusedLine old new line why
-RunCause old new run.NoMemory = LeavesSite old new
-RunCause old new (run.Site fault) = (script : List Task) × HasScript old new script × IsUntaken run_asks old new fault
-RunCause old new (run.Wal why) =
-    (script : List Task) × HasScript old new script × IsUnread (old.areas wal_name) (new.areas wal_name) why
-
+-- why `run` comes to its answer: a script was run; or the input failed, a line is refused, memory ran out, or the WAL wasn't handed
+-- out or can't be run on
 abbrev pub RunAnswer : Outside → Outside → Result RunReport RunFault → Type 0
-RunAnswer old new (Ok report) = HasScript old new report.script × RunDone (old.areas wal_name) (new.areas wal_name) report
-RunAnswer old new (Err fault) = RunCause old new fault
+RunAnswer old new (Ok report) =
+    HasScript old.left new.left report.script × RunDone (old.areas wal_name) (new.areas wal_name) report
+RunAnswer old new (Err (run.Input why)) = LeavesSite old new × AreaCause old.reads new.reads why
+RunAnswer old new (Err (run.Script line why)) = LeavesSite old new × HasRefusedLine old.left new.left line why
+RunAnswer old new (Err run.NoMemory) = LeavesSite old new
+RunAnswer old new (Err (run.Site fault)) =
+    (script : List Task) × HasScript old.left new.left script × IsUntaken run_asks old new fault
+RunAnswer old new (Err (run.Wal why)) =
+    (script : List Task) × HasScript old.left new.left script × IsUnread (old.areas wal_name) (new.areas wal_name) why
 
--- `run`: every area is given back, and no other area's files change. Of the input no more is taken than one byte more than a script
--- may have
-pub record RunDoes (old new : Outside) (r : Result RunReport RunFault) : Type 0 where
-  pub site : WritesAmong run_asks old.areas new.areas
-  pub take_faults : old.take_faults ≤ new.take_faults
-  pub reads : old.reads ≤ new.reads
-  pub input : TakesAtMost (script_limit + 1) old.left new.left
-  pub cause : RunAnswer old new r
+-- `run`. Of the input no more is taken than one byte more than a script may have
+abbrev pub RunDoes : Outside → Outside → Result RunReport RunFault → Type 0
+RunDoes old new r =
+    Works run_asks old new
+    × (old.reads ≤ new.reads)
+    × TakesAtMost (script_limit + 1) old.left new.left
+    × RunAnswer old new r
 
 -- ---- what it prints, and its status
 

@@ -1,0 +1,35 @@
+//! The whole program over whatever site, source, sink and clock it is handed: the function
+//! `pgbackup` takes the words of the command line, does what they ask, prints and answers the exit
+//! status.
+//!
+//! Its clause (`specs/Top.antt`) says of each command what it changes, why it comes to its answer,
+//! what it prints and how it ends; each command's part stands in a file of its own
+//! (`specs/Init.antt`, `Run.antt`, `Replay.antt`). Laws say that a command comes to one answer.
+//!
+//! Left to others: what a script, a store and a WAL are (`crew`, `shared_store`, `wal_reader`), the
+//! system's areas and streams (`vault_os`), and the process that hands them over (`pgbackup`).
+#![tactic(auto)]
+
+mod answer;
+mod clear;
+mod faults;
+mod init;
+mod input;
+mod laws;
+mod names;
+mod new_wal;
+mod options;
+mod replay;
+mod report;
+mod run;
+mod top;
+mod words;
+
+pub use answer::Status;
+pub use laws::{init_has_one_answer, replay_has_one_answer, run_has_one_answer};
+pub use top::pgbackup;
+
+#[cfg(test)]
+mod store_tests;
+#[cfg(test)]
+mod tests;
