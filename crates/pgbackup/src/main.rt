@@ -1,32 +1,12 @@
-//! The program. The function `pgbackup` is all that it does, over whatever site, source, sink and
-//! clock it is handed; `main` hands it the system's.
+//! The program: `main` hands the function `pgbackup` the words of the command line and the system's
+//! areas, streams and clock, and ends with its status.
 #![tactic(auto)]
 
-mod answer;
-mod clear;
-mod init;
-mod input;
-mod laws;
-mod lines;
-mod options;
-mod replay;
-mod report;
-mod run;
-mod top;
-mod words;
-
-pub use answer::Status;
-pub use laws::{init_has_one_answer, replay_has_one_answer, run_has_one_answer};
 use lsn_core::{NoMemory, Text};
+use pgbackup_cli::{Status, pgbackup};
 use std::env;
 use std::process::ExitCode;
-pub use top::pgbackup;
 use vault_os::{OsClock, OsSink, OsSite, OsSource};
-
-#[cfg(test)]
-mod store_tests;
-#[cfg(test)]
-mod tests;
 
 const USAGE: &str = "usage: pgbackup init [--segment-mib M] [--relseg N] [--system-id S]
        pgbackup run

@@ -47,5 +47,9 @@ abbrev pub last_line : Result Lsn AreaFault → List ℕ
 last_line (Ok end) = codes "wal " ++ (lsn_bytes end.0 ++ (10 ∷ []))
 last_line (Err why) = refused_line (area_text wal_name why)
 
+-- the first line: where the WAL ended before
+abbrev pub opened_line : Lsn → List ℕ
+opened_line opened = codes "opened " ++ (lsn_bytes opened.0 ++ (10 ∷ []))
+
 abbrev pub report_text : RunReport → List ℕ
-report_text report = codes "opened " ++ (lsn_bytes report.opened.0 ++ (10 ∷ (task_lines report.script report.answers ++ last_line report.ending)))
+report_text report = opened_line report.opened ++ (task_lines report.script report.answers ++ last_line report.ending)

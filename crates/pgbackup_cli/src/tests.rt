@@ -2,6 +2,7 @@
 //! the page are those of an independent implementation of the formats.
 
 use super::*;
+use lsn_core::Text;
 use std::alloc::Global;
 use std::process::Abort;
 use std::test::Fail;
