@@ -11,7 +11,9 @@ use Rattle.lsn_core.specs.declared.fault.AreaFault.TheVariants.{NoMemory}
 use Rattle.vault.specs.declared.area.Vault.{Ghosts as Vaults}
 use Rattle.vault.specs.declared.site.Site.{Ghosts as Sites}
 use Rattle.vault.specs.declared.stream.Source.{Ghosts as Sources}
+use Rattle.vault.specs.declared.stream.Sink.{Ghosts as Sinks}
 use Rattle.vault.specs.declared.stream.Clock.{Ghosts as Clocks}
+use Rattle.vault.specs.Stream.{Tells}
 use Rattle.vault.specs.declared.lending.TakeFault.{TakeFault}
 use Rattle.vault.specs.Area.{after_write, IsTorn, Related}
 use Rattle.vault.specs.Site.{AreaState, Areas, state_in}
@@ -31,10 +33,10 @@ use Rattle.pgbackup_cli.specs.declared.words.Command.TheVariants as command
 use Rattle.pgbackup_cli.specs.Areas.{AreaCause}
 use Rattle.pgbackup_cli.specs.Options.{IsInRange}
 use Rattle.pgbackup_cli.specs.Words.{Asked, Init, Run, Replay}
-use Rattle.pgbackup_cli.specs.Outside.{Outside, Works}
+use Rattle.pgbackup_cli.specs.Outside.{Outside}
 use Rattle.pgbackup_cli.specs.Init.{InitAreas, InitAnswer, settings_name, settings_file, segment_name, segment_file}
 use Rattle.pgbackup_cli.specs.Run.{HasScript, IsWrittenAt, RunDone, IsUnread, RunAnswer}
-use Rattle.pgbackup_cli.specs.Replay.{ReplayAnswer, ReplayRan}
+use Rattle.pgbackup_cli.specs.Replay.{ReplayAnswer}
 
 -- texts behind each other
 abbrev pub joined : List (List ℕ) → List ℕ
@@ -82,6 +84,10 @@ abbrev pub of_all : {S V I C : Type 0} → Sites S V → Sources I → Clocks C 
 of_all sites sources clocks site input clock =
     seen (sites.areas site) (sites.take_faults site) (sources.left input) (sources.faults input) (clocks.moment clock)
 
+-- a sink was told a text
+abbrev pub TellsIn : {O : Type 0} → Sinks O → List ℕ → O → O → Result (Unit {0}) AreaFault → Type 0
+TellsIn sinks text old new told = Tells text (sinks.bytes old) (sinks.bytes new) (sinks.faults old) (sinks.faults new) told
+
 -- no area wasn't handed out
 abbrev pub Never : TakeFault → Type 0
 Never fault = ⊥
@@ -97,8 +103,8 @@ pub record IsMore (before bytes : List ℕ) (most : ℕ) (left now : Option (Lis
   pub goes_on : ended ≡ false → length before < length bytes
   pub at_end : ended ≡ true → (bytes ≡ before) × IfSome left (λ l. l ≡ [])
 
-abbrev pub ReadsMore : {I : Type 0} → Sources I → List ℕ → List ℕ → ℕ → I → I → Bool → Type 0
-ReadsMore sources before bytes most old new ended = IsMore before bytes most (sources.left old) (sources.left new) ended
+abbrev pub ReadsMore : {I : Type 0} → Sources I → I → I → List ℕ → List ℕ → ℕ → Bool → Type 0
+ReadsMore sources old new before bytes most ended = IsMore before bytes most (sources.left old) (sources.left new) ended
 
 -- ---- `init`
 
@@ -177,10 +183,6 @@ abbrev pub AnswersReplay : {V : Type 0} → Vaults V → V → V → V → V →
 AnswersReplay vaults wal out wal_now out_now r =
     ReplayAnswer Never (record { wal = state_in vaults wal; out = state_in vaults out })
     (record { wal = state_in vaults wal_now; out = state_in vaults out_now }) r
-
--- what `replay` does over the whole outside
-abbrev pub ReplaysTo : List ℕ → Outside → Outside → Result ReplayReport ReplayFault → Type 0
-ReplaysTo out old new r = Works (out ∷ []) old new × ReplayRan out old new r
 
 -- an area that held no file has those of a store
 abbrev pub IsWrittenOut : ℕ → Store → Option Files → Option Files → Type 0

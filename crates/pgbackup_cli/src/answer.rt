@@ -1,8 +1,7 @@
 //! What the program comes to, the lines that it prints for that, and its exit status.
 
 ghost use Rattle.std.specs.Prelude.{◌≡◌, IfOk};
-ghost use Rattle.std.specs.Option.{option_map};
-ghost use Rattle.pgbackup_cli.specs.Inner.{asks};
+ghost use Rattle.pgbackup_cli.specs.Words.{asked};
 ghost use Rattle.pgbackup_cli.specs.Top.{output_asked, text_of, answer_status, status_of, code_of};
 
 use crate::faults::{area_status, refused_line};
@@ -10,7 +9,7 @@ use crate::init::{InitFault, init_status, init_text};
 use crate::names::output_name;
 use crate::replay::{ReplayFault, ReplayReport, replay_status, replay_text};
 use crate::run::{RunFault, RunReport, run_status, run_text};
-use crate::words::Command;
+use crate::words::{Command, command_of};
 use lsn_core::{AreaFault, Lsn, NoMemory, Text};
 use std::alloc::Global;
 
@@ -58,30 +57,24 @@ impl Status {
 }
 
 /// The area of the output that is asked for, empty where none is.
-fn output_asked(alloc: Global, command: Option<Command<'_>>) -> Result<Text, NoMemory>
-    ensures { IfOk result (λ area. area ≡ output_asked (option_map asks command)) }
+fn output_asked(alloc: Global, words: &[Text]) -> Result<Text, NoMemory>
+    ensures { IfOk result (λ area. area ≡ output_asked (asked words.now)) }
 {
-    match command {
+    match command_of(words) {
         Some(Command::Replay(name)) => output_name(alloc, name),
         Some(Command::Init(_) | Command::Run) | None => Ok(Text::from_vec(Vec::new(alloc))),
     }
 }
 
-/// The lines of an answer to a command.
-pub fn text_of(
-    alloc: Global,
-    command: Option<Command<'_>>,
-    answer: &Answer,
-) -> Result<Text, NoMemory>
-    ensures { IfOk result (λ text. text ≡ text_of (option_map asks command) answer.now) }
+/// The lines of an answer to what words ask.
+pub fn text_of(alloc: Global, words: &[Text], answer: &Answer) -> Result<Text, NoMemory>
+    ensures { IfOk result (λ text. text ≡ text_of (asked words.now) answer.now) }
 {
     match answer {
         Answer::Usage => refused_line(alloc, b"1 Usage"),
         Answer::Init(came) => init_text(alloc, came),
         Answer::Run(came) => run_text(alloc, came),
-        Answer::Replay(came) => {
-            replay_text(alloc, output_asked(alloc, command)?.as_bytes(), came)
-        }
+        Answer::Replay(came) => replay_text(alloc, output_asked(alloc, words)?.as_bytes(), came),
     }
 }
 

@@ -2,15 +2,12 @@
 
 ghost use Rattle.std.specs.Prelude.{◌≡◌, [], IfOk, IfSome, OnOk, OnErr};
 ghost use Rattle.std.specs.Option.{option_map};
-ghost use Rattle.std.specs.FinMap.{empty, insert};
+ghost use Rattle.std.specs.FinMap.{empty};
 ghost use Rattle.lsn_core.specs.Causes.{HasCause};
-ghost use Rattle.vault.specs.Area.{bytes_of, after_write, IsTorn, Related};
+ghost use Rattle.vault.specs.Area.{bytes_of};
 ghost use Rattle.wal_record.specs.Places.{origin, first_start};
-ghost use Rattle.wal_record.specs.declared.record.Kind.TheVariants.{Shutdown};
-ghost use Rattle.wal_writer.specs.Log.{next_record, appended};
-ghost use Rattle.wal_writer.specs.Answers.{after_flush, IsLeft};
-ghost use Rattle.pgbackup_cli.specs.Init.{settings_name, settings_file, segment_name, segment_file, first_entry, new_wal, HoldsPart};
-ghost use Rattle.pgbackup_cli.specs.Inner.{with_checkpoint, IsSettingsTorn, IsSegmentTorn, IsCheckpointTorn};
+ghost use Rattle.pgbackup_cli.specs.Init.{segment_name, first_entry, new_wal, HoldsPart};
+ghost use Rattle.pgbackup_cli.specs.Inner.{with_settings, with_segment, with_checkpoint, checkpoint_in, IsSettingsTorn, IsSegmentTorn, IsCheckpointTorn};
 
 use lsn_core::{AreaFault, Lsn, SegSize, Settings, WalTip};
 use std::alloc::Global;
@@ -61,7 +58,7 @@ fn write_checkpoint<V: Vault>(
     wal: &mut WalState<V>,
     redo: Lsn,
 ) -> Result<Lsn, AreaFault>
-    ensures end { IfOk result (λ end. end.0 ≡ (next_record wal.old.tail (Shutdown redo)).end.0) }
+    ensures end { IfOk result (λ end. end.0 ≡ (checkpoint_in wal.old.tail redo).end.0) }
     ensures written { OnOk result (V.files wal.new.area ≡ with_checkpoint wal.old.tail redo (V.files wal.old.area)) }
     ensures left { OnErr result (IsCheckpointTorn wal.old.tail redo (V.files wal.old.area) (V.files wal.new.area)) }
     ensures cause { HasCause (V.faults wal.old.area) (V.faults wal.new.area) result }

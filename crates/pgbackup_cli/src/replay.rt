@@ -1,6 +1,6 @@
 //! `replay`: the WAL from its beginning, from one area into another.
 
-ghost use Rattle.std.specs.Prelude.{◌≡◌, ◌≢◌, ◌<◌, ◌≤◌, IfOk, IfSome, IfErr, OnOk};
+ghost use Rattle.std.specs.Prelude.{◌≡◌, ◌≢◌, ◌<◌, ◌≤◌, [], ◌∷◌, IfOk, IfSome, IfErr, OnOk};
 ghost use Rattle.std.specs.Option.{option_map};
 ghost use Rattle.std.specs.FinMap.{empty};
 ghost use Rattle.lsn_core.specs.Causes.{HasCause};
@@ -11,8 +11,8 @@ ghost use Rattle.history.specs.Pages.{page_count};
 ghost use Rattle.pgbackup_cli.specs.declared.replay.ReplayFault.TheVariants as replay;
 ghost use Rattle.pgbackup_cli.specs.Areas.{wal_name};
 ghost use Rattle.pgbackup_cli.specs.Outside.{Works};
-ghost use Rattle.pgbackup_cli.specs.Replay.{ReplayDoes, replay_fault_text, replayed_line, replay_text, replay_status};
-ghost use Rattle.pgbackup_cli.specs.Inner.{of_site, AnswersReplay, ReplaysTo, IsWrittenOut};
+ghost use Rattle.pgbackup_cli.specs.Replay.{ReplayRan, ReplayDoes, replay_fault_text, replayed_line, replay_text, replay_status};
+ghost use Rattle.pgbackup_cli.specs.Inner.{of_site, AnswersReplay, IsWrittenOut};
 
 use crate::answer::Status;
 use crate::clear::is_clear;
@@ -134,7 +134,8 @@ fn replay_areas<V: Vault>(
 fn replay_in<S: Site>(alloc: Global, out: &[u8], site: &mut S) -> Result<ReplayReport, ReplayFault>
     requires other { out.now ≢ wal_name }
     requires home { AllHome (S.areas site.old) }
-    ensures does { ReplaysTo out.now (of_site S.Site site.old) (of_site S.Site site.new) result }
+    ensures site { Works (out.now ∷ []) (of_site S.Site site.old) (of_site S.Site site.new) }
+    ensures answer { ReplayRan out.now (of_site S.Site site.old) (of_site S.Site site.new) result }
 {
     let names = names_of(alloc, &[b"wal", out])?;
     let (mut wal, mut out) = two_of(take_all(alloc, site, names)?);

@@ -1,13 +1,11 @@
 //! The top call: all that the program does.
 
-ghost use Rattle.std.specs.Prelude.{◌≡◌, ◌⊎◌, IfSome};
-ghost use Rattle.std.specs.Option.{option_map};
+ghost use Rattle.std.specs.Prelude.{◌≡◌, ◌⊎◌};
 ghost use Rattle.vault.specs.Site.{AllHome};
-ghost use Rattle.vault.specs.Stream.{Tells};
 ghost use Rattle.pgbackup_cli.specs.Words.{asked};
 ghost use Rattle.pgbackup_cli.specs.Outside.{outside};
 ghost use Rattle.pgbackup_cli.specs.Top.{DoesAsked, ReadsInput, ReadsClock, text_of, Ran};
-ghost use Rattle.pgbackup_cli.specs.Inner.{asks, HasRange, of_all};
+ghost use Rattle.pgbackup_cli.specs.Inner.{of_all, TellsIn};
 
 use crate::answer::{Answer, Status, exit_status, text_of};
 use crate::init::init;
@@ -18,25 +16,24 @@ use lsn_core::{AreaFault, Text};
 use std::alloc::Global;
 use vault::{Clock, Sink, Site, Source, print};
 
-/// Does what is asked.
+/// Does what the words ask.
 fn work<S: Site, I: Source, C: Clock>(
     alloc: Global,
-    command: Option<Command<'_>>,
+    words: &[Text],
     site: &mut S,
     input: &mut I,
     clock: &mut C,
 ) -> Answer
-    requires range { IfSome command HasRange }
-    requires home { AllHome (S.areas site.old) }
+    requires { AllHome (S.areas site.old) }
     ensures does {
-        DoesAsked (option_map asks command) (of_all S.Site I.Source C.Clock site.old input.old clock.old)
+        DoesAsked (asked words.now) (of_all S.Site I.Source C.Clock site.old input.old clock.old)
           (of_all S.Site I.Source C.Clock site.new input.new clock.new) result
     }
     ensures home { AllHome (S.areas site.new) }
-    ensures input { ReadsInput (option_map asks command) ⊎ (input.new ≡ input.old) }
-    ensures clock { ReadsClock (option_map asks command) ⊎ (clock.new ≡ clock.old) }
+    ensures input { ReadsInput (asked words.now) ⊎ (input.new ≡ input.old) }
+    ensures clock { ReadsClock (asked words.now) ⊎ (clock.new ≡ clock.old) }
 {
-    match command {
+    match command_of(words) {
         None => Answer::Usage,
         Some(Command::Init(options)) => Answer::Init(init(alloc, options, site, clock)),
         Some(Command::Run) => Answer::Run(run(alloc, site, input)),
@@ -47,13 +44,13 @@ fn work<S: Site, I: Source, C: Clock>(
 /// Prints the lines of an answer.
 fn tell<O: Sink>(
     alloc: Global,
-    command: Option<Command<'_>>,
+    words: &[Text],
     answer: &Answer,
     out: &mut O,
 ) -> Result<(), AreaFault>
-    ensures told { Tells (text_of (option_map asks command) answer.now) (O.bytes out.old) (O.bytes out.new) (O.faults out.old) (O.faults out.new) result }
+    ensures told { TellsIn O.Sink (text_of (asked words.now) answer.now) out.old out.new result }
 {
-    let text = text_of(alloc, command, answer)?;
+    let text = text_of(alloc, words, answer)?;
     print(out, text.as_bytes())
 }
 
@@ -77,8 +74,7 @@ pub fn pgbackup<S: Site, I: Source, O: Sink, C: Clock>(
     ensures input { ReadsInput (asked words.now) ⊎ (input.new ≡ input.old) }
     ensures clock { ReadsClock (asked words.now) ⊎ (clock.new ≡ clock.old) }
 {
-    let command = command_of(words);
-    let answer = work(alloc, command, site, input, clock);
-    let telling = tell(alloc, command, &answer, out);
+    let answer = work(alloc, words, site, input, clock);
+    let telling = tell(alloc, words, &answer, out);
     exit_status(&answer, telling)
 }
