@@ -24,7 +24,15 @@ IsClear area = IfSome area.files (λ m. m ≡ empty)
 abbrev pub IsFull : AreaState → Type 0
 IsFull area = IfSome area.files (λ m. m ≢ empty)
 
+-- an area's files are as they were
+abbrev pub Keeps : AreaState → AreaState → Type 0
+Keeps old new = new.files ≡ old.files
+
 -- why a call failed: the count of faults rose, or memory ran out
 abbrev pub AreaCause : ℕ → ℕ → AreaFault → Type 0
 AreaCause before now Failed = Rose before now
 AreaCause before now NoMemory = Unit {0}
+
+-- the same of an area
+abbrev pub AreaFails : AreaState → AreaState → AreaFault → Type 0
+AreaFails old new why = AreaCause old.faults new.faults why

@@ -9,7 +9,6 @@ use Rattle.lsn_core.specs.declared.segment.Settings.{Settings}
 use Rattle.vault.specs.Area.{IsTorn, Related}
 use Rattle.vault.specs.Site.{AreaState}
 use Rattle.vault.specs.Lending.{Names}
-use Rattle.vault.specs.declared.lending.TakeFault.{TakeFault}
 use Rattle.wal_record.specs.declared.record.Record.{Record}
 use Rattle.wal_record.specs.declared.record.Kind.TheVariants.{Shutdown}
 use Rattle.wal_record.specs.Places.{first_start, record_behind, written_entry, page_head}
@@ -20,13 +19,16 @@ use Rattle.pgbackup_cli.specs.declared.answer.Status.TheVariants as status
 use Rattle.pgbackup_cli.specs.declared.options.InitOptions.{InitOptions}
 use Rattle.pgbackup_cli.specs.declared.init.InitFault.{InitFault}
 use Rattle.pgbackup_cli.specs.declared.init.InitFault.TheVariants as init
-use Rattle.pgbackup_cli.specs.Areas.{wal_name, sums_name, IsClear, IsFull, AreaCause}
-use Rattle.pgbackup_cli.specs.Outside.{Outside, Works, IsUntaken}
+use Rattle.pgbackup_cli.specs.Areas.{wal_name, sums_name, IsClear, IsFull, Keeps, AreaFails}
+use Rattle.pgbackup_cli.specs.Outside.{Outside, Works, Untakens, IsUntaken}
 use Rattle.pgbackup_cli.specs.Faults.{refused_line, area_text, full_text, take_text, area_status}
+
+abbrev pub InitResult : Type 0
+InitResult = Result Lsn InitFault
 
 -- ---- what a new store is
 
--- its settings: those that are given, or 16 MiB, 131072 blocks and an identifier of the moment (profile)
+-- its settings: those that are given, or 16 MiB, 131072 blocks and an identifier of the moment
 abbrev pub new_settings : InitOptions → ℕ → Settings
 new_settings options moment = record {
   segment = unwrap_or options.segment 16;
@@ -60,7 +62,8 @@ begun_wal s = insert empty settings_name (settings_file s)
 abbrev pub new_wal : Settings → Files
 new_wal s = insert (begun_wal s) (segment_name s) (segment_file s)
 
--- the WAL is a new one: it holds just these files, which read as these settings and an archive of the first entry alone
+-- the WAL is a new one: it holds just these files, which read as these settings and an archive of
+-- the first entry alone
 pub record IsNewWal (s : Settings) (files : Option Files) (end : ℕ) : Type 0 where
   pub archive : IfSome files (λ m. IsArchive s.segment m (first_entry s.segment ∷ []) end)
   pub settings : IfSome files (λ m. IsSettingsOf m s)
@@ -89,38 +92,49 @@ pub record InitDone (s : Settings) (old new : InitAreas) (end : Lsn) : Type 0 wh
   pub end_is : end.0 ≡ (first_entry s.segment).end.0
   pub reads : IsNewWal s new.wal.files end.0
 
--- of a new WAL a part stands in an area that was empty: `settings` as a write that failed leaves it, and no other file; or that
--- whole, and so left segment 1
+-- a write of these bytes from the start of a file on failed, and may have left a part
+abbrev pub IsTornIn : List ℕ → List ℕ → Option Files → Option Files → Type 0
+IsTornIn name bytes old new = Related (IsTorn name 0 (length bytes)) old new
+
+-- a part of a new WAL stands in an area that held no file: a torn `settings` and no other file; or
+-- that file whole, and a torn segment 1
 abbrev pub HoldsPart : Settings → Option Files → Option Files → Type 0
 HoldsPart s old new =
-    Related (IsTorn settings_name 0 (length (settings_file s))) old new
-    ⊎ Related (IsTorn (segment_name s) 0 (length (segment_file s))) (option_map (λ m. begun_wal s) old) new
+    IsTornIn settings_name (settings_file s) old new
+    ⊎ IsTornIn (segment_name s) (segment_file s) (option_map (λ m. begun_wal s) old) new
 
--- what a failure leaves of the WAL's area: all as it was, or, of one that held no file, a part of a new WAL
+-- what a failure leaves of the WAL's area: all as it was; or, of one that held no file, a part of a
+-- new WAL
 abbrev pub IsPartMade : Settings → AreaState → AreaState → Type 0
-IsPartMade s old new = (new.files ≡ old.files) ⊎ (IsClear old × HoldsPart s old.files new.files)
+IsPartMade s old new = Keeps old new ⊎ (IsClear old × HoldsPart s old.files new.files)
 
--- why `init` with these settings comes to its answer, where an area that isn't handed out means this. A WAL or summaries that are
--- there change nothing
-abbrev pub InitAnswer : Settings → (TakeFault → Type 0) → InitAreas → InitAreas → Result Lsn InitFault → Type 0
+-- why `init` with these settings comes to its answer, where an area that isn't handed out means
+-- this. A WAL or summaries that are there change nothing
+abbrev pub InitAnswer : Settings → Untakens → InitAreas → InitAreas → InitResult → Type 0
 InitAnswer s Untaken old new (Ok end) = InitDone s old new end
 InitAnswer s Untaken old new (Err (init.Site fault)) = Untaken fault
-InitAnswer s Untaken old new (Err init.AlreadyInit) = IsFull old.wal × (new.wal.files ≡ old.wal.files)
-InitAnswer s Untaken old new (Err init.SumsNotEmpty) = IsClear old.wal × IsFull old.sums × (new.wal.files ≡ old.wal.files)
+InitAnswer s Untaken old new (Err init.AlreadyInit) = IsFull old.wal × Keeps old.wal new.wal
+InitAnswer s Untaken old new (Err init.SumsNotEmpty) =
+    IsClear old.wal × IsFull old.sums × Keeps old.wal new.wal
 InitAnswer s Untaken old new (Err (init.Wal why)) =
-    AreaCause old.wal.faults new.wal.faults why × IsPartMade s old.wal new.wal
+    AreaFails old.wal new.wal why × IsPartMade s old.wal new.wal
 InitAnswer s Untaken old new (Err (init.Sums why)) =
-    AreaCause old.sums.faults new.sums.faults why × (new.wal.files ≡ old.wal.files)
+    AreaFails old.sums new.sums why × Keeps old.wal new.wal
 
 -- the same of the whole outside
-abbrev pub InitRan : Settings → Outside → Outside → Result Lsn InitFault → Type 0
-InitRan s old new r = InitAnswer s (IsUntaken init_asks old new) (init_areas old) (init_areas new) r
+abbrev pub InitRan : Settings → Outside → Outside → InitResult → Type 0
+InitRan s old new r =
+    InitAnswer s (IsUntaken init_asks old new) (init_areas old) (init_areas new) r
 
--- `init` with these options, at the clock's moment where no system identifier is given
-abbrev pub InitDoes : InitOptions → Outside → Outside → Result Lsn InitFault → Type 0
+-- the moment that a new system identifier is made of is the clock's
+abbrev pub IsMoment : InitOptions → Outside → ℕ → Type 0
+IsMoment options old moment = IfSome old.moment (λ told. options.system ≡ None → moment ≡ told)
+
+-- `init` with these options
+abbrev pub InitDoes : InitOptions → Outside → Outside → InitResult → Type 0
 InitDoes options old new r =
     Works init_writes old new
-    × ((moment : ℕ) × IfSome old.moment (λ told. options.system ≡ None → moment ≡ told) × InitRan (new_settings options moment) old new r)
+    × ((moment : ℕ) × IsMoment options old moment × InitRan (new_settings options moment) old new r)
 
 -- ---- what it prints, and its status
 
@@ -131,11 +145,11 @@ init_fault_text init.SumsNotEmpty = full_text sums_name
 init_fault_text (init.Wal why) = area_text wal_name why
 init_fault_text (init.Sums why) = area_text sums_name why
 
-abbrev pub init_text : Result Lsn InitFault → List ℕ
+abbrev pub init_text : InitResult → List ℕ
 init_text (Ok end) = codes "initialised " ++ (lsn_bytes end.0 ++ (10 ∷ []))
 init_text (Err fault) = refused_line (init_fault_text fault)
 
-abbrev pub init_status : Result Lsn InitFault → Status
+abbrev pub init_status : InitResult → Status
 init_status (Ok end) = status.Done
 init_status (Err (init.Site fault)) = area_status fault.why
 init_status (Err init.AlreadyInit) = status.Refused

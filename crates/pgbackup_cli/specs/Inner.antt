@@ -1,7 +1,9 @@
--- What private functions answer to those that call them. None of it stands in the contract of a public call.
-use Rattle.std.specs.Prelude.{◌≡◌, ℕ, ◌+◌, ◌-◌, ◌<◌, ◌≤◌, ◌⊎◌, Bool, true, false, List, [], ◌∷◌, ◌++◌, length, take, drop, Option, Some, None, Result, Ok, Err, IfSome}
+-- What private functions answer to those that call them. None of it stands in the contract of a
+-- public call.
+use Rattle.std.specs.Prelude.{◌≡◌, ℕ, ◌+◌, ◌-◌, ◌<◌, ◌≤◌, ◌⊎◌, ◌↔◌, IsTrue, Bool, true, false, List, [], ◌∷◌, ◌++◌, length, take, drop, Option, Some, None, Result, Ok, Err, IfSome}
 use Rattle.std.specs.Option.{option_map}
 use Rattle.std.specs.FinMap.{empty, insert}
+use Rattle.std.specs.Global.{Vec}
 use Rattle.lsn_core.specs.Files.{Files}
 use Rattle.lsn_core.specs.Store.{Store, files_of}
 use Rattle.lsn_core.specs.declared.lsn.Lsn.{Lsn}
@@ -15,28 +17,28 @@ use Rattle.vault.specs.declared.stream.Sink.{Ghosts as Sinks}
 use Rattle.vault.specs.declared.stream.Clock.{Ghosts as Clocks}
 use Rattle.vault.specs.Stream.{Tells}
 use Rattle.vault.specs.declared.lending.TakeFault.{TakeFault}
-use Rattle.vault.specs.Area.{after_write, IsTorn, Related}
-use Rattle.vault.specs.Site.{AreaState, Areas, state_in}
+use Rattle.vault.specs.Area.{after_write}
+use Rattle.vault.specs.Site.{AreaState, state_in}
 use Rattle.wal_record.specs.declared.record.Record.{Record}
 use Rattle.wal_record.specs.declared.record.Kind.TheVariants.{Shutdown}
 use Rattle.wal_reader.specs.declared.fault.WalFault.{WalFault}
+use Rattle.wal_writer.specs.declared.state.WalState.{WalState}
 use Rattle.wal_writer.specs.Log.{Log, next_record, appended}
 use Rattle.wal_writer.specs.Answers.{after_flush, IsLeft}
 use Rattle.pgbackup_cli.specs.declared.init.InitFault.{InitFault}
 use Rattle.crew.specs.declared.script.Task.{Task}
 use Rattle.pgbackup_cli.specs.declared.run.RunReport.{RunReport}
 use Rattle.pgbackup_cli.specs.declared.run.RunFault.{RunFault}
-use Rattle.pgbackup_cli.specs.declared.replay.ReplayReport.{ReplayReport}
-use Rattle.pgbackup_cli.specs.declared.replay.ReplayFault.{ReplayFault}
 use Rattle.pgbackup_cli.specs.declared.words.Command.{Command}
 use Rattle.pgbackup_cli.specs.declared.words.Command.TheVariants as command
-use Rattle.pgbackup_cli.specs.Areas.{AreaCause}
+use Rattle.pgbackup_cli.specs.Areas.{AreaFails}
 use Rattle.pgbackup_cli.specs.Options.{IsInRange}
 use Rattle.pgbackup_cli.specs.Words.{Asked, Init, Run, Replay}
 use Rattle.pgbackup_cli.specs.Outside.{Outside}
-use Rattle.pgbackup_cli.specs.Init.{InitAreas, InitAnswer, settings_name, settings_file, segment_name, segment_file}
-use Rattle.pgbackup_cli.specs.Run.{HasScript, IsWrittenAt, RunDone, IsUnread, RunAnswer}
-use Rattle.pgbackup_cli.specs.Replay.{ReplayAnswer}
+use Rattle.pgbackup_cli.specs.Input.{IsInput}
+use Rattle.pgbackup_cli.specs.Init.{InitResult, InitAreas, InitAnswer, IsTornIn, new_wal, settings_name, settings_file, segment_name, segment_file}
+use Rattle.pgbackup_cli.specs.Run.{RunResult, HasScript, IsWrittenAt, IsTornAt, RunDone, IsUnread, RunAnswer}
+use Rattle.pgbackup_cli.specs.Replay.{ReplayResult, ReplayAreas, ReplayAnswer}
 
 -- texts behind each other
 abbrev pub joined : List (List ℕ) → List ℕ
@@ -59,34 +61,36 @@ HasRange (command.Replay name) = Unit {0}
 
 -- ---- the outside, as far as a call sees it
 
-abbrev pub seen : Areas → ℕ → Option (List ℕ) → ℕ → Option ℕ → Outside
-seen areas take_faults left reads moment = record {
-  areas = areas;
-  take_faults = take_faults;
-  left = left;
-  reads = reads;
-  moment = moment;
+abbrev pub of_site : {S V : Type 0} → Sites S V → S → Outside
+of_site sites site = record {
+  areas = sites.areas site;
+  take_faults = sites.take_faults site;
+  left = None;
+  reads = 0;
+  moment = None;
   printed = None;
   prints = 0;
 }
 
-abbrev pub of_site : {S V : Type 0} → Sites S V → S → Outside
-of_site sites site = seen (sites.areas site) (sites.take_faults site) None 0 None
+abbrev pub with_input : Outside → Option (List ℕ) → ℕ → Outside
+with_input o left reads = record o { left = left; reads = reads }
 
 abbrev pub of_site_clock : {S V C : Type 0} → Sites S V → Clocks C → S → C → Outside
-of_site_clock sites clocks site clock = seen (sites.areas site) (sites.take_faults site) None 0 (clocks.moment clock)
+of_site_clock sites clocks site clock =
+    record (of_site sites site) { moment = clocks.moment clock }
 
 abbrev pub of_site_input : {S V I : Type 0} → Sites S V → Sources I → S → I → Outside
 of_site_input sites sources site input =
-    seen (sites.areas site) (sites.take_faults site) (sources.left input) (sources.faults input) None
+    with_input (of_site sites site) (sources.left input) (sources.faults input)
 
 abbrev pub of_all : {S V I C : Type 0} → Sites S V → Sources I → Clocks C → S → I → C → Outside
 of_all sites sources clocks site input clock =
-    seen (sites.areas site) (sites.take_faults site) (sources.left input) (sources.faults input) (clocks.moment clock)
+    record (of_site_input sites sources site input) { moment = clocks.moment clock }
 
 -- a sink was told a text
 abbrev pub TellsIn : {O : Type 0} → Sinks O → List ℕ → O → O → Result (Unit {0}) AreaFault → Type 0
-TellsIn sinks text old new told = Tells text (sinks.bytes old) (sinks.bytes new) (sinks.faults old) (sinks.faults new) told
+TellsIn sinks text old new told =
+    Tells text (sinks.bytes old) (sinks.bytes new) (sinks.faults old) (sinks.faults new) told
 
 -- no area wasn't handed out
 abbrev pub Never : TakeFault → Type 0
@@ -94,8 +98,12 @@ Never fault = ⊥
 
 -- ---- the input
 
+-- bytes, where they are told
+abbrev pub Told : Type 0
+Told = Option (List ℕ)
+
 -- some more of the input was read behind bytes that were read, or its end was met
-pub record IsMore (before bytes : List ℕ) (most : ℕ) (left now : Option (List ℕ)) (ended : Bool) : Type 0 where
+pub record IsMore (before bytes : List ℕ) (most : ℕ) (left now : Told) (ended : Bool) : Type 0 where
   pub grown : IfSome left (λ l. bytes ≡ before ++ take (length bytes - length before) l)
   pub left_is : now ≡ option_map (drop (length bytes - length before)) left
   pub within : length bytes ≤ length before + most
@@ -103,8 +111,19 @@ pub record IsMore (before bytes : List ℕ) (most : ℕ) (left now : Option (Lis
   pub goes_on : ended ≡ false → length before < length bytes
   pub at_end : ended ≡ true → (bytes ≡ before) × IfSome left (λ l. l ≡ [])
 
-abbrev pub ReadsMore : {I : Type 0} → Sources I → I → I → List ℕ → List ℕ → ℕ → Bool → Type 0
-ReadsMore sources old new before bytes most ended = IsMore before bytes most (sources.left old) (sources.left new) ended
+abbrev pub IsReadOn : {I : Type 0} → Sources I → I → I → Vec ℕ → Vec ℕ → ℕ → Bool → Type 0
+IsReadOn sources old new before bytes most ended =
+    IsMore before.items bytes.items most (sources.left old) (sources.left new) ended
+
+-- the input was read, and what was taken of it
+abbrev pub IsInputOf : {I : Type 0} → Sources I → I → I → List ℕ → Type 0
+IsInputOf sources old new bytes = IsInput bytes (sources.left old) (sources.left new)
+
+-- ---- areas
+
+-- whether an area holds no file
+abbrev pub TellsClear : Option Files → Bool → Type 0
+TellsClear files clear = IfSome files (λ m. IsTrue clear ↔ (m ≡ empty))
 
 -- ---- `init`
 
@@ -113,26 +132,31 @@ abbrev pub init_areas_in : {V : Type 0} → Vaults V → V → V → InitAreas
 init_areas_in vaults wal sums = record { wal = state_in vaults wal; sums = state_in vaults sums }
 
 -- why `init` with these settings comes to its answer over these two areas
-abbrev pub AnswersInit : {V : Type 0} → Vaults V → Settings → V → V → V → V → Result Lsn InitFault → Type 0
+abbrev pub AnswersInit : {V : Type 0} → Vaults V → Settings → V → V → V → V → InitResult → Type 0
 AnswersInit vaults s wal sums wal_now sums_now r =
     InitAnswer s Never (init_areas_in vaults wal sums) (init_areas_in vaults wal_now sums_now) r
 
 -- why it is refused, with whatever settings
 abbrev pub RefusesInit : {V : Type 0} → Vaults V → V → V → V → V → InitFault → Type 0
-RefusesInit vaults wal sums wal_now sums_now fault = (s : Settings) → AnswersInit vaults s wal sums wal_now sums_now (Err fault)
+RefusesInit vaults wal sums wal_now sums_now fault =
+    (s : Settings) → AnswersInit vaults s wal sums wal_now sums_now (Err fault)
 
--- the files with `settings` written, and with a file of segment 1
+-- the files with `settings` written, with a file of segment 1, and with both alone
 abbrev pub with_settings : Settings → Option Files → Option Files
 with_settings s files = option_map (after_write settings_name 0 (settings_file s)) files
 
 abbrev pub with_segment : Settings → Option Files → Option Files
 with_segment s files = option_map (λ m. insert m (segment_name s) (segment_file s)) files
 
+abbrev pub with_both : Settings → Option Files → Option Files
+with_both s files = option_map (λ m. new_wal s) files
+
+-- a write of either failed
 abbrev pub IsSettingsTorn : Settings → Option Files → Option Files → Type 0
-IsSettingsTorn s old new = Related (IsTorn settings_name 0 (length (settings_file s))) old new
+IsSettingsTorn s old new = IsTornIn settings_name (settings_file s) old new
 
 abbrev pub IsSegmentTorn : Settings → Option Files → Option Files → Type 0
-IsSegmentTorn s old new = Related (IsTorn (segment_name s) 0 (length (segment_file s))) old new
+IsSegmentTorn s old new = IsTornIn (segment_name s) (segment_file s) old new
 
 -- a WAL with a shutdown checkpoint behind its entries
 abbrev pub checkpoint_in : Log → Lsn → Record
@@ -143,30 +167,60 @@ checkpointed log redo = appended log (checkpoint_in log redo)
 
 -- the files once that is flushed, and where that failed
 abbrev pub with_checkpoint : Log → Lsn → Option Files → Option Files
-with_checkpoint log redo files = option_map (after_flush (checkpointed log redo) (checkpoint_in log redo).end.0) files
+with_checkpoint log redo files =
+    option_map (after_flush (checkpointed log redo) (checkpoint_in log redo).end.0) files
 
 abbrev pub IsCheckpointTorn : Log → Lsn → Option Files → Option Files → Type 0
-IsCheckpointTorn log redo old new = IsLeft (checkpointed log redo) (checkpoint_in log redo).end.0 old new
+IsCheckpointTorn log redo old new =
+    IsLeft (checkpointed log redo) (checkpoint_in log redo).end.0 old new
+
+-- what writing it left of a WAL's area
+abbrev pub IsCheckpointed : {V : Type 0} → Vaults V → Lsn → WalState V → WalState V → Type 0
+IsCheckpointed vaults redo old new =
+    vaults.files new.area ≡ with_checkpoint old.tail redo (vaults.files old.area)
+
+abbrev pub IsCheckpointLeft : {V : Type 0} → Vaults V → Lsn → WalState V → WalState V → Type 0
+IsCheckpointLeft vaults redo old new =
+    IsCheckpointTorn old.tail redo (vaults.files old.area) (vaults.files new.area)
 
 -- ---- `run`
 
--- what the last flush of a run answers, where the run stopped or didn't
-abbrev pub FlushAnswer : Bool → Log → AreaState → AreaState → Result Lsn AreaFault → Type 0
-FlushAnswer stopped log old new (Ok end) =
-    (stopped ≡ false) × (end.0 ≡ log.end) × IsWrittenAt log.mib log.flushed log.pending old.files new.files
-FlushAnswer stopped log old new (Err why) = ((stopped ≡ false) ⊎ (why ≡ NoMemory)) × AreaCause old.faults new.faults why
+-- where the WAL ends, or why it isn't known to be written
+abbrev pub Ending : Type 0
+Ending = Result Lsn AreaFault
 
--- there is no script, whatever the areas are
+-- what the last flush of a run answers, where the run stopped or didn't
+abbrev pub FlushAnswer : Bool → Log → AreaState → AreaState → Ending → Type 0
+FlushAnswer stopped log old new (Ok end) =
+    (stopped ≡ false)
+    × (end.0 ≡ log.end)
+    × IsWrittenAt log.mib log.flushed log.pending old.files new.files
+FlushAnswer stopped log old new (Err why) =
+    ((stopped ≡ false) ⊎ (why ≡ NoMemory)) × AreaFails old new why
+
+abbrev pub EndsRun : {V : Type 0} → Vaults V → Bool → WalState V → WalState V → Ending → Type 0
+EndsRun vaults stopped old new r =
+    FlushAnswer stopped old.tail (state_in vaults old.area) (state_in vaults new.area) r
+
+-- it wrote no more than what waited
+abbrev pub IsFlushLeft : {V : Type 0} → Vaults V → WalState V → WalState V → Type 0
+IsFlushLeft vaults old new =
+    IsTornAt old.tail.mib old.tail.flushed old.tail.pending
+    (vaults.files old.area) (vaults.files new.area)
+
+-- there is no script, whatever the site is
 abbrev pub RefusesScript : {I : Type 0} → Sources I → I → I → RunFault → Type 0
 RefusesScript sources old new fault =
-    (areas : Areas) (takes : ℕ)
-    → RunAnswer (seen areas takes (sources.left old) (sources.faults old) None) (seen areas takes (sources.left new) (sources.faults new) None) (Err fault)
+    (site : Outside)
+    → RunAnswer (with_input site (sources.left old) (sources.faults old))
+    (with_input site (sources.left new) (sources.faults new)) (Err fault)
 
 -- why `run` comes to its answer with this script, whatever the input was
-abbrev pub RunsScript : {S V : Type 0} → Sites S V → List Task → S → S → Result RunReport RunFault → Type 0
+abbrev pub RunsScript : {S V : Type 0} → Sites S V → List Task → S → S → RunResult → Type 0
 RunsScript sites script old new r =
     (left rest : Option (List ℕ)) (reads now : ℕ) → HasScript left rest script
-    → RunAnswer (seen (sites.areas old) (sites.take_faults old) left reads None) (seen (sites.areas new) (sites.take_faults new) rest now None) r
+    → RunAnswer (with_input (of_site sites old) left reads)
+    (with_input (of_site sites new) rest now) r
 
 -- what the run of a script comes to, over the area of the WAL
 abbrev pub ScriptAnswer : AreaState → AreaState → Result RunReport WalFault → Type 0
@@ -178,12 +232,16 @@ AnswersScript vaults wal now r = ScriptAnswer (state_in vaults wal) (state_in va
 
 -- ---- `replay`
 
+abbrev pub replay_areas_in : {V : Type 0} → Vaults V → V → V → ReplayAreas
+replay_areas_in vaults wal out = record { wal = state_in vaults wal; out = state_in vaults out }
+
 -- why `replay` comes to its answer over the area of the WAL and that of the output
-abbrev pub AnswersReplay : {V : Type 0} → Vaults V → V → V → V → V → Result ReplayReport ReplayFault → Type 0
+abbrev pub AnswersReplay : {V : Type 0} → Vaults V → V → V → V → V → ReplayResult → Type 0
 AnswersReplay vaults wal out wal_now out_now r =
-    ReplayAnswer Never (record { wal = state_in vaults wal; out = state_in vaults out })
-    (record { wal = state_in vaults wal_now; out = state_in vaults out_now }) r
+    ReplayAnswer Never (replay_areas_in vaults wal out) (replay_areas_in vaults wal_now out_now) r
 
 -- an area that held no file has those of a store
-abbrev pub IsWrittenOut : ℕ → Store → Option Files → Option Files → Type 0
-IsWrittenOut relseg store old new = IfSome old (λ m. m ≡ empty) → new ≡ option_map (λ m. files_of relseg store) old
+abbrev pub IsWrittenOut : {V : Type 0} → Vaults V → ℕ → Store → V → V → Type 0
+IsWrittenOut vaults relseg store old new =
+    IfSome (vaults.files old) (λ m. m ≡ empty)
+    → vaults.files new ≡ option_map (λ m. files_of relseg store) (vaults.files old)

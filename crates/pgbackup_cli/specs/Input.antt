@@ -6,7 +6,8 @@ use Rattle.std.specs.Option.{option_map}
 abbrev pub script_limit : ℕ
 script_limit = 4194304
 
--- the input was read: all of it, or one byte more than a script may have. What is behind these bytes is left
+-- the input was read: all of it, or one byte more than a script may have. What is behind these
+-- bytes is left
 pub record IsInput (bytes : List ℕ) (left now : Option (List ℕ)) : Type 0 where
   pub bytes_are : IfSome left (λ whole. bytes ≡ take (script_limit + 1) whole)
   pub size : length bytes ≤ script_limit + 1

@@ -8,7 +8,7 @@ use Rattle.pgbackup_cli.specs.Run.{RunDoes, run_status}
 use Rattle.pgbackup_cli.specs.Replay.{ReplayDoes, replay_status}
 use Rattle.pgbackup_cli.specs.declared.options.InitOptions.{InitOptions}
 
--- what is outside decided an answer of this status, and neither a device that failed nor want of memory
+-- what is outside decided an answer of this status, and no failed device and no want of memory
 abbrev pub is_decided : Status → Bool
 is_decided status.Done = true
 is_decided status.Refused = true
@@ -16,8 +16,8 @@ is_decided status.Usage = true
 is_decided status.Device = false
 is_decided status.Memory = false
 
--- two runs of a command from one outside that tells its contents come to one answer, of those that it decides: so each of these
--- comes exactly where its case holds
+-- two runs of a command from one outside that tells its contents come to one answer, of those that
+-- it decides: so each of these comes exactly where its case holds
 abbrev pub HasOne : {T : Type 0} → (Outside → Outside → T → Type 0) → (T → Status) → Type 0
 HasOne {T} does status_in =
     (old new other : Outside) (a b : T) → AllTold old → does old new a → does old other b

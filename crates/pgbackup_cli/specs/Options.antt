@@ -17,12 +17,16 @@ decimal_number text =
 abbrev pub is_segment_mib : ℕ → Bool
 is_segment_mib mib = nat_le 1 mib && (nat_le mib 1024 && (1024 % mib == 0))
 
+-- so many blocks may go into a segment of a fork's files
+abbrev pub is_relseg : ℕ → Bool
+is_relseg blocks = nat_le 1 blocks && nat_le blocks 131072
+
 -- the values of options, in their ranges
 abbrev pub segment_value : List ℕ → Option ℕ
 segment_value text = decimal_number text >>= λ mib. if is_segment_mib mib then Some mib else None
 
 abbrev pub relseg_value : List ℕ → Option ℕ
-relseg_value text = decimal_number text >>= λ blocks. if nat_le 1 blocks && nat_le blocks 131072 then Some blocks else None
+relseg_value text = decimal_number text >>= λ blocks. if is_relseg blocks then Some blocks else None
 
 -- a value of an option that wasn't given yet
 abbrev pub once : {A B : Type 0} → Option A → Option B → Option B
@@ -31,20 +35,24 @@ once (Some given) value = None
 
 -- the options with one more value
 abbrev pub with_segment : InitOptions → Option ℕ → Option InitOptions
-with_segment given value = once given.segment (option_map (λ mib. record given { segment = Some mib }) value)
+with_segment given value =
+    once given.segment (option_map (λ mib. record given { segment = Some mib }) value)
 
 abbrev pub with_relseg : InitOptions → Option ℕ → Option InitOptions
-with_relseg given value = once given.relseg (option_map (λ blocks. record given { relseg = Some blocks }) value)
+with_relseg given value =
+    once given.relseg (option_map (λ blocks. record given { relseg = Some blocks }) value)
 
 abbrev pub with_system : InitOptions → Option ℕ → Option InitOptions
-with_system given value = once given.system (option_map (λ system. record given { system = Some system }) value)
+with_system given value =
+    once given.system (option_map (λ system. record given { system = Some system }) value)
 
 -- the options with one more, by its name
 abbrev pub with_option : InitOptions → List ℕ → List ℕ → Option InitOptions
 with_option given name value =
     if bytes_eq name (codes "--segment-mib") then with_segment given (segment_value value)
     else (if bytes_eq name (codes "--relseg") then with_relseg given (relseg_value value)
-    else (if bytes_eq name (codes "--system-id") then with_system given (decimal_number value) else None))
+    else (if bytes_eq name (codes "--system-id") then with_system given (decimal_number value)
+    else None))
 
 abbrev pub none_given : InitOptions
 none_given = record { segment = None; relseg = None; system = None }
@@ -53,7 +61,8 @@ none_given = record { segment = None; relseg = None; system = None }
 abbrev pub options_in : InitOptions → List (List ℕ) → Option InitOptions
 options_in given [] = Some given
 options_in given (name ∷ []) = None
-options_in given (name ∷ (value ∷ words)) = with_option given name value >>= λ next. options_in next words
+options_in given (name ∷ (value ∷ words)) =
+    with_option given name value >>= λ next. options_in next words
 
 -- what is given is in its range
 pub record IsInRange (options : InitOptions) : Type 0 where

@@ -1,6 +1,8 @@
 -- What the program works on: the areas of a site, an input, a clock and a sink.
-use Rattle.std.specs.Prelude.{◌≡◌, ◌≤◌, ℕ, List, Option, IsSome}
-use Rattle.vault.specs.Site.{AreaState, Areas}
+use Rattle.std.specs.Prelude.{◌≡◌, ◌≤◌, ℕ, List, Option, Result, IsSome}
+use Rattle.lsn_core.specs.declared.fault.AreaFault.{AreaFault}
+use Rattle.vault.specs.Site.{Areas}
+use Rattle.vault.specs.Stream.{Tells}
 use Rattle.vault.specs.Lending.{Names, WritesAmong, TakeCause}
 use Rattle.vault.specs.declared.lending.TakeFault.{TakeFault}
 use Rattle.vault.specs.declared.site.Site.{Ghosts as Sites}
@@ -23,7 +25,8 @@ pub record Outside : Type 0 where
   pub prints : ℕ
 
 -- these objects, as their traits' meanings tell of them
-abbrev pub outside : {S V I O C : Type 0} → Sites S V → Sources I → Sinks O → Clocks C → S → I → O → C → Outside
+abbrev pub outside : {S V I O C : Type 0} → Sites S V → Sources I → Sinks O → Clocks C
+    → S → I → O → C → Outside
 outside sites sources sinks clocks site input out clock = record {
   areas = sites.areas site;
   take_faults = sites.take_faults site;
@@ -42,9 +45,18 @@ Works names old new = WritesAmong names old.areas new.areas × (old.take_faults 
 abbrev pub LeavesSite : Outside → Outside → Type 0
 LeavesSite old new = (new.areas ≡ old.areas) × (new.take_faults ≡ old.take_faults)
 
+-- what it means that an area wasn't handed out
+abbrev pub Untakens : Type 1
+Untakens = TakeFault → Type 0
+
 -- one of these areas wasn't handed out, and none changed
 abbrev pub IsUntaken : Names → Outside → Outside → TakeFault → Type 0
-IsUntaken names old new fault = (new.areas ≡ old.areas) × TakeCause names old.take_faults new.take_faults fault
+IsUntaken names old new fault =
+    (new.areas ≡ old.areas) × TakeCause names old.take_faults new.take_faults fault
+
+-- these lines were printed; or a beginning of them, where the sink failed or memory ran out
+abbrev pub Prints : List ℕ → Outside → Outside → Result (Unit {0}) AreaFault → Type 0
+Prints lines old new told = Tells lines old.printed new.printed old.prints new.prints told
 
 -- the contents of all areas and of the input are told, and the clock's moment
 pub record AllTold (old : Outside) : Type 0 where

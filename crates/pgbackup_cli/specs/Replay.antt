@@ -8,7 +8,7 @@ use Rattle.lsn_core.specs.Store.{files_of}
 use Rattle.lsn_core.specs.declared.segment.Settings.{Settings}
 use Rattle.vault.specs.Site.{AreaState}
 use Rattle.vault.specs.Lending.{Names}
-use Rattle.vault.specs.declared.lending.TakeFault.{TakeFault}
+use Rattle.wal_reader.specs.declared.fault.WalFault.{WalFault}
 use Rattle.history.specs.Pages.{page_count}
 use Rattle.recovery.specs.Reading.{HasSettings, IsReadWal, WalCause}
 use Rattle.recovery.specs.declared.replaying.ReadWal.{ReadWal}
@@ -17,9 +17,14 @@ use Rattle.pgbackup_cli.specs.declared.answer.Status.TheVariants as status
 use Rattle.pgbackup_cli.specs.declared.replay.ReplayReport.{ReplayReport}
 use Rattle.pgbackup_cli.specs.declared.replay.ReplayFault.{ReplayFault}
 use Rattle.pgbackup_cli.specs.declared.replay.ReplayFault.TheVariants as replay
-use Rattle.pgbackup_cli.specs.Areas.{wal_name, output_name, IsClear, IsFull, AreaCause}
-use Rattle.pgbackup_cli.specs.Outside.{Outside, Works, IsUntaken}
+use Rattle.pgbackup_cli.specs.Areas.{wal_name, output_name, IsClear, IsFull, Keeps, AreaFails}
+use Rattle.pgbackup_cli.specs.Outside.{Outside, Works, Untakens, IsUntaken}
 use Rattle.pgbackup_cli.specs.Faults.{refused_line, area_text, full_text, take_text, wal_text, area_status, wal_status}
+
+abbrev pub ReplayResult : Type 0
+ReplayResult = Result ReplayReport ReplayFault
+
+-- ---- what `replay` comes to
 
 -- the areas that it looks at: the WAL's, and the output's
 pub record ReplayAreas : Type 0 where
@@ -46,26 +51,34 @@ pub record ReplayDone (old new : ReplayAreas) (report : ReplayReport) : Type 0 w
 
 -- an area that held a file is as it was
 abbrev pub KeepsFull : AreaState → AreaState → Type 0
-KeepsFull old new = IfSome old.files (λ m. m ≢ empty → new.files ≡ old.files)
+KeepsFull old new = IfSome old.files (λ m. m ≢ empty → Keeps old new)
 
--- why `replay` comes to its answer, where an area that isn't handed out means this. A full output and a WAL that can't be read
--- leave the output as it was; of one that was empty a failed device or want of memory says nothing
-abbrev pub ReplayAnswer : (TakeFault → Type 0) → ReplayAreas → ReplayAreas → Result ReplayReport ReplayFault → Type 0
+-- the WAL can't be read
+abbrev pub IsUnreadable : AreaState → AreaState → WalFault → Type 0
+IsUnreadable old new why = WalCause old.files old.faults new.faults why
+
+-- why `replay` comes to its answer, where an area that isn't handed out means this. A full output
+-- and a WAL that can't be read leave the output as it was; of one that was empty a failed device or
+-- want of memory says nothing
+abbrev pub ReplayAnswer : Untakens → ReplayAreas → ReplayAreas → ReplayResult → Type 0
 ReplayAnswer Untaken old new (Ok report) = ReplayDone old new report
 ReplayAnswer Untaken old new (Err (replay.Site fault)) = Untaken fault
-ReplayAnswer Untaken old new (Err replay.NotEmpty) = IsFull old.out × (new.out.files ≡ old.out.files)
+ReplayAnswer Untaken old new (Err replay.NotEmpty) = IsFull old.out × Keeps old.out new.out
 ReplayAnswer Untaken old new (Err (replay.Wal why)) =
-    IsClear old.out × (new.out.files ≡ old.out.files) × WalCause old.wal.files old.wal.faults new.wal.faults why
+    IsClear old.out × Keeps old.out new.out × IsUnreadable old.wal new.wal why
 ReplayAnswer Untaken old new (Err (replay.Out why)) =
-    AreaCause old.out.faults new.out.faults why × KeepsFull old.out new.out
+    AreaFails old.out new.out why × KeepsFull old.out new.out
 
 -- the same of the whole outside, to this area
-abbrev pub ReplayRan : List ℕ → Outside → Outside → Result ReplayReport ReplayFault → Type 0
-ReplayRan out old new r = ReplayAnswer (IsUntaken (replay_asks out) old new) (replay_areas out old) (replay_areas out new) r
+abbrev pub ReplayRan : List ℕ → Outside → Outside → ReplayResult → Type 0
+ReplayRan out old new r =
+    ReplayAnswer (IsUntaken (replay_asks out) old new)
+    (replay_areas out old) (replay_areas out new) r
 
 -- `replay` to an output of this name
-abbrev pub ReplayDoes : List ℕ → Outside → Outside → Result ReplayReport ReplayFault → Type 0
-ReplayDoes name old new r = Works (output_name name ∷ []) old new × ReplayRan (output_name name) old new r
+abbrev pub ReplayDoes : List ℕ → Outside → Outside → ReplayResult → Type 0
+ReplayDoes name old new r =
+    Works (output_name name ∷ []) old new × ReplayRan (output_name name) old new r
 
 -- ---- what it prints, where this is the output's area, and its status
 
@@ -75,15 +88,19 @@ replay_fault_text out replay.NotEmpty = full_text out
 replay_fault_text out (replay.Wal why) = wal_text why
 replay_fault_text out (replay.Out why) = area_text out why
 
+-- how many forks and pages there are
+abbrev pub counts_text : ReplayReport → List ℕ
+counts_text report = decimal report.forks ++ (32 ∷ decimal report.pages)
+
 abbrev pub replayed_line : ReplayReport → List ℕ
 replayed_line report =
-    codes "replayed " ++ (lsn_bytes report.end.0 ++ (32 ∷ (decimal report.forks ++ (32 ∷ (decimal report.pages ++ (10 ∷ []))))))
+    codes "replayed " ++ (lsn_bytes report.end.0 ++ (32 ∷ (counts_text report ++ (10 ∷ []))))
 
-abbrev pub replay_text : List ℕ → Result ReplayReport ReplayFault → List ℕ
+abbrev pub replay_text : List ℕ → ReplayResult → List ℕ
 replay_text out (Ok report) = replayed_line report
 replay_text out (Err fault) = refused_line (replay_fault_text out fault)
 
-abbrev pub replay_status : Result ReplayReport ReplayFault → Status
+abbrev pub replay_status : ReplayResult → Status
 replay_status (Ok report) = status.Done
 replay_status (Err (replay.Site fault)) = area_status fault.why
 replay_status (Err replay.NotEmpty) = status.Refused

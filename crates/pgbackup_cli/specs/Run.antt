@@ -34,11 +34,14 @@ use Rattle.pgbackup_cli.specs.declared.answer.Status.TheVariants as status
 use Rattle.pgbackup_cli.specs.declared.run.RunReport.{RunReport}
 use Rattle.pgbackup_cli.specs.declared.run.RunFault.{RunFault}
 use Rattle.pgbackup_cli.specs.declared.run.RunFault.TheVariants as run
-use Rattle.pgbackup_cli.specs.Areas.{wal_name, AreaCause}
+use Rattle.pgbackup_cli.specs.Areas.{wal_name, Keeps, AreaCause}
 use Rattle.pgbackup_cli.specs.Outside.{Outside, Works, LeavesSite, IsUntaken}
 use Rattle.pgbackup_cli.specs.Input.{script_limit, IsInput, TakesAtMost}
 use Rattle.pgbackup_cli.specs.Faults.{refused_line, area_text, take_text, wal_text, memory_text, area_status, wal_status}
 use Rattle.pgbackup_cli.specs.Report.{report_text}
+
+abbrev pub RunResult : Type 0
+RunResult = Result RunReport RunFault
 
 -- ---- the script
 
@@ -111,24 +114,31 @@ run_asks = wal_name ∷ []
 
 -- a WAL that can't be run on is as it was
 pub record IsUnread (old new : AreaState) (why : WalFault) : Type 0 where
-  pub same : new.files ≡ old.files
+  pub same : Keeps old new
   pub cause : BeginCause old.files old.faults new.faults why
 
--- why `run` comes to its answer: a script was run; or the input failed, a line is refused, memory ran out, or the WAL wasn't handed
--- out or can't be run on
-abbrev pub RunAnswer : Outside → Outside → Result RunReport RunFault → Type 0
+-- why `run` comes to its answer: a script was run; or the input failed, a line is refused, memory
+-- ran out, or the WAL wasn't handed out or can't be run on
+abbrev pub RunAnswer : Outside → Outside → RunResult → Type 0
 RunAnswer old new (Ok report) =
-    HasScript old.left new.left report.script × RunDone (old.areas wal_name) (new.areas wal_name) report
-RunAnswer old new (Err (run.Input why)) = LeavesSite old new × AreaCause old.reads new.reads why
-RunAnswer old new (Err (run.Script line why)) = LeavesSite old new × HasRefusedLine old.left new.left line why
+    HasScript old.left new.left report.script
+    × RunDone (old.areas wal_name) (new.areas wal_name) report
+RunAnswer old new (Err (run.Input why)) =
+    LeavesSite old new × AreaCause old.reads new.reads why
+RunAnswer old new (Err (run.Script line why)) =
+    LeavesSite old new × HasRefusedLine old.left new.left line why
 RunAnswer old new (Err run.NoMemory) = LeavesSite old new
 RunAnswer old new (Err (run.Site fault)) =
-    (script : List Task) × HasScript old.left new.left script × IsUntaken run_asks old new fault
+    (script : List Task)
+    × HasScript old.left new.left script
+    × IsUntaken run_asks old new fault
 RunAnswer old new (Err (run.Wal why)) =
-    (script : List Task) × HasScript old.left new.left script × IsUnread (old.areas wal_name) (new.areas wal_name) why
+    (script : List Task)
+    × HasScript old.left new.left script
+    × IsUnread (old.areas wal_name) (new.areas wal_name) why
 
 -- `run`. Of the input no more is taken than one byte more than a script may have
-abbrev pub RunDoes : Outside → Outside → Result RunReport RunFault → Type 0
+abbrev pub RunDoes : Outside → Outside → RunResult → Type 0
 RunDoes old new r =
     Works run_asks old new
     × (old.reads ≤ new.reads)
@@ -147,7 +157,7 @@ run_fault_text run.NoMemory = memory_text
 run_fault_text (run.Site fault) = take_text fault
 run_fault_text (run.Wal why) = wal_text why
 
-abbrev pub run_text : Result RunReport RunFault → List ℕ
+abbrev pub run_text : RunResult → List ℕ
 run_text (Ok report) = report_text report
 run_text (Err fault) = refused_line (run_fault_text fault)
 
@@ -156,7 +166,7 @@ abbrev pub ending_status : Result Lsn AreaFault → Status
 ending_status (Ok end) = status.Done
 ending_status (Err why) = area_status why
 
-abbrev pub run_status : Result RunReport RunFault → Status
+abbrev pub run_status : RunResult → Status
 run_status (Ok report) = ending_status report.ending
 run_status (Err (run.Input why)) = area_status why
 run_status (Err (run.Script line why)) = status.Usage

@@ -1,34 +1,28 @@
--- What a run of the program is: one answer, and the outside, the lines and the status as it says. A command joins by its file, and
--- by one row in each of these definitions.
+-- What a run of the program is: one answer, and the outside, the lines and the status as it says. A
+-- command joins by its file, and by one row in each of these definitions.
 use Rattle.std.specs.Prelude.{◌≡◌, ℕ, List, [], Option, Some, None, Result, Ok, Err, codes}
-use Rattle.lsn_core.specs.declared.lsn.Lsn.{Lsn}
 use Rattle.lsn_core.specs.declared.fault.AreaFault.{AreaFault}
-use Rattle.vault.specs.Stream.{Tells}
 use Rattle.pgbackup_cli.specs.declared.answer.Answer.{Answer}
 use Rattle.pgbackup_cli.specs.declared.answer.Answer.TheVariants as answer
 use Rattle.pgbackup_cli.specs.declared.answer.Status.{Status}
 use Rattle.pgbackup_cli.specs.declared.answer.Status.TheVariants as status
-use Rattle.pgbackup_cli.specs.declared.init.InitFault.{InitFault}
-use Rattle.pgbackup_cli.specs.declared.run.RunReport.{RunReport}
-use Rattle.pgbackup_cli.specs.declared.run.RunFault.{RunFault}
-use Rattle.pgbackup_cli.specs.declared.replay.ReplayReport.{ReplayReport}
-use Rattle.pgbackup_cli.specs.declared.replay.ReplayFault.{ReplayFault}
+use Rattle.pgbackup_cli.specs.declared.options.InitOptions.{InitOptions}
 use Rattle.pgbackup_cli.specs.Words.{Asked, Init, Run, Replay, asked}
 use Rattle.pgbackup_cli.specs.Areas.{output_name}
-use Rattle.pgbackup_cli.specs.Outside.{Outside, LeavesSite}
+use Rattle.pgbackup_cli.specs.Outside.{Outside, LeavesSite, Prints}
 use Rattle.pgbackup_cli.specs.Faults.{refused_line, area_status}
-use Rattle.pgbackup_cli.specs.Init.{InitDoes, init_text, init_status}
-use Rattle.pgbackup_cli.specs.Run.{RunDoes, run_text, run_status}
-use Rattle.pgbackup_cli.specs.Replay.{ReplayDoes, replay_text, replay_status}
+use Rattle.pgbackup_cli.specs.Init.{InitResult, InitDoes, init_text, init_status}
+use Rattle.pgbackup_cli.specs.Run.{RunResult, RunDoes, run_text, run_status}
+use Rattle.pgbackup_cli.specs.Replay.{ReplayResult, ReplayDoes, replay_text, replay_status}
 
 -- what was asked was done, and this is the answer
 abbrev pub DoesAsked : Option Asked → Outside → Outside → Answer → Type 0
 DoesAsked None old new came = (came ≡ answer.Usage) × LeavesSite old new
 DoesAsked (Some (Init options)) old new came =
-    (r : Result Lsn InitFault) × (came ≡ answer.Init r) × InitDoes options old new r
-DoesAsked (Some Run) old new came = (r : Result RunReport RunFault) × (came ≡ answer.Run r) × RunDoes old new r
+    (r : InitResult) × (came ≡ answer.Init r) × InitDoes options old new r
+DoesAsked (Some Run) old new came = (r : RunResult) × (came ≡ answer.Run r) × RunDoes old new r
 DoesAsked (Some (Replay name)) old new came =
-    (r : Result ReplayReport ReplayFault) × (came ≡ answer.Replay r) × ReplayDoes name old new r
+    (r : ReplayResult) × (came ≡ answer.Replay r) × ReplayDoes name old new r
 
 -- the area of the output that is asked for
 abbrev pub output_asked : Option Asked → List ℕ
@@ -49,7 +43,8 @@ answer_status (answer.Init r) = init_status r
 answer_status (answer.Run r) = run_status r
 answer_status (answer.Replay r) = replay_status r
 
--- the status of an answer and of its printing: a sink that fails gives Device whatever else happened
+-- the status of an answer and of its printing: a sink that fails gives Device whatever else
+-- happened
 abbrev pub status_of : Answer → Result (Unit {0}) AreaFault → Status
 status_of came (Ok told) = answer_status came
 status_of came (Err why) = area_status why
@@ -68,15 +63,12 @@ ReadsInput words = words ≡ Some Run
 
 -- `init` alone, where no system identifier is given, reads the clock
 abbrev pub ReadsClock : Option Asked → Type 0
-ReadsClock None = ⊥
-ReadsClock (Some (Init options)) = options.system ≡ None
-ReadsClock (Some Run) = ⊥
-ReadsClock (Some (Replay name)) = ⊥
+ReadsClock words = (options : InitOptions) × (words ≡ Some (Init options)) × (options.system ≡ None)
 
 -- a run of the program on these words
 pub record Ran (words : List (List ℕ)) (old new : Outside) (status : Status) : Type 0 where
   pub answer : Answer
   pub telling : Result (Unit {0}) AreaFault
   pub work : DoesAsked (asked words) old new answer
-  pub line : Tells (text_of (asked words) answer) old.printed new.printed old.prints new.prints telling
+  pub line : Prints (text_of (asked words) answer) old new telling
   pub ended : status ≡ status_of answer telling

@@ -65,7 +65,10 @@ fn damaged_text(alloc: Global, place: Lsn, damage: Damage) -> Result<Text, NoMem
     ensures { IfOk result (λ text. text ≡ wal_text (wal.Damaged place damage)) }
 {
     let place = lsn_text(alloc, place)?;
-    joined(alloc, &[b"11 WalDamaged ", place.as_bytes(), damage_text(damage)])
+    joined(
+        alloc,
+        &[b"11 WalDamaged ", place.as_bytes(), damage_text(damage)],
+    )
 }
 
 /// The WAL can't be read.

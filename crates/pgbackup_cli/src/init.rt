@@ -158,10 +158,8 @@ pub fn init<S: Site, C: Clock>(
 ) -> Result<Lsn, InitFault>
     requires range { IsInRange options }
     requires home { AllHome (S.areas site.old) }
-    ensures does {
-        InitDoes options (of_site_clock S.Site C.Clock site.old clock.old)
-          (of_site_clock S.Site C.Clock site.new clock.new) result
-    }
+    ensures does { InitDoes options (of_site_clock S.Site C.Clock site.old clock.old)
+        (of_site_clock S.Site C.Clock site.new clock.new) result }
     ensures home { AllHome (S.areas site.new) }
     ensures clock { (options.system ≡ None) ⊎ (clock.new ≡ clock.old) }
 {

@@ -1,13 +1,12 @@
 //! The files of a new store: its settings, and a WAL of one entry.
 
 ghost use Rattle.std.specs.Prelude.{◌≡◌, [], IfOk, IfSome, OnOk, OnErr};
-ghost use Rattle.std.specs.Option.{option_map};
 ghost use Rattle.std.specs.FinMap.{empty};
 ghost use Rattle.lsn_core.specs.Causes.{HasCause};
 ghost use Rattle.vault.specs.Area.{bytes_of};
 ghost use Rattle.wal_record.specs.Places.{origin, first_start};
-ghost use Rattle.pgbackup_cli.specs.Init.{segment_name, first_entry, new_wal, HoldsPart};
-ghost use Rattle.pgbackup_cli.specs.Inner.{with_settings, with_segment, with_checkpoint, checkpoint_in, IsSettingsTorn, IsSegmentTorn, IsCheckpointTorn};
+ghost use Rattle.pgbackup_cli.specs.Init.{segment_name, first_entry, HoldsPart};
+ghost use Rattle.pgbackup_cli.specs.Inner.{with_settings, with_segment, with_both, checkpoint_in, IsSettingsTorn, IsSegmentTorn, IsCheckpointed, IsCheckpointLeft};
 
 use lsn_core::{AreaFault, Lsn, SegSize, Settings, WalTip};
 use std::alloc::Global;
@@ -59,8 +58,8 @@ fn write_checkpoint<V: Vault>(
     redo: Lsn,
 ) -> Result<Lsn, AreaFault>
     ensures end { IfOk result (λ end. end.0 ≡ (checkpoint_in wal.old.tail redo).end.0) }
-    ensures written { OnOk result (V.files wal.new.area ≡ with_checkpoint wal.old.tail redo (V.files wal.old.area)) }
-    ensures left { OnErr result (IsCheckpointTorn wal.old.tail redo (V.files wal.old.area) (V.files wal.new.area)) }
+    ensures written { OnOk result (IsCheckpointed V.Vault redo wal.old wal.new) }
+    ensures left { OnErr result (IsCheckpointLeft V.Vault redo wal.old wal.new) }
     ensures cause { HasCause (V.faults wal.old.area) (V.faults wal.new.area) result }
 {
     let Ok(_) = wal.append(alloc, Kind::Shutdown(redo)) else {
@@ -88,10 +87,14 @@ fn start_wal<V: Vault>(alloc: Global, area: V, settings: Settings) -> (V, Result
 
 /// Writes the settings and the first entry of a WAL into an area that holds no file. The answer is
 /// where that entry ends.
-pub fn write_wal<V: Vault>(alloc: Global, area: V, settings: Settings) -> (V, Result<Lsn, AreaFault>)
+pub fn write_wal<V: Vault>(
+    alloc: Global,
+    area: V,
+    settings: Settings,
+) -> (V, Result<Lsn, AreaFault>)
     requires { IfSome (V.files area) (λ m. m ≡ empty) }
     ensures end { IfOk result.1 (λ end. end.0 ≡ (first_entry settings.segment).end.0) }
-    ensures written { OnOk result.1 (V.files result.0 ≡ option_map (λ m. new_wal settings) (V.files area)) }
+    ensures written { OnOk result.1 (V.files result.0 ≡ with_both settings (V.files area)) }
     ensures left { OnErr result.1 (HoldsPart settings (V.files area) (V.files result.0)) }
     ensures cause { HasCause (V.faults area) (V.faults result.0) result.1 }
 {

@@ -16,7 +16,9 @@ ghost use Rattle.pgbackup_cli.specs.Inner.{of_site, AnswersReplay, IsWrittenOut}
 
 use crate::answer::Status;
 use crate::clear::is_clear;
-use crate::faults::{area_status, area_text, full_text, joined, refused_line, take_text, wal_status, wal_text};
+use crate::faults::{
+    area_status, area_text, full_text, joined, refused_line, take_text, wal_status, wal_text,
+};
 use crate::names::{names_of, output_name};
 use history::PageMap;
 use lsn_core::{AreaFault, Lsn, NoMemory, Text, lsn_text};
@@ -98,7 +100,7 @@ fn write_out<V: Vault>(
     relseg: u32,
 ) -> Result<(), AreaFault>
     requires { 0 < relseg }
-    ensures written { OnOk result (IsWrittenOut relseg store.now (V.files out.old) (V.files out.new)) }
+    ensures written { OnOk result (IsWrittenOut V.Vault relseg store.now out.old out.new) }
     ensures cause { HasCause (V.faults out.old) (V.faults out.new) result }
 {
     write_store(alloc, out, store, relseg)?;
@@ -145,7 +147,11 @@ fn replay_in<S: Site>(alloc: Global, out: &[u8], site: &mut S) -> Result<ReplayR
 }
 
 /// `replay`: replays the WAL of a site to an output of this name.
-pub fn replay<S: Site>(alloc: Global, name: &[u8], site: &mut S) -> Result<ReplayReport, ReplayFault>
+pub fn replay<S: Site>(
+    alloc: Global,
+    name: &[u8],
+    site: &mut S,
+) -> Result<ReplayReport, ReplayFault>
     requires { AllHome (S.areas site.old) }
     ensures does { ReplayDoes name.now (of_site S.Site site.old) (of_site S.Site site.new) result }
     ensures home { AllHome (S.areas site.new) }
@@ -171,7 +177,10 @@ fn replayed_line(alloc: Global, report: &ReplayReport) -> Result<Text, NoMemory>
     let end = lsn_text(alloc, report.end)?;
     let (forks, pages) = (report.forks, report.pages);
     let counts = format!(in alloc; "{forks} {pages}")?;
-    joined(alloc, &[b"replayed ", end.as_bytes(), b" ", counts.as_bytes(), b"\n"])
+    joined(
+        alloc,
+        &[b"replayed ", end.as_bytes(), b" ", counts.as_bytes(), b"\n"],
+    )
 }
 
 /// The line that `replay` prints, where this is the output's area.

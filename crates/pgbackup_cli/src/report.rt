@@ -1,13 +1,12 @@
 //! The lines that the run of a script prints.
 
-ghost use Rattle.std.specs.Prelude.{◌≡◌, ◌++◌, ◌∷◌, codes, IfOk, OnOk};
-ghost use Rattle.lsn_core.specs.Names.{lsn_bytes};
-ghost use Rattle.pgbackup_cli.specs.Report.{insert_fault_text, answer_text, answer_line, answer_lines, opened_line, last_line, report_text};
+ghost use Rattle.std.specs.Prelude.{◌≡◌, ◌++◌, codes, IfOk, OnOk};
+ghost use Rattle.pgbackup_cli.specs.Report.{insert_fault_text, accepted_text, answer_text, answer_line, told_lines, opened_line, last_line, report_text};
 
 use crate::faults::{area_text, joined, refused_line};
 use crate::run::RunReport;
 use crew::{Answer, Line, Task};
-use lsn_core::{AreaFault, Lsn, NoMemory, Text, lsn_text};
+use lsn_core::{AreaFault, Lsn, NoMemory, Place, Text, lsn_text};
 use shared_store::InsertFault;
 use std::alloc::Global;
 
@@ -25,11 +24,11 @@ fn insert_fault_text(alloc: Global, fault: InsertFault) -> Result<Text, NoMemory
     Ok(Text::from_vec(text.into_bytes()))
 }
 
-fn accepted_text(alloc: Global, start: Lsn, end: Lsn) -> Result<Text, NoMemory>
-    ensures { IfOk result (λ text. text ≡ codes "ok " ++ (lsn_bytes start.0 ++ (32 ∷ lsn_bytes end.0))) }
+fn accepted_text(alloc: Global, place: Place) -> Result<Text, NoMemory>
+    ensures { IfOk result (λ text. text ≡ accepted_text place) }
 {
-    let start = lsn_text(alloc, start)?;
-    let end = lsn_text(alloc, end)?;
+    let start = lsn_text(alloc, place.start)?;
+    let end = lsn_text(alloc, place.end)?;
     joined(alloc, &[b"ok ", start.as_bytes(), b" ", end.as_bytes()])
 }
 
@@ -45,25 +44,30 @@ fn answer_text(alloc: Global, answer: &Answer) -> Result<Text, NoMemory>
     ensures { IfOk result (λ text. text ≡ answer_text answer.now) }
 {
     match answer {
-        Answer::Accepted(place) => accepted_text(alloc, place.start, place.end),
+        Answer::Accepted(place) => accepted_text(alloc, *place),
         Answer::Refused(fault) => refused_text(alloc, *fault),
         Answer::NotRun => joined(alloc, &[b"not run"]),
     }
 }
 
 /// The line of an answer.
-fn answer_line(
-    alloc: Global,
-    name: &[u8],
-    line: &Line,
-    answer: &Answer,
-) -> Result<Text, NoMemory>
+fn answer_line(alloc: Global, name: &[u8], line: &Line, answer: &Answer) -> Result<Text, NoMemory>
     ensures { IfOk result (λ text. text ≡ answer_line name.now line.now answer.now) }
 {
     let number = line.number;
     let number = format!(in alloc; "{number}")?;
     let answer = answer_text(alloc, answer)?;
-    joined(alloc, &[name, b" ", number.as_bytes(), b" ", answer.as_bytes(), b"\n"])
+    joined(
+        alloc,
+        &[
+            name,
+            b" ",
+            number.as_bytes(),
+            b" ",
+            answer.as_bytes(),
+            b"\n",
+        ],
+    )
 }
 
 /// Prints the answers to a worker's lines behind a text.
@@ -73,7 +77,7 @@ fn push_answers(
     task: &Task,
     answers: &[Answer],
 ) -> Result<(), NoMemory>
-    ensures { OnOk result (text.new.items ≡ text.old.items ++ answer_lines task.now.name task.now.lines answers.now) }
+    ensures { OnOk result (text.new.items ≡ text.old.items ++ told_lines task.now answers.now) }
 {
     for (line, answer) in task.lines.as_slice().iter().zip(answers) {
         let line = answer_line(alloc, task.name.as_bytes(), line, answer)?;

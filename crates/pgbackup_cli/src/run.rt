@@ -8,10 +8,12 @@ ghost use Rattle.pgbackup_cli.specs.declared.run.RunFault.TheVariants as run;
 ghost use Rattle.pgbackup_cli.specs.Outside.{Works};
 ghost use Rattle.pgbackup_cli.specs.Input.{script_limit, TakesAtMost};
 ghost use Rattle.pgbackup_cli.specs.Run.{HasScript, lines_in, IsTornAt, run_asks, RunDoes, script_text, run_fault_text, run_text, ending_status, run_status};
-ghost use Rattle.pgbackup_cli.specs.Inner.{of_site, of_site_input, FlushAnswer, RefusesScript, RunsScript, AnswersScript};
+ghost use Rattle.pgbackup_cli.specs.Inner.{of_site, of_site_input, EndsRun, IsFlushLeft, RefusesScript, RunsScript, AnswersScript};
 
 use crate::answer::Status;
-use crate::faults::{area_status, area_text, joined, refused_line, take_text, wal_status, wal_text};
+use crate::faults::{
+    area_status, area_text, joined, refused_line, take_text, wal_status, wal_text,
+};
 use crate::input::read_input;
 use crate::report::report_text;
 use crew::{Answer, Answers, Line, Script, ScriptFault, Why, read_script, run_lines, why_text};
@@ -93,8 +95,8 @@ fn is_stopped(answers: &[Answer]) -> bool
 /// Flushes all that a run appended. The answer is where the WAL ends; want of memory where the run
 /// stopped for it, whatever the flush came to.
 fn end_run<V: Vault>(alloc: Global, store: &mut Store<V>, stopped: bool) -> Result<Lsn, AreaFault>
-    ensures answer { FlushAnswer stopped store.old.wal.tail (state_in V.Vault store.old.wal.area) (state_in V.Vault store.new.wal.area) result }
-    ensures left { IsTornAt store.old.wal.tail.mib store.old.wal.tail.flushed store.old.wal.tail.pending (V.files store.old.wal.area) (V.files store.new.wal.area) }
+    ensures answer { EndsRun V.Vault stopped store.old.wal store.new.wal result }
+    ensures left { IsFlushLeft V.Vault store.old.wal store.new.wal }
     ensures later { V.faults store.old.wal.area ≤ V.faults store.new.wal.area }
 {
     let end = store.end();
@@ -173,10 +175,8 @@ pub fn run<S: Site, I: Source>(
     input: &mut I,
 ) -> Result<RunReport, RunFault>
     requires { AllHome (S.areas site.old) }
-    ensures does {
-        RunDoes (of_site_input S.Site I.Source site.old input.old)
-          (of_site_input S.Site I.Source site.new input.new) result
-    }
+    ensures does { RunDoes (of_site_input S.Site I.Source site.old input.old)
+        (of_site_input S.Site I.Source site.new input.new) result }
     ensures home { AllHome (S.areas site.new) }
 {
     let script = script_of(alloc, input)?;
@@ -187,7 +187,10 @@ fn script_text(alloc: Global, line: u32, why: Why) -> Result<Text, NoMemory>
     ensures { IfOk result (λ text. text ≡ script_text line why) }
 {
     let number = format!(in alloc; "{line}")?;
-    joined(alloc, &[b"2 ScriptLine ", number.as_bytes(), b" ", why_text(why)])
+    joined(
+        alloc,
+        &[b"2 ScriptLine ", number.as_bytes(), b" ", why_text(why)],
+    )
 }
 
 fn run_fault_text(alloc: Global, fault: &RunFault) -> Result<Text, NoMemory>

@@ -25,10 +25,10 @@ fn work<S: Site, I: Source, C: Clock>(
     clock: &mut C,
 ) -> Answer
     requires { AllHome (S.areas site.old) }
-    ensures does {
-        DoesAsked (asked words.now) (of_all S.Site I.Source C.Clock site.old input.old clock.old)
-          (of_all S.Site I.Source C.Clock site.new input.new clock.new) result
-    }
+    ensures does { DoesAsked (asked words.now)
+        (of_all S.Site I.Source C.Clock site.old input.old clock.old)
+        (of_all S.Site I.Source C.Clock site.new input.new clock.new)
+        result }
     ensures home { AllHome (S.areas site.new) }
     ensures input { ReadsInput (asked words.now) ⊎ (input.new ≡ input.old) }
     ensures clock { ReadsClock (asked words.now) ⊎ (clock.new ≡ clock.old) }
@@ -55,8 +55,8 @@ fn tell<O: Sink>(
 }
 
 /// All that the program does: it takes the words of the command line, does what they ask over the
-/// areas of the site, prints its lines and answers the exit status. Every area is given back. The
-/// input is read by `run` alone, and the clock by `init` alone, where no system identifier is given.
+/// areas of the site, prints its lines and answers the exit status. Every area is given back. Only
+/// `run` reads the input, and only `init` the clock, where no system identifier is given.
 pub fn pgbackup<S: Site, I: Source, O: Sink, C: Clock>(
     alloc: Global,
     words: &[Text],
@@ -66,10 +66,10 @@ pub fn pgbackup<S: Site, I: Source, O: Sink, C: Clock>(
     clock: &mut C,
 ) -> Status
     requires { AllHome (S.areas site.old) }
-    ensures ran {
-        Ran words.now (outside S.Site I.Source O.Sink C.Clock site.old input.old out.old clock.old)
-          (outside S.Site I.Source O.Sink C.Clock site.new input.new out.new clock.new) result
-    }
+    ensures ran { Ran words.now
+        (outside S.Site I.Source O.Sink C.Clock site.old input.old out.old clock.old)
+        (outside S.Site I.Source O.Sink C.Clock site.new input.new out.new clock.new)
+        result }
     ensures home { AllHome (S.areas site.new) }
     ensures input { ReadsInput (asked words.now) ⊎ (input.new ≡ input.old) }
     ensures clock { ReadsClock (asked words.now) ⊎ (clock.new ≡ clock.old) }
