@@ -1,7 +1,9 @@
 pub mod NoFile
 pub mod FlushLeft
-pub mod FirstBack
-pub mod OneAnswer
+pub mod Lent
+pub mod Told
+pub mod Sinks
+pub mod OneReplay
 pub mod OneInit
 pub mod OneRun
 pub mod NewWal

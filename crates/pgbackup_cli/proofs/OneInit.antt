@@ -1,30 +1,46 @@
--- The answers of a new store shut each other out.
-use Rattle.std.proofs.Common.{ℕ, Result, Ok, Err, refl, sym, ap, ◌∙◌}
+-- A new store has one answer.
+use Rattle.std.proofs.Common.{◌≡◌, ℕ, Result, Ok, Err, IsSome, refl, sym, ap, ◌∙◌, true}
 use Rattle.lsn_core.specs.declared.lsn.Lsn.{Lsn}
+use Rattle.lsn_core.specs.declared.segment.Settings.{Settings}
+use Rattle.vault.specs.declared.lending.TakeFault.{TakeFault}
+use Rattle.pgbackup_cli.specs.declared.options.InitOptions.{InitOptions}
 use Rattle.pgbackup_cli.specs.declared.init.InitFault.{InitFault}
 use Rattle.pgbackup_cli.specs.declared.init.InitFault.TheVariants as init
-use Rattle.pgbackup_cli.specs.Laws.{HasOneInit}
-use Rattle.pgbackup_cli.proofs.OneAnswer.{clear_or_not}
+use Rattle.pgbackup_cli.specs.Areas.{wal_name, sums_name}
+use Rattle.pgbackup_cli.specs.Init.{first_entry, InitAreas, InitAnswer, init_status}
+use Rattle.pgbackup_cli.specs.Laws.{is_decided, HasOneInit}
+use Rattle.pgbackup_cli.proofs.Told.{clear_or_not, undecided}
 
 made_to : ℕ → Result Lsn InitFault
 made_to end = Ok (record { 0 = end })
 
-pub one_init : HasOneInit
+-- two answers, with settings of one segment size, where both areas are told
+init_once : (s t : Settings) (Untaken Also : TakeFault → Type 0) (old new other : InitAreas) (a b : Result Lsn InitFault) → s.segment ≡ t.segment → IsSome old.wal.files → IsSome old.sums.files → InitAnswer s Untaken old new a → InitAnswer t Also old other b
+    → is_decided (init_status a) ≡ true → is_decided (init_status b) ≡ true → a ≡ b
 unfolding made_to
-one_init s w x y o p q files outs (Ok a) (Ok b) told out_told first second own other = ap made_to (first.end_is ∙ sym second.end_is)
-one_init s w x y o p q files outs (Ok a) (Err init.AlreadyInit) told out_told first second own other = absurd (clear_or_not w files told first.wal_clear second.0)
-one_init s w x y o p q files outs (Ok a) (Err init.SumsNotEmpty) told out_told first second own other = absurd (clear_or_not o outs out_told first.sums_clear second.1.0)
-one_init s w x y o p q files outs (Ok a) (Err (init.Wal f)) told out_told first second own other = absurd other
-one_init s w x y o p q files outs (Ok a) (Err (init.Sums f)) told out_told first second own other = absurd other
-one_init s w x y o p q files outs (Err init.AlreadyInit) (Ok b) told out_told first second own other = absurd (clear_or_not w files told second.wal_clear first.0)
-one_init s w x y o p q files outs (Err init.AlreadyInit) (Err init.AlreadyInit) told out_told first second own other = refl
-one_init s w x y o p q files outs (Err init.AlreadyInit) (Err init.SumsNotEmpty) told out_told first second own other = absurd (clear_or_not w files told second.0 first.0)
-one_init s w x y o p q files outs (Err init.AlreadyInit) (Err (init.Wal f)) told out_told first second own other = absurd other
-one_init s w x y o p q files outs (Err init.AlreadyInit) (Err (init.Sums f)) told out_told first second own other = absurd other
-one_init s w x y o p q files outs (Err init.SumsNotEmpty) (Ok b) told out_told first second own other = absurd (clear_or_not o outs out_told second.sums_clear first.1.0)
-one_init s w x y o p q files outs (Err init.SumsNotEmpty) (Err init.AlreadyInit) told out_told first second own other = absurd (clear_or_not w files told first.0 second.0)
-one_init s w x y o p q files outs (Err init.SumsNotEmpty) (Err init.SumsNotEmpty) told out_told first second own other = refl
-one_init s w x y o p q files outs (Err init.SumsNotEmpty) (Err (init.Wal f)) told out_told first second own other = absurd other
-one_init s w x y o p q files outs (Err init.SumsNotEmpty) (Err (init.Sums f)) told out_told first second own other = absurd other
-one_init s w x y o p q files outs (Err (init.Wal f)) b told out_told first second own other = absurd own
-one_init s w x y o p q files outs (Err (init.Sums f)) b told out_told first second own other = absurd own
+init_once s t Untaken Also old new other (Err (init.Site f)) b size wal sums first second own also = absurd (undecided f.why own)
+init_once s t Untaken Also old new other (Err (init.Wal f)) b size wal sums first second own also = absurd (undecided f own)
+init_once s t Untaken Also old new other (Err (init.Sums f)) b size wal sums first second own also = absurd (undecided f own)
+init_once s t Untaken Also old new other (Ok a) (Err (init.Site g)) size wal sums first second own also = absurd (undecided g.why also)
+init_once s t Untaken Also old new other (Ok a) (Err (init.Wal g)) size wal sums first second own also = absurd (undecided g also)
+init_once s t Untaken Also old new other (Ok a) (Err (init.Sums g)) size wal sums first second own also = absurd (undecided g also)
+init_once s t Untaken Also old new other (Ok a) (Ok b) size wal sums first second own also =
+    ap made_to (first.end_is ∙ ap (λ (n : ℕ). (first_entry n).end.0) size ∙ sym second.end_is)
+init_once s t Untaken Also old new other (Ok a) (Err init.AlreadyInit) size wal sums first second own also = absurd (clear_or_not old.wal wal first.wal_clear second.0)
+init_once s t Untaken Also old new other (Ok a) (Err init.SumsNotEmpty) size wal sums first second own also = absurd (clear_or_not old.sums sums first.sums_clear second.1)
+init_once s t Untaken Also old new other (Err init.AlreadyInit) (Err (init.Site g)) size wal sums first second own also = absurd (undecided g.why also)
+init_once s t Untaken Also old new other (Err init.AlreadyInit) (Err (init.Wal g)) size wal sums first second own also = absurd (undecided g also)
+init_once s t Untaken Also old new other (Err init.AlreadyInit) (Err (init.Sums g)) size wal sums first second own also = absurd (undecided g also)
+init_once s t Untaken Also old new other (Err init.AlreadyInit) (Ok b) size wal sums first second own also = absurd (clear_or_not old.wal wal second.wal_clear first.0)
+init_once s t Untaken Also old new other (Err init.AlreadyInit) (Err init.AlreadyInit) size wal sums first second own also = refl
+init_once s t Untaken Also old new other (Err init.AlreadyInit) (Err init.SumsNotEmpty) size wal sums first second own also = absurd (clear_or_not old.wal wal second.0 first.0)
+init_once s t Untaken Also old new other (Err init.SumsNotEmpty) (Err (init.Site g)) size wal sums first second own also = absurd (undecided g.why also)
+init_once s t Untaken Also old new other (Err init.SumsNotEmpty) (Err (init.Wal g)) size wal sums first second own also = absurd (undecided g also)
+init_once s t Untaken Also old new other (Err init.SumsNotEmpty) (Err (init.Sums g)) size wal sums first second own also = absurd (undecided g also)
+init_once s t Untaken Also old new other (Err init.SumsNotEmpty) (Ok b) size wal sums first second own also = absurd (clear_or_not old.sums sums second.sums_clear first.1)
+init_once s t Untaken Also old new other (Err init.SumsNotEmpty) (Err init.AlreadyInit) size wal sums first second own also = absurd (clear_or_not old.wal wal first.0 second.0)
+init_once s t Untaken Also old new other (Err init.SumsNotEmpty) (Err init.SumsNotEmpty) size wal sums first second own also = refl
+
+pub one_init : HasOneInit
+one_init options old new other a b told first second own also =
+    init_once _ _ _ _ _ _ _ a b refl (told.files wal_name) (told.files sums_name) first.1.2 second.1.2 own also

@@ -1,8 +1,10 @@
 -- A script that is run on what an area holds has one outcome.
-use Rattle.std.proofs.Common.{◌≡◌, ℕ, ◌+◌, ◌<◌, ◌≤◌, ◌⊎◌, inl, inr, true, false, List, [], ◌∷◌, ◌++◌, map, length, Option, Some, None, Result, Ok, Err, IsSome, refl, sym, ap, subst, ◌∙◌, arith}
+use Rattle.std.proofs.Common.{◌-◌, IfOk, take, option_map, ◌≡◌, ℕ, ◌+◌, ◌<◌, ◌≤◌, ◌⊎◌, inl, inr, true, false, List, [], ◌∷◌, ◌++◌, map, length, Option, Some, None, Result, Ok, Err, IsSome, refl, sym, ap, subst, ◌∙◌, arith}
 use Rattle.std.specs.Prelude.{codes}
 use Rattle.std.specs.FinMap.{get, empty}
 use Rattle.lsn_core.specs.Files.{Files}
+use Rattle.lsn_core.specs.Names.{segment_name_bytes}
+use Rattle.vault.specs.Area.{after_write}
 use Rattle.lsn_core.specs.Store.{Store, Pages}
 use Rattle.lsn_core.specs.declared.lsn.Lsn.{Lsn}
 use Rattle.lsn_core.specs.declared.lsn.Place.{Place}
@@ -35,13 +37,21 @@ use Rattle.crew.specs.declared.script.Task.{Task}
 use Rattle.crew.specs.declared.script.Line.{Line}
 use Rattle.crew.specs.declared.run.Answer.{Answer}
 use Rattle.crew.specs.declared.run.Answer.TheVariants.{Accepted, Refused, NotRun}
+use Rattle.crew.specs.declared.why.Why.{Why}
+use Rattle.crew.specs.declared.why.ScriptFault.{ScriptFault}
+use Rattle.crew.specs.declared.why.ScriptFault.TheVariants as script_fault
+use Rattle.crew.specs.Script.{IsScript, IsRefusedAt}
+use Rattle.crew.proofs.OneAnswer.{one_answer}
 use Rattle.crew.specs.Run.{op_of, next_of, Progress, progress, IsStateOf, IsAccepted, IsRefused, stops, StepAnswer, Answered}
-use Rattle.pgbackup_cli.specs.declared.run.Report.{Report}
+use Rattle.pgbackup_cli.specs.declared.run.RunReport.{RunReport}
 use Rattle.pgbackup_cli.specs.declared.run.RunFault.{RunFault}
 use Rattle.pgbackup_cli.specs.declared.run.RunFault.TheVariants as run
-use Rattle.pgbackup_cli.specs.Run.{lines_in, IsEnding, RunDone}
-use Rattle.pgbackup_cli.specs.Laws.{IsEnded, HasOneRun}
-use Rattle.pgbackup_cli.proofs.OneAnswer.{at_told}
+use Rattle.pgbackup_cli.specs.Run.{lines_in, IsWrittenAt, IsEnding, own_bytes, RunDone, HasScript, HasRefusedLine, RunAnswer, RunDoes, ending_status, run_status}
+use Rattle.pgbackup_cli.specs.Input.{IsInput}
+use Rattle.pgbackup_cli.specs.Areas.{wal_name}
+use Rattle.pgbackup_cli.specs.Outside.{Outside, AllTold}
+use Rattle.pgbackup_cli.specs.Laws.{is_decided, HasOneRun}
+use Rattle.pgbackup_cli.proofs.Told.{some_told, at_told, undecided, of_files}
 
 -- ---- refusals on one store shut each other out
 
@@ -100,13 +110,13 @@ full_or_tidy store (op.Create fork) first second = absurd first
 full_or_tidy store (op.Change at page) first second = absurd (omega (arith, first.1.1.1, second.number))
 
 -- a refusal other than for want of memory: of a command whose entry would end there, on a store of so many entries
-abbrev pub Why : Store → ℕ → ℕ → ℕ → Op → InsertFault → Type 0
-Why store count limit end command (NoFork n) = (n ≡ count) × LacksFork store command
-Why store count limit end command (ForkExists n) = (n ≡ count) × HasFork store command
-Why store count limit end command (PastEnd n) = (n ≡ count) × IsPastEnd store command
-Why store count limit end command (ForkFull n) = (n ≡ count) × IsForkFull store command
-Why store count limit end command (WalFull n) = (n ≡ count) × (IsTidy store command × (limit < end))
-Why store count limit end command NoMemory = ⊥
+abbrev pub WhyRefused : Store → ℕ → ℕ → ℕ → Op → InsertFault → Type 0
+WhyRefused store count limit end command (NoFork n) = (n ≡ count) × LacksFork store command
+WhyRefused store count limit end command (ForkExists n) = (n ≡ count) × HasFork store command
+WhyRefused store count limit end command (PastEnd n) = (n ≡ count) × IsPastEnd store command
+WhyRefused store count limit end command (ForkFull n) = (n ≡ count) × IsForkFull store command
+WhyRefused store count limit end command (WalFull n) = (n ≡ count) × (IsTidy store command × (limit < end))
+WhyRefused store count limit end command NoMemory = ⊥
 
 -- the refusals, by their numbers
 no_fork : ℕ → InsertFault
@@ -124,7 +134,7 @@ fork_full n = ForkFull n
 wal_full : ℕ → InsertFault
 wal_full n = WalFull n
 
-one_why : (store : Store) (count limit end : ℕ) (command : Op) (f g : InsertFault) → Why store count limit end command f → Why store count limit end command g → f ≡ g
+one_why : (store : Store) (count limit end : ℕ) (command : Op) (f g : InsertFault) → WhyRefused store count limit end command f → WhyRefused store count limit end command g → f ≡ g
 unfolding no_fork fork_exists past_end fork_full wal_full
 one_why store count limit end command (NoFork n) (NoFork m) first second = ap no_fork (first.0 ∙ sym second.0)
 one_why store count limit end command (NoFork n) (ForkExists m) first second = absurd (lacks_or_has store command first.1 second.1)
@@ -172,7 +182,7 @@ same_pages mib h s t first second = some_is (apply_all empty h) s.pages t.pages 
 
 -- why a command is refused, by the history alone
 why_refused : (mib : ℕ) (h : List Entry) (store : Store) (s : State) (command : Op) (f : InsertFault) → IsStateOf mib h s → s.pages ≡ store → stops f ≡ false → Refuses s command f
-    → Why store (length h) (origin mib + 8192) (next_of mib h command).end.0 command f
+    → WhyRefused store (length h) (origin mib + 8192) (next_of mib h command).end.0 command f
 why_refused mib h store s command (NoFork n) is same going why = (why.0 ∙ is.count, subst (λ (p : Store). LacksFork p command) same why.1)
 why_refused mib h store s command (ForkExists n) is same going why = (why.0 ∙ is.count, subst (λ (p : Store). HasFork p command) same why.1)
 why_refused mib h store s command (PastEnd n) is same going why = (why.0 ∙ is.count, subst (λ (p : Store). IsPastEnd p command) same why.1)
@@ -183,7 +193,7 @@ why_refused mib h store s command (WalFull n) is same going why =
 why_refused mib h store s command NoMemory is same going why = absurd cc
 
 -- a command that may be done, and whose entry has room, is refused for want of memory alone
-not_both : (store : Store) (count limit end : ℕ) (command : Op) (f : InsertFault) → IsTidy store command → end ≤ limit → Why store count limit end command f → ⊥
+not_both : (store : Store) (count limit end : ℕ) (command : Op) (f : InsertFault) → IsTidy store command → end ≤ limit → WhyRefused store count limit end command f → ⊥
 not_both store count limit end command (NoFork n) tidy room why = lacks_or_tidy store command why.1 tidy
 not_both store count limit end command (ForkExists n) tidy room why = has_or_tidy store command why.1 tidy
 not_both store count limit end command (PastEnd n) tidy room why = past_or_tidy store command why.1 tidy
@@ -293,43 +303,59 @@ same_lsn a b e = ap lsn_at e
 ended_at : Lsn → Result Lsn AreaFault
 ended_at end = Ok end
 
+-- the WAL was left with its end known: no device failed, and memory did not run out
+abbrev pub IsEnded : Result Lsn AreaFault → Type 0
+IsEnded ending = is_decided (ending_status ending) ≡ true
+
 is_going : (mib : ℕ) (entries : List Record) (last : Progress) (w x : AreaState) (ending : Result Lsn AreaFault) → IsEnding mib entries last w x ending → IsEnded ending → last.stopped ≡ false
 is_going mib entries last w x (Ok end) is own = is.0
-is_going mib entries last w x (Err fault) is own = absurd own
+is_going mib entries last w x (Err fault) is own = absurd (undecided fault own)
 
-ends_once : (mib : ℕ) (entries : List Record) (last : Progress) (w x y : AreaState) (left other_left : Files) (a b : Result Lsn AreaFault) → x.files ≡ Some left → y.files ≡ Some other_left
+-- what a run that ended left is told where what was there before is
+left_told : (mib place : ℕ) (bytes : List ℕ) (old new : Option Files) (files : Files) → old ≡ Some files → IsWrittenAt mib place bytes old new → IsSome new
+left_told mib place bytes old new files told (inl e) = subst (λ (o : Option Files). IsSome o) (sym (e ∙ ap (option_map (after_write (segment_name_bytes 1 mib) (place - origin mib) bytes)) told)) refl
+left_told mib place bytes old new files told (inr e) = subst (λ (o : Option Files). IsSome o) (sym (e.1 ∙ told)) refl
+
+done_told : (w x : AreaState) (a : RunReport) (files : Files) (end : Lsn) → w.files ≡ Some files → a.ending ≡ Ok end → RunDone w x a → IsSome x.files
+done_told w x a files end told ended done =
+    left_told done.settings.segment a.opened.0 (own_bytes done.settings.segment done.last.history) w.files x.files files told
+    (subst (λ (r : Result Lsn AreaFault). IfOk r (λ e. IsWrittenAt done.settings.segment a.opened.0 (own_bytes done.settings.segment done.last.history) w.files x.files)) ended done.written)
+
+ends_once : (mib : ℕ) (entries : List Record) (last : Progress) (w x y : AreaState) (a b : Result Lsn AreaFault) → ((end : Lsn) → a ≡ Ok end → IsSome x.files) → ((end : Lsn) → b ≡ Ok end → IsSome y.files)
     → IsEnding mib entries last w x a → IsEnding mib entries last w y b → IsEnded a → IsEnded b → a ≡ b
 unfolding ended_at
-ends_once mib entries last w x y left other_left (Ok a) (Ok b) told also first second own other =
+ends_once mib entries last w x y (Ok a) (Ok b) told also first second own other =
     let rs : List Record = entries ++ wal_of mib last.history in
-    let here : a.0 ≡ last_end (origin mib) rs = archive_to mib left rs a.0 (at_told x.files left (λ m. IsArchive mib m rs a.0) told first.1) in
-    let there : b.0 ≡ last_end (origin mib) rs = archive_to mib other_left rs b.0 (at_told y.files other_left (λ m. IsArchive mib m rs b.0) also second.1) in
+    let left = some_told x.files (told a refl) in
+    let other_left = some_told y.files (also b refl) in
+    let here : a.0 ≡ last_end (origin mib) rs = archive_to mib left.0 rs a.0 (at_told x.files left.0 (λ m. IsArchive mib m rs a.0) left.1 first.1) in
+    let there : b.0 ≡ last_end (origin mib) rs = archive_to mib other_left.0 rs b.0 (at_told y.files other_left.0 (λ m. IsArchive mib m rs b.0) other_left.1 second.1) in
     ap ended_at (same_lsn a b (here ∙ sym there))
-ends_once mib entries last w x y left other_left (Ok a) (Err g) told also first second own other = absurd other
-ends_once mib entries last w x y left other_left (Err f) b told also first second own other = absurd own
+ends_once mib entries last w x y (Ok a) (Err g) told also first second own other = absurd (undecided g other)
+ends_once mib entries last w x y (Err f) b told also first second own other = absurd (undecided f own)
 
 -- ---- what was done
 
 -- what two runs that were done came to
-abbrev pub IsSameReport : Report → Report → Type 0
-IsSameReport a b = (a.opened ≡ b.opened) × ((a.answers ≡ b.answers) × (a.ending ≡ b.ending))
+abbrev pub IsSameReport : RunReport → RunReport → Type 0
+IsSameReport a b = (a.opened ≡ b.opened) × (a.answers ≡ b.answers) × (a.ending ≡ b.ending)
 
 given_at : (w : AreaState) (files : Files) (s : Settings) → w.files ≡ Some files → HasSettings w.files s → IsSettingsOf files s
 given_at w files s told has = at_told w.files files (λ m. IsSettingsOf m s) told has.given
 
 -- from one beginning, the two lists of answers
-done_from : (mib : ℕ) (entries : List Record) (w x y : AreaState) (left other_left : Files) (a b : Report) (last other : Progress) → x.files ≡ Some left → y.files ≡ Some other_left
+done_from : (mib : ℕ) (entries : List Record) (w x y : AreaState) (a b : RunReport) (last other : Progress) → ((end : Lsn) → a.ending ≡ Ok end → IsSome x.files) → ((end : Lsn) → b.ending ≡ Ok end → IsSome y.files)
     → a.opened ≡ b.opened → Answered mib (progress (map entry_of entries) 0 false) (lines_in a.script) a.answers last → Answered mib (progress (map entry_of entries) 0 false) (lines_in a.script) b.answers other
     → IsEnding mib entries last w x a.ending → IsEnding mib entries other w y b.ending → IsEnded a.ending → IsEnded b.ending → IsSameReport a b
-done_from mib entries w x y left other_left a b last other told also open_same first second end end_other own own_other =
+done_from mib entries w x y a b last other told also open_same first second end end_other own own_other =
     let once = answered_once mib (progress (map entry_of entries) 0 false) (lines_in a.script) a.answers b.answers last other first second
     (is_going mib entries last w x a.ending end own) (is_going mib entries other w y b.ending end_other own_other) in
     let there : IsEnding mib entries last w y b.ending = subst (λ (p : Progress). IsEnding mib entries p w y b.ending) (sym once.1) end_other in
-    (open_same, (once.0, ends_once mib entries last w x y left other_left a.ending b.ending told also end there own own_other))
+    (open_same, once.0, ends_once mib entries last w x y a.ending b.ending told also end there own own_other)
 
-done_once : (w x y : AreaState) (files left other_left : Files) (a b : Report) → w.files ≡ Some files → x.files ≡ Some left → y.files ≡ Some other_left → RunDone w x a → RunDone w y b
+done_once : (w x y : AreaState) (files : Files) (a b : RunReport) → w.files ≡ Some files → RunDone w x a → RunDone w y b
     → a.script ≡ b.script → IsEnded a.ending → IsEnded b.ending → IsSameReport a b
-done_once w x y files left other_left a b told told_a told_b first second script own other =
+done_once w x y files a b told first second script own other =
     let mib : ℕ = first.settings.segment in
     let same : second.settings ≡ first.settings = one_settings files second.settings first.settings (given_at w files second.settings told second.given) (given_at w files first.settings told first.given) in
     let size : second.settings.segment ≡ mib = ap (λ (s : Settings). s.segment) same in
@@ -345,7 +371,8 @@ done_once w x y files left other_left a b told told_a told_b first second script
     let ending : IsEnding mib first.entries second.last w y b.ending =
     subst (λ (rs : List Record). IsEnding mib rs second.last w y b.ending) back
     (subst (λ (n : ℕ). IsEnding n second.entries second.last w y b.ending) size second.ending) in
-    done_from mib first.entries w x y left other_left a b first.last second.last told_a told_b (same_lsn a.opened b.opened one.1) first.answered answered first.ending ending own other
+    done_from mib first.entries w x y a b first.last second.last (λ end e. done_told w x a files end told e first) (λ end e. done_told w y b files end told e second)
+    (same_lsn a.opened b.opened one.1) first.answered answered first.ending ending own other
 
 -- ---- why none was
 
@@ -414,22 +441,105 @@ begun_or_refused : (files : Files) (s : Settings) (rs : List Record) (end before
 begun_or_refused files s rs end before now f given archive some (inl cause) own = read_or_refused files s rs end before now f given archive cause own
 begun_or_refused files s rs end before now f given archive some (inr empty) own = some_or_empty files s rs end given archive some empty.0
 
-done_or_refused : (w x y : AreaState) (files : Files) (a : Report) (f : WalFault) → w.files ≡ Some files → RunDone w x a → BeginCause w.files w.faults y.faults f → IsOfFiles (Err f) → ⊥
+done_or_refused : (w x y : AreaState) (files : Files) (a : RunReport) (f : WalFault) → w.files ≡ Some files → RunDone w x a → BeginCause w.files w.faults y.faults f → IsOfFiles (Err f) → ⊥
 done_or_refused w x y files a f told done cause own =
     begun_or_refused files done.settings done.entries a.opened.0 w.faults y.faults f (subst (λ (o : Option Files). HasSettings o done.settings) told done.given)
     (at_told w.files files (λ m. IsArchive done.settings.segment m done.entries a.opened.0) told done.archive) done.some (cause_at w y files f told cause) own
 
+-- ---- the script
+
+-- two readings of one input
+same_bytes : (left now other : Option (List ℕ)) (whole bytes again : List ℕ) → left ≡ Some whole → IsInput bytes left now → IsInput again left other → bytes ≡ again
+same_bytes left now other whole bytes again told first second =
+    at_told left whole (λ w. bytes ≡ take 4194305 w) told first.bytes_are ∙ sym (at_told left whole (λ w. again ≡ take 4194305 w) told second.bytes_are)
+
+script_of : Result (List Task) ScriptFault → List Task
+script_of (Ok script) = script
+script_of (Err fault) = []
+
+taken : List Task → Result (List Task) ScriptFault
+taken script = Ok script
+
+refused_at : ℕ → Why → Result (List Task) ScriptFault
+refused_at n why = Err (script_fault.Line n why)
+
+same_script : (left now other : Option (List ℕ)) (whole : List ℕ) (script again : List Task) → left ≡ Some whole → HasScript left now script → HasScript left other again → script ≡ again
+unfolding script_of taken
+same_script left now other whole script again told first second =
+    let there : IsScript first.bytes again = subst (λ (bs : List ℕ). IsScript bs again) (sym (same_bytes left now other whole first.bytes second.bytes told first.input second.input)) second.script_is in
+    ap script_of (one_answer first.bytes (taken script) (taken again) first.script_is there tt tt)
+
+taken_or_refused : (left now other : Option (List ℕ)) (whole : List ℕ) (script : List Task) (n : ℕ) (why : Why) → left ≡ Some whole → HasScript left now script → HasRefusedLine left other n why → ⊥
+unfolding taken refused_at
+taken_or_refused left now other whole script n why told first second =
+    let there : IsRefusedAt first.bytes n why = subst (λ (bs : List ℕ). IsRefusedAt bs n why) (sym (same_bytes left now other whole first.bytes second.bytes told first.input second.input)) second.refused in
+    let e : taken script ≡ refused_at n why = one_answer first.bytes (taken script) (refused_at n why) first.script_is there tt tt in
+    absurd cc
+
+line_of : Result (List Task) ScriptFault → Result RunReport RunFault
+line_of (Ok script) = Err run.NoMemory
+line_of (Err (script_fault.Line n why)) = Err (run.Script n why)
+line_of (Err script_fault.NoMemory) = Err run.NoMemory
+
+refused_line : ℕ → Why → Result RunReport RunFault
+refused_line n why = Err (run.Script n why)
+
+same_line : (left now other : Option (List ℕ)) (whole : List ℕ) (n m : ℕ) (why also : Why) → left ≡ Some whole → HasRefusedLine left now n why → HasRefusedLine left other m also → refused_line n why ≡ refused_line m also
+unfolding line_of refused_at refused_line
+same_line left now other whole n m why also told first second =
+    let there : IsRefusedAt first.bytes m also = subst (λ (bs : List ℕ). IsRefusedAt bs m also) (sym (same_bytes left now other whole first.bytes second.bytes told first.input second.input)) second.refused in
+    ap line_of (one_answer first.bytes (refused_at n why) (refused_at m also) first.refused there tt tt)
+
 -- ---- the whole
 
-refused_for : WalFault → RunFault
-refused_for fault = run.Wal fault
+refused_for : WalFault → Result RunReport RunFault
+refused_for fault = Err (run.Wal fault)
+
+report_of : Lsn → List Task → List Answer → Result Lsn AreaFault → RunReport
+report_of opened script answers ending = record { opened = opened; script = script; answers = answers; ending = ending }
+
+ran : RunReport → Result RunReport RunFault
+ran report = Ok report
+
+same_report : (a b : RunReport) → a.script ≡ b.script → IsSameReport a b → a ≡ b
+unfolding report_of
+same_report a b script same =
+    ap (λ (x : Lsn). report_of x a.script a.answers a.ending) same.0 ∙ ap (λ (x : List Task). report_of b.opened x a.answers a.ending) script
+    ∙ ap (λ (x : List Answer). report_of b.opened b.script x a.ending) same.1 ∙ ap (λ (x : Result Lsn AreaFault). report_of b.opened b.script b.answers x) same.2
+
+-- two answers, where the WAL and the input are these
+run_once : (old new other : Outside) (files : Files) (whole : List ℕ) (a b : Result RunReport RunFault) → (old.areas wal_name).files ≡ Some files → old.left ≡ Some whole → RunAnswer old new a → RunAnswer old other b
+    → is_decided (run_status a) ≡ true → is_decided (run_status b) ≡ true → a ≡ b
+unfolding refused_for ran refused_line
+run_once old new other files whole (Err (run.Input f)) b told input first second own also = absurd (undecided f own)
+run_once old new other files whole (Err (run.Site f)) b told input first second own also = absurd (undecided f.why own)
+run_once old new other files whole (Err run.NoMemory) b told input first second own also = absurd cc
+run_once old new other files whole (Ok a) (Err (run.Input g)) told input first second own also = absurd (undecided g also)
+run_once old new other files whole (Ok a) (Err (run.Site g)) told input first second own also = absurd (undecided g.why also)
+run_once old new other files whole (Ok a) (Err run.NoMemory) told input first second own also = absurd cc
+run_once old new other files whole (Ok a) (Ok b) told input first second own also =
+    let script = same_script old.left new.left other.left whole a.script b.script input first.0 second.0 in
+    ap ran (same_report a b script (done_once (old.areas wal_name) (new.areas wal_name) (other.areas wal_name) files a b told first.1 second.1 script own also))
+run_once old new other files whole (Ok a) (Err (run.Script m also_why)) told input first second own also = absurd (taken_or_refused old.left new.left other.left whole a.script m also_why input first.0 second.1)
+run_once old new other files whole (Ok a) (Err (run.Wal g)) told input first second own also =
+    absurd (done_or_refused (old.areas wal_name) (new.areas wal_name) (other.areas wal_name) files a g told first.1 second.2.cause (of_files g also))
+run_once old new other files whole (Err (run.Script n why)) (Err (run.Input g)) told input first second own also = absurd (undecided g also)
+run_once old new other files whole (Err (run.Script n why)) (Err (run.Site g)) told input first second own also = absurd (undecided g.why also)
+run_once old new other files whole (Err (run.Script n why)) (Err run.NoMemory) told input first second own also = absurd cc
+run_once old new other files whole (Err (run.Script n why)) (Ok b) told input first second own also = absurd (taken_or_refused old.left other.left new.left whole b.script n why input second.0 first.1)
+run_once old new other files whole (Err (run.Script n why)) (Err (run.Script m also_why)) told input first second own also = same_line old.left new.left other.left whole n m why also_why input first.1 second.1
+run_once old new other files whole (Err (run.Script n why)) (Err (run.Wal g)) told input first second own also = absurd (taken_or_refused old.left other.left new.left whole second.0 n why input second.1 first.1)
+run_once old new other files whole (Err (run.Wal f)) (Err (run.Input g)) told input first second own also = absurd (undecided g also)
+run_once old new other files whole (Err (run.Wal f)) (Err (run.Site g)) told input first second own also = absurd (undecided g.why also)
+run_once old new other files whole (Err (run.Wal f)) (Err run.NoMemory) told input first second own also = absurd cc
+run_once old new other files whole (Err (run.Wal f)) (Ok b) told input first second own also =
+    absurd (done_or_refused (old.areas wal_name) (other.areas wal_name) (new.areas wal_name) files b f told second.1 first.2.cause (of_files f own))
+run_once old new other files whole (Err (run.Wal f)) (Err (run.Script m also_why)) told input first second own also = absurd (taken_or_refused old.left new.left other.left whole first.0 m also_why input first.1 second.1)
+run_once old new other files whole (Err (run.Wal f)) (Err (run.Wal g)) told input first second own also =
+    ap refused_for (same_refusal (old.areas wal_name) (new.areas wal_name) (other.areas wal_name) files f g told first.2.cause second.2.cause (of_files f own) (of_files g also))
 
 pub one_run : HasOneRun
-unfolding refused_for
-one_run w x y files left other_left (Ok a) (Ok b) told told_a told_b first second script own other = done_once w x y files left other_left a b told told_a told_b first second script own other
-one_run w x y files left other_left (Ok a) (Err (run.Wal g)) told told_a told_b first second script own other = absurd (done_or_refused w x y files a g told first second.1 other)
-one_run w x y files left other_left (Ok a) (Err run.NoMemory) told told_a told_b first second script own other = absurd other
-one_run w x y files left other_left (Err (run.Wal f)) (Ok b) told told_a told_b first second script own other = absurd (done_or_refused w y x files b f told second first.1 own)
-one_run w x y files left other_left (Err (run.Wal f)) (Err (run.Wal g)) told told_a told_b first second script own other = ap refused_for (same_refusal w x y files f g told first.1 second.1 own other)
-one_run w x y files left other_left (Err (run.Wal f)) (Err run.NoMemory) told told_a told_b first second script own other = absurd other
-one_run w x y files left other_left (Err run.NoMemory) b told told_a told_b first second script own other = absurd own
+one_run old new other a b told first second own also =
+    let files = some_told (old.areas wal_name).files (told.files wal_name) in
+    let whole = some_told old.left told.left in
+    run_once old new other files.0 whole.0 a b files.1 whole.1 first.3 second.3 own also

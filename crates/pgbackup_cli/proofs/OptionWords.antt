@@ -9,7 +9,7 @@ use Rattle.std.proofs.lemmas.Bool.Decides.{Decides-ltb}
 use Rattle.std.proofs.lemmas.Slice.Eq.{bytes_eq-Decides}
 use Rattle.std.proofs.lemmas.Fmt.{digits_value-decimal}
 use Rattle.text_numbers.proofs.Decimal.{own}
-use Rattle.pgbackup_cli.specs.Words.{decimal_number, with_option, options_in}
+use Rattle.pgbackup_cli.specs.Options.{decimal_number, with_option, options_in}
 
 picks_none : (a b : Bool) (n : ℕ) → (a ≡ true → b ≡ true → ⊥) → None ≡ (if a && b then Some n else None)
 picks_none true true n h = absurd (h refl refl)

@@ -3,7 +3,8 @@ use Rattle.std.proofs.Common.{◌≡◌, ℕ, ◌+◌, ◌-◌, ◌≤◌, Bool,
 use Rattle.std.proofs.Math.Seq.{take-add}
 use Rattle.std.proofs.lemmas.List.{take_all, drop_all, drop-drop, length-drop}
 use Rattle.std.specs.Option.{option_map}
-use Rattle.pgbackup_cli.specs.Input.{IsMore}
+use Rattle.pgbackup_cli.specs.Input.{TakesAtMost}
+use Rattle.pgbackup_cli.specs.Inner.{IsMore}
 
 -- the bytes so far are the front of the input, and what is behind them is left
 pub record IsFront (bytes : List ℕ) (start left : Option (List ℕ)) : Type 0 where
@@ -21,7 +22,7 @@ rest_behind : (whole : List ℕ) (m n k : ℕ) → m + n ≡ k → option_map (d
 rest_behind whole m n k sum = ap Some (drop-drop n m whole ∙ ap (λ x. drop x whole) sum)
 
 -- a read more keeps that
-pub reads_on : (before bytes : List ℕ) (most : ℕ) (ended : Bool) (start left now : Option (List ℕ)) → IsFront before start left → IsMore before bytes most ended left now → IsFront bytes start now
+pub reads_on : (before bytes : List ℕ) (most : ℕ) (ended : Bool) (start left now : Option (List ℕ)) → IsFront before start left → IsMore before bytes most left now ended → IsFront bytes start now
 reads_on before bytes most ended None left now front more = record { front = tt; left_is = more.left_is ∙ ap (option_map (drop (length bytes - length before))) front.left_is }
 reads_on before bytes most ended (Some whole) left now front more = record {
   front = front_grows before bytes whole (length before) (length bytes - length before) (length bytes) (omega (arith, more.least)) front.front
@@ -39,10 +40,33 @@ pub whole_bytes : (limit : ℕ) (bytes : List ℕ) (start now : Option (List ℕ
 whole_bytes limit bytes None now front size all = tt
 whole_bytes limit bytes (Some whole) now front size all = front.front ∙ take_all (length bytes) whole all ∙ sym (take_all limit whole (omega (arith, size, all)))
 
-pub none_left : (bytes : List ℕ) (start now : Option (List ℕ)) → IsFront bytes start now → IfSome start (λ whole. length whole ≤ length bytes) → now ≡ option_map (λ whole. []) start
-none_left bytes None now front all = front.left_is
-none_left bytes (Some whole) now front all = front.left_is ∙ ap Some (drop_all (length bytes) whole all)
-
 -- as many bytes were read as are looked at
 pub first_bytes : (limit : ℕ) (bytes : List ℕ) (start now : Option (List ℕ)) → IsFront bytes start now → length bytes ≡ limit → IfSome start (λ whole. bytes ≡ take limit whole)
 first_bytes limit bytes start now front e = subst (λ (n : ℕ). IfSome start (λ whole. bytes ≡ take n whole)) e front.front
+
+-- ---- how much was taken
+
+dropped : (m n : ℕ) (start : Option (List ℕ)) → option_map (drop n) (option_map (drop m) start) ≡ option_map (drop (m + n)) start
+dropped m n None = refl
+dropped m n (Some whole) = rest_behind whole m n (m + n) refl
+
+-- nothing yet
+pub none_taken : (most : ℕ) (left now : Option (List ℕ)) → now ≡ left → TakesAtMost most left now
+none_taken most None now e = record { taken = 0; within = omega arith; rest = e }
+none_taken most (Some whole) now e = record { taken = 0; within = omega arith; rest = e }
+
+-- so many bytes
+pub some_taken : (most count : ℕ) (left now : Option (List ℕ)) → count ≤ most → now ≡ option_map (drop count) left → TakesAtMost most left now
+some_taken most count left now within rest = record { taken = count; within = within; rest = rest }
+
+-- what was read
+pub front_taken : (limit : ℕ) (bytes : List ℕ) (start now : Option (List ℕ)) → IsFront bytes start now → length bytes ≤ limit → TakesAtMost limit start now
+front_taken limit bytes start now front within = record { taken = length bytes; within = within; rest = front.left_is }
+
+-- and some more
+pub more_taken : (limit most : ℕ) (bytes : List ℕ) (start left now : Option (List ℕ)) → IsFront bytes start left → length bytes + most ≤ limit → TakesAtMost most left now → TakesAtMost limit start now
+more_taken limit most bytes start left now front within more = record {
+  taken = length bytes + more.taken;
+  within = omega (arith, within, more.within);
+  rest = more.rest ∙ ap (option_map (drop more.taken)) front.left_is ∙ dropped (length bytes) more.taken start;
+}

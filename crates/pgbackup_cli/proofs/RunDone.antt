@@ -33,8 +33,9 @@ use Rattle.crew.specs.declared.run.Answer.TheVariants.{Accepted, Refused, NotRun
 use Rattle.crew.specs.Run.{history_end, IsStateOf, Progress, Answered, stops_with, written_on, RunFrom}
 use Rattle.crew.proofs.ReadAgain.{read_again}
 use Rattle.crew.proofs.Histories.{history_end_read, history_last_read, none_own_read, wal_of_grown}
-use Rattle.pgbackup_cli.specs.declared.run.Report.{Report}
-use Rattle.pgbackup_cli.specs.Run.{lines_in, IsWrittenAt, IsTornAt, FlushAnswer, IsEnding, own_bytes, RunDone}
+use Rattle.pgbackup_cli.specs.declared.run.RunReport.{RunReport}
+use Rattle.pgbackup_cli.specs.Run.{lines_in, IsWrittenAt, IsTornAt, IsEnding, own_bytes, RunDone}
+use Rattle.pgbackup_cli.specs.Inner.{FlushAnswer}
 
 -- ---- the store that a run begins on
 
@@ -111,12 +112,15 @@ news_are mib rs own end prev end_is prev_is =
     ∙ ap (λ (n : ℕ). written mib (history_end (origin mib) (map entry_of rs)) n own) (prev_is ∙ sym (history_last_read 0 rs))
     ∙ sym (wal_of_grown mib (map entry_of rs) own (none_own_read rs))
 
-ended : (mib : ℕ) (entries : List Record) (last : Progress) (wal now : AreaState) (stopped : Bool) (log : Log) (files : Option Files) (before : ℕ) (ending : Result Lsn AreaFault) → FlushAnswer stopped log files before now.files now.faults ending → wal.faults ≤ before
-    → (stopped ≡ false → last.stopped ≡ false) → (IsWrittenAt log.mib log.flushed log.pending files now.files → IfSome now.files (λ m. IsArchive mib m (entries ++ wal_of mib last.history) log.end)) → IsEnding mib entries last wal now ending
-ended mib entries last wal now stopped log files before (Ok end) flushed later going archive =
-    (going flushed.0, subst (λ (n : ℕ). IfSome now.files (λ m. IsArchive mib m (entries ++ wal_of mib last.history) n)) (sym flushed.1.0) (archive flushed.1.1))
-ended mib entries last wal now stopped log files before (Err area.Failed) flushed later going archive = (going flushed.0, omega (arith, flushed.1, later))
-ended mib entries last wal now stopped log files before (Err area.NoMemory) flushed later going archive = tt
+ended : (mib : ℕ) (entries : List Record) (last : Progress) (wal mid now : AreaState) (stopped : Bool) (log : Log) (ending : Result Lsn AreaFault) → FlushAnswer stopped log mid now ending → wal.faults ≤ mid.faults
+    → (stopped ≡ false → last.stopped ≡ false) → (IsWrittenAt log.mib log.flushed log.pending mid.files now.files → IfSome now.files (λ m. IsArchive mib m (entries ++ wal_of mib last.history) log.end)) → IsEnding mib entries last wal now ending
+ended mib entries last wal mid now stopped log (Ok end) flushed later going archive =
+    (going flushed.0, subst (λ (n : ℕ). IfSome now.files (λ m. IsArchive mib m (entries ++ wal_of mib last.history) n)) (sym flushed.1) (archive flushed.2))
+ended mib entries last wal mid now stopped log (Err area.Failed) flushed later going archive = (
+  elim flushed.0 [ inl on ↦ inl (going on) | inr memory ↦ inr memory ],
+  omega (arith, flushed.1, later),
+)
+ended mib entries last wal mid now stopped log (Err area.NoMemory) flushed later going archive = (inr refl, tt)
 
 -- what is said of bytes at a place of the WAL, where each part of it goes by another name
 placed : (P : ℕ → ℕ → List ℕ → Option Files → Option Files → Type 0) (m n place other : ℕ) (bytes again : List ℕ) (files old new : Option Files) → m ≡ n → place ≡ other → bytes ≡ again → files ≡ old → P m place bytes files new → P n other again old new
@@ -124,10 +128,9 @@ placed P m n place other bytes again files old new mib at same before holds =
     subst (λ (k : ℕ). P k other again old new) mib (subst (λ (k : ℕ). P m k again old new) at (subst (λ (b : List ℕ). P m place b old new) same (subst (λ (o : Option Files). P m place bytes o new) before holds)))
 
 -- what a flush that succeeded wrote
-flushed_to : (stopped : Bool) (log : Log) (files : Option Files) (before : ℕ) (new : Option Files) (now : ℕ) (ending : Result Lsn AreaFault) (W : Type 0) → FlushAnswer stopped log files before new now ending → (IsWrittenAt log.mib log.flushed log.pending files new → W) → IfOk ending (λ end. W)
-flushed_to stopped log files before new now (Ok end) W flushed leads = leads flushed.1.1
-flushed_to stopped log files before new now (Err area.Failed) W flushed leads = tt
-flushed_to stopped log files before new now (Err area.NoMemory) W flushed leads = tt
+flushed_to : (stopped : Bool) (log : Log) (mid now : AreaState) (ending : Result Lsn AreaFault) (W : Type 0) → FlushAnswer stopped log mid now ending → (IsWrittenAt log.mib log.flushed log.pending mid.files now.files → W) → IfOk ending (λ end. W)
+flushed_to stopped log mid now (Ok end) W flushed leads = leads flushed.2
+flushed_to stopped log mid now (Err why) W flushed leads = tt
 
 -- what the WAL held before, told at the state that a run begins on
 was_read : (files : Option Files) (s : State) (log : Log) (b : IsBegun files s) → log.mib ≡ s.log.mib → log.flushed ≡ s.log.flushed → IfSome files (WasRead log b.open_is.read_is.entries)
@@ -141,11 +144,11 @@ was_read files s log b mib flushed =
       subst (λ (n : ℕ). IsArchive log.mib m r.entries n) end_is (subst (λ (n : ℕ). IsArchive n m r.entries b.read.tip.end.0) mib_is archive),
     )) b.open_is.given.given r.archive
 
-pub run_done : (wal now : AreaState) (report : Report) (s t : State) (files : Option Files) (before : ℕ) → (b : IsBegun wal.files s) → report.opened.0 ≡ s.log.end
+pub run_done : (wal now : AreaState) (report : RunReport) (s t : State) (mid : AreaState) → (b : IsBegun wal.files s) → report.opened.0 ≡ s.log.end
     → ((h : List Entry) → IsStateOf s.log.mib h s → origin s.log.mib < s.log.end → RunFrom s.log.mib h (lines_in report.script) report.answers s t)
-    → files ≡ wal.files → wal.faults ≤ before → FlushAnswer (list_any stops_with report.answers) t.log files before now.files now.faults report.ending
-    → IsTornAt t.log.mib t.log.flushed t.log.pending files now.files → RunDone wal now report
-run_done wal now report s t files before b opened runs same later flushed left =
+    → mid.files ≡ wal.files → wal.faults ≤ mid.faults → FlushAnswer (list_any stops_with report.answers) t.log mid now report.ending
+    → IsTornAt t.log.mib t.log.flushed t.log.pending mid.files now.files → RunDone wal now report
+run_done wal now report s t mid b opened runs same later flushed left =
     let r = b.open_is.read_is in
     let h : List Entry = map entry_of r.entries in
     let mib : s.log.mib ≡ b.settings.segment = ap (λ (l : Log). l.mib) b.log in
@@ -167,11 +170,11 @@ run_done wal now report s t files before b opened runs same later flushed left =
     let bytes : List ℕ = own_bytes b.settings.segment run.last.history in
     let pending : t.log.pending ≡ written_entries news = run.pending ∙ ap (λ (l : Log). l.pending ++ written_entries news) b.log in
     let bytes_is : t.log.pending ≡ bytes = pending ∙ ap written_entries news_is ∙ ap (λ (n : ℕ). own_bytes n run.last.history) mib in
-    let archive : IsWrittenAt t.log.mib t.log.flushed t.log.pending files now.files → IfSome now.files (λ m. IsArchive b.settings.segment m (r.entries ++ wal_of b.settings.segment run.last.history) t.log.end) =
+    let archive : IsWrittenAt t.log.mib t.log.flushed t.log.pending mid.files now.files → IfSome now.files (λ m. IsArchive b.settings.segment m (r.entries ++ wal_of b.settings.segment run.last.history) t.log.end) =
     λ f. subst (λ (n : ℕ). IfSome now.files (λ m. IsArchive n m (r.entries ++ wal_of n run.last.history) t.log.end)) mib
     (subst (λ (xs : List Record). IfSome now.files (λ m. IsArchive s.log.mib m (r.entries ++ xs) t.log.end)) news_is
     (subst (λ (n : ℕ). IfSome now.files (λ m. IsArchive n m (r.entries ++ news) t.log.end)) mib_now
-    (flushed_archive t.log files now.files r.entries news (subst (λ (o : Option Files). IfSome o (WasRead t.log r.entries)) (sym same) (was_read wal.files s t.log b mib_now run.flushed)) (omega (arith, mib_now, run.flushed, at_end, some)) chain pending f))) in
+    (flushed_archive t.log mid.files now.files r.entries news (subst (λ (o : Option Files). IfSome o (WasRead t.log r.entries)) (sym same) (was_read wal.files s t.log b mib_now run.flushed)) (omega (arith, mib_now, run.flushed, at_end, some)) chain pending f))) in
     record {
       settings = b.settings;
       given = b.open_is.given;
@@ -189,9 +192,9 @@ run_done wal now report s t files before b opened runs same later flushed left =
           (λ m read. subst (λ (n : ℕ). apply_all empty (map entry_of (r.entries ++ wal_of n run.last.history)) ≡ Some t.pages) mib
           (read_again s.log.mib m r.entries (lines_in report.script) report.answers s t read.0 (subst (λ (n : ℕ). IsArchive s.log.mib m r.entries n) at_end read.1) some (begun_state wal.files s b) at_end (ap (λ (l : Log). l.pending) b.log) run).1)
           (was_read wal.files s s.log b refl refl);
-      left = placed IsTornAt t.log.mib b.settings.segment t.log.flushed report.opened.0 t.log.pending bytes files wal.files now.files (mib_now ∙ mib) flushed_is bytes_is same left;
-      written = flushed_to (list_any stops_with report.answers) t.log files before now.files now.faults report.ending (IsWrittenAt b.settings.segment report.opened.0 bytes wal.files now.files) flushed
-          (placed IsWrittenAt t.log.mib b.settings.segment t.log.flushed report.opened.0 t.log.pending bytes files wal.files now.files (mib_now ∙ mib) flushed_is bytes_is same);
-      ending = ended b.settings.segment r.entries run.last wal now (list_any stops_with report.answers) t.log files before report.ending flushed later
+      left = placed IsTornAt t.log.mib b.settings.segment t.log.flushed report.opened.0 t.log.pending bytes mid.files wal.files now.files (mib_now ∙ mib) flushed_is bytes_is same left;
+      written = flushed_to (list_any stops_with report.answers) t.log mid now report.ending (IsWrittenAt b.settings.segment report.opened.0 bytes wal.files now.files) flushed
+          (placed IsWrittenAt t.log.mib b.settings.segment t.log.flushed report.opened.0 t.log.pending bytes mid.files wal.files now.files (mib_now ∙ mib) flushed_is bytes_is same);
+      ending = ended b.settings.segment r.entries run.last wal mid now (list_any stops_with report.answers) t.log report.ending flushed later
           (never_stopped s.log.mib (record { history = h; accepted = 0; stopped = false }) (lines_in report.script) report.answers run.last run.answered refl) archive;
     }

@@ -1,25 +1,34 @@
--- What making a new store answers and leaves, over the area of the WAL and that of the summaries.
-use Rattle.std.specs.Prelude.{◌≡◌, ◌≢◌, ◌⊎◌, ℕ, ◌*◌, ◌%◌, ◌^◌, List, [], ◌∷◌, ◌++◌, Option, None, Result, Ok, Err, IfSome, codes}
+-- `init`: what making a new store does, prints and ends with.
+use Rattle.std.specs.Prelude.{◌≡◌, ◌⊎◌, ℕ, ◌*◌, ◌%◌, ◌^◌, ◌≤◌, List, [], ◌∷◌, ◌++◌, length, Option, None, Result, Ok, Err, IfSome, codes}
 use Rattle.std.specs.Option.{option_map, unwrap_or}
-use Rattle.std.specs.FinMap.{get, empty, insert}
-use Rattle.lsn_core.specs.Causes.{Rose}
+use Rattle.std.specs.FinMap.{empty, insert}
 use Rattle.lsn_core.specs.Files.{Files}
-use Rattle.lsn_core.specs.Names.{segment_name_bytes}
+use Rattle.lsn_core.specs.Names.{lsn_bytes, segment_name_bytes}
 use Rattle.lsn_core.specs.declared.lsn.Lsn.{Lsn}
 use Rattle.lsn_core.specs.declared.segment.Settings.{Settings}
-use Rattle.lsn_core.specs.declared.fault.AreaFault.TheVariants as area
+use Rattle.vault.specs.Area.{IsTorn, Related}
 use Rattle.vault.specs.Site.{AreaState}
+use Rattle.vault.specs.Lending.{Names}
 use Rattle.wal_record.specs.declared.record.Record.{Record}
 use Rattle.wal_record.specs.declared.record.Kind.TheVariants.{Shutdown}
 use Rattle.wal_record.specs.Places.{first_start, record_behind, written_entry, page_head}
 use Rattle.wal_reader.specs.Archive.{IsArchive}
 use Rattle.wal_reader.specs.Settings.{settings_text, IsSettingsOf}
+use Rattle.pgbackup_cli.specs.declared.answer.Status.{Status}
+use Rattle.pgbackup_cli.specs.declared.answer.Status.TheVariants as status
 use Rattle.pgbackup_cli.specs.declared.options.InitOptions.{InitOptions}
 use Rattle.pgbackup_cli.specs.declared.init.InitFault.{InitFault}
 use Rattle.pgbackup_cli.specs.declared.init.InitFault.TheVariants as init
-use Rattle.pgbackup_cli.specs.Areas.{IsClear, IsFull}
+use Rattle.pgbackup_cli.specs.Areas.{wal_name, sums_name, IsClear, IsFull, Keeps, AreaFails}
+use Rattle.pgbackup_cli.specs.Outside.{Outside, Works, Untakens, IsUntaken}
+use Rattle.pgbackup_cli.specs.Faults.{refused_line, area_text, full_text, take_text, area_status}
 
--- the settings of a new store: those that are given, or 16 MiB, 131072 blocks and an identifier of the moment (profile)
+abbrev pub InitResult : Type 0
+InitResult = Result Lsn InitFault
+
+-- ---- what a new store is
+
+-- its settings: those that are given, or 16 MiB, 131072 blocks and an identifier of the moment
 abbrev pub new_settings : InitOptions → ℕ → Settings
 new_settings options moment = record {
   segment = unwrap_or options.segment 16;
@@ -27,62 +36,123 @@ new_settings options moment = record {
   system = unwrap_or options.system (moment % 2 ^ 32 * 2 ^ 32);
 }
 
+-- its files' names: that of its settings, and that of segment 1
+abbrev pub settings_name : List ℕ
+settings_name = codes "settings"
+
+abbrev pub segment_name : Settings → List ℕ
+segment_name s = segment_name_bytes 1 s.segment
+
+-- the bytes of `settings`
+abbrev pub settings_file : Settings → List ℕ
+settings_file s = settings_text s.segment s.relseg
+
 -- the first entry of a WAL: a shutdown checkpoint whose redo point is its own start
 abbrev pub first_entry : ℕ → Record
 first_entry mib = record_behind (first_start mib) 0 (Shutdown (record { 0 = first_start mib }))
 
--- the file of segment 1 with that entry alone
-abbrev pub first_file : Settings → List ℕ
-first_file s = page_head s.segment s.system ++ written_entry (first_entry s.segment)
+-- the bytes of segment 1 with that entry alone
+abbrev pub segment_file : Settings → List ℕ
+segment_file s = page_head s.segment s.system ++ written_entry (first_entry s.segment)
 
--- the files of a new WAL: `settings`, and segment 1
+-- the files once `settings` is written, and once segment 1 is too
+abbrev pub begun_wal : Settings → Files
+begun_wal s = insert empty settings_name (settings_file s)
+
 abbrev pub new_wal : Settings → Files
-new_wal s = insert (insert empty (codes "settings") (settings_text s.segment s.relseg)) (segment_name_bytes 1 s.segment) (first_file s)
+new_wal s = insert (begun_wal s) (segment_name s) (segment_file s)
 
--- the WAL is a new one: it holds just these files, which read as these settings and an archive of the first entry alone
+-- the WAL is a new one: it holds just these files, which read as these settings and an archive of
+-- the first entry alone
 pub record IsNewWal (s : Settings) (files : Option Files) (end : ℕ) : Type 0 where
   pub archive : IfSome files (λ m. IsArchive s.segment m (first_entry s.segment ∷ []) end)
   pub settings : IfSome files (λ m. IsSettingsOf m s)
 
+-- ---- what `init` comes to
+
+-- the areas that it looks at, and those of them that it may change
+pub record InitAreas : Type 0 where
+  pub wal : AreaState
+  pub sums : AreaState
+
+abbrev pub init_areas : Outside → InitAreas
+init_areas o = record { wal = o.areas wal_name; sums = o.areas sums_name }
+
+abbrev pub init_asks : Names
+init_asks = wal_name ∷ (sums_name ∷ [])
+
+abbrev pub init_writes : Names
+init_writes = wal_name ∷ []
+
 -- a new store was made, where neither area held a file
-pub record InitDone (s : Settings) (wal new_wal_area sums : AreaState) (end : Lsn) : Type 0 where
-  pub wal_clear : IsClear wal
-  pub sums_clear : IsClear sums
-  pub written : new_wal_area.files ≡ option_map (λ m. new_wal s) wal.files
+pub record InitDone (s : Settings) (old new : InitAreas) (end : Lsn) : Type 0 where
+  pub wal_clear : IsClear old.wal
+  pub sums_clear : IsClear old.sums
+  pub written : new.wal.files ≡ option_map (λ m. new_wal s) old.wal.files
   pub end_is : end.0 ≡ (first_entry s.segment).end.0
-  pub reads : IsNewWal s new_wal_area.files end.0
+  pub reads : IsNewWal s new.wal.files end.0
 
--- what may stand in an empty area of the WAL after a failure: no file but `settings` and segment 1
-abbrev pub HoldsAtMost : Settings → Option Files → Type 0
-HoldsAtMost s files = IfSome files (λ m. (q : List ℕ) → q ≢ codes "settings" → q ≢ segment_name_bytes 1 s.segment → get m q ≡ None)
+-- a write of these bytes from the start of a file on failed, and may have left a part
+abbrev pub IsTornIn : List ℕ → List ℕ → Option Files → Option Files → Type 0
+IsTornIn name bytes old new = Related (IsTorn name 0 (length bytes)) old new
 
--- what a failure leaves of the WAL's area: all as it was, or, of one that held no file, a part of a new WAL
+-- a part of a new WAL stands in an area that held no file: a torn `settings` and no other file; or
+-- that file whole, and a torn segment 1
+abbrev pub HoldsPart : Settings → Option Files → Option Files → Type 0
+HoldsPart s old new =
+    IsTornIn settings_name (settings_file s) old new
+    ⊎ IsTornIn (segment_name s) (segment_file s) (option_map (λ m. begun_wal s) old) new
+
+-- what a failure leaves of the WAL's area: all as it was; or, of one that held no file, a part of a
+-- new WAL
 abbrev pub IsPartMade : Settings → AreaState → AreaState → Type 0
-IsPartMade s wal now = (now.files ≡ wal.files) ⊎ (IsClear wal × HoldsAtMost s now.files)
+IsPartMade s old new = Keeps old new ⊎ (IsClear old × HoldsPart s old.files new.files)
 
--- every other file is as it was
-abbrev pub KeepsOthers : List ℕ → Files → Files → Type 0
-KeepsOthers name old new = (q : List ℕ) → q ≢ name → get new q ≡ get old q
+-- why `init` with these settings comes to its answer, where an area that isn't handed out means
+-- this. A WAL or summaries that are there change nothing
+abbrev pub InitAnswer : Settings → Untakens → InitAreas → InitAreas → InitResult → Type 0
+InitAnswer s Untaken old new (Ok end) = InitDone s old new end
+InitAnswer s Untaken old new (Err (init.Site fault)) = Untaken fault
+InitAnswer s Untaken old new (Err init.AlreadyInit) = IsFull old.wal × Keeps old.wal new.wal
+InitAnswer s Untaken old new (Err init.SumsNotEmpty) =
+    IsClear old.wal × IsFull old.sums × Keeps old.wal new.wal
+InitAnswer s Untaken old new (Err (init.Wal why)) =
+    AreaFails old.wal new.wal why × IsPartMade s old.wal new.wal
+InitAnswer s Untaken old new (Err (init.Sums why)) =
+    AreaFails old.sums new.sums why × Keeps old.wal new.wal
 
--- the areas were looked at: neither holds a file, or one does or could not be asked
-abbrev pub ClearAnswer : AreaState → AreaState → AreaState → AreaState → Result (Unit {0}) InitFault → Type 0
-ClearAnswer wal now sums sums_now (Ok done) = IsClear wal × IsClear sums
-ClearAnswer wal now sums sums_now (Err init.AlreadyInit) = IsFull wal
-ClearAnswer wal now sums sums_now (Err init.SumsNotEmpty) = IsClear wal × IsFull sums
-ClearAnswer wal now sums sums_now (Err (init.Wal area.Failed)) = Rose wal.faults now.faults
-ClearAnswer wal now sums sums_now (Err (init.Wal area.NoMemory)) = Unit {0}
-ClearAnswer wal now sums sums_now (Err (init.Sums area.Failed)) = Rose sums.faults sums_now.faults
-ClearAnswer wal now sums sums_now (Err (init.Sums area.NoMemory)) = Unit {0}
+-- the same of the whole outside
+abbrev pub InitRan : Settings → Outside → Outside → InitResult → Type 0
+InitRan s old new r =
+    InitAnswer s (IsUntaken init_asks old new) (init_areas old) (init_areas new) r
 
--- why none was made. A WAL or summaries that are there change nothing
-abbrev pub InitCause : Settings → AreaState → AreaState → AreaState → AreaState → InitFault → Type 0
-InitCause s wal now sums sums_now init.AlreadyInit = IsFull wal × (now.files ≡ wal.files)
-InitCause s wal now sums sums_now init.SumsNotEmpty = IsClear wal × (IsFull sums × (now.files ≡ wal.files))
-InitCause s wal now sums sums_now (init.Wal area.Failed) = Rose wal.faults now.faults × IsPartMade s wal now
-InitCause s wal now sums sums_now (init.Wal area.NoMemory) = IsPartMade s wal now
-InitCause s wal now sums sums_now (init.Sums area.Failed) = Rose sums.faults sums_now.faults × (now.files ≡ wal.files)
-InitCause s wal now sums sums_now (init.Sums area.NoMemory) = now.files ≡ wal.files
+-- the moment that a new system identifier is made of is the clock's
+abbrev pub IsMoment : InitOptions → Outside → ℕ → Type 0
+IsMoment options old moment = IfSome old.moment (λ told. options.system ≡ None → moment ≡ told)
 
-abbrev pub InitAnswer : Settings → AreaState → AreaState → AreaState → AreaState → Result Lsn InitFault → Type 0
-InitAnswer s wal now sums sums_now (Ok end) = InitDone s wal now sums end
-InitAnswer s wal now sums sums_now (Err fault) = InitCause s wal now sums sums_now fault
+-- `init` with these options
+abbrev pub InitDoes : InitOptions → Outside → Outside → InitResult → Type 0
+InitDoes options old new r =
+    Works init_writes old new
+    × ((moment : ℕ) × IsMoment options old moment × InitRan (new_settings options moment) old new r)
+
+-- ---- what it prints, and its status
+
+abbrev pub init_fault_text : InitFault → List ℕ
+init_fault_text (init.Site fault) = take_text fault
+init_fault_text init.AlreadyInit = codes "42 AlreadyInit"
+init_fault_text init.SumsNotEmpty = full_text sums_name
+init_fault_text (init.Wal why) = area_text wal_name why
+init_fault_text (init.Sums why) = area_text sums_name why
+
+abbrev pub init_text : InitResult → List ℕ
+init_text (Ok end) = codes "initialised " ++ (lsn_bytes end.0 ++ (10 ∷ []))
+init_text (Err fault) = refused_line (init_fault_text fault)
+
+abbrev pub init_status : InitResult → Status
+init_status (Ok end) = status.Done
+init_status (Err (init.Site fault)) = area_status fault.why
+init_status (Err init.AlreadyInit) = status.Refused
+init_status (Err init.SumsNotEmpty) = status.Refused
+init_status (Err (init.Wal why)) = area_status why
+init_status (Err (init.Sums why)) = area_status why

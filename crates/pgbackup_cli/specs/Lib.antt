@@ -1,10 +1,13 @@
-pub mod Words
 pub mod Areas
+pub mod Options
+pub mod Words
+pub mod Outside
+pub mod Faults
 pub mod Input
 pub mod Init
+pub mod Report
 pub mod Run
 pub mod Replay
-pub mod Report
-pub mod Answers
 pub mod Top
 pub mod Laws
+pub mod Inner

@@ -1,43 +1,108 @@
--- What a replay of a WAL answers and leaves, over the area of the WAL and the output's area.
-use Rattle.std.specs.Prelude.{◌≡◌, ◌≢◌, IfSome, Result, Ok, Err}
+-- `replay`: what replaying a WAL into an output does, prints and ends with.
+use Rattle.std.specs.Prelude.{◌≡◌, ◌≢◌, ◌≤◌, ℕ, List, [], ◌∷◌, ◌++◌, IfSome, Result, Ok, Err, codes}
 use Rattle.std.specs.Option.{option_map}
 use Rattle.std.specs.FinMap.{empty, len}
-use Rattle.lsn_core.specs.Causes.{Rose}
+use Rattle.std.specs.Fmt.{decimal}
+use Rattle.lsn_core.specs.Names.{lsn_bytes}
 use Rattle.lsn_core.specs.Store.{files_of}
-use Rattle.lsn_core.specs.declared.fault.AreaFault.TheVariants as area
 use Rattle.lsn_core.specs.declared.segment.Settings.{Settings}
 use Rattle.vault.specs.Site.{AreaState}
+use Rattle.vault.specs.Lending.{Names}
+use Rattle.wal_reader.specs.declared.fault.WalFault.{WalFault}
 use Rattle.history.specs.Pages.{page_count}
 use Rattle.recovery.specs.Reading.{HasSettings, IsReadWal, WalCause}
 use Rattle.recovery.specs.declared.replaying.ReadWal.{ReadWal}
-use Rattle.pgbackup_cli.specs.declared.replay.Replayed.{Replayed}
+use Rattle.pgbackup_cli.specs.declared.answer.Status.{Status}
+use Rattle.pgbackup_cli.specs.declared.answer.Status.TheVariants as status
+use Rattle.pgbackup_cli.specs.declared.replay.ReplayReport.{ReplayReport}
 use Rattle.pgbackup_cli.specs.declared.replay.ReplayFault.{ReplayFault}
 use Rattle.pgbackup_cli.specs.declared.replay.ReplayFault.TheVariants as replay
-use Rattle.pgbackup_cli.specs.Areas.{IsClear, IsFull}
+use Rattle.pgbackup_cli.specs.Areas.{wal_name, output_name, IsClear, IsFull, Keeps, AreaFails}
+use Rattle.pgbackup_cli.specs.Outside.{Outside, Works, Untakens, IsUntaken}
+use Rattle.pgbackup_cli.specs.Faults.{refused_line, area_text, full_text, take_text, wal_text, area_status, wal_status}
+
+abbrev pub ReplayResult : Type 0
+ReplayResult = Result ReplayReport ReplayFault
+
+-- ---- what `replay` comes to
+
+-- the areas that it looks at: the WAL's, and the output's
+pub record ReplayAreas : Type 0 where
+  pub wal : AreaState
+  pub out : AreaState
+
+abbrev pub replay_areas : List ℕ → Outside → ReplayAreas
+replay_areas out o = record { wal = o.areas wal_name; out = o.areas out }
+
+abbrev pub replay_asks : List ℕ → Names
+replay_asks out = wal_name ∷ (out ∷ [])
 
 -- a replay that was done: the output's files are those of the store that the whole WAL makes
-pub record ReplayDone (wal out new_out : AreaState) (done : Replayed) : Type 0 where
-  pub clear : IsClear out
+pub record ReplayDone (old new : ReplayAreas) (report : ReplayReport) : Type 0 where
+  pub clear : IsClear old.out
   pub settings : Settings
-  pub given : HasSettings wal.files settings
+  pub given : HasSettings old.wal.files settings
   pub read : ReadWal
-  pub read_is : IsReadWal settings.segment wal.files read
-  pub written : new_out.files ≡ option_map (λ m. files_of settings.relseg read.store) out.files
-  pub end : done.end ≡ read.tip.end
-  pub forks : done.forks ≡ len read.store
-  pub pages : done.pages ≡ page_count read.store
+  pub read_is : IsReadWal settings.segment old.wal.files read
+  pub written : new.out.files ≡ option_map (λ m. files_of settings.relseg read.store) old.out.files
+  pub end : report.end ≡ read.tip.end
+  pub forks : report.forks ≡ len read.store
+  pub pages : report.pages ≡ page_count read.store
 
 -- an area that held a file is as it was
 abbrev pub KeepsFull : AreaState → AreaState → Type 0
-KeepsFull old new = IfSome old.files (λ m. m ≢ empty → new.files ≡ old.files)
+KeepsFull old new = IfSome old.files (λ m. m ≢ empty → Keeps old new)
 
--- why a replay was refused. A full output and a WAL that can't be read leave the output as it was; of one that was empty a failed device or want of memory says nothing
-abbrev pub ReplayCause : AreaState → AreaState → AreaState → AreaState → ReplayFault → Type 0
-ReplayCause wal new_wal out new_out replay.NotEmpty = IsFull out × (new_out.files ≡ out.files)
-ReplayCause wal new_wal out new_out (replay.Wal fault) = IsClear out × ((new_out.files ≡ out.files) × WalCause wal.files wal.faults new_wal.faults fault)
-ReplayCause wal new_wal out new_out (replay.Out area.Failed) = Rose out.faults new_out.faults × KeepsFull out new_out
-ReplayCause wal new_wal out new_out (replay.Out area.NoMemory) = KeepsFull out new_out
+-- the WAL can't be read
+abbrev pub IsUnreadable : AreaState → AreaState → WalFault → Type 0
+IsUnreadable old new why = WalCause old.files old.faults new.faults why
 
-abbrev pub ReplayAnswer : AreaState → AreaState → AreaState → AreaState → Result Replayed ReplayFault → Type 0
-ReplayAnswer wal new_wal out new_out (Ok done) = ReplayDone wal out new_out done
-ReplayAnswer wal new_wal out new_out (Err fault) = ReplayCause wal new_wal out new_out fault
+-- why `replay` comes to its answer, where an area that isn't handed out means this. A full output
+-- and a WAL that can't be read leave the output as it was; of one that was empty a failed device or
+-- want of memory says nothing
+abbrev pub ReplayAnswer : Untakens → ReplayAreas → ReplayAreas → ReplayResult → Type 0
+ReplayAnswer Untaken old new (Ok report) = ReplayDone old new report
+ReplayAnswer Untaken old new (Err (replay.Site fault)) = Untaken fault
+ReplayAnswer Untaken old new (Err replay.NotEmpty) = IsFull old.out × Keeps old.out new.out
+ReplayAnswer Untaken old new (Err (replay.Wal why)) =
+    IsClear old.out × Keeps old.out new.out × IsUnreadable old.wal new.wal why
+ReplayAnswer Untaken old new (Err (replay.Out why)) =
+    AreaFails old.out new.out why × KeepsFull old.out new.out
+
+-- the same of the whole outside, to this area
+abbrev pub ReplayRan : List ℕ → Outside → Outside → ReplayResult → Type 0
+ReplayRan out old new r =
+    ReplayAnswer (IsUntaken (replay_asks out) old new)
+    (replay_areas out old) (replay_areas out new) r
+
+-- `replay` to an output of this name
+abbrev pub ReplayDoes : List ℕ → Outside → Outside → ReplayResult → Type 0
+ReplayDoes name old new r =
+    Works (output_name name ∷ []) old new × ReplayRan (output_name name) old new r
+
+-- ---- what it prints, where this is the output's area, and its status
+
+abbrev pub replay_fault_text : List ℕ → ReplayFault → List ℕ
+replay_fault_text out (replay.Site fault) = take_text fault
+replay_fault_text out replay.NotEmpty = full_text out
+replay_fault_text out (replay.Wal why) = wal_text why
+replay_fault_text out (replay.Out why) = area_text out why
+
+-- how many forks and pages there are
+abbrev pub counts_text : ReplayReport → List ℕ
+counts_text report = decimal report.forks ++ (32 ∷ decimal report.pages)
+
+abbrev pub replayed_line : ReplayReport → List ℕ
+replayed_line report =
+    codes "replayed " ++ (lsn_bytes report.end.0 ++ (32 ∷ (counts_text report ++ (10 ∷ []))))
+
+abbrev pub replay_text : List ℕ → ReplayResult → List ℕ
+replay_text out (Ok report) = replayed_line report
+replay_text out (Err fault) = refused_line (replay_fault_text out fault)
+
+abbrev pub replay_status : ReplayResult → Status
+replay_status (Ok report) = status.Done
+replay_status (Err (replay.Site fault)) = area_status fault.why
+replay_status (Err replay.NotEmpty) = status.Refused
+replay_status (Err (replay.Wal why)) = wal_status why
+replay_status (Err (replay.Out why)) = area_status why

@@ -1,21 +1,22 @@
--- What running a script answers and leaves, over the area of the WAL.
-use Rattle.std.specs.Prelude.{◌≡◌, ℕ, ◌-◌, ◌<◌, ◌⊎◌, Bool, false, List, [], ◌∷◌, ◌++◌, map, length, Option, Some, Result, Ok, Err, IfSome, IfOk}
+-- `run`: what running a script does, prints and ends with.
+use Rattle.std.specs.Prelude.{◌≡◌, ℕ, ◌+◌, ◌-◌, ◌<◌, ◌≤◌, ◌⊎◌, false, List, [], ◌∷◌, ◌++◌, map, length, Option, Some, Result, Ok, Err, IfSome, IfOk, codes}
 use Rattle.std.specs.Option.{option_map}
 use Rattle.std.specs.FinMap.{empty}
-use Rattle.lsn_core.specs.Causes.{Rose}
+use Rattle.std.specs.Fmt.{decimal}
 use Rattle.lsn_core.specs.Files.{Files}
 use Rattle.lsn_core.specs.Store.{Store}
 use Rattle.lsn_core.specs.Names.{segment_name_bytes}
 use Rattle.lsn_core.specs.declared.lsn.Lsn.{Lsn}
 use Rattle.lsn_core.specs.declared.segment.Settings.{Settings}
 use Rattle.lsn_core.specs.declared.fault.AreaFault.{AreaFault}
-use Rattle.lsn_core.specs.declared.fault.AreaFault.TheVariants as area
+use Rattle.lsn_core.specs.declared.fault.AreaFault.TheVariants.{NoMemory}
 use Rattle.vault.specs.Area.{after_write, IsTorn, Related}
 use Rattle.vault.specs.Site.{AreaState}
+use Rattle.vault.specs.Lending.{Names}
 use Rattle.wal_record.specs.declared.record.Record.{Record}
 use Rattle.wal_record.specs.Places.{origin}
-use Rattle.wal_writer.specs.Log.{Log}
 use Rattle.wal_reader.specs.Archive.{IsArchive}
+use Rattle.wal_reader.specs.declared.fault.WalFault.{WalFault}
 use Rattle.wal_reader.specs.Appended.{written_entries}
 use Rattle.history.specs.Entry.{Entry}
 use Rattle.history.specs.Whole.{entry_of, apply_all}
@@ -24,10 +25,39 @@ use Rattle.recovery.specs.Reading.{HasSettings}
 use Rattle.shared_store.specs.Begin.{BeginCause}
 use Rattle.crew.specs.declared.script.Task.{Task}
 use Rattle.crew.specs.declared.script.Line.{Line}
+use Rattle.crew.specs.declared.why.Why.{Why}
+use Rattle.crew.specs.Reasons.{why_bytes}
+use Rattle.crew.specs.Script.{IsScript, IsRefusedAt}
 use Rattle.crew.specs.Run.{Progress, progress, Answered, AllOwn}
-use Rattle.pgbackup_cli.specs.declared.run.Report.{Report}
+use Rattle.pgbackup_cli.specs.declared.answer.Status.{Status}
+use Rattle.pgbackup_cli.specs.declared.answer.Status.TheVariants as status
+use Rattle.pgbackup_cli.specs.declared.run.RunReport.{RunReport}
 use Rattle.pgbackup_cli.specs.declared.run.RunFault.{RunFault}
 use Rattle.pgbackup_cli.specs.declared.run.RunFault.TheVariants as run
+use Rattle.pgbackup_cli.specs.Areas.{wal_name, Keeps, AreaCause}
+use Rattle.pgbackup_cli.specs.Outside.{Outside, Works, LeavesSite, IsUntaken}
+use Rattle.pgbackup_cli.specs.Input.{script_limit, IsInput, TakesAtMost}
+use Rattle.pgbackup_cli.specs.Faults.{refused_line, area_text, take_text, wal_text, memory_text, area_status, wal_status}
+use Rattle.pgbackup_cli.specs.Report.{report_text}
+
+abbrev pub RunResult : Type 0
+RunResult = Result RunReport RunFault
+
+-- ---- the script
+
+-- the input was read, and it is a script that is taken
+pub record HasScript (left now : Option (List ℕ)) (script : List Task) : Type 0 where
+  pub bytes : List ℕ
+  pub input : IsInput bytes left now
+  pub script_is : IsScript bytes script
+
+-- the input was read, and this line is the first that is refused
+pub record HasRefusedLine (left now : Option (List ℕ)) (line : ℕ) (why : Why) : Type 0 where
+  pub bytes : List ℕ
+  pub input : IsInput bytes left now
+  pub refused : IsRefusedAt bytes line why
+
+-- ---- what the run of a script comes to, over the area of the WAL
 
 -- the lines of a script's worker
 abbrev pub lines_in : List Task → List Line
@@ -36,24 +66,20 @@ lines_in (task ∷ tasks) = task.lines
 
 -- segment 1 has these bytes from a place on, which may be none, and no other file changed
 abbrev pub IsWrittenAt : ℕ → ℕ → List ℕ → Option Files → Option Files → Type 0
-IsWrittenAt mib place bytes old new = (new ≡ option_map (after_write (segment_name_bytes 1 mib) (place - origin mib) bytes) old) ⊎ ((bytes ≡ []) × (new ≡ old))
+IsWrittenAt mib place bytes old new =
+    (new ≡ option_map (after_write (segment_name_bytes 1 mib) (place - origin mib) bytes) old) ⊎ ((bytes ≡ []) × (new ≡ old))
 
 -- no more than these bytes was written there: only they and what lies past the old end of the file may have changed
 abbrev pub IsTornAt : ℕ → ℕ → List ℕ → Option Files → Option Files → Type 0
 IsTornAt mib place bytes old new = Related (IsTorn (segment_name_bytes 1 mib) (place - origin mib) (length bytes)) old new
 
--- what the last flush of a run answers, where the run stopped or didn't
-abbrev pub FlushAnswer : Bool → Log → Option Files → ℕ → Option Files → ℕ → Result Lsn AreaFault → Type 0
-FlushAnswer stopped log old before new now (Ok end) = (stopped ≡ false) × ((end.0 ≡ log.end) × IsWrittenAt log.mib log.flushed log.pending old new)
-FlushAnswer stopped log old before new now (Err area.Failed) = (stopped ≡ false) × Rose before now
-FlushAnswer stopped log old before new now (Err area.NoMemory) = Unit {0}
-
 -- how a run ended: no line was left out, and the WAL has all entries of the history up to its end, which is told; or the device
 -- failed, or memory ran out
 abbrev pub IsEnding : ℕ → List Record → Progress → AreaState → AreaState → Result Lsn AreaFault → Type 0
-IsEnding mib entries last wal now (Ok end) = (last.stopped ≡ false) × IfSome now.files (λ m. IsArchive mib m (entries ++ wal_of mib last.history) end.0)
-IsEnding mib entries last wal now (Err area.Failed) = (last.stopped ≡ false) × Rose wal.faults now.faults
-IsEnding mib entries last wal now (Err area.NoMemory) = Unit {0}
+IsEnding mib entries last old new (Ok end) =
+    (last.stopped ≡ false) × IfSome new.files (λ m. IsArchive mib m (entries ++ wal_of mib last.history) end.0)
+IsEnding mib entries last old new (Err why) =
+    ((last.stopped ≡ false) ⊎ (why ≡ NoMemory)) × AreaCause old.faults new.faults why
 
 -- the bytes of the entries that a run made, each behind the one before
 abbrev pub own_bytes : ℕ → List Entry → List ℕ
@@ -62,12 +88,12 @@ own_bytes mib history = written_entries (wal_of mib history)
 -- a script was run on a WAL that has an entry: each line's answer is the one that the history gives, and the entries before are a
 -- beginning of the history. The history's own entries are written where the WAL ended; where that failed, in part. What the records
 -- of all these make is what the history makes
-pub record RunDone (wal now : AreaState) (report : Report) : Type 0 where
+pub record RunDone (old new : AreaState) (report : RunReport) : Type 0 where
   pub settings : Settings
-  pub given : HasSettings wal.files settings
+  pub given : HasSettings old.files settings
   pub entries : List Record
   pub some : 0 < length entries
-  pub archive : IfSome wal.files (λ m. IsArchive settings.segment m entries report.opened.0)
+  pub archive : IfSome old.files (λ m. IsArchive settings.segment m entries report.opened.0)
   pub last : Progress
   pub answered : Answered settings.segment (progress (map entry_of entries) 0 false) (lines_in report.script) report.answers last
   pub own : List Entry
@@ -75,16 +101,75 @@ pub record RunDone (wal now : AreaState) (report : Report) : Type 0 where
   pub own_is : AllOwn own
   pub store : Store
   pub state : apply_all empty last.history ≡ Some store
-  pub replayed : IfSome wal.files (λ m. apply_all empty (map entry_of (entries ++ wal_of settings.segment last.history)) ≡ Some store)
-  pub left : IsTornAt settings.segment report.opened.0 (own_bytes settings.segment last.history) wal.files now.files
-  pub written : IfOk report.ending (λ end. IsWrittenAt settings.segment report.opened.0 (own_bytes settings.segment last.history) wal.files now.files)
-  pub ending : IsEnding settings.segment entries last wal now report.ending
+  pub replayed : IfSome old.files (λ m. apply_all empty (map entry_of (entries ++ wal_of settings.segment last.history)) ≡ Some store)
+  pub left : IsTornAt settings.segment report.opened.0 (own_bytes settings.segment last.history) old.files new.files
+  pub written : IfOk report.ending (λ end. IsWrittenAt settings.segment report.opened.0 (own_bytes settings.segment last.history) old.files new.files)
+  pub ending : IsEnding settings.segment entries last old new report.ending
 
--- why a script was not run: the WAL can't be read or has no entry, or memory ran out. The WAL is as it was
-abbrev pub RunCause : AreaState → AreaState → RunFault → Type 0
-RunCause wal now (run.Wal why) = (now.files ≡ wal.files) × BeginCause wal.files wal.faults now.faults why
-RunCause wal now run.NoMemory = now.files ≡ wal.files
+-- ---- what `run` comes to
 
-abbrev pub RunAnswer : AreaState → AreaState → Result Report RunFault → Type 0
-RunAnswer wal now (Ok report) = RunDone wal now report
-RunAnswer wal now (Err fault) = RunCause wal now fault
+-- the areas that it asks for, which it may change
+abbrev pub run_asks : Names
+run_asks = wal_name ∷ []
+
+-- a WAL that can't be run on is as it was
+pub record IsUnread (old new : AreaState) (why : WalFault) : Type 0 where
+  pub same : Keeps old new
+  pub cause : BeginCause old.files old.faults new.faults why
+
+-- why `run` comes to its answer: a script was run; or the input failed, a line is refused, memory
+-- ran out, or the WAL wasn't handed out or can't be run on
+abbrev pub RunAnswer : Outside → Outside → RunResult → Type 0
+RunAnswer old new (Ok report) =
+    HasScript old.left new.left report.script
+    × RunDone (old.areas wal_name) (new.areas wal_name) report
+RunAnswer old new (Err (run.Input why)) =
+    LeavesSite old new × AreaCause old.reads new.reads why
+RunAnswer old new (Err (run.Script line why)) =
+    LeavesSite old new × HasRefusedLine old.left new.left line why
+RunAnswer old new (Err run.NoMemory) = LeavesSite old new
+RunAnswer old new (Err (run.Site fault)) =
+    (script : List Task)
+    × HasScript old.left new.left script
+    × IsUntaken run_asks old new fault
+RunAnswer old new (Err (run.Wal why)) =
+    (script : List Task)
+    × HasScript old.left new.left script
+    × IsUnread (old.areas wal_name) (new.areas wal_name) why
+
+-- `run`. Of the input no more is taken than one byte more than a script may have
+abbrev pub RunDoes : Outside → Outside → RunResult → Type 0
+RunDoes old new r =
+    Works run_asks old new
+    × (old.reads ≤ new.reads)
+    × TakesAtMost (script_limit + 1) old.left new.left
+    × RunAnswer old new r
+
+-- ---- what it prints, and its status
+
+abbrev pub script_text : ℕ → Why → List ℕ
+script_text line why = codes "2 ScriptLine " ++ (decimal line ++ (32 ∷ why_bytes why))
+
+abbrev pub run_fault_text : RunFault → List ℕ
+run_fault_text (run.Input why) = area_text (codes "input") why
+run_fault_text (run.Script line why) = script_text line why
+run_fault_text run.NoMemory = memory_text
+run_fault_text (run.Site fault) = take_text fault
+run_fault_text (run.Wal why) = wal_text why
+
+abbrev pub run_text : RunResult → List ℕ
+run_text (Ok report) = report_text report
+run_text (Err fault) = refused_line (run_fault_text fault)
+
+-- the status of a run by how it left the WAL
+abbrev pub ending_status : Result Lsn AreaFault → Status
+ending_status (Ok end) = status.Done
+ending_status (Err why) = area_status why
+
+abbrev pub run_status : RunResult → Status
+run_status (Ok report) = ending_status report.ending
+run_status (Err (run.Input why)) = area_status why
+run_status (Err (run.Script line why)) = status.Usage
+run_status (Err run.NoMemory) = status.Memory
+run_status (Err (run.Site fault)) = area_status fault.why
+run_status (Err (run.Wal why)) = wal_status why

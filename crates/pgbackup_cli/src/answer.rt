@@ -1,64 +1,43 @@
-//! What the program comes to: its outputs, its faults and its exit status.
+//! What the program comes to, the lines that it prints for that, and its exit status.
 
-ghost use Rattle.std.specs.Prelude.{◌≡◌};
-ghost use Rattle.pgbackup_cli.specs.declared.answer.Fault.TheVariants as fault;
-ghost use Rattle.pgbackup_cli.specs.Answers.{area_status, wal_status, init_status, run_status, replay_status, fault_status, output_status, status_of, code_of};
+ghost use Rattle.std.specs.Prelude.{◌≡◌, IfOk};
+ghost use Rattle.pgbackup_cli.specs.Words.{asked};
+ghost use Rattle.pgbackup_cli.specs.Top.{output_asked, text_of, answer_status, status_of, code_of};
 
-use crate::init::InitFault;
-use crate::replay::{ReplayFault, Replayed};
-use crate::run::{Report, RunFault};
-use crew::Why;
-use lsn_core::{AreaFault, Lsn, NoMemory};
-use vault::TakeFault;
-use wal_reader::WalFault;
+use crate::faults::{area_status, refused_line};
+use crate::init::{InitFault, init_status, init_text};
+use crate::names::output_name;
+use crate::replay::{ReplayFault, ReplayReport, replay_status, replay_text};
+use crate::run::{RunFault, RunReport, run_status, run_text};
+use crate::words::{Command, command_of};
+use lsn_core::{AreaFault, Lsn, NoMemory, Text};
+use std::alloc::Global;
 
-/// What a command did.
+/// What the program comes to: one variant a command, and one where the words aren't taken.
 #[derive(Drop)]
-pub enum Output {
-    /// A new store was made, whose WAL ends there.
-    Initialised(Lsn),
-    /// A script was run.
-    Ran(Report),
-    /// The WAL was replayed.
-    Replayed(Replayed),
-}
-
-/// Why the program refused.
-#[derive(Clone, Copy, Debug, PartialEq, Eq)]
-pub enum Fault {
+pub enum Answer {
     /// The words aren't taken.
     Usage,
-    /// This line of the script is refused.
-    Script(u32, Why),
-    /// The input failed, or memory ran out.
-    Input(AreaFault),
-    /// The site didn't hand out an area: the first is that of the WAL.
-    Site(TakeFault),
-    /// No new store was made.
-    Init(InitFault),
-    /// The script was not run.
-    Run(RunFault),
-    /// The replay was refused.
-    Replay(ReplayFault),
-    /// Memory ran out.
-    NoMemory,
-}
-
-impl From<NoMemory> for Fault {
-    ghost from_gives = { λ _ e. e ≡ fault.NoMemory };
-
-    fn from(_: NoMemory) -> Self {
-        Fault::NoMemory
-    }
+    /// A new store was made, whose WAL ends there.
+    Init(Result<Lsn, InitFault>),
+    /// A script was run.
+    Run(Result<RunReport, RunFault>),
+    /// The WAL was replayed.
+    Replay(Result<ReplayReport, ReplayFault>),
 }
 
 /// The exit status.
 #[derive(Clone, Copy, Debug, PartialEq, Eq)]
 pub enum Status {
+    /// All that was asked is done.
     Done,
+    /// The command was refused by what it found.
     Refused,
+    /// The words or the script aren't taken.
     Usage,
+    /// A device failed.
     Device,
+    /// Memory ran out.
     Memory,
 }
 
@@ -77,90 +56,46 @@ impl Status {
     }
 }
 
-fn area_status(fault: AreaFault) -> Status
-    ensures { result ≡ area_status fault }
+/// The area of the output that is asked for, empty where none is.
+fn output_asked(alloc: Global, words: &[Text]) -> Result<Text, NoMemory>
+    ensures { IfOk result (λ area. area ≡ output_asked (asked words.now)) }
 {
-    match fault {
-        AreaFault::Failed => Status::Device,
-        AreaFault::NoMemory => Status::Memory,
+    match command_of(words) {
+        Some(Command::Replay(name)) => output_name(alloc, name),
+        Some(Command::Init(_) | Command::Run) | None => Ok(Text::from_vec(Vec::new(alloc))),
     }
 }
 
-fn wal_status(fault: WalFault) -> Status
-    ensures { result ≡ wal_status fault }
+/// The lines of an answer to what words ask.
+pub fn text_of(alloc: Global, words: &[Text], answer: &Answer) -> Result<Text, NoMemory>
+    ensures { IfOk result (λ text. text ≡ text_of (asked words.now) answer.now) }
 {
-    match fault {
-        WalFault::Damaged(_, _) | WalFault::SettingsDamaged | WalFault::NotInit => Status::Refused,
-        WalFault::Failed => Status::Device,
-        WalFault::NoMemory => Status::Memory,
+    match answer {
+        Answer::Usage => refused_line(alloc, b"1 Usage"),
+        Answer::Init(came) => init_text(alloc, came),
+        Answer::Run(came) => run_text(alloc, came),
+        Answer::Replay(came) => replay_text(alloc, output_asked(alloc, words)?.as_bytes(), came),
     }
 }
 
-fn init_status(fault: InitFault) -> Status
-    ensures { result ≡ init_status fault }
+fn answer_status(answer: &Answer) -> Status
+    ensures { result ≡ answer_status answer.now }
 {
-    match fault {
-        InitFault::AlreadyInit | InitFault::SumsNotEmpty => Status::Refused,
-        InitFault::Wal(why) | InitFault::Sums(why) => area_status(why),
-    }
-}
-
-fn run_status(fault: RunFault) -> Status
-    ensures { result ≡ run_status fault }
-{
-    match fault {
-        RunFault::Wal(why) => wal_status(why),
-        RunFault::NoMemory => Status::Memory,
-    }
-}
-
-fn replay_status(fault: ReplayFault) -> Status
-    ensures { result ≡ replay_status fault }
-{
-    match fault {
-        ReplayFault::NotEmpty => Status::Refused,
-        ReplayFault::Wal(why) => wal_status(why),
-        ReplayFault::Out(why) => area_status(why),
-    }
-}
-
-fn fault_status(fault: Fault) -> Status
-    ensures { result ≡ fault_status fault }
-{
-    match fault {
-        Fault::Usage | Fault::Script(_, _) => Status::Usage,
-        Fault::Input(why) => area_status(why),
-        Fault::Site(TakeFault::First(why) | TakeFault::Second(why)) => area_status(why),
-        Fault::Init(why) => init_status(why),
-        Fault::Run(why) => run_status(why),
-        Fault::Replay(why) => replay_status(why),
-        Fault::NoMemory => Status::Memory,
-    }
-}
-
-fn output_status(done: &Output) -> Status
-    ensures { result ≡ output_status done.now }
-{
-    match done {
-        Output::Initialised(_) | Output::Replayed(_) => Status::Done,
-        Output::Ran(report) => match report.ending {
-            Ok(_) => Status::Done,
-            Err(why) => area_status(why),
-        },
+    match answer {
+        Answer::Usage => Status::Usage,
+        Answer::Init(came) => init_status(came),
+        Answer::Run(came) => run_status(came),
+        Answer::Replay(came) => replay_status(came),
     }
 }
 
 /// The status of an answer, and of its printing: a sink that fails gives `Device` whatever else
 /// happened.
-pub fn exit_status(answer: &Result<Output, Fault>, telling: Result<(), AreaFault>) -> Status
+pub fn exit_status(answer: &Answer, telling: Result<(), AreaFault>) -> Status
     ensures { result ≡ status_of answer.now telling }
 {
     match telling {
-        Err(AreaFault::Failed) => Status::Device,
-        Err(AreaFault::NoMemory) => Status::Memory,
-        Ok(()) => match answer {
-            Ok(done) => output_status(done),
-            Err(fault) => fault_status(*fault),
-        },
+        Ok(()) => answer_status(answer),
+        Err(why) => area_status(why),
     }
 }

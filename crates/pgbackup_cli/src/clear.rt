@@ -1,8 +1,8 @@
 //! Whether an area holds a file.
 
-ghost use Rattle.std.specs.Prelude.{◌≡◌, ◌↔◌, [], IsTrue, IfOk, IfSome};
-ghost use Rattle.std.specs.FinMap.{empty};
+ghost use Rattle.std.specs.Prelude.{◌≡◌, ◌↔◌, [], IsTrue, IfOk};
 ghost use Rattle.lsn_core.specs.Causes.{HasCause};
+ghost use Rattle.pgbackup_cli.specs.Inner.{TellsClear};
 
 use lsn_core::{AreaFault, Text};
 use std::alloc::Global;
@@ -10,7 +10,7 @@ use vault::Vault;
 
 /// Whether an area holds no file.
 pub fn is_clear<V: Vault>(alloc: Global, area: &mut V) -> Result<bool, AreaFault>
-    ensures clear { IfOk result (λ clear. IfSome (V.files area.old) (λ m. IsTrue clear ↔ (m ≡ empty))) }
+    ensures clear { IfOk result (TellsClear (V.files area.old)) }
     ensures same { V.files area.new ≡ V.files area.old }
     ensures cause { HasCause (V.faults area.old) (V.faults area.new) result }
 {

@@ -1,34 +1,36 @@
-//! A new store: its settings, and a WAL of one entry.
+//! `init`: a new store, of its settings and a WAL of one entry.
 
-ghost use Rattle.std.specs.Prelude.{◌≡◌, ◌≤◌, [], IfOk, IfSome, OnOk, OnErr, codes};
-ghost use Rattle.std.specs.Option.{option_map};
-ghost use Rattle.std.specs.FinMap.{empty, insert};
-ghost use Rattle.lsn_core.specs.Causes.{HasCause};
-ghost use Rattle.lsn_core.specs.Names.{segment_name_bytes};
+ghost use Rattle.std.specs.Prelude.{◌≡◌, ◌≤◌, ◌⊎◌, None, IfOk, IfSome, IfErr, OnOk};
 ghost use Rattle.lsn_core.specs.Segment.{IsSegmentMib};
-ghost use Rattle.vault.specs.Area.{bytes_of, after_write, Related};
-ghost use Rattle.vault.specs.Site.{at_home};
-ghost use Rattle.wal_record.specs.Places.{origin, first_start};
-ghost use Rattle.wal_record.specs.declared.record.Kind.TheVariants.{Shutdown};
-ghost use Rattle.wal_reader.specs.Settings.{settings_text};
-ghost use Rattle.wal_writer.specs.Log.{next_record, appended};
-ghost use Rattle.wal_writer.specs.Answers.{after_flush};
-ghost use Rattle.pgbackup_cli.specs.Init.{first_entry, first_file, new_wal, HoldsAtMost, InitAnswer, ClearAnswer, KeepsOthers};
+ghost use Rattle.lsn_core.specs.declared.fault.AreaFault.TheVariants as area;
+ghost use Rattle.vault.specs.Site.{AllHome, state_in};
+ghost use Rattle.vault.specs.Lending.{WritesAmong};
+ghost use Rattle.pgbackup_cli.specs.declared.init.InitFault.TheVariants as init;
+ghost use Rattle.pgbackup_cli.specs.Areas.{IsClear};
+ghost use Rattle.pgbackup_cli.specs.Options.{IsInRange};
+ghost use Rattle.pgbackup_cli.specs.Outside.{Works};
+ghost use Rattle.pgbackup_cli.specs.Init.{new_settings, init_writes, InitRan, InitDoes, init_fault_text, init_text, init_status};
+ghost use Rattle.pgbackup_cli.specs.Inner.{AnswersInit, RefusesInit, of_site, of_site_clock};
 
+use crate::answer::Status;
 use crate::clear::is_clear;
-use lsn_core::{AreaFault, Lsn, SegSize, Settings, WalTip};
+use crate::faults::{area_status, area_text, full_text, joined, refused_line, take_text};
+use crate::names::names_of;
+use crate::new_wal::write_wal;
+use crate::options::InitOptions;
+use lsn_core::{AreaFault, Lsn, NoMemory, SegSize, Settings, Text, lsn_text};
 use std::alloc::Global;
-use vault::Vault;
-use wal_reader::settings_text;
-use wal_record::Kind;
-use wal_writer::WalState;
+use vault::{Clock, Held, Site, TakeFault, Vault, give_two, take_all, two_of};
 
-/// How many bytes the head of a segment's first page has.
-const HEAD: u64 = 40;
+/// How many blocks of a fork go into a segment of its files where nothing else is said (PostgreSQL
+/// manual, configure --with-segsize).
+const RELSEG: u32 = 131_072;
 
 /// Why a new store was not made.
-#[derive(Clone, Copy, Debug, PartialEq, Eq)]
+#[derive(Debug, Drop)]
 pub enum InitFault {
+    /// The site didn't hand out an area.
+    Site(TakeFault),
     /// The area of the WAL holds a file.
     AlreadyInit,
     /// The area of the summaries holds a file.
@@ -39,9 +41,53 @@ pub enum InitFault {
     Sums(AreaFault),
 }
 
-/// Whether both areas hold no file.
+impl From<TakeFault> for InitFault {
+    ghost from_gives = { λ fault e. e ≡ init.Site fault };
+
+    fn from(fault: TakeFault) -> Self {
+        InitFault::Site(fault)
+    }
+}
+
+impl From<NoMemory> for InitFault {
+    ghost from_gives = { λ _ e. e ≡ init.Wal area.NoMemory };
+
+    fn from(_: NoMemory) -> Self {
+        InitFault::Wal(AreaFault::NoMemory)
+    }
+}
+
+/// The settings of a new store at a moment.
+fn settings_of(options: &InitOptions, moment: u64) -> Settings
+    requires { IsInRange options.now }
+    ensures settings { result ≡ new_settings options.now moment }
+    ensures segment { IsSegmentMib result.segment }
+    ensures least { 1 ≤ result.relseg }
+    ensures most { result.relseg ≤ 131072 }
+{
+    Settings {
+        segment: options.segment.unwrap_or(SegSize::standard()),
+        relseg: options.relseg.unwrap_or(RELSEG),
+        system: options.system.unwrap_or((moment & 0xffff_ffff) << 32),
+    }
+}
+
+/// The moment that the system identifier is made of. A clock is asked only where none is given.
+fn moment_of<C: Clock>(options: &InitOptions, clock: &mut C) -> u64
+    ensures told { IfSome (C.moment clock.old) (λ told. options.now.system ≡ None → result ≡ told) }
+    ensures clock { (options.now.system ≡ None) ⊎ (clock.new ≡ clock.old) }
+{
+    match options.system {
+        Some(_) => 0,
+        None => clock.now(),
+    }
+}
+
+/// Whether both areas hold no file. The refusals are those of a store with whatever settings.
 fn check_clear<V: Vault>(alloc: Global, wal: &mut V, sums: &mut V) -> Result<(), InitFault>
-    ensures answer { ClearAnswer (at_home (V.files wal.old) (V.faults wal.old)) (at_home (V.files wal.new) (V.faults wal.new)) (at_home (V.files sums.old) (V.faults sums.old)) (at_home (V.files sums.new) (V.faults sums.new)) result }
+    ensures wal_clear { OnOk result (IsClear (state_in V.Vault wal.old)) }
+    ensures sums_clear { OnOk result (IsClear (state_in V.Vault sums.old)) }
+    ensures refused { IfErr result (RefusesInit V.Vault wal.old sums.old wal.new sums.new) }
     ensures wal { V.files wal.new ≡ V.files wal.old }
     ensures sums { V.files sums.new ≡ V.files sums.old }
     ensures wal_later { V.faults wal.old ≤ V.faults wal.new }
@@ -59,91 +105,9 @@ fn check_clear<V: Vault>(alloc: Global, wal: &mut V, sums: &mut V) -> Result<(),
     }
 }
 
-/// Syncs the area, and writes the file `settings`.
-fn write_settings<V: Vault>(
-    alloc: Global,
-    wal: &mut V,
-    settings: &Settings,
-) -> Result<(), AreaFault>
-    ensures written { OnOk result (V.files wal.new ≡ option_map (after_write (codes "settings") 0 (settings_text settings.now.segment settings.now.relseg)) (V.files wal.old)) }
-    ensures left { OnErr result (Related (KeepsOthers (codes "settings")) (V.files wal.old) (V.files wal.new)) }
-    ensures cause { HasCause (V.faults wal.old) (V.faults wal.new) result }
-{
-    let text = settings_text(alloc, settings.segment, settings.relseg)?;
-    wal.sync()?;
-    wal.write_at(b"settings", 0, text.as_bytes())
-}
-
-/// Where the first entry of a WAL starts, behind the head of the first page.
-fn first_start(segment: SegSize) -> Lsn
-    ensures { result.0 ≡ first_start segment }
-{
-    Lsn(segment.bytes() + HEAD)
-}
-
-/// Where a WAL without an entry ends.
-fn first_tip(segment: SegSize) -> WalTip
-    ensures end { result.end.0 ≡ origin segment }
-    ensures prev { result.prev.0 ≡ 0 }
-{
-    WalTip {
-        end: Lsn(segment.bytes()),
-        prev: Lsn(0),
-    }
-}
-
-/// Appends a shutdown checkpoint, and flushes it. The answer is where it ends.
-fn write_checkpoint<V: Vault>(
-    alloc: Global,
-    wal: &mut WalState<V>,
-    redo: Lsn,
-) -> Result<Lsn, AreaFault>
-    ensures end { IfOk result (λ end. end.0 ≡ (next_record wal.old.tail (Shutdown redo)).end.0) }
-    ensures written { OnOk result (V.files wal.new.area ≡ option_map (after_flush (appended wal.old.tail (next_record wal.old.tail (Shutdown redo))) (next_record wal.old.tail (Shutdown redo)).end.0) (V.files wal.old.area)) }
-    ensures left { OnErr result (Related (KeepsOthers (segment_name_bytes 1 wal.old.tail.mib)) (V.files wal.old.area) (V.files wal.new.area)) }
-    ensures cause { HasCause (V.faults wal.old.area) (V.faults wal.new.area) result }
-{
-    let Ok(_) = wal.append(alloc, Kind::Shutdown(redo)) else {
-        return Err(AreaFault::NoMemory);
-    };
-    let end = wal.end();
-    wal.flush_to(alloc, end)?;
-    Ok(end)
-}
-
-/// Writes the first entry of a WAL, where the file of segment 1 isn't there or is empty: a shutdown
-/// checkpoint whose redo point is its own start.
-fn start_wal<V: Vault>(alloc: Global, area: V, settings: Settings) -> (V, Result<Lsn, AreaFault>)
-    requires { IfSome (V.files area) (λ m. bytes_of m (segment_name_bytes 1 settings.segment) ≡ []) }
-    ensures end { IfOk result.1 (λ end. end.0 ≡ (first_entry settings.segment).end.0) }
-    ensures written { OnOk result.1 (V.files result.0 ≡ option_map (λ m. insert m (segment_name_bytes 1 settings.segment) (first_file settings)) (V.files area)) }
-    ensures left { OnErr result.1 (Related (KeepsOthers (segment_name_bytes 1 settings.segment)) (V.files area) (V.files result.0)) }
-    ensures cause { HasCause (V.faults area) (V.faults result.0) result.1 }
-{
-    let redo = first_start(settings.segment);
-    let mut wal = WalState::attach(alloc, area, settings, first_tip(settings.segment));
-    let answer = write_checkpoint(alloc, &mut wal, redo);
-    (wal.detach(), answer)
-}
-
-/// Writes the settings and the first entry of a WAL into an area that holds no file.
-fn write_wal<V: Vault>(alloc: Global, area: V, settings: Settings) -> (V, Result<Lsn, AreaFault>)
-    requires { IfSome (V.files area) (λ m. m ≡ empty) }
-    ensures end { IfOk result.1 (λ end. end.0 ≡ (first_entry settings.segment).end.0) }
-    ensures written { OnOk result.1 (V.files result.0 ≡ option_map (λ m. new_wal settings) (V.files area)) }
-    ensures left { OnErr result.1 (HoldsAtMost settings (V.files result.0)) }
-    ensures cause { HasCause (V.faults area) (V.faults result.0) result.1 }
-{
-    let mut area = area;
-    if let Err(fault) = write_settings(alloc, &mut area, &settings) {
-        return (area, Err(fault));
-    }
-    start_wal(alloc, area, settings)
-}
-
 /// Makes a new store where neither area holds a file: it syncs the area of the WAL, writes the
 /// settings and the first entry, and syncs again. The answer is where that entry ends.
-pub fn init_areas<V: Vault>(
+fn init_areas<V: Vault>(
     alloc: Global,
     wal: V,
     sums: &mut V,
@@ -152,7 +116,7 @@ pub fn init_areas<V: Vault>(
     requires segment { IsSegmentMib settings.segment }
     requires least { 1 ≤ settings.relseg }
     requires most { settings.relseg ≤ 131072 }
-    ensures answer { InitAnswer settings (at_home (V.files wal) (V.faults wal)) (at_home (V.files result.0) (V.faults result.0)) (at_home (V.files sums.old) (V.faults sums.old)) (at_home (V.files sums.new) (V.faults sums.new)) result.1 }
+    ensures answer { AnswersInit V.Vault settings wal sums.old result.0 sums.new result.1 }
     ensures sums { V.files sums.new ≡ V.files sums.old }
     ensures wal_later { V.faults wal ≤ V.faults result.0 }
     ensures sums_later { V.faults sums.old ≤ V.faults sums.new }
@@ -165,5 +129,77 @@ pub fn init_areas<V: Vault>(
     match answer {
         Ok(end) => (wal, Ok(end)),
         Err(fault) => (wal, Err(InitFault::Wal(fault))),
+    }
+}
+
+/// Makes a new store with these settings in the areas of a site.
+fn init_in<S: Site>(alloc: Global, site: &mut S, settings: Settings) -> Result<Lsn, InitFault>
+    requires segment { IsSegmentMib settings.segment }
+    requires least { 1 ≤ settings.relseg }
+    requires most { settings.relseg ≤ 131072 }
+    requires home { AllHome (S.areas site.old) }
+    ensures site { Works init_writes (of_site S.Site site.old) (of_site S.Site site.new) }
+    ensures answer { InitRan settings (of_site S.Site site.old) (of_site S.Site site.new) result }
+{
+    let names = names_of(alloc, &[b"wal", b"sums"])?;
+    let (wal, mut sums) = two_of(take_all(alloc, site, names)?);
+    let (area, answer) = init_areas(alloc, wal.area, &mut sums.area, settings);
+    let name = wal.name;
+    give_two(site, Held { name, area }, sums);
+    answer
+}
+
+/// `init` with these options: makes a new store in the areas of a site.
+pub fn init<S: Site, C: Clock>(
+    alloc: Global,
+    options: InitOptions,
+    site: &mut S,
+    clock: &mut C,
+) -> Result<Lsn, InitFault>
+    requires range { IsInRange options }
+    requires home { AllHome (S.areas site.old) }
+    ensures does { InitDoes options (of_site_clock S.Site C.Clock site.old clock.old)
+        (of_site_clock S.Site C.Clock site.new clock.new) result }
+    ensures home { AllHome (S.areas site.new) }
+    ensures clock { (options.system ≡ None) ⊎ (clock.new ≡ clock.old) }
+{
+    let moment = moment_of(&options, clock);
+    init_in(alloc, site, settings_of(&options, moment))
+}
+
+fn init_fault_text(alloc: Global, fault: &InitFault) -> Result<Text, NoMemory>
+    ensures { IfOk result (λ text. text ≡ init_fault_text fault.now) }
+{
+    match fault {
+        InitFault::Site(fault) => take_text(alloc, fault),
+        InitFault::AlreadyInit => joined(alloc, &[b"42 AlreadyInit"]),
+        InitFault::SumsNotEmpty => full_text(alloc, b"sums"),
+        InitFault::Wal(why) => area_text(alloc, b"wal", *why),
+        InitFault::Sums(why) => area_text(alloc, b"sums", *why),
+    }
+}
+
+/// The line that `init` prints.
+pub fn init_text(alloc: Global, came: &Result<Lsn, InitFault>) -> Result<Text, NoMemory>
+    ensures { IfOk result (λ text. text ≡ init_text came.now) }
+{
+    match came {
+        Ok(end) => {
+            let end = lsn_text(alloc, *end)?;
+            joined(alloc, &[b"initialised ", end.as_bytes(), b"\n"])
+        }
+        Err(fault) => refused_line(alloc, init_fault_text(alloc, fault)?.as_bytes()),
+    }
+}
+
+/// The status that `init` ends with.
+pub fn init_status(came: &Result<Lsn, InitFault>) -> Status
+    ensures { result ≡ init_status came.now }
+{
+    match came {
+        Ok(_) => Status::Done,
+        Err(InitFault::Site(fault)) => area_status(fault.why),
+        Err(InitFault::AlreadyInit | InitFault::SumsNotEmpty) => Status::Refused,
+        Err(InitFault::Wal(why) | InitFault::Sums(why)) => area_status(*why),
     }
 }

@@ -1,8 +1,9 @@
 //! The script of the input.
 
-ghost use Rattle.std.specs.Prelude.{◌≡◌, ◌<◌, length, IfOk};
+ghost use Rattle.std.specs.Prelude.{◌≡◌, ◌+◌, ◌<◌, length, IfOk};
 ghost use Rattle.lsn_core.specs.Causes.{HasCause};
-ghost use Rattle.pgbackup_cli.specs.Input.{IsInput, IsMore};
+ghost use Rattle.pgbackup_cli.specs.Input.{script_limit, TakesAtMost};
+ghost use Rattle.pgbackup_cli.specs.Inner.{IsReadOn, IsInputOf};
 
 use lsn_core::AreaFault;
 use std::alloc::{AllocError, Global};
@@ -29,7 +30,8 @@ fn read_more<I: Source>(
     most: usize,
 ) -> Result<bool, AreaFault>
     requires { 0 < most }
-    ensures more { IfOk result (λ ended. IsMore bytes.old.items bytes.new.items most ended (I.left input.old) (I.left input.new)) }
+    ensures more { IfOk result (IsReadOn I.Source input.old input.new bytes.old bytes.new most) }
+    ensures taken { TakesAtMost most (I.left input.old) (I.left input.new) }
     ensures cause { HasCause (I.faults input.old) (I.faults input.new) result }
 {
     let mut piece = buffer(alloc, most.min(PIECE))?;
@@ -39,9 +41,10 @@ fn read_more<I: Source>(
 }
 
 /// The input to its end; or, where that is longer than a script may be, one byte more than that.
-/// It holds what it read, and one piece of 64 KiB.
+/// What is behind these bytes is left. It holds what it read, and one piece of 64 KiB.
 pub fn read_input<I: Source>(alloc: Global, input: &mut I) -> Result<Vec<u8>, AreaFault>
-    ensures input { IfOk result (λ bytes. IsInput bytes.items (I.left input.old) (I.left input.new)) }
+    ensures input { IfOk result (λ bytes. IsInputOf I.Source input.old input.new bytes.items) }
+    ensures taken { TakesAtMost (script_limit + 1) (I.left input.old) (I.left input.new) }
     ensures cause { HasCause (I.faults input.old) (I.faults input.new) result }
 {
     let mut bytes = Vec::new(alloc);

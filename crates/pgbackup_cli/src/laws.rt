@@ -1,19 +1,21 @@
 //! What holds of every run of a command.
 
-ghost use Rattle.pgbackup_cli.specs.Laws.{HasOneAnswer, HasOneInit, HasOneRun};
+ghost use Rattle.pgbackup_cli.specs.Laws.{HasOneInit, HasOneRun, HasOneReplay};
 
-/// The answers of a replay shut each other out, whatever the WAL and the output hold: so each
-/// refusal that isn't a device's or want of memory comes exactly where its case holds.
-pub fn replay_has_one_answer()
-    ensures { HasOneAnswer }
-{}
-
-/// The same of a new store.
+/// A new store is made, or refused for one reason: from one outside, with the same options, `init`
+/// comes to one answer, but for devices that fail and want of memory. So each refusal comes exactly
+/// where its case holds.
 pub fn init_has_one_answer()
     ensures { HasOneInit }
 {}
 
-/// The same of a script that is run: each line has one answer, and the WAL one end.
+/// The same of `run`: a script is refused for one reason, or each of its lines has one answer and
+/// the WAL one end.
 pub fn run_has_one_answer()
     ensures { HasOneRun }
+{}
+
+/// The same of `replay` to one output.
+pub fn replay_has_one_answer()
+    ensures { HasOneReplay }
 {}

@@ -1,7 +1,10 @@
 //! The whole program over whatever site, source, sink and clock it is handed: the function
 //! `pgbackup` takes the words of the command line, does what they ask, prints and answers the exit
-//! status. Its clauses say what each answer means (`specs/Top.antt`), and its laws that the answers
-//! of a command shut each other out.
+//! status.
+//!
+//! Its clause (`specs/Top.antt`) says of each command what it changes, why it comes to its answer,
+//! what it prints and how it ends; each command's part stands in a file of its own
+//! (`specs/Init.antt`, `Run.antt`, `Replay.antt`). Laws say that a command comes to one answer.
 //!
 //! Left to others: what a script, a store and a WAL are (`crew`, `shared_store`, `wal_reader`), the
 //! system's areas and streams (`vault_os`), and the process that hands them over (`pgbackup`).
@@ -9,10 +12,12 @@
 
 mod answer;
 mod clear;
+mod faults;
 mod init;
 mod input;
 mod laws;
-mod lines;
+mod names;
+mod new_wal;
 mod options;
 mod replay;
 mod report;

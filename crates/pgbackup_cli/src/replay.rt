@@ -1,42 +1,60 @@
-//! Replay of a WAL from its beginning, from one area into another.
+//! `replay`: the WAL from its beginning, from one area into another.
 
-ghost use Rattle.std.specs.Prelude.{◌≡◌, ◌<◌, ◌≤◌, IfOk, IfSome, IfErr, OnOk};
+ghost use Rattle.std.specs.Prelude.{◌≡◌, ◌≢◌, ◌<◌, ◌≤◌, [], ◌∷◌, IfOk, IfSome, IfErr, OnOk};
 ghost use Rattle.std.specs.Option.{option_map};
 ghost use Rattle.std.specs.FinMap.{empty};
 ghost use Rattle.lsn_core.specs.Causes.{HasCause};
 ghost use Rattle.lsn_core.specs.declared.fault.AreaFault.TheVariants as area;
 ghost use Rattle.lsn_core.specs.Store.{files_of};
+ghost use Rattle.vault.specs.Site.{AllHome};
 ghost use Rattle.history.specs.Pages.{page_count};
-ghost use Rattle.vault.specs.Site.{at_home};
 ghost use Rattle.pgbackup_cli.specs.declared.replay.ReplayFault.TheVariants as replay;
-ghost use Rattle.pgbackup_cli.specs.Replay.{ReplayAnswer};
+ghost use Rattle.pgbackup_cli.specs.Areas.{wal_name};
+ghost use Rattle.pgbackup_cli.specs.Outside.{Works};
+ghost use Rattle.pgbackup_cli.specs.Replay.{ReplayRan, ReplayDoes, replay_fault_text, replayed_line, replay_text, replay_status};
+ghost use Rattle.pgbackup_cli.specs.Inner.{of_site, AnswersReplay, IsWrittenOut};
 
+use crate::answer::Status;
 use crate::clear::is_clear;
+use crate::faults::{
+    area_status, area_text, full_text, joined, refused_line, take_text, wal_status, wal_text,
+};
+use crate::names::{names_of, output_name};
 use history::PageMap;
-use lsn_core::{AreaFault, Lsn};
+use lsn_core::{AreaFault, Lsn, NoMemory, Text, lsn_text};
 use recovery::read_wal;
 use rel_files::write_store;
 use std::alloc::Global;
-use vault::Vault;
+use vault::{Site, TakeFault, Vault, give_two, take_all, two_of};
 use wal_reader::WalFault;
 
 /// What a replay came to: where the last entry ends, and how many forks and pages there are.
 #[derive(Clone, Copy, Debug, PartialEq, Eq)]
-pub struct Replayed {
+pub struct ReplayReport {
     pub end: Lsn,
     pub forks: u64,
     pub pages: u64,
 }
 
 /// Why a replay was refused.
-#[derive(Clone, Copy, Debug, PartialEq, Eq)]
+#[derive(Debug, Drop)]
 pub enum ReplayFault {
+    /// The site didn't hand out an area.
+    Site(TakeFault),
     /// The output's area holds a file.
     NotEmpty,
     /// The WAL can't be read.
     Wal(WalFault),
     /// The output's area failed, or memory ran out.
     Out(AreaFault),
+}
+
+impl From<TakeFault> for ReplayFault {
+    ghost from_gives = { λ fault e. e ≡ replay.Site fault };
+
+    fn from(fault: TakeFault) -> Self {
+        ReplayFault::Site(fault)
+    }
 }
 
 impl From<WalFault> for ReplayFault {
@@ -55,6 +73,15 @@ impl From<AreaFault> for ReplayFault {
     }
 }
 
+impl From<NoMemory> for ReplayFault {
+    ghost from_gives = { λ _ e. e ≡ replay.Out area.NoMemory };
+
+    fn from(_: NoMemory) -> Self {
+        ReplayFault::Out(AreaFault::NoMemory)
+    }
+}
+
+/// How many pages a store has. Their number may not fit.
 fn page_count(store: &PageMap) -> Result<u64, AreaFault>
     ensures count { IfOk result (λ count. count ≡ page_count store.now) }
     ensures memory { IfErr result (λ fault. fault ≡ area.NoMemory) }
@@ -73,7 +100,7 @@ fn write_out<V: Vault>(
     relseg: u32,
 ) -> Result<(), AreaFault>
     requires { 0 < relseg }
-    ensures written { OnOk result (IfSome (V.files out.old) (λ m. m ≡ empty) → V.files out.new ≡ option_map (λ m. files_of relseg store.now) (V.files out.old)) }
+    ensures written { OnOk result (IsWrittenOut V.Vault relseg store.now out.old out.new) }
     ensures cause { HasCause (V.faults out.old) (V.faults out.new) result }
 {
     write_store(alloc, out, store, relseg)?;
@@ -82,12 +109,12 @@ fn write_out<V: Vault>(
 
 /// Reads the WAL whole, and then writes the files of the store that it makes into the output's
 /// area, which has to be empty.
-pub fn replay_areas<V: Vault>(
+fn replay_areas<V: Vault>(
     alloc: Global,
     wal: &mut V,
     out: &mut V,
-) -> Result<Replayed, ReplayFault>
-    ensures answer { ReplayAnswer (at_home (V.files wal.old) (V.faults wal.old)) (at_home (V.files wal.new) (V.faults wal.new)) (at_home (V.files out.old) (V.faults out.old)) (at_home (V.files out.new) (V.faults out.new)) result }
+) -> Result<ReplayReport, ReplayFault>
+    ensures answer { AnswersReplay V.Vault wal.old out.old wal.new out.new result }
     ensures wal { V.files wal.new ≡ V.files wal.old }
     ensures wal_later { V.faults wal.old ≤ V.faults wal.new }
     ensures out_later { V.faults out.old ≤ V.faults out.new }
@@ -98,9 +125,87 @@ pub fn replay_areas<V: Vault>(
     let (settings, read) = read_wal(alloc, wal)?;
     let pages = page_count(&read.store)?;
     write_out(alloc, out, &read.store, settings.relseg)?;
-    Ok(Replayed {
+    Ok(ReplayReport {
         end: read.tip.end,
         forks: read.store.fork_count(),
         pages,
     })
+}
+
+/// Replays the WAL of a site into the area of this name, which isn't that of the WAL.
+fn replay_in<S: Site>(alloc: Global, out: &[u8], site: &mut S) -> Result<ReplayReport, ReplayFault>
+    requires other { out.now ≢ wal_name }
+    requires home { AllHome (S.areas site.old) }
+    ensures site { Works (out.now ∷ []) (of_site S.Site site.old) (of_site S.Site site.new) }
+    ensures answer { ReplayRan out.now (of_site S.Site site.old) (of_site S.Site site.new) result }
+{
+    let names = names_of(alloc, &[b"wal", out])?;
+    let (mut wal, mut out) = two_of(take_all(alloc, site, names)?);
+    let answer = replay_areas(alloc, &mut wal.area, &mut out.area);
+    give_two(site, wal, out);
+    answer
+}
+
+/// `replay`: replays the WAL of a site to an output of this name.
+pub fn replay<S: Site>(
+    alloc: Global,
+    name: &[u8],
+    site: &mut S,
+) -> Result<ReplayReport, ReplayFault>
+    requires { AllHome (S.areas site.old) }
+    ensures does { ReplayDoes name.now (of_site S.Site site.old) (of_site S.Site site.new) result }
+    ensures home { AllHome (S.areas site.new) }
+{
+    let out = output_name(alloc, name)?;
+    replay_in(alloc, out.as_bytes(), site)
+}
+
+fn replay_fault_text(alloc: Global, out: &[u8], fault: &ReplayFault) -> Result<Text, NoMemory>
+    ensures { IfOk result (λ text. text ≡ replay_fault_text out.now fault.now) }
+{
+    match fault {
+        ReplayFault::Site(fault) => take_text(alloc, fault),
+        ReplayFault::NotEmpty => full_text(alloc, out),
+        ReplayFault::Wal(why) => wal_text(alloc, *why),
+        ReplayFault::Out(why) => area_text(alloc, out, *why),
+    }
+}
+
+fn replayed_line(alloc: Global, report: &ReplayReport) -> Result<Text, NoMemory>
+    ensures { IfOk result (λ text. text ≡ replayed_line report.now) }
+{
+    let end = lsn_text(alloc, report.end)?;
+    let (forks, pages) = (report.forks, report.pages);
+    let counts = format!(in alloc; "{forks} {pages}")?;
+    joined(
+        alloc,
+        &[b"replayed ", end.as_bytes(), b" ", counts.as_bytes(), b"\n"],
+    )
+}
+
+/// The line that `replay` prints, where this is the output's area.
+pub fn replay_text(
+    alloc: Global,
+    out: &[u8],
+    came: &Result<ReplayReport, ReplayFault>,
+) -> Result<Text, NoMemory>
+    ensures { IfOk result (λ text. text ≡ replay_text out.now came.now) }
+{
+    match came {
+        Ok(report) => replayed_line(alloc, report),
+        Err(fault) => refused_line(alloc, replay_fault_text(alloc, out, fault)?.as_bytes()),
+    }
+}
+
+/// The status that `replay` ends with.
+pub fn replay_status(came: &Result<ReplayReport, ReplayFault>) -> Status
+    ensures { result ≡ replay_status came.now }
+{
+    match came {
+        Ok(_) => Status::Done,
+        Err(ReplayFault::Site(fault)) => area_status(fault.why),
+        Err(ReplayFault::NotEmpty) => Status::Refused,
+        Err(ReplayFault::Wal(why)) => wal_status(*why),
+        Err(ReplayFault::Out(why)) => area_status(*why),
+    }
 }

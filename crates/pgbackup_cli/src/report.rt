@@ -1,12 +1,12 @@
 //! The lines that the run of a script prints.
 
-ghost use Rattle.std.specs.Prelude.{◌≡◌, ◌++◌, ◌∷◌, codes, IfOk, OnOk};
-ghost use Rattle.lsn_core.specs.Names.{lsn_bytes};
-ghost use Rattle.pgbackup_cli.specs.Report.{insert_fault_text, answer_text, answer_line, answer_lines, last_line, report_text};
+ghost use Rattle.std.specs.Prelude.{◌≡◌, ◌++◌, codes, IfOk, OnOk};
+ghost use Rattle.pgbackup_cli.specs.Report.{insert_fault_text, accepted_text, answer_text, answer_line, told_lines, opened_line, last_line, report_text};
 
-use crate::run::Report;
+use crate::faults::{area_text, joined, refused_line};
+use crate::run::RunReport;
 use crew::{Answer, Line, Task};
-use lsn_core::{AreaFault, Lsn, NoMemory, Text, lsn_text};
+use lsn_core::{AreaFault, Lsn, NoMemory, Place, Text, lsn_text};
 use shared_store::InsertFault;
 use std::alloc::Global;
 
@@ -24,22 +24,19 @@ fn insert_fault_text(alloc: Global, fault: InsertFault) -> Result<Text, NoMemory
     Ok(Text::from_vec(text.into_bytes()))
 }
 
-fn accepted_text(alloc: Global, start: Lsn, end: Lsn) -> Result<Text, NoMemory>
-    ensures { IfOk result (λ text. text ≡ codes "ok " ++ (lsn_bytes start.0 ++ (32 ∷ lsn_bytes end.0))) }
+fn accepted_text(alloc: Global, place: Place) -> Result<Text, NoMemory>
+    ensures { IfOk result (λ text. text ≡ accepted_text place) }
 {
-    let mut bytes = Vec::from_slice(alloc, b"ok ")?;
-    bytes.extend_from_slice(lsn_text(alloc, start)?.as_bytes())?;
-    bytes.push(b' ')?;
-    bytes.extend_from_slice(lsn_text(alloc, end)?.as_bytes())?;
-    Ok(Text::from_vec(bytes))
+    let start = lsn_text(alloc, place.start)?;
+    let end = lsn_text(alloc, place.end)?;
+    joined(alloc, &[b"ok ", start.as_bytes(), b" ", end.as_bytes()])
 }
 
 fn refused_text(alloc: Global, fault: InsertFault) -> Result<Text, NoMemory>
     ensures { IfOk result (λ text. text ≡ codes "refused " ++ insert_fault_text fault) }
 {
-    let mut bytes = Vec::from_slice(alloc, b"refused ")?;
-    bytes.extend_from_slice(insert_fault_text(alloc, fault)?.as_bytes())?;
-    Ok(Text::from_vec(bytes))
+    let text = insert_fault_text(alloc, fault)?;
+    joined(alloc, &[b"refused ", text.as_bytes()])
 }
 
 /// The answer to a line.
@@ -47,28 +44,30 @@ fn answer_text(alloc: Global, answer: &Answer) -> Result<Text, NoMemory>
     ensures { IfOk result (λ text. text ≡ answer_text answer.now) }
 {
     match answer {
-        Answer::Accepted(place) => accepted_text(alloc, place.start, place.end),
+        Answer::Accepted(place) => accepted_text(alloc, *place),
         Answer::Refused(fault) => refused_text(alloc, *fault),
-        Answer::NotRun => Ok(Text::from_vec(Vec::from_slice(alloc, b"not run")?)),
+        Answer::NotRun => joined(alloc, &[b"not run"]),
     }
 }
 
-/// Prints a line's answer behind a text.
-fn push_answer(
-    alloc: Global,
-    text: &mut Vec<u8>,
-    name: &[u8],
-    line: &Line,
-    answer: &Answer,
-) -> Result<(), NoMemory>
-    ensures { OnOk result (text.new.items ≡ text.old.items ++ answer_line name.now line.now answer.now) }
+/// The line of an answer.
+fn answer_line(alloc: Global, name: &[u8], line: &Line, answer: &Answer) -> Result<Text, NoMemory>
+    ensures { IfOk result (λ text. text ≡ answer_line name.now line.now answer.now) }
 {
     let number = line.number;
-    text.extend_from_slice(name)?;
-    text.extend_from_slice(format!(in alloc; " {number} ")?.as_bytes())?;
-    text.extend_from_slice(answer_text(alloc, answer)?.as_bytes())?;
-    text.push(b'\n')?;
-    Ok(())
+    let number = format!(in alloc; "{number}")?;
+    let answer = answer_text(alloc, answer)?;
+    joined(
+        alloc,
+        &[
+            name,
+            b" ",
+            number.as_bytes(),
+            b" ",
+            answer.as_bytes(),
+            b"\n",
+        ],
+    )
 }
 
 /// Prints the answers to a worker's lines behind a text.
@@ -78,44 +77,44 @@ fn push_answers(
     task: &Task,
     answers: &[Answer],
 ) -> Result<(), NoMemory>
-    ensures { OnOk result (text.new.items ≡ text.old.items ++ answer_lines task.now.name task.now.lines answers.now) }
+    ensures { OnOk result (text.new.items ≡ text.old.items ++ told_lines task.now answers.now) }
 {
     for (line, answer) in task.lines.as_slice().iter().zip(answers) {
-        push_answer(alloc, text, task.name.as_bytes(), line, answer)?;
+        let line = answer_line(alloc, task.name.as_bytes(), line, answer)?;
+        text.extend_from_slice(line.as_bytes())?;
     }
     Ok(())
 }
 
-/// The last line.
-fn push_last(
-    alloc: Global,
-    text: &mut Vec<u8>,
-    ending: &Result<Lsn, AreaFault>,
-) -> Result<(), NoMemory>
-    ensures { OnOk result (text.new.items ≡ text.old.items ++ last_line ending.now) }
+/// The last line: where the WAL ends, or why it isn't known to be written.
+fn last_line(alloc: Global, ending: &Result<Lsn, AreaFault>) -> Result<Text, NoMemory>
+    ensures { IfOk result (λ text. text ≡ last_line ending.now) }
 {
     match ending {
         Ok(end) => {
-            text.extend_from_slice(b"wal ")?;
-            text.extend_from_slice(lsn_text(alloc, *end)?.as_bytes())?;
-            text.push(b'\n')?;
+            let end = lsn_text(alloc, *end)?;
+            joined(alloc, &[b"wal ", end.as_bytes(), b"\n"])
         }
-        Err(AreaFault::Failed) => text.extend_from_slice(b"refused 60 DeviceFault wal\n")?,
-        Err(AreaFault::NoMemory) => text.extend_from_slice(b"refused 61 NoMemory\n")?,
+        Err(why) => refused_line(alloc, area_text(alloc, b"wal", *why)?.as_bytes()),
     }
-    Ok(())
+}
+
+/// The first line: where the WAL ended before.
+fn opened_line(alloc: Global, opened: Lsn) -> Result<Text, NoMemory>
+    ensures { IfOk result (λ text. text ≡ opened_line opened) }
+{
+    let opened = lsn_text(alloc, opened)?;
+    joined(alloc, &[b"opened ", opened.as_bytes(), b"\n"])
 }
 
 /// The lines of a run: where the WAL ended before, the answers, and where it ends now.
-pub fn report_text(alloc: Global, report: &Report) -> Result<Text, NoMemory>
+pub fn report_text(alloc: Global, report: &RunReport) -> Result<Text, NoMemory>
     ensures { IfOk result (λ text. text ≡ report_text report.now) }
 {
-    let mut text = Vec::from_slice(alloc, b"opened ")?;
-    text.extend_from_slice(lsn_text(alloc, report.opened)?.as_bytes())?;
-    text.push(b'\n')?;
+    let mut text = opened_line(alloc, report.opened)?.into_vec();
     if let Some(task) = report.script.workers().first() {
         push_answers(alloc, &mut text, task, report.answers.as_slice())?;
     }
-    push_last(alloc, &mut text, &report.ending)?;
+    text.extend_from_slice(last_line(alloc, &report.ending)?.as_bytes())?;
     Ok(Text::from_vec(text))
 }

@@ -1,13 +1,13 @@
 //! The words of the command line.
 
-ghost use Rattle.std.specs.Prelude.{◌≡◌, Option, IfOk, IfSome};
+ghost use Rattle.std.specs.Prelude.{◌≡◌, IfSome};
 ghost use Rattle.std.specs.Option.{option_map};
-ghost use Rattle.pgbackup_cli.specs.Words.{Init, none_given, options_in, run_asked, replay_asked, asked, asks, HasRange, output_area};
+ghost use Rattle.pgbackup_cli.specs.Words.{init_asked, run_asked, replay_asked, asked};
+ghost use Rattle.pgbackup_cli.specs.Inner.{asks, HasRange};
 
 use crate::options::{InitOptions, options_of};
 use crew::is_name;
-use lsn_core::{NoMemory, Text};
-use std::alloc::Global;
+use lsn_core::Text;
 
 /// What the words ask for.
 #[derive(Clone, Copy)]
@@ -18,6 +18,13 @@ pub enum Command<'a> {
     Run,
     /// The WAL replayed from its beginning, to an output of this name.
     Replay(&'a [u8]),
+}
+
+fn init_of(words: &[Text]) -> Option<Command<'_>>
+    ensures asked { option_map asks result ≡ init_asked words.now }
+    ensures range { IfSome result HasRange }
+{
+    Some(Command::Init(options_of(words)?))
 }
 
 fn run_of(words: &[Text]) -> Option<Command<'_>>
@@ -41,13 +48,6 @@ fn replay_of(words: &[Text]) -> Option<Command<'_>>
     }
 }
 
-fn init_of(words: &[Text]) -> Option<Command<'_>>
-    ensures asked { option_map asks result ≡ option_map Init (options_in none_given words.now) }
-    ensures range { IfSome result HasRange }
-{
-    Some(Command::Init(options_of(words)?))
-}
-
 /// The command that the words ask for. None exactly where they aren't taken.
 pub fn command_of(words: &[Text]) -> Option<Command<'_>>
     ensures asked { option_map asks result ≡ asked words.now }
@@ -65,14 +65,4 @@ pub fn command_of(words: &[Text]) -> Option<Command<'_>>
         return replay_of(others);
     }
     None
-}
-
-/// The area of an output.
-pub fn output_area(alloc: Global, name: &[u8]) -> Result<Text, NoMemory>
-    ensures { IfOk result (λ area. area ≡ output_area name.now) }
-{
-    let mut bytes = Vec::new(alloc);
-    bytes.extend_from_slice(b"o/")?;
-    bytes.extend_from_slice(name)?;
-    Ok(Text::from_vec(bytes))
 }

@@ -1,5 +1,5 @@
 use Rattle.std.proofs.Common.{◌≤◌, length, ap, arith}
-use Rattle.pgbackup_cli.proofs.Reading.{reads_on, all_read, whole_bytes, none_left, first_bytes}
+use Rattle.pgbackup_cli.proofs.Reading.{reads_on, all_read, whole_bytes, first_bytes, front_taken, more_taken}
 use Rattle.pgbackup_cli.proofs.input.read_input.Goals as goal
 
 pub returns-then-branch-clause-input : goal.returns-then-branch-clause-input
@@ -16,8 +16,16 @@ returns-then-branch-clause-input g c =
     record {
       bytes_are = whole_bytes _ bytes start now front size all;
       size = size;
-      ended = λ short. none_left bytes start now front all;
+      rest = front.left_is;
     }
+
+pub returns-then-branch-clause-taken : goal.returns-then-branch-clause-taken
+returns-then-branch-clause-taken g c =
+    more_taken 4194305 _ _ _ _ _ c.loop-alloc.invariant.front (omega (arith, c.loop-alloc-test.true)) c.in_ok-read_more.ensures.taken
+
+pub returns-in_err-read_more-clause-taken : goal.returns-in_err-read_more-clause-taken
+returns-in_err-read_more-clause-taken g c =
+    more_taken 4194305 _ _ _ _ _ c.loop-alloc.invariant.front (omega (arith, c.loop-alloc-test.true)) c.in_err-read_more.ensures.taken
 
 pub loop-alloc-preserved : goal.loop-alloc-preserved
 loop-alloc-preserved g c = record {
@@ -30,5 +38,8 @@ pub returns-clause-input : goal.returns-clause-input
 returns-clause-input g c = record {
   bytes_are = first_bytes 4194305 c.loop-alloc.bytes.items (g.I.Source.left c.args.input.now) (g.I.Source.left c.loop-alloc.input) c.loop-alloc.invariant.front (omega (arith, c.loop-alloc.invariant.size, c.loop-alloc-test.false));
   size = c.loop-alloc.invariant.size;
-  ended = λ short. absurd (omega (arith, short, c.loop-alloc-test.false));
+  rest = c.loop-alloc.invariant.front.left_is;
 }
+
+pub returns-clause-taken : goal.returns-clause-taken
+returns-clause-taken g c = front_taken 4194305 _ _ _ c.loop-alloc.invariant.front c.loop-alloc.invariant.size

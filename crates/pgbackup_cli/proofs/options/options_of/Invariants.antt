@@ -1,5 +1,5 @@
 use Rattle.std.proofs.Common.{◌≡◌, ◌-◌, length, drop}
-use Rattle.pgbackup_cli.specs.Words.{none_given, options_in, IsInRange}
+use Rattle.pgbackup_cli.specs.Options.{none_given, options_in, IsInRange}
 use Rattle.pgbackup_cli.proofs.options.options_of.Given as goal
 
 abbrev pub invariant-loop-at : goal.invariant-loop-at

@@ -1,0 +1,15 @@
+-- Of the two areas that come back one was only read.
+use Rattle.std.proofs.Common.{ap, ◌∙◌, sym}
+use Rattle.vault.specs.Site.{AreaState}
+use Rattle.pgbackup_cli.specs.Areas.{wal_name, sums_name}
+use Rattle.pgbackup_cli.proofs.Lent.{taken_as, two_back, first_writes}
+use Rattle.pgbackup_cli.proofs.init.init_in.Goals as goal
+
+pub returns-clause-site : goal.returns-clause-site
+returns-clause-site g c =
+    let wal = c.two_of-wal.result.0 in
+    let sums = c.two_of-wal.result.1 in
+    let taken = taken_as g.S.Site g.S.Area.Vault c.in_ok-names.names.items wal_name sums_name c.args.site.now c.take_all.new.site c.in_ok-take_all.field-0.items wal sums
+    c.in_ok-names.ensures c.two_of-wal.ensures c.in_ok-take_all.ensures.takes in
+    let back = two_back g.S.Site g.S.Area.Vault wal_name sums_name c.args.site.now c.take_all.new.site c.give_two.new.site wal.name sums.name wal.area sums.area _ _ c.requires.home taken c.give_two.ensures.gives in
+    (first_writes wal_name sums_name _ _ back.site (ap (λ (x : AreaState). x.files) back.second_now ∙ c.init_areas-area.ensures.sums ∙ sym (ap (λ (x : AreaState). x.files) back.second)), back.later)

@@ -1,0 +1,247 @@
+-- What private functions answer to those that call them. None of it stands in the contract of a
+-- public call.
+use Rattle.std.specs.Prelude.{◌≡◌, ℕ, ◌+◌, ◌-◌, ◌<◌, ◌≤◌, ◌⊎◌, ◌↔◌, IsTrue, Bool, true, false, List, [], ◌∷◌, ◌++◌, length, take, drop, Option, Some, None, Result, Ok, Err, IfSome}
+use Rattle.std.specs.Option.{option_map}
+use Rattle.std.specs.FinMap.{empty, insert}
+use Rattle.std.specs.Global.{Vec}
+use Rattle.lsn_core.specs.Files.{Files}
+use Rattle.lsn_core.specs.Store.{Store, files_of}
+use Rattle.lsn_core.specs.declared.lsn.Lsn.{Lsn}
+use Rattle.lsn_core.specs.declared.segment.Settings.{Settings}
+use Rattle.lsn_core.specs.declared.fault.AreaFault.{AreaFault}
+use Rattle.lsn_core.specs.declared.fault.AreaFault.TheVariants.{NoMemory}
+use Rattle.vault.specs.declared.area.Vault.{Ghosts as Vaults}
+use Rattle.vault.specs.declared.site.Site.{Ghosts as Sites}
+use Rattle.vault.specs.declared.stream.Source.{Ghosts as Sources}
+use Rattle.vault.specs.declared.stream.Sink.{Ghosts as Sinks}
+use Rattle.vault.specs.declared.stream.Clock.{Ghosts as Clocks}
+use Rattle.vault.specs.Stream.{Tells}
+use Rattle.vault.specs.declared.lending.TakeFault.{TakeFault}
+use Rattle.vault.specs.Area.{after_write}
+use Rattle.vault.specs.Site.{AreaState, state_in}
+use Rattle.wal_record.specs.declared.record.Record.{Record}
+use Rattle.wal_record.specs.declared.record.Kind.TheVariants.{Shutdown}
+use Rattle.wal_reader.specs.declared.fault.WalFault.{WalFault}
+use Rattle.wal_writer.specs.declared.state.WalState.{WalState}
+use Rattle.wal_writer.specs.Log.{Log, next_record, appended}
+use Rattle.wal_writer.specs.Answers.{after_flush, IsLeft}
+use Rattle.pgbackup_cli.specs.declared.init.InitFault.{InitFault}
+use Rattle.crew.specs.declared.script.Task.{Task}
+use Rattle.pgbackup_cli.specs.declared.run.RunReport.{RunReport}
+use Rattle.pgbackup_cli.specs.declared.run.RunFault.{RunFault}
+use Rattle.pgbackup_cli.specs.declared.words.Command.{Command}
+use Rattle.pgbackup_cli.specs.declared.words.Command.TheVariants as command
+use Rattle.pgbackup_cli.specs.Areas.{AreaFails}
+use Rattle.pgbackup_cli.specs.Options.{IsInRange}
+use Rattle.pgbackup_cli.specs.Words.{Asked, Init, Run, Replay}
+use Rattle.pgbackup_cli.specs.Outside.{Outside}
+use Rattle.pgbackup_cli.specs.Input.{IsInput}
+use Rattle.pgbackup_cli.specs.Init.{InitResult, InitAreas, InitAnswer, IsTornIn, new_wal, settings_name, settings_file, segment_name, segment_file}
+use Rattle.pgbackup_cli.specs.Run.{RunResult, HasScript, IsWrittenAt, IsTornAt, RunDone, IsUnread, RunAnswer}
+use Rattle.pgbackup_cli.specs.Replay.{ReplayResult, ReplayAreas, ReplayAnswer}
+
+-- texts behind each other
+abbrev pub joined : List (List ℕ) → List ℕ
+joined [] = []
+joined (text ∷ []) = text
+joined (text ∷ (next ∷ texts)) = text ++ joined (next ∷ texts)
+
+-- ---- words
+
+-- a command asks for this
+abbrev pub asks : Command → Asked
+asks (command.Init options) = Init options
+asks command.Run = Run
+asks (command.Replay name) = Replay name.now
+
+abbrev pub HasRange : Command → Type 0
+HasRange (command.Init options) = IsInRange options
+HasRange command.Run = Unit {0}
+HasRange (command.Replay name) = Unit {0}
+
+-- ---- the outside, as far as a call sees it
+
+abbrev pub of_site : {S V : Type 0} → Sites S V → S → Outside
+of_site sites site = record {
+  areas = sites.areas site;
+  take_faults = sites.take_faults site;
+  left = None;
+  reads = 0;
+  moment = None;
+  printed = None;
+  prints = 0;
+}
+
+abbrev pub with_input : Outside → Option (List ℕ) → ℕ → Outside
+with_input o left reads = record o { left = left; reads = reads }
+
+abbrev pub of_site_clock : {S V C : Type 0} → Sites S V → Clocks C → S → C → Outside
+of_site_clock sites clocks site clock =
+    record (of_site sites site) { moment = clocks.moment clock }
+
+abbrev pub of_site_input : {S V I : Type 0} → Sites S V → Sources I → S → I → Outside
+of_site_input sites sources site input =
+    with_input (of_site sites site) (sources.left input) (sources.faults input)
+
+abbrev pub of_all : {S V I C : Type 0} → Sites S V → Sources I → Clocks C → S → I → C → Outside
+of_all sites sources clocks site input clock =
+    record (of_site_input sites sources site input) { moment = clocks.moment clock }
+
+-- a sink was told a text
+abbrev pub TellsIn : {O : Type 0} → Sinks O → List ℕ → O → O → Result (Unit {0}) AreaFault → Type 0
+TellsIn sinks text old new told =
+    Tells text (sinks.bytes old) (sinks.bytes new) (sinks.faults old) (sinks.faults new) told
+
+-- no area wasn't handed out
+abbrev pub Never : TakeFault → Type 0
+Never fault = ⊥
+
+-- ---- the input
+
+-- bytes, where they are told
+abbrev pub Told : Type 0
+Told = Option (List ℕ)
+
+-- some more of the input was read behind bytes that were read, or its end was met
+pub record IsMore (before bytes : List ℕ) (most : ℕ) (left now : Told) (ended : Bool) : Type 0 where
+  pub grown : IfSome left (λ l. bytes ≡ before ++ take (length bytes - length before) l)
+  pub left_is : now ≡ option_map (drop (length bytes - length before)) left
+  pub within : length bytes ≤ length before + most
+  pub least : length before ≤ length bytes
+  pub goes_on : ended ≡ false → length before < length bytes
+  pub at_end : ended ≡ true → (bytes ≡ before) × IfSome left (λ l. l ≡ [])
+
+abbrev pub IsReadOn : {I : Type 0} → Sources I → I → I → Vec ℕ → Vec ℕ → ℕ → Bool → Type 0
+IsReadOn sources old new before bytes most ended =
+    IsMore before.items bytes.items most (sources.left old) (sources.left new) ended
+
+-- the input was read, and what was taken of it
+abbrev pub IsInputOf : {I : Type 0} → Sources I → I → I → List ℕ → Type 0
+IsInputOf sources old new bytes = IsInput bytes (sources.left old) (sources.left new)
+
+-- ---- areas
+
+-- whether an area holds no file
+abbrev pub TellsClear : Option Files → Bool → Type 0
+TellsClear files clear = IfSome files (λ m. IsTrue clear ↔ (m ≡ empty))
+
+-- ---- `init`
+
+-- the areas of the WAL and of the summaries
+abbrev pub init_areas_in : {V : Type 0} → Vaults V → V → V → InitAreas
+init_areas_in vaults wal sums = record { wal = state_in vaults wal; sums = state_in vaults sums }
+
+-- why `init` with these settings comes to its answer over these two areas
+abbrev pub AnswersInit : {V : Type 0} → Vaults V → Settings → V → V → V → V → InitResult → Type 0
+AnswersInit vaults s wal sums wal_now sums_now r =
+    InitAnswer s Never (init_areas_in vaults wal sums) (init_areas_in vaults wal_now sums_now) r
+
+-- why it is refused, with whatever settings
+abbrev pub RefusesInit : {V : Type 0} → Vaults V → V → V → V → V → InitFault → Type 0
+RefusesInit vaults wal sums wal_now sums_now fault =
+    (s : Settings) → AnswersInit vaults s wal sums wal_now sums_now (Err fault)
+
+-- the files with `settings` written, with a file of segment 1, and with both alone
+abbrev pub with_settings : Settings → Option Files → Option Files
+with_settings s files = option_map (after_write settings_name 0 (settings_file s)) files
+
+abbrev pub with_segment : Settings → Option Files → Option Files
+with_segment s files = option_map (λ m. insert m (segment_name s) (segment_file s)) files
+
+abbrev pub with_both : Settings → Option Files → Option Files
+with_both s files = option_map (λ m. new_wal s) files
+
+-- a write of either failed
+abbrev pub IsSettingsTorn : Settings → Option Files → Option Files → Type 0
+IsSettingsTorn s old new = IsTornIn settings_name (settings_file s) old new
+
+abbrev pub IsSegmentTorn : Settings → Option Files → Option Files → Type 0
+IsSegmentTorn s old new = IsTornIn (segment_name s) (segment_file s) old new
+
+-- a WAL with a shutdown checkpoint behind its entries
+abbrev pub checkpoint_in : Log → Lsn → Record
+checkpoint_in log redo = next_record log (Shutdown redo)
+
+abbrev pub checkpointed : Log → Lsn → Log
+checkpointed log redo = appended log (checkpoint_in log redo)
+
+-- the files once that is flushed, and where that failed
+abbrev pub with_checkpoint : Log → Lsn → Option Files → Option Files
+with_checkpoint log redo files =
+    option_map (after_flush (checkpointed log redo) (checkpoint_in log redo).end.0) files
+
+abbrev pub IsCheckpointTorn : Log → Lsn → Option Files → Option Files → Type 0
+IsCheckpointTorn log redo old new =
+    IsLeft (checkpointed log redo) (checkpoint_in log redo).end.0 old new
+
+-- what writing it left of a WAL's area
+abbrev pub IsCheckpointed : {V : Type 0} → Vaults V → Lsn → WalState V → WalState V → Type 0
+IsCheckpointed vaults redo old new =
+    vaults.files new.area ≡ with_checkpoint old.tail redo (vaults.files old.area)
+
+abbrev pub IsCheckpointLeft : {V : Type 0} → Vaults V → Lsn → WalState V → WalState V → Type 0
+IsCheckpointLeft vaults redo old new =
+    IsCheckpointTorn old.tail redo (vaults.files old.area) (vaults.files new.area)
+
+-- ---- `run`
+
+-- where the WAL ends, or why it isn't known to be written
+abbrev pub Ending : Type 0
+Ending = Result Lsn AreaFault
+
+-- what the last flush of a run answers, where the run stopped or didn't
+abbrev pub FlushAnswer : Bool → Log → AreaState → AreaState → Ending → Type 0
+FlushAnswer stopped log old new (Ok end) =
+    (stopped ≡ false)
+    × (end.0 ≡ log.end)
+    × IsWrittenAt log.mib log.flushed log.pending old.files new.files
+FlushAnswer stopped log old new (Err why) =
+    ((stopped ≡ false) ⊎ (why ≡ NoMemory)) × AreaFails old new why
+
+abbrev pub EndsRun : {V : Type 0} → Vaults V → Bool → WalState V → WalState V → Ending → Type 0
+EndsRun vaults stopped old new r =
+    FlushAnswer stopped old.tail (state_in vaults old.area) (state_in vaults new.area) r
+
+-- it wrote no more than what waited
+abbrev pub IsFlushLeft : {V : Type 0} → Vaults V → WalState V → WalState V → Type 0
+IsFlushLeft vaults old new =
+    IsTornAt old.tail.mib old.tail.flushed old.tail.pending
+    (vaults.files old.area) (vaults.files new.area)
+
+-- there is no script, whatever the site is
+abbrev pub RefusesScript : {I : Type 0} → Sources I → I → I → RunFault → Type 0
+RefusesScript sources old new fault =
+    (site : Outside)
+    → RunAnswer (with_input site (sources.left old) (sources.faults old))
+    (with_input site (sources.left new) (sources.faults new)) (Err fault)
+
+-- why `run` comes to its answer with this script, whatever the input was
+abbrev pub RunsScript : {S V : Type 0} → Sites S V → List Task → S → S → RunResult → Type 0
+RunsScript sites script old new r =
+    (left rest : Option (List ℕ)) (reads now : ℕ) → HasScript left rest script
+    → RunAnswer (with_input (of_site sites old) left reads)
+    (with_input (of_site sites new) rest now) r
+
+-- what the run of a script comes to, over the area of the WAL
+abbrev pub ScriptAnswer : AreaState → AreaState → Result RunReport WalFault → Type 0
+ScriptAnswer old new (Ok report) = RunDone old new report
+ScriptAnswer old new (Err why) = IsUnread old new why
+
+abbrev pub AnswersScript : {V : Type 0} → Vaults V → V → V → Result RunReport WalFault → Type 0
+AnswersScript vaults wal now r = ScriptAnswer (state_in vaults wal) (state_in vaults now) r
+
+-- ---- `replay`
+
+abbrev pub replay_areas_in : {V : Type 0} → Vaults V → V → V → ReplayAreas
+replay_areas_in vaults wal out = record { wal = state_in vaults wal; out = state_in vaults out }
+
+-- why `replay` comes to its answer over the area of the WAL and that of the output
+abbrev pub AnswersReplay : {V : Type 0} → Vaults V → V → V → V → V → ReplayResult → Type 0
+AnswersReplay vaults wal out wal_now out_now r =
+    ReplayAnswer Never (replay_areas_in vaults wal out) (replay_areas_in vaults wal_now out_now) r
+
+-- an area that held no file has those of a store
+abbrev pub IsWrittenOut : {V : Type 0} → Vaults V → ℕ → Store → V → V → Type 0
+IsWrittenOut vaults relseg store old new =
+    IfSome (vaults.files old) (λ m. m ≡ empty)
+    → vaults.files new ≡ option_map (λ m. files_of relseg store) (vaults.files old)
