@@ -1,9 +1,7 @@
 -- The parts of a fork's path are read in one way.
-use Rattle.std.proofs.Common.{◌≡◌, ◌≢◌, ℕ, ◌+◌, ◌^◌, ◌<◌, ◌≤◌, ◌==◌, Bool, true, false, cond, List, [], ◌∷◌, ◌++◌, length, codes, zero, suc, refl, sym, ap, subst, ◌∙◌, arith}
+use Rattle.std.proofs.Common.{◌≡◌, ◌≢◌, ℕ, ◌^◌, ◌<◌, ◌≤◌, Bool, true, false, List, [], ◌∷◌, ◌++◌, length, codes, zero, suc, refl, sym, ap, ◌∙◌, arith}
 use Rattle.std.specs.Fmt.{decimal}
-use Rattle.std.specs.Char.{is_ascii_digit}
-use Rattle.std.specs.List.{prefix_len}
-use Rattle.std.proofs.lemmas.Bool.{eqb-true, ne_eqb}
+use Rattle.std.proofs.lemmas.Bool.{ne_eqb}
 use Rattle.std.proofs.lemmas.List.{append_cancel_left}
 use Rattle.std.proofs.lemmas.Fmt.{decimal_injective, decimal_nonempty}
 use Rattle.text_numbers.proofs.Decimal.{decimal_is_digits}
@@ -12,7 +10,7 @@ use Rattle.text_numbers.proofs.DecimalFront.{digit_count, counted, front_once, i
 use Rattle.lsn_core.specs.declared.ids.ForkKind.{ForkKind}
 use Rattle.lsn_core.specs.declared.ids.ForkKind.TheVariants.{Main, Init}
 use Rattle.lsn_core.specs.declared.ids.ForkId.{ForkId}
-use Rattle.lsn_core.specs.Names.{segment_suffix, kind_suffix, file_prefix, file_tail, plain_name, file_name, fork_path_bytes, IsNamed, NamesNoFork}
+use Rattle.lsn_core.specs.Names.{segment_suffix, file_prefix, file_tail, plain_name, file_name, fork_path_bytes, IsNamed, NamesNoFork}
 use Rattle.lsn_core.specs.PathParts.{IsNoSuffix, IsNoTail, IsNoPlainName, HasNoPrefix, IsNoFileName, in_database, IsInNoDatabase}
 
 -- a number that is too large is the only one at the front

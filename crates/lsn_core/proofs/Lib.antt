@@ -1,5 +1,7 @@
+pub mod AnyAll
 pub mod ForkOrder
 pub mod ForkPaths
 pub mod LsnTexts
 pub mod Padding
 pub mod SegmentNames
+pub mod StoreFiles

@@ -1,12 +1,12 @@
 -- The name of a segment file is read in one way.
-use Rattle.std.proofs.Common.{◌≡◌, ℕ, ◌+◌, ◌*◌, ◌/◌, ◌%◌, ◌^◌, ◌<◌, ◌≤◌, List, [], ◌∷◌, ◌++◌, length, codes, refl, sym, ap, subst, ◌∙◌, arith}
+use Rattle.std.proofs.Common.{◌≡◌, ℕ, ◌+◌, ◌*◌, ◌/◌, ◌%◌, ◌^◌, ◌<◌, ◌≤◌, List, [], ◌++◌, codes, refl, sym, ap, ◌∙◌, arith}
 use Rattle.std.specs.Fmt.{digits}
 use Rattle.std.proofs.lemmas.List.{append-nil}
-use Rattle.std.proofs.Math.Nat.{div-lt_iff_lt-mul, mod-lt, div-le_self}
+use Rattle.std.proofs.Math.Nat.{div-lt_iff_lt-mul, mod-lt, div-le_self, div-add-mod'}
 use Rattle.text_numbers.specs.Numbers.{eight_digits, HasNoEight}
 use Rattle.text_numbers.proofs.EightDigits.{eight_once}
 use Rattle.lsn_core.specs.Segment.{segment_bytes}
-use Rattle.lsn_core.specs.Names.{per_group, segment_name_bytes, segment_file_bytes, HasSegmentName, NamesNoSegment}
+use Rattle.lsn_core.specs.Names.{per_group, number_groups, segment_name_bytes, segment_file_bytes, HasSegmentName, NamesNoSegment}
 
 -- the two groups behind a timeline
 record Groups (p number : ℕ) : Type 0 where
@@ -53,3 +53,14 @@ first_timeline = refl
 
 pub name_of_first : (number mib : ℕ) → segment_name_bytes number mib ≡ segment_file_bytes 1 number mib
 name_of_first number mib = ap (λ (l : List ℕ). l ++ (eight_digits (number / per_group mib) ++ eight_digits (number % per_group mib))) first_timeline
+
+-- a name is that of one segment
+pub one_segment : (s t m n mib : ℕ) → HasSegmentName s m mib → HasSegmentName t n mib → segment_file_bytes s m mib ≡ segment_file_bytes t n mib → (s ≡ t) × (m ≡ n)
+one_segment s t m n mib x y e =
+    let p = per_group mib in
+    let a = groups p m x.number_fits in
+    let b = groups p n y.number_fits in
+    let first = eight_once (segment_file_bytes s m mib) s t (number_groups m mib) (number_groups n mib) x.timeline_fits y.timeline_fits refl e in
+    let second = eight_once (number_groups m mib) (m / p) (n / p) (eight_digits (m % p)) (eight_digits (n % p)) a.high b.high refl first.1 in
+    let last = eight_once (eight_digits (m % p)) (m % p) (n % p) [] [] (low_fits mib s m x) (low_fits mib t n y) (sym (append-nil (eight_digits (m % p)))) (second.1 ∙ sym (append-nil (eight_digits (n % p)))) in
+    (first.0, sym (div-add-mod' m p) ∙ ap (λ (q : ℕ). q * p + m % p) second.0 ∙ ap (λ (r : ℕ). n / p * p + r) last.0 ∙ div-add-mod' n p)

@@ -9,3 +9,4 @@ pub mod Store
 pub mod Blocks
 pub mod Shown
 pub mod Causes
+pub mod Laws
