@@ -10,3 +10,4 @@ pub mod Torn
 pub mod Undone
 pub mod Through
 pub mod Honest
+pub mod Picked

@@ -11,3 +11,4 @@ pub mod Whole
 pub mod Stops
 pub mod Record
 pub mod Frame
+pub mod Stopped
