@@ -5,7 +5,7 @@ use Rattle.vault.specs.declared.site.Site.{Ghosts as SiteGhosts}
 use Rattle.vault.specs.declared.lending.Held.{Held}
 use Rattle.vault.specs.declared.lending.TakeFault.{TakeFault}
 use Rattle.vault.specs.Site.{AllHome, state_in}
-use Rattle.vault.specs.Lending.{Names, IsOneOf, IsNoneOf, AreDistinct, AreHome, names_of, all_away, AreAreasOf, AreOut, TakeCause, IsTaken, IsNotTaken, GivesBack}
+use Rattle.vault.specs.Lending.{Names, IsOneOf, IsNoneOf, AreDistinct, AreHome, names_of, all_away, AreAreasOf, AreOut, TakeCause, AreTaken, NoneTaken, GivesBack}
 use Rattle.vault.proofs.SetAreas.{same_home}
 use Rattle.vault.proofs.LentAreas.{is_among, distinct_front, distinct_next, away_none, away_push, rest_home, areas_push, areas_named, taken_are_out, back_again}
 
@@ -28,7 +28,7 @@ pub next_home : {S V : Type 0} (s : SiteGhosts S V) (g : Ghosts V) (names done :
 next_home s g names done name rest start now held distinct home is =
     rw (is.away, away_none (s.areas start) done name (next_none s g names done name rest start now held distinct is)) (home name (rw (← is.all) (is_among done name rest)))
 
-pub taking_more : {S V : Type 0} (s : SiteGhosts S V) (g : Ghosts V) (names done : Names) (name : List ℕ) (rest : Names) (start mid now : S) (held more : List (Held V)) (one : Held V) → AreDistinct names → Taking s g names done (name ∷ rest) start mid held → more ≡ held ++ one ∷ [] → IsTaken s g (name ∷ []) mid now (one ∷ []) → Taking s g names (done ++ name ∷ []) rest start now more
+pub taking_more : {S V : Type 0} (s : SiteGhosts S V) (g : Ghosts V) (names done : Names) (name : List ℕ) (rest : Names) (start mid now : S) (held more : List (Held V)) (one : Held V) → AreDistinct names → Taking s g names done (name ∷ rest) start mid held → more ≡ held ++ one ∷ [] → AreTaken s g (name ∷ []) mid now (one ∷ []) → Taking s g names (done ++ name ∷ []) rest start now more
 taking_more s g names done name rest start mid now held more one distinct is put took =
     let none = next_none s g names done name rest start mid held distinct is in
     let same : s.areas mid name ≡ s.areas start name = rw is.away (away_none (s.areas start) done name none) in
@@ -39,7 +39,7 @@ taking_more s g names done name rest start mid now held more one distinct is put
       later = omega (arith, is.later, took.later);
     }
 
-pub taking_fails : {S V : Type 0} (s : SiteGhosts S V) (g : Ghosts V) (names done : Names) (name : List ℕ) (rest : Names) (start mid now end : S) (held : List (Held V)) (fault : TakeFault) → Taking s g names done (name ∷ rest) start mid held → IsNotTaken s (name ∷ []) mid now fault → GivesBack s g held now end → IsNotTaken s names start end fault
+pub taking_fails : {S V : Type 0} (s : SiteGhosts S V) (g : Ghosts V) (names done : Names) (name : List ℕ) (rest : Names) (start mid now end : S) (held : List (Held V)) (fault : TakeFault) → Taking s g names done (name ∷ rest) start mid held → NoneTaken s (name ∷ []) mid now fault → GivesBack s g held now end → NoneTaken s names start end fault
 taking_fails s g names done name rest start mid now end held fault is failed gives =
     let same = back_again g (s.areas start) (s.areas now) (s.areas end) done held is.areas (failed.areas ∙ is.away) gives.areas in
     record {
@@ -55,7 +55,7 @@ taking_fails s g names done name rest start mid now end held fault is failed giv
       };
     }
 
-pub taking_ends : {S V : Type 0} (s : SiteGhosts S V) (g : Ghosts V) (names done : Names) (start now : S) (held : List (Held V)) → AreDistinct names → Taking s g names done [] start now held → IsTaken s g names start now held
+pub taking_ends : {S V : Type 0} (s : SiteGhosts S V) (g : Ghosts V) (names done : Names) (start now : S) (held : List (Held V)) → AreDistinct names → Taking s g names done [] start now held → AreTaken s g names start now held
 taking_ends s g names done start now held distinct is =
     let all : done ≡ names = sym (append-nil done) ∙ is.all in
     let named : names_of held ≡ names = areas_named g (s.areas start) done held is.areas ∙ all in
