@@ -5,3 +5,7 @@ pub mod Reading
 pub mod Slots
 pub mod Written
 pub mod Torn
+pub mod Undone
+pub mod Through
+pub mod Honest
+pub mod Picked

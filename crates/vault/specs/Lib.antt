@@ -8,3 +8,7 @@ pub mod Shelf
 pub mod Site
 pub mod Stream
 pub mod Whole
+pub mod Stops
+pub mod Record
+pub mod Frame
+pub mod Stopped
