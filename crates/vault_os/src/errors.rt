@@ -1,6 +1,6 @@
 //! Errors of the system, and what is said of each.
 
-ghost use Rattle.std.specs.Prelude.{◌≡◌, Ok, IsErr, MatchResult};
+ghost use Rattle.std.specs.Prelude.{◌≡◌, true, Ok, IsErr, MatchResult};
 
 use std::alloc::{AllocError, AllocFailed, Global};
 use std::io::{self, ErrorKind};
@@ -35,6 +35,15 @@ impl SystemError {
         }
     }
 
+    fn no_memory() -> SystemError
+        ensures { result.is_memory ≡ true }
+    {
+        SystemError {
+            is_memory: true,
+            said: None,
+        }
+    }
+
     /// An error of which nothing more is to be said.
     pub(crate) fn unsaid() -> SystemError {
         SystemError {
@@ -45,20 +54,18 @@ impl SystemError {
 }
 
 impl From<AllocError> for SystemError {
+    ghost from_gives = { λ _ e. e.is_memory ≡ true };
+
     fn from(_: AllocError) -> Self {
-        SystemError {
-            is_memory: true,
-            said: None,
-        }
+        SystemError::no_memory()
     }
 }
 
 impl<T: Drop> From<AllocFailed<T>> for SystemError {
+    ghost from_gives = { λ _ e. e.is_memory ≡ true };
+
     fn from(_: AllocFailed<T>) -> Self {
-        SystemError {
-            is_memory: true,
-            said: None,
-        }
+        SystemError::no_memory()
     }
 }
 
