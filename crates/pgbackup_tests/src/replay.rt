@@ -2,51 +2,32 @@
 //! the page are those of an independent implementation of the formats.
 
 use crate::calls::{MOMENT, make_calls, words_in};
-use crate::samples::{CHECKPOINT, CREATION, HEAD, IMAGE, SEGMENT};
+use crate::samples::{ARCHIVE, SEGMENT, archive_with};
 use pgbackup_cli::{Status, pgbackup};
 use std::alloc::Global;
 use std::process::Abort;
 use std::test::Fail;
 use vault::{MemSink, MemSite, MemSource, MemVault, SetClock, Vault, read_in};
 
-/// Which call of which object is to fail, counted from 1; 0 is none.
+/// Which call of the output's area, of the site and of the sink is to fail, counted from 1; 0 is none.
 #[derive(Clone, Copy)]
 struct Failing {
-    wal: u64,
-    out: u64,
+    output: u64,
     site: u64,
     sink: u64,
 }
 
 const NONE: Failing = Failing {
-    wal: 0,
-    out: 0,
+    output: 0,
     site: 0,
     sink: 0,
 };
 
-/// The pieces of a segment file behind each other, in an area of which one call after these is to
-/// fail; 0 is none.
-fn wal_of(alloc: Global, pieces: &[&[u8]], fails: u64) -> Result<MemVault, Fail> {
-    let call = if fails == 0 {
-        0
-    } else {
-        fails.saturating_add(pieces.len() as u64)
-    };
-    let mut area = MemVault::new(alloc, &[call])?;
-    let mut at: u64 = 0;
-    for piece in pieces {
-        area.write_at(SEGMENT, at, piece)?;
-        at = at.saturating_add(piece.len() as u64);
-    }
-    Ok(area)
-}
-
-/// The status of a replay to `p` over a WAL of these pieces, and all that it prints.
-fn replay(alloc: Global, pieces: &[&[u8]], failing: Failing) -> Result<(Status, Vec<u8>), Fail> {
+/// The status of a replay to `p` over this area of the WAL, and all that it prints.
+fn replay(alloc: Global, wal: MemVault, failing: Failing) -> Result<(Status, Vec<u8>), Fail> {
     let mut site = MemSite::new(alloc, &[failing.site])?;
-    site.set(b"wal", wal_of(alloc, pieces, failing.wal)?)?;
-    site.set(b"o/p", MemVault::new(alloc, &[failing.out])?)?;
+    site.set(b"wal", wal)?;
+    site.set(b"o/p", MemVault::new(alloc, &[failing.output])?)?;
     let words = words_in(alloc, "replay p")?;
     let mut input = MemSource::new(alloc, b"", &[])?;
     let mut out = MemSink::new(alloc, &[failing.sink])?;
@@ -55,75 +36,73 @@ fn replay(alloc: Global, pieces: &[&[u8]], failing: Failing) -> Result<(Status, 
     Ok((status, Vec::from_slice(alloc, out.bytes())?))
 }
 
-/// The pieces of a WAL, and what a replay of it prints.
-type Row<'a> = (&'a [&'a [u8]], &'a str);
+/// What is printed over so many bytes of the archive and others written at a place.
+static REPLAYED: [(u64, u64, &[u8], &str); 8] = [
+    (264, 0, b"", "replayed 0/1000108 1 1\n"),
+    (264, 279, b"\0", "replayed 0/1000108 1 1\n"),
+    (144, 0, b"", "replayed 0/1000090 1 0\n"),
+    (96, 0, b"", "replayed 0/1000060 0 0\n"),
+    (40, 139, b"\0", "replayed 0/1000000 0 0\n"),
+    (40, 0, b"", "replayed 0/1000000 0 0\n"),
+    (0, 99, b"\0", "replayed 0/1000000 0 0\n"),
+    (0, 0, b"", "replayed 0/1000000 0 0\n"),
+];
 
-/// Replays each of these WALs, over a site of its own.
-fn replay_each(rt: &impl Abort, alloc: Global, wanted: Status, rows: &[Row]) -> Result<(), Fail> {
-    for (pieces, line) in rows {
-        let (status, printed) = replay(alloc, pieces, NONE)?;
-        assert_eq!(rt; printed.as_slice(), line.as_bytes());
-        assert_eq!(rt; status, wanted, "{line}");
+#[test]
+fn entries_are_replayed(rt: HostRuntime) -> Result<(), Fail> {
+    let alloc = rt.alloc();
+    for (size, at, bytes, line) in REPLAYED {
+        let wal = archive_with(alloc, size, at, bytes, 0)?;
+        let (status, printed) = replay(alloc, wal, NONE)?;
+        assert_eq!(rt; printed.as_slice(), line.as_bytes(), "{size} {at}");
+        assert_eq!(rt; status, Status::Done);
     }
     Ok(())
 }
 
-#[test]
-fn entries_are_replayed(rt: HostRuntime) -> Result<(), Fail> {
-    let empty = "replayed 0/1000000 0 0\n";
-    let changed = "replayed 0/1000108 1 1\n";
-    let rows: [Row; 8] = [
-        (&[&HEAD, &CHECKPOINT, &CREATION, &IMAGE], changed),
-        (&[&HEAD, &CHECKPOINT, &CREATION, &IMAGE, &[0; 16]], changed),
-        (&[&HEAD, &CHECKPOINT, &CREATION], "replayed 0/1000090 1 0\n"),
-        (&[&HEAD, &CHECKPOINT], "replayed 0/1000060 0 0\n"),
-        (&[&HEAD, &[0; 100]], empty),
-        (&[&HEAD], empty),
-        (&[&[0; 100]], empty),
-        (&[b""], empty),
-    ];
-    replay_each(&rt, rt.alloc(), Status::Done, &rows)
-}
+/// The same of damage, with the place that is printed.
+static DAMAGED: [(&str, u64, u64, &[u8], &str); 6] = [
+    ("a byte behind the archive", 264, 264, b"x", "0/1000108"),
+    ("an image that is cut", 200, 0, b"", "0/1000090"),
+    ("another magic", 96, 0, b"\x15", "0/1000000"),
+    ("another entry before", 264, 152, b"\x28", "0/1000090"),
+    ("block 32768", 264, 190, b"\x80", "0/1000090"),
+    ("another page version", 264, 211, b"\x05", "0/1000090"),
+];
 
-/// These bytes with another one at a place.
-fn with_byte(alloc: Global, bytes: &[u8], at: usize, value: u8) -> Result<Vec<u8>, Fail> {
-    let mut changed = Vec::from_slice(alloc, bytes)?;
-    if let Some(byte) = changed.get_mut(at) {
-        *byte = value;
-    }
-    Ok(changed)
+/// A replay over this WAL tells damage at this place.
+fn is_damaged(
+    rt: &impl Abort,
+    alloc: Global,
+    wal: MemVault,
+    place: &str,
+    case: &str,
+) -> Result<(), Fail> {
+    let line = format!(in alloc; "refused 11 WalDamaged {place} Form\n")?;
+    let (status, printed) = replay(alloc, wal, NONE)?;
+    assert_eq!(rt; printed.as_slice(), line.as_bytes(), "{case}");
+    assert_eq!(rt; status, Status::Refused, "{case}");
+    Ok(())
 }
 
 #[test]
 fn damage_is_told_at_its_place(rt: HostRuntime) -> Result<(), Fail> {
-    let magic = with_byte(rt.alloc(), &HEAD, 0, 0x15)?;
-    let link = with_byte(rt.alloc(), &IMAGE, 8, 0x28)?;
-    let block = with_byte(rt.alloc(), &IMAGE, 46, 0x80)?;
-    let header = with_byte(rt.alloc(), &IMAGE, 67, 0x05)?;
-    let first = "refused 11 WalDamaged 0/1000000 Form\n";
-    let third = "refused 11 WalDamaged 0/1000090 Form\n";
-    let rows: [Row; 10] = [
-        (&[], "refused 43 NotInit\n"),
-        (
-            &[&HEAD, &CHECKPOINT, &CREATION, &IMAGE, b"x"],
-            "refused 11 WalDamaged 0/1000108 Form\n",
-        ),
-        (&[&HEAD, &CHECKPOINT, &CREATION, &IMAGE[..56]], third),
-        (
-            &[&HEAD, &CHECKPOINT, &CREATION, b"\x31\x20\0\0", &[0; 9000]],
-            third,
-        ),
-        (
-            &[&HEAD, &CREATION],
-            "refused 11 WalDamaged 0/1000028 Form\n",
-        ),
-        (&[&magic, &CHECKPOINT], first),
-        (&[&CHECKPOINT], first),
-        (&[&HEAD, &CHECKPOINT, &CREATION, &link], third),
-        (&[&HEAD, &CHECKPOINT, &CREATION, &block], third),
-        (&[&HEAD, &CHECKPOINT, &CREATION, &header], third),
-    ];
-    replay_each(&rt, rt.alloc(), Status::Refused, &rows)
+    let alloc = rt.alloc();
+    for (case, size, at, bytes, place) in DAMAGED {
+        let wal = archive_with(alloc, size, at, bytes, 0)?;
+        is_damaged(&rt, alloc, wal, place, case)?;
+    }
+    let no_head = archive_with(alloc, 0, 0, &ARCHIVE[40..96], 0)?;
+    is_damaged(&rt, alloc, no_head, "0/1000000", "no head")?;
+    let no_checkpoint = archive_with(alloc, 40, 40, &ARCHIVE[96..144], 0)?;
+    is_damaged(&rt, alloc, no_checkpoint, "0/1000028", "no checkpoint")?;
+    let mut long = archive_with(alloc, 144, 9147, b"\0", 0)?;
+    long.write_at(SEGMENT, 144, b"\x31\x20\0\0")?;
+    is_damaged(&rt, alloc, long, "0/1000090", "longer than a page")?;
+    let (status, printed) = replay(alloc, MemVault::new(alloc, &[])?, NONE)?;
+    assert_eq!(rt; printed.as_slice(), b"refused 43 NotInit\n".as_slice());
+    assert_eq!(rt; status, Status::Refused);
+    Ok(())
 }
 
 /// The page of the rows: its LSN, its header and 65 around a hole of zeros.
@@ -140,47 +119,72 @@ fn page_of_rows(alloc: Global) -> Result<Vec<u8>, Fail> {
 fn pages_are_written_and_a_second_replay_is_refused(rt: HostRuntime) -> Result<(), Fail> {
     let alloc = rt.alloc();
     let mut site = MemSite::new(alloc, &[])?;
-    let wal = wal_of(alloc, &[&HEAD, &CHECKPOINT, &CREATION, &IMAGE], 0)?;
-    site.set(b"wal", wal)?;
+    site.set(b"wal", archive_with(alloc, 264, 0, b"", 0)?)?;
     let refusal = "refused 41 AreaNotEmpty o/p\n";
-    let first = [("replay p", "", Status::Done, "replayed 0/1000108 1 1\n")];
-    make_calls(&rt, alloc, &mut site, &first)?;
+    let calls = [
+        ("replay p", "", Status::Done, "replayed 0/1000108 1 1\n"),
+        ("replay p", "", Status::Refused, refusal),
+    ];
+    make_calls(&rt, alloc, &mut site, &calls)?;
     let page = read_in(alloc, &mut site, b"o/p", b"base/5/16384")?;
     assert_eq!(rt; page.as_slice(), page_of_rows(alloc)?.as_slice());
-    let second = [("replay p", "", Status::Refused, refusal)];
-    make_calls(&rt, alloc, &mut site, &second)
+    Ok(())
 }
 
-/// Each call of one object fails in turn, until a replay ends with no failure: how many failed.
-/// Each of them prints this line.
-fn failures(
-    rt: &impl Abort,
-    alloc: Global,
-    failing_at: impl Fn(u64) -> Failing,
-    line: &str,
-) -> Result<u64, Fail> {
-    for k in 1..100 {
-        let failing = failing_at(k);
-        let pieces: [&[u8]; 4] = [&HEAD, &CHECKPOINT, &CREATION, &IMAGE];
-        let (status, printed) = replay(alloc, &pieces, failing)?;
+/// An object whose calls fail in turn.
+#[derive(Clone, Copy)]
+enum Object {
+    Wal,
+    Output,
+    Sink,
+}
+
+/// A replay of the archive in which this call of an object fails.
+fn replay_failing(alloc: Global, object: Object, call: u64) -> Result<(Status, Vec<u8>), Fail> {
+    let (fails, failing) = match object {
+        Object::Wal => (call, NONE),
+        Object::Output => (
+            0,
+            Failing {
+                output: call,
+                ..NONE
+            },
+        ),
+        Object::Sink => (0, Failing { sink: call, ..NONE }),
+    };
+    replay(alloc, archive_with(alloc, 264, 0, b"", fails)?, failing)
+}
+
+/// How many calls of an object fail in turn until a replay ends without a failure. Each of them
+/// prints this line.
+fn failures(rt: &impl Abort, alloc: Global, object: Object, line: &str) -> Result<u64, Fail> {
+    for call in 1..100 {
+        let (status, printed) = replay_failing(alloc, object, call)?;
         if status == Status::Done {
-            return Ok(k - 1);
+            return Ok(call - 1);
         }
         assert_eq!(rt; status, Status::Device);
         assert_eq!(rt; printed.as_slice(), line.as_bytes());
     }
-    Err("no run ended".into())
+    Err("no replay ended".into())
 }
 
 #[test]
 fn each_device_call_fails_in_turn(rt: HostRuntime) -> Result<(), Fail> {
+    let alloc = rt.alloc();
     let wal = "refused 60 DeviceFault wal\n";
-    let out = "refused 60 DeviceFault o/p\n";
-    assert!(rt; failures(&rt, rt.alloc(), |k| Failing { wal: k, ..NONE }, wal)? > 3);
-    assert!(rt; failures(&rt, rt.alloc(), |k| Failing { out: k, ..NONE }, out)? > 3);
-    assert!(rt; failures(&rt, rt.alloc(), |k| Failing { sink: k, ..NONE }, "")? > 0);
-    for (site, line) in [(1, wal), (2, out)] {
-        let (status, printed) = replay(rt.alloc(), &[&HEAD], Failing { site, ..NONE })?;
+    let output = "refused 60 DeviceFault o/p\n";
+    for (object, line, least) in [
+        (Object::Wal, wal, 4),
+        (Object::Output, output, 4),
+        (Object::Sink, "", 1),
+    ] {
+        let failed = failures(&rt, alloc, object, line)?;
+        assert!(rt; failed >= least, "{line}");
+    }
+    for (site, line) in [(1, wal), (2, output)] {
+        let area = archive_with(alloc, 40, 0, b"", 0)?;
+        let (status, printed) = replay(alloc, area, Failing { site, ..NONE })?;
         assert_eq!(rt; printed.as_slice(), line.as_bytes());
         assert_eq!(rt; status, Status::Device);
     }

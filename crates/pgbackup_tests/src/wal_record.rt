@@ -1,5 +1,7 @@
-use crate::samples::{CHECKPOINT, CREATION, IMAGE, NEW_WAL};
-use lsn_core::{ForkId, ForkKind, Lsn, Place, Rel};
+use crate::samples::{ARCHIVE, NEW_WAL, main_fork};
+use lsn_core::{ForkKind, Lsn, Place};
+use std::alloc::Global;
+use std::process::Abort;
 use std::test::Fail;
 use wal_record::{Blocks, Body, Kind, Record, RecordFault, decode_record, encode_record};
 
@@ -8,15 +10,30 @@ const PLACE: Place = Place {
     end: Lsn(0x1000108),
 };
 
+/// A checkpoint at 0/1000028, the first entry of its archive.
+fn checkpoint() -> &'static [u8] {
+    &ARCHIVE[0x28..0x5a]
+}
+
+/// The creation of fork 5/16384 at 0/1000060.
+fn creation() -> &'static [u8] {
+    &ARCHIVE[0x60..0x8a]
+}
+
+/// An image of its block 0 at 0/1000090.
+fn image() -> &'static [u8] {
+    &ARCHIVE[0x90..0x101]
+}
+
 #[test]
 fn one_creation_and_one_image(rt: HostRuntime) -> Result<(), Fail> {
-    let first = decode_record(rt.alloc(), &CHECKPOINT[..50], PLACE, Some(Lsn(0)))?;
+    let first = decode_record(rt.alloc(), checkpoint(), PLACE, Some(Lsn(0)))?;
     assert_eq!(rt;
         (first.start, first.end, first.prev, first.xid),
         (PLACE.start, PLACE.end, Lsn(0), 0)
     );
     assert!(rt; matches!(first.kind, Kind::Shutdown(Lsn(0x1000028))));
-    let created = decode_record(rt.alloc(), &CREATION[..42], PLACE, Some(Lsn(0x1000028)))?;
+    let created = decode_record(rt.alloc(), creation(), PLACE, Some(Lsn(0x1000028)))?;
     let Kind::Create(fork) = &created.kind else {
         return Err("no creation")?;
     };
@@ -24,7 +41,7 @@ fn one_creation_and_one_image(rt: HostRuntime) -> Result<(), Fail> {
         (fork.rel.db(), fork.rel.rel(), fork.kind),
         (5, 16384, ForkKind::Main)
     );
-    let changed = decode_record(rt.alloc(), &IMAGE[..113], PLACE, None)?;
+    let changed = decode_record(rt.alloc(), image(), PLACE, None)?;
     let Kind::Generic(blocks) = &changed.kind else {
         return Err("no blocks")?;
     };
@@ -35,98 +52,98 @@ fn one_creation_and_one_image(rt: HostRuntime) -> Result<(), Fail> {
     );
     let Body::Image(page) = block.body;
     assert_eq!(rt; page.hole(), Some((32, 8160)));
-    assert_eq!(rt; page.bytes()[..32], IMAGE[49..81]);
+    assert_eq!(rt; page.bytes()[..32], ARCHIVE[0xc1..0xe1]);
     assert_eq!(rt; (page.bytes()[32], page.bytes()[8159]), (0, 0));
-    assert_eq!(rt; page.bytes()[8160..], IMAGE[81..113]);
+    assert_eq!(rt; page.bytes()[8160..], ARCHIVE[0xe1..0x101]);
     Ok(())
 }
 
-// what a byte at a place makes of an entry
-fn answer(
-    rt: &HostRuntime,
-    entry: &[u8],
-    at: usize,
-    byte: u8,
-) -> Result<Option<RecordFault>, Fail> {
-    let mut bytes = Vec::from_slice(rt.alloc(), entry)?;
+/// Bytes at places of the creation that make another form of it.
+static CREATIONS: [(usize, u8, &str); 10] = [
+    (0, 43, "another total length"),
+    (16, 0x10, "no info bit"),
+    (17, 10, "another manager"),
+    (18, 1, "byte 18"),
+    (19, 1, "byte 19"),
+    (25, 17, "another length of main data"),
+    (26, 0x80, "another tablespace"),
+    (30, 0, "database 0"),
+    (35, 0, "relation 0"),
+    (38, 1, "fork 1"),
+];
+
+/// The same of the image.
+static IMAGES: [(usize, u8, &str); 11] = [
+    (24, 1, "block id 1"),
+    (25, 0x11, "fork 1"),
+    (25, 0x90, "flag 0x80 on the first block"),
+    (26, 1, "a length of data"),
+    (28, 0x41, "another length"),
+    (30, 0x21, "another offset"),
+    (32, 1, "not to be applied"),
+    (32, 2, "said to have no hole"),
+    (46, 0x80, "block 32768"),
+    (61, 0x21, "the page's hole begins elsewhere"),
+    (68, 0x03, "another page version"),
+];
+
+/// The same of the checkpoint.
+static CHECKPOINTS: [(usize, u8, &str); 3] = [
+    (34, 2, "another timeline"),
+    (42, 0, "another byte behind the timelines"),
+    (49, 1, "another last byte"),
+];
+
+/// What a byte at a place makes of an entry.
+fn fault(alloc: Global, entry: &[u8], at: usize, byte: u8) -> Result<Option<RecordFault>, Fail> {
+    let mut bytes = Vec::from_slice(alloc, entry)?;
     if let Some(old) = bytes.get_mut(at) {
         *old = byte;
     }
-    Ok(decode_record(rt.alloc(), &bytes, PLACE, None).err())
+    Ok(decode_record(alloc, &bytes, PLACE, None).err())
+}
+
+/// Each of these bytes makes a form that is refused.
+fn are_refused(
+    rt: &impl Abort,
+    alloc: Global,
+    entry: &[u8],
+    forms: &[(usize, u8, &str)],
+) -> Result<(), Fail> {
+    for (at, byte, words) in forms {
+        let found = fault(alloc, entry, *at, *byte)?;
+        assert_eq!(rt; found, Some(RecordFault::Form), "{words}");
+    }
+    Ok(())
 }
 
 #[test]
 fn other_forms_are_refused(rt: HostRuntime) -> Result<(), Fail> {
-    let creations = [
-        (0, 43, "another total length"),
-        (16, 0x10, "no info bit"),
-        (17, 10, "another manager"),
-        (18, 1, "byte 18"),
-        (19, 1, "byte 19"),
-        (25, 17, "another length of main data"),
-        (26, 0x80, "another tablespace"),
-        (30, 0, "database 0"),
-        (35, 0, "relation 0"),
-        (38, 1, "fork 1"),
-    ];
-    for (at, byte, words) in creations {
-        assert_eq!(rt;
-            answer(&rt, &CREATION[..42], at, byte)?,
-            Some(RecordFault::Form),
-            "{words}"
-        );
-    }
-    let images = [
-        (24, 1, "block id 1"),
-        (25, 0x11, "fork 1"),
-        (25, 0x90, "flag 0x80 on the first block"),
-        (26, 1, "a length of data"),
-        (28, 0x41, "another length"),
-        (30, 0x21, "another offset"),
-        (32, 1, "not to be applied"),
-        (32, 2, "said to have no hole"),
-        (46, 0x80, "block 32768"),
-        (61, 0x21, "the page's hole begins elsewhere"),
-        (68, 0x03, "another page version"),
-    ];
-    for (at, byte, words) in images {
-        assert_eq!(rt;
-            answer(&rt, &IMAGE[..113], at, byte)?,
-            Some(RecordFault::Form),
-            "{words}"
-        );
-    }
-    for (at, byte) in [(34, 2), (42, 0), (49, 1)] {
-        assert_eq!(rt;
-            answer(&rt, &CHECKPOINT[..50], at, byte)?,
-            Some(RecordFault::Form),
-            "{at}"
-        );
-    }
-    assert_eq!(rt; answer(&rt, &IMAGE[..113], 20, 0)?, None);
+    let alloc = rt.alloc();
+    are_refused(&rt, alloc, creation(), &CREATIONS)?;
+    are_refused(&rt, alloc, image(), &IMAGES)?;
+    are_refused(&rt, alloc, checkpoint(), &CHECKPOINTS)?;
+    assert_eq!(rt; fault(alloc, image(), 20, 0)?, None);
     Ok(())
 }
 
 #[test]
 fn length_and_previous_link_are_exact(rt: HostRuntime) {
-    let form = Some(RecordFault::Form);
-    let mut longer = [0; 51];
-    longer[..50].copy_from_slice(&CHECKPOINT[..50]);
-    assert_eq!(rt; decode_record(rt.alloc(), &longer, PLACE, None).err(), form);
-    assert_eq!(rt;
-        decode_record(rt.alloc(), &IMAGE[..112], PLACE, None).err(),
-        form
-    );
-    assert_eq!(rt;
-        decode_record(rt.alloc(), &CREATION[..42], PLACE, Some(Lsn(0))).err(),
-        form
-    );
-    assert_eq!(rt; decode_record(rt.alloc(), &[], PLACE, None).err(), form);
+    for (bytes, prev, words) in [
+        (&ARCHIVE[0x28..0x5b], None, "a byte more"),
+        (&ARCHIVE[0x90..0x100], None, "a byte less"),
+        (creation(), Some(Lsn(0)), "another entry before"),
+        (b"".as_slice(), None, "no byte"),
+    ] {
+        let found = decode_record(rt.alloc(), bytes, PLACE, prev).err();
+        assert_eq!(rt; found, Some(RecordFault::Form), "{words}");
+    }
     assert_eq!(rt; Blocks::from_vec(Vec::new(rt.alloc())).as_slice().len(), 0);
 }
 
 #[test]
 fn entries_are_written_with_their_sums(rt: HostRuntime) -> Result<(), Fail> {
+    let alloc = rt.alloc();
     let first = Record {
         start: Lsn(0x100028),
         end: Lsn(0x100060),
@@ -134,24 +151,20 @@ fn entries_are_written_with_their_sums(rt: HostRuntime) -> Result<(), Fail> {
         xid: 0,
         kind: Kind::Shutdown(Lsn(0x100028)),
     };
-    let bytes = encode_record(rt.alloc(), &first)?;
-    assert_eq!(rt; bytes.as_slice(), &NEW_WAL[40..90]);
-    let rel = Rel::new(5, 16384).ok_or("no relation")?;
-    let fork = ForkId {
-        rel,
-        kind: ForkKind::Main,
-    };
     let created = Record {
         start: Lsn(0x1000060),
         end: Lsn(0x1000090),
         prev: Lsn(0x1000028),
         xid: 0,
-        kind: Kind::Create(fork),
+        kind: Kind::Create(main_fork(16384).ok_or("no relation")?),
     };
-    let bytes = encode_record(rt.alloc(), &created)?;
-    assert_eq!(rt; bytes.as_slice(), &CREATION[..42]);
-    let changed = decode_record(rt.alloc(), &IMAGE[..113], PLACE, None)?;
-    let bytes = encode_record(rt.alloc(), &changed)?;
-    assert_eq!(rt; bytes.as_slice(), &IMAGE[..113]);
+    let changed = decode_record(alloc, image(), PLACE, None)?;
+    for (record, bytes) in [
+        (&first, &NEW_WAL[40..90]),
+        (&created, creation()),
+        (&changed, image()),
+    ] {
+        assert_eq!(rt; encode_record(alloc, record)?.as_slice(), bytes);
+    }
     Ok(())
 }
