@@ -17,6 +17,11 @@ pub none_of : {A : Type 0} (o : Option A) (P : Type 0) (Q : A → Type 0) → Ma
 none_of None P Q m = m
 none_of (Some x) P Q m = tt
 
+-- what holds anyway holds where there is no answer
+pub none_anyway : {A : Type 0} (o : Option A) (P : Type 0) → P → IfNone o P
+none_anyway None P p = p
+none_anyway (Some x) P p = tt
+
 -- the byte doesn't stand in the text
 abbrev pub Lacks : ℕ → List ℕ → Type 0
 Lacks byte [] = Unit

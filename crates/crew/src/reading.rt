@@ -92,7 +92,7 @@ impl Draft {
     {
         match what {
             Said::Nothing => (),
-            Said::Worker(name) => self.names.push(Text::from_slice(alloc, name)?)?,
+            Said::Worker(name) => self.names.push(Text::copied(alloc, name)?)?,
             Said::Does(command) => self.commands.push(Line {
                 number,
                 command: *command,

@@ -1,3 +1,7 @@
+pub mod AnyAll
 pub mod ForkOrder
+pub mod ForkPaths
+pub mod LsnTexts
 pub mod Padding
-pub mod FileNames
+pub mod SegmentNames
+pub mod StoreFiles

@@ -1,28 +1,47 @@
--- A path tells which file of which fork it is, so no two files of a store share a name.
-use Rattle.std.specs.Prelude.{◌≡◌, ◌≢◌, ℕ, ◌<◌, ◌≤◌, ◌^◌, Bool, List, length, All, AllPairs}
-use Rattle.std.specs.FinMap.{entries}
+-- What holds of names, and of a store's files by their names.
+use Rattle.std.specs.Prelude.{◌≡◌, ℕ, ◌^◌, ◌<◌, Bool, false, List, map, length, Some}
+use Rattle.std.specs.Ordering.{nat_cmp, eq_by_cmp}
+use Rattle.std.specs.Cmp.Lexicographic.{slice_cmp}
+use Rattle.std.specs.FinMap.{get}
+use Rattle.std.specs.List.{IsDistinct}
 use Rattle.lsn_core.specs.declared.ids.ForkId.{ForkId}
-use Rattle.lsn_core.specs.Names.{fork_path_bytes}
-use Rattle.lsn_core.specs.Store.{Store, ForkPages, segment_count, store_files}
+use Rattle.lsn_core.specs.Names.{lsn_bytes, IsLsnText, segment_name_bytes, segment_file_bytes, HasSegmentName, fork_path_bytes, IsNamed}
+use Rattle.lsn_core.specs.Store.{Store, ForkPages, store_files, files_of, segment_in}
 
--- the numbers of a fork fit 32 bits, as all forks' do
-pub record HasNumbers (fork : ForkId) : Type 0 where
-  pub db : fork.rel.db < 2 ^ 32
-  pub rel : fork.rel.rel < 2 ^ 32
+-- a printed LSN is read as itself
+abbrev pub PrintedLsnsAreRead : Type 0
+PrintedLsnsAreRead = (at : ℕ) → at < 2 ^ 64 → IsLsnText (lsn_bytes at) at
 
--- two paths are one only where they are of one fork, one segment and one form
-abbrev pub NamesOneFile : Type 0
-NamesOneFile =
-    (f g : ForkId) (s t : ℕ) (a b : Bool) → HasNumbers f → HasNumbers g → s < 2 ^ 32 → t < 2 ^ 32
-    → fork_path_bytes f s a ≡ fork_path_bytes g t b → (f ≡ g) × ((s ≡ t) × (a ≡ b))
+-- and a text is read as one LSN
+abbrev pub TextsHaveOneLsn : Type 0
+TextsHaveOneLsn = (text : List ℕ) (a b : ℕ) → IsLsnText text a → IsLsnText text b → a ≡ b
 
--- a fork's numbers fit 32 bits, and so does that of each of its files
-pub record HasFileNumbers (relseg : ℕ) (e : ForkId × ForkPages) : Type 0 where
-  pub fork : HasNumbers e.0
-  pub files : segment_count relseg (length e.1) ≤ 2 ^ 32
+-- the name that is written is that of timeline 1
+abbrev pub WrittenNamesAreRead : Type 0
+WrittenNamesAreRead = (number mib : ℕ) → segment_name_bytes number mib ≡ segment_file_bytes 1 number mib
 
--- no two files of a store share a name
-abbrev pub HasDistinctNames : Type 0
-HasDistinctNames =
-    (relseg : ℕ) (store : Store) → All (HasFileNumbers relseg) (entries store)
-    → AllPairs (λ f g. f.0 ≢ g.0) (store_files relseg store)
+-- a name is that of one segment
+abbrev pub NamesHaveOneSegment : Type 0
+NamesHaveOneSegment = (s t m n mib : ℕ) → HasSegmentName s m mib → HasSegmentName t n mib
+    → segment_file_bytes s m mib ≡ segment_file_bytes t n mib → (s ≡ t) × (m ≡ n)
+
+-- a path is that of one segment of one fork, in one form
+abbrev pub PathsHaveOneFork : Type 0
+PathsHaveOneFork = (a b : ForkId) (s t : ℕ) (i j : Bool) → IsNamed a s → IsNamed b t
+    → fork_path_bytes a s i ≡ fork_path_bytes b t j → (a ≡ b) × ((s ≡ t) × (i ≡ j))
+
+-- a store whose forks' numbers and lengths fit
+abbrev pub HasNamedForks : Store → Type 0
+HasNamedForks store = (fork : ForkId) (pages : ForkPages) → get store fork ≡ Some pages
+    → IsNamed fork (length pages)
+
+-- its files have distinct names
+abbrev pub FilesAreDistinct : Type 0
+FilesAreDistinct = (relseg : ℕ) (store : Store) → 0 < relseg → HasNamedForks store
+    → IsDistinct (eq_by_cmp (slice_cmp nat_cmp)) (map (λ file. file.0) (store_files relseg store))
+
+-- and each path leads to what its segment holds, if anything
+abbrev pub FilesHoldSegments : Type 0
+FilesHoldSegments = (relseg : ℕ) (store : Store) (fork : ForkId) (seg : ℕ)
+    → 0 < relseg → HasNamedForks store → IsNamed fork seg
+    → get (files_of relseg store) (fork_path_bytes fork seg false) ≡ segment_in relseg seg (get store fork)

@@ -3,7 +3,10 @@ pub mod Relation
 pub mod Segment
 pub mod Tip
 pub mod Names
+pub mod PathParts
 pub mod Files
 pub mod Store
+pub mod Blocks
+pub mod Shown
 pub mod Causes
 pub mod Laws

@@ -1,5 +1,5 @@
 -- A store of pages, and the files that it has.
-use Rattle.std.specs.Prelude.{ℕ, ◌+◌, ◌*◌, ◌-◌, ◌/◌, max, false, List, [], ◌∷◌, map, take, drop, length}
+use Rattle.std.specs.Prelude.{ℕ, ◌+◌, ◌*◌, ◌-◌, ◌/◌, max, false, List, [], ◌∷◌, map, take, drop, length, nat_lt, Option, Some, None, if◌then◌else◌}
 use Rattle.std.specs.List.{flat_map, range_with_len}
 use Rattle.std.specs.declared.cmp.Ordering.{Ordering}
 use Rattle.std.specs.Ordering.{nat_cmp, ordering_then}
@@ -16,7 +16,9 @@ kind_number Init = 1
 
 -- forks in order: by database, relation and kind
 abbrev pub fork_cmp : ForkId → ForkId → Ordering
-fork_cmp a b = ordering_then (ordering_then (nat_cmp a.rel.db b.rel.db) (nat_cmp a.rel.rel b.rel.rel)) (nat_cmp (kind_number a.kind) (kind_number b.kind))
+fork_cmp a b =
+    ordering_then (ordering_then (nat_cmp a.rel.db b.rel.db) (nat_cmp a.rel.rel b.rel.rel))
+    (nat_cmp (kind_number a.kind) (kind_number b.kind))
 
 -- the pages of a fork, in order; a page is a list of 8192 bytes
 abbrev pub ForkPages : Type 0
@@ -36,17 +38,25 @@ segment_content relseg pages seg = flat_map (λ page. page) (take relseg (drop (
 
 -- the files of a fork, at so many blocks a file
 abbrev pub fork_files : ℕ → ForkId × ForkPages → List (List ℕ × List ℕ)
-fork_files relseg e = map (λ seg. (fork_path_bytes e.0 seg false, segment_content relseg e.1 seg)) (range_with_len 0 (segment_count relseg (length e.1)))
+fork_files relseg e =
+    map (λ seg. (fork_path_bytes e.0 seg false, segment_content relseg e.1 seg))
+    (range_with_len 0 (segment_count relseg (length e.1)))
 
 -- files put into a directory, one after the other
 abbrev pub with_files : Files → List (List ℕ × List ℕ) → Files
 with_files files [] = files
 with_files files (f ∷ fs) = with_files (insert files f.0 f.1) fs
 
--- the files of a store, fork after fork
+-- the files of a store with their names, fork by fork
 abbrev pub store_files : ℕ → Store → List (List ℕ × List ℕ)
 store_files relseg store = flat_map (fork_files relseg) (entries store)
 
--- a directory of these files, and no others (Database File Layout)
+-- the files of a store, and no others (Database File Layout)
 abbrev pub files_of : ℕ → Store → Files
 files_of relseg store = with_files empty (store_files relseg store)
+
+-- what a segment file of a fork holds, where the fork and the segment are there
+abbrev pub segment_in : ℕ → ℕ → Option ForkPages → Option (List ℕ)
+segment_in relseg seg None = None
+segment_in relseg seg (Some pages) =
+    if nat_lt seg (segment_count relseg (length pages)) then Some (segment_content relseg pages seg) else None

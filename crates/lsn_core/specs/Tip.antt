@@ -6,3 +6,6 @@ pub record Tip : Type 0 where
   pub prev : ℕ  -- where the last entry starts, 0 where there is none
   pub redo : ℕ  -- the latest redo point
   pub count : ℕ  -- how many entries there are
+
+abbrev pub tip_of : ℕ → ℕ → ℕ → ℕ → Tip
+tip_of end prev redo count = record { end = end; prev = prev; redo = redo; count = count }

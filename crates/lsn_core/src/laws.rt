@@ -1,10 +1,28 @@
-//! What holds of the names of files.
+//! Laws of names: each is the contract of a function that does nothing.
 
-ghost use Rattle.lsn_core.specs.Laws.{NamesOneFile, HasDistinctNames};
+ghost use Rattle.lsn_core.specs.Laws.{PrintedLsnsAreRead, TextsHaveOneLsn, WrittenNamesAreRead, NamesHaveOneSegment, PathsHaveOneFork, FilesAreDistinct, FilesHoldSegments};
 
-/// The path of a file tells which fork and which segment of it the file has, and in which form; so
-/// no two files of a store share a name.
-pub fn paths_tell_their_files()
-    ensures path { NamesOneFile }
-    ensures store { HasDistinctNames }
+/// What `lsn_text` gives is read as the LSN that it was given, and a text is read as one LSN.
+pub fn lsns_are_read_again()
+    ensures printed { PrintedLsnsAreRead }
+    ensures one { TextsHaveOneLsn }
+{}
+
+/// What `segment_name` gives is the name of the segment on timeline 1, and a name is that of one
+/// segment.
+pub fn segments_are_read_again()
+    ensures written { WrittenNamesAreRead }
+    ensures one { NamesHaveOneSegment }
+{}
+
+/// A path is that of one segment of one fork, incremental or plain.
+pub fn paths_have_one_fork()
+    ensures { PathsHaveOneFork }
+{}
+
+/// The files of a store have distinct names, so that none is written over another; and each path
+/// leads to what its segment holds.
+pub fn store_files_are_distinct()
+    ensures distinct { FilesAreDistinct }
+    ensures hold { FilesHoldSegments }
 {}

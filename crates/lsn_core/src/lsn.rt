@@ -1,12 +1,14 @@
 //! Places in the WAL.
 
-ghost use Rattle.std.specs.Prelude.{◌≡◌, IfOk};
-ghost use Rattle.lsn_core.specs.Names.{lsn_bytes};
+ghost use Rattle.std.specs.Prelude.{◌≡◌, ℕ, IfOk, IfSome, IfNone};
+ghost use Rattle.lsn_core.specs.Names.{lsn_bytes, IsLsnText};
 
 use crate::fault::NoMemory;
 use crate::text::Text;
+use byte_words::cut_at;
 use std::alloc::Global;
 use std::marker::Model;
+use text_numbers::hex_digits_in;
 
 /// A log sequence number: a byte position in the WAL (PostgreSQL manual, pg_lsn type).
 #[derive(Clone, Copy, Debug, PartialEq, Eq, PartialOrd, Ord)]
@@ -30,11 +32,11 @@ pub struct WalTip {
 }
 
 impl Model for WalTip {
-    ghost use Rattle.lsn_core.specs.Tip.{Tip};
+    ghost use Rattle.lsn_core.specs.Tip.{Tip, tip_of};
 
     ghost Value = { Tip };
 
-    ghost view = { λ t. record { end = t.end.0; prev = t.prev.0; redo = t.redo.0; count = t.count } };
+    ghost view = { λ t. tip_of t.end.0 t.prev.0 t.redo.0 t.count };
 
     ghost inverse = { λ t. record {
       end = record { 0 = t.end };
@@ -52,4 +54,17 @@ pub fn lsn_text(alloc: Global, at: Lsn) -> Result<Text, NoMemory>
     let high = at.0 >> 32;
     let low = at.0 & 0xffff_ffff;
     Ok(Text::from_vec(format!(in alloc; "{high:X}/{low:X}")?.into_bytes()))
+}
+
+/// The LSN that a text writes: 1 to 8 hexadecimal digits in either case on each side of a slash,
+/// leading zeros allowed (PostgreSQL manual, pg_lsn type). None exactly where the text is no such
+/// one.
+pub fn lsn_read(text: &[u8]) -> Option<Lsn>
+    ensures found { IfSome result (λ at. IsLsnText text.now at.0) }
+    ensures none { IfNone result ((at : ℕ) → IsLsnText text.now at → ⊥) }
+{
+    let (high, low) = cut_at(b'/', text)?;
+    let high = u64::from(hex_digits_in(high)?);
+    let low = u64::from(hex_digits_in(low)?);
+    Some(Lsn(high * 4_294_967_296 + low))
 }

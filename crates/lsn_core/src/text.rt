@@ -28,13 +28,11 @@ impl Text {
         Text { bytes }
     }
 
-    /// A copy of these bytes as a text.
-    pub fn from_slice(alloc: Global, bytes: &[u8]) -> Result<Text, NoMemory>
-        ensures { IfOk result (λ t. t ≡ bytes.now) }
+    /// A text of the same bytes.
+    pub fn copied(alloc: Global, bytes: &[u8]) -> Result<Text, NoMemory>
+        ensures { IfOk result (λ text. text ≡ bytes.now) }
     {
-        Ok(Text {
-            bytes: Vec::from_slice(alloc, bytes)?,
-        })
+        Ok(Text::from_vec(Vec::from_slice(alloc, bytes)?))
     }
 
     /// The bytes as a vector again. Takes no memory.

@@ -4,8 +4,9 @@ use Rattle.std.specs.Fmt.{decimal}
 use Rattle.std.specs.Char.{is_ascii_digit}
 use Rattle.std.specs.List.{prefix_len}
 use Rattle.std.proofs.lemmas.Bool.{and_parts}
-use Rattle.std.proofs.lemmas.List.{take-append-drop, take_at}
+use Rattle.std.proofs.lemmas.List.{take-append-drop, take_at, append_cancel_left}
 use Rattle.std.proofs.lemmas.List.Sums.{prefix_len-le-length}
+use Rattle.std.proofs.lemmas.Fmt.{decimal_injective}
 use Rattle.text_numbers.specs.Numbers.{all_digits, IsFront}
 use Rattle.text_numbers.proofs.Decimal.{decimal_is_digits}
 
@@ -47,3 +48,14 @@ front_digits text tail n small is =
 
 pub front_none : (text front : List ℕ) → front ≡ take (digit_count text) text → ((n : ℕ) → n < 2 ^ 64 → front ≡ decimal n → ⊥) → (n : ℕ) (tail : List ℕ) → n < 2 ^ 64 → IsFront text n tail → ⊥
 front_none text front f none n tail small is = none n small (f ∙ front_digits text tail n small is)
+
+-- a text has one number at its front
+pub front_once : (text : List ℕ) (m n : ℕ) (t u : List ℕ) → m < 2 ^ 64 → n < 2 ^ 64 → IsFront text m t → IsFront text n u → (m ≡ n) × (t ≡ u)
+front_once text m n t u sm sn a b =
+    let same : decimal m ≡ decimal n = sym (front_digits text t m sm a) ∙ front_digits text u n sn b in
+    let number = decimal_injective m n sm sn same in
+    (number, append_cancel_left (decimal n) t u (ap (λ (l : List ℕ). l ++ t) (sym same) ∙ sym a.parts ∙ b.parts))
+
+-- the front of a number's text and what begins with no digit
+pub is_front : (text : List ℕ) (n : ℕ) (tail : List ℕ) → text ≡ decimal n ++ tail → digit_count tail ≡ 0 → IsFront text n tail
+is_front text n tail e apart = record { parts = e; apart = apart }

@@ -6,7 +6,7 @@ use Rattle.std.specs.Int.{IsInRange, is_in_range}
 use Rattle.std.specs.Str.Parse.{digits_value, digits_value_after}
 use Rattle.std.proofs.lemmas.Bool.{and_parts, and_from, or_cases, or_left, or_right, cases_lt, eqb-true, eqb-false, lt-ltb, le-ltb, le-leb, cond-true, cond-false}
 use Rattle.std.proofs.lemmas.Int.Digits.{digits_value_push, digits_value-lt}
-use Rattle.std.proofs.lemmas.List.{append-nil, append_assoc, length-append, length-take-le, take-append-drop, take_at, replicate-append-replicate}
+use Rattle.std.proofs.lemmas.List.{append-nil, append_assoc, length-append, length-take-le, take-append-drop, take_at, append_cancel_left, replicate-append-replicate}
 use Rattle.std.proofs.lemmas.List.Folds.{list_all-append}
 use Rattle.std.proofs.lemmas.Str.{digit_value_digit}
 use Rattle.std.proofs.Math.Nat.{pow-succ'}
@@ -239,3 +239,12 @@ not_read text front f none n tail small is =
     let some : hex_number_of front ≡ Some n = ap hex_number_of (eight_front text front tail n f small is) ∙ eight_read n small in
     let never : None ≡ Some n = sym none ∙ some in
     cc
+
+-- a text has one number in eight digits at its front
+pub eight_once : (text : List ℕ) (m n : ℕ) (t u : List ℕ) → m < 2 ^ 32 → n < 2 ^ 32 → text ≡ eight_digits m ++ t → text ≡ eight_digits n ++ u → (m ≡ n) × (t ≡ u)
+eight_once text m n t u sm sn a b =
+    let first = eight_front text (take 8 text) t m refl sm a in
+    let other = eight_front text (take 8 text) u n refl sn b in
+    let same : eight_digits m ≡ eight_digits n = sym first ∙ other in
+    let number : m ≡ n = sym (value_of_eight m sm) ∙ ap (digits_value 16) same ∙ value_of_eight n sn in
+    (number, append_cancel_left (eight_digits n) t u (ap (λ (l : List ℕ). l ++ t) (sym same) ∙ sym a ∙ b))

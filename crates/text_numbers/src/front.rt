@@ -1,9 +1,9 @@
 //! Numbers at the front of a text.
 
-ghost use Rattle.std.specs.Prelude.{◌≡◌, ◌^◌, ◌<◌, ℕ, List, IfSome, IfNone};
+ghost use Rattle.std.specs.Prelude.{◌≡◌, ◌^◌, ◌<◌, IfSome, IfNone};
 ghost use Rattle.std.specs.Char.{is_ascii_digit};
 ghost use Rattle.std.specs.List.{prefix_len};
-ghost use Rattle.text_numbers.specs.Numbers.{IsFront};
+ghost use Rattle.text_numbers.specs.Numbers.{IsFront, HasNoFront};
 
 use crate::reading::decimal_in;
 
@@ -19,7 +19,7 @@ fn digit_count(text: &[u8]) -> usize
 pub fn decimal_front(text: &[u8]) -> Option<(u64, &[u8])>
     ensures found { IfSome result (λ x. IsFront text.now x.0 x.1.now) }
     ensures small { IfSome result (λ x. x.0 < 2 ^ 64) }
-    ensures none { IfNone result ((n : ℕ) (tail : List ℕ) → n < 2 ^ 64 → IsFront text.now n tail → ⊥) }
+    ensures none { IfNone result (HasNoFront (2 ^ 64) text.now) }
 {
     let (digits, tail) = text.split_at(digit_count(text));
     match decimal_in(digits) {

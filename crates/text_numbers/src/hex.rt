@@ -1,7 +1,7 @@
 //! Numbers read from their hexadecimal digits.
 
-ghost use Rattle.std.specs.Prelude.{◌≡◌, ◌++◌, ◌<◌, ◌^◌, ℕ, List, IfSome, IfNone};
-ghost use Rattle.text_numbers.specs.Numbers.{all_hex_digits, all_upper_digits, hex_number_of, eight_digits};
+ghost use Rattle.std.specs.Prelude.{◌≡◌, ◌++◌, ◌<◌, ◌^◌, IfSome, IfNone};
+ghost use Rattle.text_numbers.specs.Numbers.{all_hex_digits, all_upper_digits, hex_number_of, eight_digits, HasNoEight};
 
 use std::str;
 
@@ -38,7 +38,7 @@ fn is_upper_digits(text: &[u8]) -> bool
 pub fn eight_digits_front(text: &[u8]) -> Option<(u32, &[u8])>
     ensures found { IfSome result (λ x. text.now ≡ eight_digits x.0 ++ x.1.now) }
     ensures small { IfSome result (λ x. x.0 < 2 ^ 32) }
-    ensures none { IfNone result ((n : ℕ) (tail : List ℕ) → n < 2 ^ 32 → text.now ≡ eight_digits n ++ tail → ⊥) }
+    ensures none { IfNone result (HasNoEight text.now) }
 {
     if text.len() < 8 {
         return None;

@@ -39,6 +39,7 @@ fn value_of(digits: &[u8]) -> Option<u64>
 /// None exactly where the text is no such number.
 pub fn decimal_in(text: &[u8]) -> Option<u64>
     ensures found { IfSome result (λ n. text.now ≡ decimal n) }
+    ensures small { IfSome result (λ n. n < 2 ^ 64) }
     ensures none { IfNone result ((n : ℕ) → n < 2 ^ 64 → text.now ≡ decimal n → ⊥) }
 {
     if !is_digits(text) || starts_with_zero(text) {
