@@ -10,7 +10,8 @@ use Rattle.wal_record.specs.Spelling.{IsWritable}
 use Rattle.history.specs.declared.op.Op.{Op}
 use Rattle.history.specs.declared.op.Op.TheVariants as op
 use Rattle.history.specs.Entry.{Put, Create, Change}
-use Rattle.history.specs.Apply.{apply, apply_act, with_page}
+use Rattle.lsn_core.specs.Blocks.{with_page}
+use Rattle.history.specs.Apply.{apply, apply_act}
 use Rattle.history.specs.Whole.{act_of, entry_of, says}
 use Rattle.history.specs.Written.{kind_of, record_of}
 use Rattle.history.specs.Op.{act_of_op}

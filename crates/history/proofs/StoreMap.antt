@@ -16,7 +16,7 @@ use Rattle.std.specs.FinMap.Entries.{below_all}
 use Rattle.lsn_core.specs.declared.ids.ForkId.{ForkId}
 use Rattle.lsn_core.specs.Store.{Store, ForkPages, fork_cmp}
 use Rattle.lsn_core.proofs.ForkOrder.{fork_cmp_total, fork_cmp-IsAntisymmetric, derived_cmp, derived_is}
-use Rattle.history.specs.Apply.{with_block, with_page, with_fork}
+use Rattle.lsn_core.specs.Blocks.{with_block, with_page, with_fork}
 use Rattle.history.specs.Pages.{store_in, page_count}
 
 abbrev Forks : Type 0

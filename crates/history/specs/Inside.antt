@@ -1,14 +1,9 @@
 -- What the crate's private functions do: no public contract cites these.
-use Rattle.std.specs.Prelude.{◌≡◌, ℕ, List, map, Option}
-use Rattle.lsn_core.specs.declared.ids.BlockId.{BlockId}
+use Rattle.std.specs.Prelude.{ℕ, List, map, Option}
 use Rattle.lsn_core.specs.Store.{Store}
 use Rattle.wal_record.specs.declared.record.BlockRef.{BlockRef}
-use Rattle.history.specs.Apply.{with_page, apply_item, apply_items}
+use Rattle.history.specs.Apply.{apply_item, apply_items}
 use Rattle.history.specs.Whole.{item_of}
-
--- a page was put at a block of a store
-abbrev pub PutsPage : Store → BlockId → List ℕ → Store → Type 0
-PutsPage old at page new = new ≡ with_page old at.fork at.block page
 
 -- the store after the blocks of an entry that ends at a place; None where one can't be applied
 abbrev pub apply_block : ℕ → Store → BlockRef → Option Store

@@ -2,12 +2,11 @@
 
 ghost use Rattle.std.specs.Prelude.{◌≡◌, ◌<◌, ◌≤◌, ◌^◌};
 ghost use Rattle.std.specs.Prelude.{length, slice_get, OnOk, OnErr, IfOk};
-ghost use Rattle.std.specs.FinMap.{empty, get, keys, len};
+ghost use Rattle.std.specs.FinMap.{empty, keys, len};
 ghost use Rattle.std.specs.Option.{option_map};
 ghost use Rattle.lsn_core.specs.Sizes.{most_blocks};
-ghost use Rattle.history.specs.Apply.{with_block, with_fork};
-ghost use Rattle.history.specs.Pages.{store_in, block_of, page_count};
-ghost use Rattle.history.specs.Inside.{PutsPage};
+ghost use Rattle.lsn_core.specs.Blocks.{block_of, block_count, with_block, page_put, with_fork};
+ghost use Rattle.history.specs.Pages.{store_in, page_count};
 
 use lsn_core::{BlockId, ForkId, NoMemory};
 use pg_page::zero_page;
@@ -75,7 +74,7 @@ impl PageMap {
 
     /// How many blocks a fork has. None exactly where there is no such fork.
     pub fn blocks(&self, fork: &ForkId) -> Option<usize>
-        ensures { result ≡ option_map length (get self.now fork.now) }
+        ensures { result ≡ block_count self.now fork.now }
     {
         match self.forks.get(fork) {
             Some(pages) => Some(pages.len()),
@@ -85,7 +84,7 @@ impl PageMap {
 
     /// The bytes of a block. None exactly where the fork has no such block, or isn't there.
     pub fn block(&self, at: &BlockId) -> Option<&[u8; 8192]>
-        ensures { option_map (λ page. page.now) result ≡ block_of self.now at.now }
+        ensures { option_map (λ p. p.now) result ≡ block_of self.now at.now.fork at.now.block }
     {
         match self.forks.get(&at.fork) {
             Some(pages) => page_at(pages, at.block),
@@ -104,7 +103,7 @@ impl PageMap {
     /// Puts a page at a block; a missing fork and missing pages before it are made.
     pub(crate) fn put(&mut self, at: &BlockId, page: &[u8; 8192]) -> Result<(), NoMemory>
         requires { at.now.block < most_blocks }
-        ensures put { OnOk result (PutsPage self.old at.now page.now self.new) }
+        ensures put { OnOk result (self.new ≡ page_put at.now page.now self.old) }
         ensures same { OnErr result (self.new ≡ self.old) }
     {
         put_in(&mut self.forks, at, page, self.alloc)
@@ -142,7 +141,7 @@ fn put_in(
     alloc: Global,
 ) -> Result<(), NoMemory>
     requires { at.now.block < most_blocks }
-    ensures put { OnOk result (PutsPage (store_in forks.old) at.now page.now (store_in forks.new)) }
+    ensures put { OnOk result (store_in forks.new ≡ page_put at.now page.now (store_in forks.old)) }
     ensures same { OnErr result (store_in forks.new ≡ store_in forks.old) }
 {
     if let Some(pages) = forks.get_mut(&at.fork) {

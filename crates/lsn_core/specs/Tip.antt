@@ -7,5 +7,5 @@ pub record Tip : Type 0 where
   pub redo : ℕ  -- the latest redo point
   pub count : ℕ  -- how many entries there are
 
-abbrev pub tip_of : ℕ → ℕ → ℕ → ℕ → Tip
-tip_of end prev redo count = record { end = end; prev = prev; redo = redo; count = count }
+abbrev pub tip_with : ℕ → ℕ → ℕ → ℕ → Tip
+tip_with end prev redo count = record { end = end; prev = prev; redo = redo; count = count }

@@ -32,11 +32,11 @@ pub struct WalTip {
 }
 
 impl Model for WalTip {
-    ghost use Rattle.lsn_core.specs.Tip.{Tip, tip_of};
+    ghost use Rattle.lsn_core.specs.Tip.{Tip, tip_with};
 
     ghost Value = { Tip };
 
-    ghost view = { λ t. tip_of t.end.0 t.prev.0 t.redo.0 t.count };
+    ghost view = { λ t. tip_with t.end.0 t.prev.0 t.redo.0 t.count };
 
     ghost inverse = { λ t. record {
       end = record { 0 = t.end };

@@ -22,7 +22,7 @@ use Rattle.lsn_core.specs.Store.{Store, ForkPages, fork_cmp, segment_count, segm
 use Rattle.lsn_core.proofs.ForkOrder.{fork_cmp_total}
 use Rattle.vault.specs.Area.{bytes_of, file_written, after_write, cut_to, after_cut}
 use Rattle.vault.proofs.Written.{file_written-some}
-use Rattle.history.specs.Apply.{pages_of}
+use Rattle.lsn_core.specs.Blocks.{pages_of}
 use Rattle.rel_files.specs.Inside.{joined_pages}
 
 -- One step after others, where the area tells its files.

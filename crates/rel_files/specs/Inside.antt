@@ -8,7 +8,7 @@ use Rattle.lsn_core.specs.Names.{fork_path_bytes}
 use Rattle.lsn_core.specs.Store.{Store, ForkPages, segment_content, fork_files, with_files}
 use Rattle.vault.specs.Area.{after_write}
 use Rattle.vault.specs.declared.area.Vault.{Ghosts}
-use Rattle.history.specs.Apply.{pages_of}
+use Rattle.lsn_core.specs.Blocks.{pages_of}
 
 -- the bytes of so many pages from a block on
 abbrev pub joined_pages : ForkPages → ℕ → ℕ → List ℕ

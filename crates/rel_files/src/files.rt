@@ -3,7 +3,7 @@
 ghost use Rattle.std.specs.Prelude.{◌≡◌, ◌^◌, ◌<◌, ◌≤◌};
 ghost use Rattle.std.specs.Prelude.{[], length, get_or, IfOk, OnOk};
 ghost use Rattle.lsn_core.specs.Causes.{HasCause};
-ghost use Rattle.history.specs.Apply.{pages_of};
+ghost use Rattle.lsn_core.specs.Blocks.{pages_of};
 ghost use Rattle.rel_files.specs.Writes.{WritesStore};
 ghost use Rattle.rel_files.specs.Inside.{WritesFork, WritesSegment, WritesBlocks};
 ghost use Rattle.rel_files.specs.Inside.{MakesFile, WritesAt};

@@ -2,7 +2,7 @@ use Rattle.std.proofs.Common.{◌≡◌, ◌+◌, ◌/◌, ◌%◌, min, max, fa
 use Rattle.std.specs.FinMap.{insert}
 use Rattle.lsn_core.specs.Names.{fork_path_bytes}
 use Rattle.lsn_core.specs.Store.{with_files, segment_content, segment_count}
-use Rattle.history.specs.Apply.{pages_of}
+use Rattle.lsn_core.specs.Blocks.{pages_of}
 use Rattle.rel_files.proofs.StoreFiles.{told_step, told_same, first_files, file_more, segments}
 use Rattle.rel_files.proofs.files.write_fork.Goals as goal
 

@@ -1,7 +1,7 @@
 use Rattle.std.proofs.Common.{◌≡◌, ◌≤◌}
 use Rattle.std.specs.Option.{option_map}
 use Rattle.lsn_core.specs.Store.{with_files}
-use Rattle.history.specs.Apply.{pages_of}
+use Rattle.lsn_core.specs.Blocks.{pages_of}
 use Rattle.rel_files.proofs.StoreFiles.{first_files}
 use Rattle.rel_files.proofs.files.write_fork.Given as goal
 

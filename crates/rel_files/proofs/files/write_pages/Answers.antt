@@ -1,6 +1,6 @@
 use Rattle.std.proofs.Common.{◌≡◌, ◌+◌, ◌-◌, ◌*◌, ◌≤◌, ◌++◌, length, ap, sym, ◌∙◌, arith, length-append}
 use Rattle.std.specs.FinMap.{insert}
-use Rattle.history.specs.Apply.{pages_of}
+use Rattle.lsn_core.specs.Blocks.{pages_of}
 use Rattle.vault.specs.Area.{after_write}
 use Rattle.rel_files.specs.Inside.{joined_pages}
 use Rattle.rel_files.proofs.StoreFiles.{told_step, told_same, page_behind, pages_more}

@@ -1,7 +1,7 @@
 use Rattle.std.proofs.Common.{◌≡◌, ◌-◌, ◌*◌, ◌≤◌, length}
 use Rattle.std.specs.Option.{option_map}
 use Rattle.std.specs.FinMap.{insert}
-use Rattle.history.specs.Apply.{pages_of}
+use Rattle.lsn_core.specs.Blocks.{pages_of}
 use Rattle.rel_files.specs.Inside.{joined_pages}
 use Rattle.rel_files.proofs.files.write_pages.Given as goal
 

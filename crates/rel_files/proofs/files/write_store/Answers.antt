@@ -3,7 +3,7 @@ use Rattle.std.proofs.lemmas.List.{take_all}
 use Rattle.std.specs.List.{flat_map}
 use Rattle.std.specs.FinMap.{keys, entries}
 use Rattle.lsn_core.specs.Store.{with_files, fork_files}
-use Rattle.history.specs.Apply.{pages_of}
+use Rattle.lsn_core.specs.Blocks.{pages_of}
 use Rattle.rel_files.proofs.StoreFiles.{told_step, told_same, files_at, fork_more, all_files}
 use Rattle.rel_files.proofs.files.write_store.Goals as goal
 
