@@ -7,6 +7,3 @@ mod reading;
 
 pub use pieces::overwrite;
 pub use reading::{u8_at, u16_at, u16_in, u32_at, u32_in, u64_at, u64_in};
-
-#[cfg(test)]
-mod tests;

@@ -14,6 +14,3 @@ pub use lsn::{Lsn, Place, WalTip, lsn_text};
 pub use names::{fork_path, segment_name};
 pub use segment::{SegSize, Settings};
 pub use text::Text;
-
-#[cfg(test)]
-mod tests;

@@ -28,8 +28,3 @@ mod words;
 pub use answer::Status;
 pub use laws::{init_has_one_answer, replay_has_one_answer, run_has_one_answer};
 pub use top::pgbackup;
-
-#[cfg(test)]
-mod store_tests;
-#[cfg(test)]
-mod tests;

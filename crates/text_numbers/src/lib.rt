@@ -4,6 +4,3 @@
 mod reading;
 
 pub use reading::{decimal_in, digits_in};
-
-#[cfg(test)]
-mod tests;

@@ -5,6 +5,3 @@ mod crc;
 mod tables;
 
 pub use crc::Crc;
-
-#[cfg(test)]
-mod tests;

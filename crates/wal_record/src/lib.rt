@@ -10,6 +10,3 @@ mod record;
 pub use decode::decode_record;
 pub use encode::encode_record;
 pub use record::{BlockRef, Blocks, Body, Kind, Record, RecordFault};
-
-#[cfg(test)]
-mod tests;

@@ -10,6 +10,3 @@ mod tail;
 
 pub use fault::AppendFault;
 pub use state::{Flushed, WalState};
-
-#[cfg(test)]
-mod tests;

@@ -1,4 +1,4 @@
-use super::*;
+use crew::{Command, Line, PageShape, Script, ScriptFault, read_script, why_text};
 use lsn_core::{BlockId, ForkId, ForkKind, Rel};
 use std::alloc::Global;
 use std::test::Fail;

@@ -1,5 +1,5 @@
-use super::*;
 use byte_words::overwrite;
+use pg_page::{Page, make_page, restored_page, zero_page};
 use std::test::Fail;
 
 // a page with these in pd_lower, pd_upper, pd_special and pd_pagesize_version, and 7 in each other byte

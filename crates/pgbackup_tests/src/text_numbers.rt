@@ -1,5 +1,5 @@
-use super::*;
 use std::test::Fail;
+use text_numbers::{decimal_in, digits_in};
 
 #[test]
 fn texts_have_their_numbers(rt: HostRuntime) -> Result<(), Fail> {

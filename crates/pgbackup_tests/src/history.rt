@@ -1,7 +1,8 @@
 ghost use Rattle.std.specs.Prelude.{◌≡◌};
 
-use super::*;
-use lsn_core::{BlockId, ForkId, ForkKind, Lsn, Rel};
+use crate::samples::main_fork;
+use history::{Op, PageMap, apply};
+use lsn_core::{BlockId, Lsn};
 use pg_page::make_page;
 use std::test::Fail;
 use wal_record::{Kind, Record};
@@ -37,11 +38,7 @@ fn changed_byte(place: usize) -> u8 {
 #[test]
 fn a_creation_and_a_change_are_applied(rt: HostRuntime) -> Result<(), Fail> {
     let mut store = PageMap::new(rt.alloc());
-    let rel = Rel::new(5, 16384).ok_or("the numbers are good")?;
-    let fork = ForkId {
-        rel,
-        kind: ForkKind::Main,
-    };
+    let fork = main_fork(16384).ok_or("the numbers are good")?;
     let kind = Op::Create(fork).kind(rt.alloc())?;
     apply(&mut store, &record(0x100060, 0x100090, kind))?;
     assert_eq!(rt; store.blocks(&fork), Some(0));

@@ -1,4 +1,4 @@
-use super::*;
+use lsn_core::{ForkId, ForkKind, Lsn, Rel, SegSize, fork_path, lsn_text, segment_name};
 use std::test::Fail;
 
 #[test]

@@ -1,46 +1,10 @@
-use super::*;
+use crate::samples::{ARCHIVE, BEFORE_PADDING, SEGMENT, archive_with, main_fork};
 use lsn_core::{AreaFault, BlockId, ForkId, ForkKind, Lsn, Rel, SegSize};
 use std::alloc::Global;
 use std::test::Fail;
 use vault::{MemVault, Vault};
+use wal_reader::{WalCursor, WalFault, read_settings, settings_text};
 use wal_record::{Kind, Record};
-
-const NAME: &[u8] = b"000000010000000000000001";
-
-/// The long header of the first page.
-const HEAD: &[u8] =
-    b"\x16\xd1\x02\0\x01\0\0\0\0\0\0\x01\0\0\0\0\0\0\0\0\0\0\0\0\x07\0\0\0\0\0\0\0\0\0\0\x01\0\x20\0\0";
-
-/// A shutdown checkpoint, 50 bytes from 0/1000028 on.
-const CHECKPOINT: &[u8] =
-    b"\x32\0\0\0\0\0\0\0\0\0\0\0\0\0\0\0\0\0\0\0\x29\x15\x01\x33\xff\x18\x28\0\0\x01\0\0\0\0\x01\0\0\0\x01\0\0\0\x01\0\0\0\0\0\0\0";
-
-/// The creation of the main fork of 5/16384, 42 bytes from 0/1000060 on.
-const CREATION: &[u8] =
-    b"\x2a\0\0\0\0\0\0\0\x28\0\0\x01\0\0\0\0\x11\x02\0\0\xd5\xad\x43\x0d\xff\x10\x7f\x06\0\0\x05\0\0\0\0\x40\0\0\0\0\0\0";
-
-/// An image of its block 0 with the hole 32 to 8160, 113 bytes from 0/1000090 on: the header and
-/// the announcement, and the page without its hole.
-const ANNOUNCED: &[u8] =
-    b"\x71\0\0\0\0\0\0\0\x60\0\0\x01\0\0\0\0\0\x14\0\0\xff\x76\x61\xbd\0\x10\0\0\x40\0\x20\0\x03\x7f\x06\0\0\x05\0\0\0\0\x40\0\0\0\0\0\0";
-
-const IMAGE: &[u8] =
-    b"\0\0\0\0\0\0\0\0\0\0\0\0\x20\0\xe0\x1f\0\x20\x04\x20\0\0\0\0AAAAAAAAAAAAAAAAAAAAAAAAAAAAAAAAAAAAAAAA";
-
-/// The bytes of these three entries. The padding of the last one isn't there.
-const SIZE: u64 = 0x101;
-
-/// An area with a segment file of these three entries; it fails at these calls, of which five make
-/// the file.
-fn area_with(alloc: Global, fails: &[u64]) -> Result<MemVault, AreaFault> {
-    let mut area = MemVault::new(alloc, fails)?;
-    area.write_at(NAME, 0, HEAD)?;
-    area.write_at(NAME, 0x28, CHECKPOINT)?;
-    area.write_at(NAME, 0x60, CREATION)?;
-    area.write_at(NAME, 0x90, ANNOUNCED)?;
-    area.write_at(NAME, 0xc1, IMAGE)?;
-    Ok(area)
-}
 
 /// How many answers of a cursor come before its last one, each of them an entry or a failure that
 /// leaves it as it was; and where there is damage then, which is asked for twice.
@@ -92,12 +56,8 @@ fn block_of(record: &Record) -> Option<BlockId> {
 #[test]
 fn three_entries_are_read_up_to_the_end(rt: HostRuntime) -> Result<(), Fail> {
     let alloc = rt.alloc();
-    let rel = Rel::new(5, 16384).ok_or("not 0")?;
-    let fork = ForkId {
-        rel,
-        kind: ForkKind::Main,
-    };
-    let mut area = area_with(alloc, &[])?;
+    let fork = main_fork(16384).ok_or("not 0")?;
+    let mut area = archive_with(alloc, BEFORE_PADDING, 0, b"", 0)?;
     let settings = read_settings(alloc, &mut area)?;
     assert_eq!(rt; settings.system, 7);
     let mut cursor = WalCursor::first(&settings);
@@ -117,73 +77,79 @@ fn three_entries_are_read_up_to_the_end(rt: HostRuntime) -> Result<(), Fail> {
     Ok(())
 }
 
-#[test]
-fn the_archive_ends(rt: HostRuntime) -> Result<(), Fail> {
-    let alloc = rt.alloc();
-    for (case, size, at, byte, entries) in [
-        ("zeros alone", 0, 9000, 0, 0),
-        ("zeros behind the head", 40, 9000, 0, 0),
-        ("zeros behind the entries", SIZE, 20000, 0, 3),
-        ("padding of an entry", SIZE, 0x101, 1, 3),
-        ("a byte behind the segment", SIZE, 0x100_0000, 1, 3),
-        ("a removable page", SIZE, 2, 6, 3),
-        ("padding of the head", SIZE, 20, 1, 3),
-        ("another system", SIZE, 24, 8, 3),
-        ("another sum", SIZE, 0x74, 0, 3),
-    ] {
-        let mut area = area_with(alloc, &[])?;
-        area.cut(NAME, size)?;
-        area.write_at(NAME, at, &[byte])?;
-        assert_eq!(rt; read_through(alloc, &mut area)?, (entries, None), "{case}");
-    }
-    Ok(())
-}
+/// How many entries are read and where damage is found, if so many bytes of the archive are there
+/// and then these are written at a place.
+static ARCHIVES: [(&str, u64, u64, &[u8], u32, Option<u64>); 26] = [
+    ("zeros alone", 0, 9000, b"\0", 0, None),
+    ("zeros behind the head", 40, 9000, b"\0", 0, None),
+    ("zeros behind the entries", 0x101, 20000, b"\0", 3, None),
+    ("padding of an entry", 0x101, 0x101, b"\x01", 3, None),
+    (
+        "a byte behind the segment",
+        0x101,
+        0x100_0000,
+        b"\x01",
+        3,
+        None,
+    ),
+    ("a removable page", 0x101, 2, b"\x06", 3, None),
+    ("padding of the head", 0x101, 20, b"\x01", 3, None),
+    ("another system", 0x101, 24, b"\x08", 3, None),
+    ("another sum", 0x101, 0x74, b"\0", 3, None),
+    ("no byte", 0, 0, b"", 0, None),
+    ("a head that is cut", 39, 0, b"", 0, Some(0x100_0000)),
+    ("a head alone", 40, 0, b"", 0, None),
+    ("one entry", 0x60, 0, b"", 1, None),
+    (
+        "an entry cut in its length",
+        0x93,
+        0,
+        b"",
+        2,
+        Some(0x100_0090),
+    ),
+    (
+        "an entry cut at its end",
+        0x100,
+        0,
+        b"",
+        2,
+        Some(0x100_0090),
+    ),
+    ("magic", 0x101, 0, b"\x17", 0, Some(0x100_0000)),
+    ("an entry goes on", 0x101, 2, b"\x03", 0, Some(0x100_0000)),
+    ("timeline", 0x101, 4, b"\x02", 0, Some(0x100_0000)),
+    ("address", 0x101, 9, b"\x01", 0, Some(0x100_0000)),
+    ("bytes remain", 0x101, 16, b"\x01", 0, Some(0x100_0000)),
+    ("segment size", 0x101, 35, b"\x02", 0, Some(0x100_0000)),
+    ("page size", 0x101, 37, b"\x40", 0, Some(0x100_0000)),
+    ("redo point", 0x101, 0x42, b"\x30", 0, Some(0x100_0028)),
+    ("previous entry", 0x101, 0x68, b"\x60", 1, Some(0x100_0060)),
+    (
+        "a byte behind the padding",
+        0x101,
+        0x108,
+        b"\x01",
+        3,
+        Some(0x100_0108),
+    ),
+    (
+        "a byte on a later page",
+        0x101,
+        20000,
+        b"\x01",
+        3,
+        Some(0x100_0108),
+    ),
+];
 
 #[test]
-fn the_file_is_cut(rt: HostRuntime) -> Result<(), Fail> {
+fn archives_end_or_are_damaged(rt: HostRuntime) -> Result<(), Fail> {
     let alloc = rt.alloc();
-    for (size, entries, damage) in [
-        (0, 0, None),
-        (39, 0, Some(0x100_0000)),
-        (40, 0, None),
-        (0x60, 1, None),
-        (0x93, 2, Some(0x100_0090)),
-        (SIZE - 1, 2, Some(0x100_0090)),
-    ] {
-        let mut area = area_with(alloc, &[])?;
-        area.cut(NAME, size)?;
-        assert_eq!(rt;
-            read_through(alloc, &mut area)?,
-            (entries, damage),
-            "at {size}"
-        );
-    }
-    Ok(())
-}
-
-#[test]
-fn the_archive_is_damaged(rt: HostRuntime) -> Result<(), Fail> {
-    let alloc = rt.alloc();
-    for (case, at, byte, entries, damage) in [
-        ("magic", 0, 0x17, 0, 0x100_0000),
-        ("an entry goes on", 2, 3, 0, 0x100_0000),
-        ("timeline", 4, 2, 0, 0x100_0000),
-        ("address", 9, 1, 0, 0x100_0000),
-        ("bytes remain", 16, 1, 0, 0x100_0000),
-        ("segment size", 35, 2, 0, 0x100_0000),
-        ("page size", 37, 0x40, 0, 0x100_0000),
-        ("redo point", 0x42, 0x30, 0, 0x100_0028),
-        ("previous entry", 0x68, 0x60, 1, 0x100_0060),
-        ("a byte behind the padding", 0x108, 1, 3, 0x100_0108),
-        ("a byte on a later page", 20000, 1, 3, 0x100_0108),
-    ] {
-        let mut area = area_with(alloc, &[])?;
-        area.write_at(NAME, at, &[byte])?;
-        assert_eq!(rt;
-            read_through(alloc, &mut area)?,
-            (entries, Some(damage)),
-            "{case}"
-        );
+    for (case, size, at, bytes, entries, damage) in ARCHIVES {
+        let mut area = archive_with(alloc, size, at, bytes, 0)?;
+        let read = read_through(alloc, &mut area)?;
+        assert_eq!(rt; read, (entries, damage), "{case}");
     }
     Ok(())
 }
@@ -191,28 +157,15 @@ fn the_archive_is_damaged(rt: HostRuntime) -> Result<(), Fail> {
 #[test]
 fn an_entry_ends_on_the_first_page(rt: HostRuntime) -> Result<(), Fail> {
     let alloc = rt.alloc();
-    let rows = [
-        (
-            b"\x70\x1f".as_slice(),
-            b"\x3f\x1f\x18".as_slice(),
-            b"\x18\0\xd9\0".as_slice(),
-            3,
-            None,
-        ),
-        (
-            b"\x71\x1f".as_slice(),
-            b"\x40\x1f\x18".as_slice(),
-            b"\x18\0\xd8\0".as_slice(),
-            2,
-            Some(0x100_0090),
-        ),
-    ];
-    for (total, extent, hole, entries, damage) in rows {
-        let mut area = area_with(alloc, &[])?;
-        area.write_at(NAME, 0x90, total)?;
-        area.write_at(NAME, 0xac, extent)?;
-        area.write_at(NAME, 0xcd, hole)?;
-        area.write_at(NAME, 9000, b"\0")?;
+    for (total, hole, entries, damage) in [
+        (b"\x70\x1f", [0x3f, 0x1f, 0x18, 0xd9], 3, None),
+        (b"\x71\x1f", [0x40, 0x1f, 0x18, 0xd8], 2, Some(0x100_0090)),
+    ] {
+        let [low, high, offset, upper] = hole;
+        let mut area = archive_with(alloc, BEFORE_PADDING, 0x90, total, 0)?;
+        area.write_at(SEGMENT, 0xac, &[low, high, offset])?;
+        area.write_at(SEGMENT, 0xcd, &[offset, 0, upper, 0])?;
+        area.write_at(SEGMENT, 9000, b"\0")?;
         assert_eq!(rt; read_through(alloc, &mut area)?, (entries, damage));
     }
     Ok(())
@@ -220,18 +173,15 @@ fn an_entry_ends_on_the_first_page(rt: HostRuntime) -> Result<(), Fail> {
 
 #[test]
 fn a_cursor_goes_on_after_a_failure(rt: HostRuntime) -> Result<(), Fail> {
-    let alloc = rt.alloc();
-    for call in 9..=17 {
-        let mut area = area_with(alloc, &[call])?;
-        assert_eq!(rt; read_through(alloc, &mut area)?, (4, None), "at {call}");
-    }
-    for call in 6..=8 {
-        let mut area = area_with(alloc, &[call])?;
-        assert_eq!(rt;
-            read_settings(alloc, &mut area).err(),
-            Some(WalFault::Failed),
-            "at {call}"
-        );
+    for call in 1..=12 {
+        let mut area = archive_with(rt.alloc(), BEFORE_PADDING, 0, b"", call)?;
+        let read = read_through(rt.alloc(), &mut area);
+        let wanted = if call <= 3 {
+            Err(WalFault::Failed)
+        } else {
+            Ok((4, None))
+        };
+        assert_eq!(rt; read, wanted, "at {call}");
     }
     Ok(())
 }
@@ -239,7 +189,7 @@ fn a_cursor_goes_on_after_a_failure(rt: HostRuntime) -> Result<(), Fail> {
 /// The segment size in MiB and the blocks a segment of a fork that a file of settings gives. The
 /// file is there even if its text is empty.
 fn numbers_given(alloc: Global, text: &[u8]) -> Result<(u64, u32), WalFault> {
-    let mut area = area_with(alloc, &[])?;
+    let mut area = archive_with(alloc, BEFORE_PADDING, 0, b"", 0)?;
     area.write_at(b"settings", 0, b"x")?;
     area.cut(b"settings", 0)?;
     area.write_at(b"settings", 0, text)?;
@@ -307,9 +257,9 @@ fn a_file_of_settings_is_damaged(rt: HostRuntime) -> Result<(), Fail> {
 fn a_wal_has_segments_of_one_mebibyte(rt: HostRuntime) -> Result<(), Fail> {
     let alloc = rt.alloc();
     let mut area = MemVault::new(alloc, &[])?;
-    area.write_at(NAME, 0, HEAD)?;
-    area.write_at(NAME, 8, b"\0\0\x10\0")?;
-    area.write_at(NAME, 32, b"\0\0\x10\0")?;
+    area.write_at(SEGMENT, 0, &ARCHIVE[..40])?;
+    area.write_at(SEGMENT, 8, b"\0\0\x10\0")?;
+    area.write_at(SEGMENT, 32, b"\0\0\x10\0")?;
     area.write_at(
         b"settings",
         0,
@@ -327,7 +277,7 @@ fn a_wal_has_segments_of_one_mebibyte(rt: HostRuntime) -> Result<(), Fail> {
 fn there_is_no_wal(rt: HostRuntime) -> Result<(), Fail> {
     let alloc = rt.alloc();
     let mut area = MemVault::new(alloc, &[])?;
-    area.write_at(b"000000010000000000000002", 0, HEAD)?;
+    area.write_at(b"000000010000000000000002", 0, &ARCHIVE[..40])?;
     assert_eq!(rt;
         read_settings(alloc, &mut area).err(),
         Some(WalFault::NotInit)

@@ -1,4 +1,4 @@
-use super::*;
+use byte_words::{u8_at, u16_at, u32_at, u64_at};
 
 #[test]
 fn numbers_are_least_byte_first(rt: HostRuntime) {

@@ -1,4 +1,4 @@
-use super::*;
+use wal_crc::Crc;
 
 fn sum_of(bytes: &[u8]) -> u32 {
     let mut crc = Crc::new();
