@@ -1,7 +1,7 @@
 -- A new store has one answer.
 use Rattle.std.proofs.Common.{◌≡◌, ℕ, Result, Ok, Err, IsSome, refl, sym, ap, ◌∙◌, true}
 use Rattle.lsn_core.specs.declared.lsn.Lsn.{Lsn}
-use Rattle.lsn_core.specs.declared.segment.Settings.{Settings}
+use Rattle.lsn_core.specs.Segment.{StoreSettings}
 use Rattle.vault.specs.declared.lending.TakeFault.{TakeFault}
 use Rattle.pgbackup_cli.specs.declared.options.InitOptions.{InitOptions}
 use Rattle.pgbackup_cli.specs.declared.init.InitFault.{InitFault}
@@ -15,7 +15,7 @@ made_to : ℕ → Result Lsn InitFault
 made_to end = Ok (record { 0 = end })
 
 -- two answers, with settings of one segment size, where both areas are told
-init_once : (s t : Settings) (Untaken Also : TakeFault → Type 0) (old new other : InitAreas) (a b : Result Lsn InitFault) → s.segment ≡ t.segment → IsSome old.wal.files → IsSome old.sums.files → InitAnswer s Untaken old new a → InitAnswer t Also old other b
+init_once : (s t : StoreSettings) (Untaken Also : TakeFault → Type 0) (old new other : InitAreas) (a b : Result Lsn InitFault) → s.segment ≡ t.segment → IsSome old.wal.files → IsSome old.sums.files → InitAnswer s Untaken old new a → InitAnswer t Also old other b
     → is_decided (init_status a) ≡ true → is_decided (init_status b) ≡ true → a ≡ b
 unfolding made_to
 init_once s t Untaken Also old new other (Err (init.Site f)) b size wal sums first second own also = absurd (undecided f.why own)

@@ -3,13 +3,13 @@ use Rattle.std.proofs.Common.{◌≡◌, ℕ, List, Option, Some, Result, Ok, Er
 use Rattle.std.specs.FinMap.{len}
 use Rattle.lsn_core.specs.Files.{Files}
 use Rattle.lsn_core.specs.declared.lsn.Lsn.{Lsn}
-use Rattle.lsn_core.specs.declared.segment.Settings.{Settings}
+use Rattle.lsn_core.specs.Segment.{StoreSettings}
 use Rattle.vault.specs.Site.{AreaState}
 use Rattle.vault.specs.declared.lending.TakeFault.{TakeFault}
 use Rattle.wal_reader.specs.declared.fault.WalFault.{WalFault}
 use Rattle.history.specs.Pages.{page_count}
 use Rattle.recovery.specs.declared.replaying.ReadWal.{ReadWal}
-use Rattle.recovery.specs.Reading.{WalAnswer, WalCause}
+use Rattle.recovery.specs.WholeWal.{WalAnswer, WalCause}
 use Rattle.recovery.specs.Laws.{IsOfFiles}
 use Rattle.recovery.proofs.OneWal.{one_wal}
 use Rattle.pgbackup_cli.specs.declared.replay.ReplayReport.{ReplayReport}
@@ -22,13 +22,13 @@ use Rattle.pgbackup_cli.proofs.Told.{some_told, clear_or_not, undecided, of_file
 
 -- ---- what was read, and why it could not be
 
-wal_read : Settings → ReadWal → Result (Settings × ReadWal) WalFault
+wal_read : StoreSettings → ReadWal → Result (StoreSettings × ReadWal) WalFault
 wal_read settings read = Ok (settings, read)
 
-wal_refused : WalFault → Result (Settings × ReadWal) WalFault
+wal_refused : WalFault → Result (StoreSettings × ReadWal) WalFault
 wal_refused fault = Err fault
 
-answer_at : (w x : AreaState) (files : Files) (a : Result (Settings × ReadWal) WalFault) → w.files ≡ Some files → WalAnswer w.files w.faults x.faults a → WalAnswer (Some files) w.faults x.faults a
+answer_at : (w x : AreaState) (files : Files) (a : Result (StoreSettings × ReadWal) WalFault) → w.files ≡ Some files → WalAnswer w.files w.faults x.faults a → WalAnswer (Some files) w.faults x.faults a
 answer_at w x files a told answer = subst (λ (f : Option Files). WalAnswer f w.faults x.faults a) told answer
 
 fault_is : (f g : WalFault) → wal_refused f ≡ wal_refused g → f ≡ g
@@ -40,7 +40,7 @@ unfolding wal_refused
 same_fault w x y files f g told first second own other =
     fault_is f g (one_wal files w.faults x.faults w.faults y.faults (Err f) (Err g) (answer_at w x files (Err f) told first) (answer_at w y files (Err g) told second) own other)
 
-read_or_refused : (s : Settings) (r : ReadWal) (f : WalFault) → wal_read s r ≡ wal_refused f → ⊥
+read_or_refused : (s : StoreSettings) (r : ReadWal) (f : WalFault) → wal_read s r ≡ wal_refused f → ⊥
 unfolding wal_read wal_refused
 read_or_refused s r f e = absurd (cc)
 
@@ -64,11 +64,11 @@ unfolding done_with
 same_parts a b end forks pages =
     ap (λ (n : Lsn). done_with n.0 a.forks a.pages) end ∙ ap (λ (n : ℕ). done_with b.end.0 n a.pages) forks ∙ ap (λ (n : ℕ). done_with b.end.0 b.forks n) pages
 
-read_in : ReadWal → Result (Settings × ReadWal) WalFault → ReadWal
+read_in : ReadWal → Result (StoreSettings × ReadWal) WalFault → ReadWal
 read_in other (Ok x) = x.1
 read_in other (Err fault) = other
 
-read_is : (s t : Settings) (q r : ReadWal) → wal_read s q ≡ wal_read t r → q ≡ r
+read_is : (s t : StoreSettings) (q r : ReadWal) → wal_read s q ≡ wal_read t r → q ≡ r
 unfolding wal_read read_in
 read_is s t q r e = ap (read_in q) e
 

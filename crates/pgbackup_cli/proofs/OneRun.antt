@@ -8,7 +8,7 @@ use Rattle.vault.specs.Area.{after_write}
 use Rattle.lsn_core.specs.Store.{Store, Pages}
 use Rattle.lsn_core.specs.declared.lsn.Lsn.{Lsn}
 use Rattle.lsn_core.specs.declared.lsn.Place.{Place}
-use Rattle.lsn_core.specs.declared.segment.Settings.{Settings}
+use Rattle.lsn_core.specs.Segment.{StoreSettings}
 use Rattle.lsn_core.specs.declared.fault.AreaFault.{AreaFault}
 use Rattle.vault.specs.Site.{AreaState}
 use Rattle.wal_record.specs.declared.record.Record.{Record}
@@ -26,7 +26,7 @@ use Rattle.history.specs.Whole.{entry_of, apply_all}
 use Rattle.history.specs.Written.{record_of, wal_of}
 use Rattle.history.specs.Op.{act_of_op, IsTidy}
 use Rattle.recovery.specs.declared.replaying.ReadWal.{ReadWal}
-use Rattle.recovery.specs.Reading.{HasSettings, WalCause}
+use Rattle.recovery.specs.WholeWal.{HasSettings, WalCause}
 use Rattle.recovery.specs.Laws.{IsOfFiles}
 use Rattle.recovery.proofs.OneWal.{one_wal, one_settings}
 use Rattle.shared_store.specs.Begin.{BeginCause, HasNoEntry}
@@ -340,7 +340,7 @@ ends_once mib entries last w x y (Err f) b told also first second own other = ab
 abbrev pub IsSameReport : RunReport → RunReport → Type 0
 IsSameReport a b = (a.opened ≡ b.opened) × (a.answers ≡ b.answers) × (a.ending ≡ b.ending)
 
-given_at : (w : AreaState) (files : Files) (s : Settings) → w.files ≡ Some files → HasSettings w.files s → IsSettingsOf files s
+given_at : (w : AreaState) (files : Files) (s : StoreSettings) → w.files ≡ Some files → HasSettings w.files s → IsSettingsOf files s
 given_at w files s told has = at_told w.files files (λ m. IsSettingsOf m s) told has.given
 
 -- from one beginning, the two lists of answers
@@ -358,7 +358,7 @@ done_once : (w x y : AreaState) (files : Files) (a b : RunReport) → w.files �
 done_once w x y files a b told first second script own other =
     let mib : ℕ = first.settings.segment in
     let same : second.settings ≡ first.settings = one_settings files second.settings first.settings (given_at w files second.settings told second.given) (given_at w files first.settings told first.given) in
-    let size : second.settings.segment ≡ mib = ap (λ (s : Settings). s.segment) same in
+    let size : second.settings.segment ≡ mib = ap (λ (s : StoreSettings). s.segment) same in
     let here : IsArchive mib files first.entries a.opened.0 = at_told w.files files (λ m. IsArchive mib m first.entries a.opened.0) told first.archive in
     let there : IsArchive mib files second.entries b.opened.0 =
     subst (λ (n : ℕ). IsArchive n files second.entries b.opened.0) size (at_told w.files files (λ m. IsArchive second.settings.segment m second.entries b.opened.0) told second.archive) in
@@ -381,10 +381,10 @@ given_or_damaged None mib relseg given damaged = damaged
 given_or_damaged (Some bytes) mib relseg given damaged = damaged mib relseg given
 
 -- settings and an archive that ends leave no cause why the WAL can't be read
-read_or_refused : (files : Files) (s : Settings) (rs : List Record) (end before now : ℕ) (f : WalFault) → HasSettings (Some files) s → IsArchive s.segment files rs end → WalCause (Some files) before now f → IsOfFiles (Err f) → ⊥
+read_or_refused : (files : Files) (s : StoreSettings) (rs : List Record) (end before now : ℕ) (f : WalFault) → HasSettings (Some files) s → IsArchive s.segment files rs end → WalCause (Some files) before now f → IsOfFiles (Err f) → ⊥
 read_or_refused files s rs end before now (wal.Damaged place why) given archive cause own =
     let same : cause.0 ≡ s = one_settings files cause.0 s cause.1.0.given given.given in
-    ends_or_is_damaged s.segment files rs end place.0 archive (subst (λ (t : Settings). IsDamaged t.segment files place.0) same cause.1.1)
+    ends_or_is_damaged s.segment files rs end place.0 archive (subst (λ (t : StoreSettings). IsDamaged t.segment files place.0) same cause.1.1)
 read_or_refused files s rs end before now wal.SettingsDamaged given archive cause own = given_or_damaged (get files (codes "settings")) s.segment s.relseg given.given.given cause.1
 read_or_refused files s rs end before now wal.NotInit given archive cause own = none_some (get files first_segment) cause given.given.there
 read_or_refused files s rs end before now wal.Failed given archive cause own = absurd own
@@ -402,7 +402,7 @@ cause_is files before now wal.NotInit (inr empty) = inr (empty, refl)
 cause_is files before now wal.Failed cause = inl cause
 cause_is files before now wal.NoMemory cause = inl cause
 
-wal_refused : WalFault → Result (Settings × ReadWal) WalFault
+wal_refused : WalFault → Result (StoreSettings × ReadWal) WalFault
 wal_refused fault = Err fault
 
 fault_is : (f g : WalFault) → wal_refused f ≡ wal_refused g → f ≡ g
@@ -429,14 +429,14 @@ same_refusal w x y files f g told first second own other = refused_by_one files 
 -- ---- done or refused
 
 -- an archive that has an entry is another than the empty one
-some_or_empty : (files : Files) (s : Settings) (rs : List Record) (end : ℕ) → HasSettings (Some files) s → IsArchive s.segment files rs end → 0 < length rs → HasNoEntry (Some files) → ⊥
+some_or_empty : (files : Files) (s : StoreSettings) (rs : List Record) (end : ℕ) → HasSettings (Some files) s → IsArchive s.segment files rs end → 0 < length rs → HasNoEntry (Some files) → ⊥
 some_or_empty files s rs end given archive some empty =
     let same : empty.settings ≡ s = one_settings files empty.settings s empty.given.given given.given in
-    let none : IsArchive s.segment files [] empty.archive.0 = subst (λ (t : Settings). IsArchive t.segment files [] empty.archive.0) same empty.archive.1 in
+    let none : IsArchive s.segment files [] empty.archive.0 = subst (λ (t : StoreSettings). IsArchive t.segment files [] empty.archive.0) same empty.archive.1 in
     let one = one_reading s.segment files rs [] end empty.archive.0 archive none in
     absurd (omega (arith, some, ap (λ (xs : List Record). length xs) one.0))
 
-begun_or_refused : (files : Files) (s : Settings) (rs : List Record) (end before now : ℕ) (f : WalFault) → HasSettings (Some files) s → IsArchive s.segment files rs end → 0 < length rs
+begun_or_refused : (files : Files) (s : StoreSettings) (rs : List Record) (end before now : ℕ) (f : WalFault) → HasSettings (Some files) s → IsArchive s.segment files rs end → 0 < length rs
     → WalCause (Some files) before now f ⊎ (HasNoEntry (Some files) × (f ≡ wal.NotInit)) → IsOfFiles (Err f) → ⊥
 begun_or_refused files s rs end before now f given archive some (inl cause) own = read_or_refused files s rs end before now f given archive cause own
 begun_or_refused files s rs end before now f given archive some (inr empty) own = some_or_empty files s rs end given archive some empty.0

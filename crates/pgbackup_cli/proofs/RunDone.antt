@@ -185,7 +185,7 @@ run_done wal now report s t mid b opened runs same later flushed left =
       answered = subst (λ (n : ℕ). Answered n (record { history = h; accepted = 0; stopped = false }) (lines_in report.script) report.answers run.last) mib run.answered;
       own = run.own;
       grown = run.grown;
-      own_is = run.own_is;
+      of_run_are = run.of_run_are;
       store = t.pages;
       state = run.state_is.pages;
       replayed = when_told wal.files (WasRead s.log r.entries) (λ m. apply_all empty (map entry_of (r.entries ++ wal_of b.settings.segment run.last.history)) ≡ Some t.pages)

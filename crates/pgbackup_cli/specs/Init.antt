@@ -5,13 +5,15 @@ use Rattle.std.specs.FinMap.{empty, insert}
 use Rattle.lsn_core.specs.Files.{Files}
 use Rattle.lsn_core.specs.Names.{lsn_bytes, segment_name_bytes}
 use Rattle.lsn_core.specs.declared.lsn.Lsn.{Lsn}
-use Rattle.lsn_core.specs.declared.segment.Settings.{Settings}
+use Rattle.lsn_core.specs.Segment.{StoreSettings}
 use Rattle.vault.specs.Area.{IsTorn, Related}
 use Rattle.vault.specs.Site.{AreaState}
 use Rattle.vault.specs.Lending.{Names}
 use Rattle.wal_record.specs.declared.record.Record.{Record}
 use Rattle.wal_record.specs.declared.record.Kind.TheVariants.{Shutdown}
+use Rattle.lsn_core.specs.Tip.{Tip}
 use Rattle.wal_record.specs.Places.{first_start, record_behind, written_entry, page_head}
+use Rattle.wal_record.specs.Tips.{first_tip, tip_after}
 use Rattle.wal_reader.specs.Archive.{IsArchive}
 use Rattle.wal_reader.specs.Settings.{settings_text, IsSettingsOf}
 use Rattle.pgbackup_cli.specs.declared.answer.Status.{Status}
@@ -29,7 +31,7 @@ InitResult = Result Lsn InitFault
 -- ---- what a new store is
 
 -- its settings: those that are given, or 16 MiB, 131072 blocks and an identifier of the moment
-abbrev pub new_settings : InitOptions → ℕ → Settings
+abbrev pub new_settings : InitOptions → ℕ → StoreSettings
 new_settings options moment = record {
   segment = unwrap_or options.segment 16;
   relseg = unwrap_or options.relseg 131072;
@@ -40,32 +42,36 @@ new_settings options moment = record {
 abbrev pub settings_name : List ℕ
 settings_name = codes "settings"
 
-abbrev pub segment_name : Settings → List ℕ
+abbrev pub segment_name : StoreSettings → List ℕ
 segment_name s = segment_name_bytes 1 s.segment
 
 -- the bytes of `settings`
-abbrev pub settings_file : Settings → List ℕ
+abbrev pub settings_file : StoreSettings → List ℕ
 settings_file s = settings_text s.segment s.relseg
 
 -- the first entry of a WAL: a shutdown checkpoint whose redo point is its own start
 abbrev pub first_entry : ℕ → Record
 first_entry mib = record_behind (first_start mib) 0 (Shutdown (record { 0 = first_start mib }))
 
+-- where a WAL of that entry alone ends
+abbrev pub new_tip : ℕ → Tip
+new_tip mib = tip_after (first_tip mib) (first_entry mib)
+
 -- the bytes of segment 1 with that entry alone
-abbrev pub segment_file : Settings → List ℕ
+abbrev pub segment_file : StoreSettings → List ℕ
 segment_file s = page_head s.segment s.system ++ written_entry (first_entry s.segment)
 
 -- the files once `settings` is written, and once segment 1 is too
-abbrev pub begun_wal : Settings → Files
+abbrev pub begun_wal : StoreSettings → Files
 begun_wal s = insert empty settings_name (settings_file s)
 
-abbrev pub new_wal : Settings → Files
+abbrev pub new_wal : StoreSettings → Files
 new_wal s = insert (begun_wal s) (segment_name s) (segment_file s)
 
 -- the WAL is a new one: it holds just these files, which read as these settings and an archive of
 -- the first entry alone
-pub record IsNewWal (s : Settings) (files : Option Files) (end : ℕ) : Type 0 where
-  pub archive : IfSome files (λ m. IsArchive s.segment m (first_entry s.segment ∷ []) end)
+pub record IsNewWal (s : StoreSettings) (files : Option Files) : Type 0 where
+  pub archive : IfSome files (λ m. IsArchive s.segment m (first_entry s.segment ∷ []) (new_tip s.segment))
   pub settings : IfSome files (λ m. IsSettingsOf m s)
 
 -- ---- what `init` comes to
@@ -85,12 +91,12 @@ abbrev pub init_writes : Names
 init_writes = wal_name ∷ []
 
 -- a new store was made, where neither area held a file
-pub record InitDone (s : Settings) (old new : InitAreas) (end : Lsn) : Type 0 where
+pub record InitDone (s : StoreSettings) (old new : InitAreas) (end : Lsn) : Type 0 where
   pub wal_clear : IsClear old.wal
   pub sums_clear : IsClear old.sums
   pub written : new.wal.files ≡ option_map (λ m. new_wal s) old.wal.files
-  pub end_is : end.0 ≡ (first_entry s.segment).end.0
-  pub reads : IsNewWal s new.wal.files end.0
+  pub end_is : end.0 ≡ (new_tip s.segment).end
+  pub reads : IsNewWal s new.wal.files
 
 -- a write of these bytes from the start of a file on failed, and may have left a part
 abbrev pub IsTornIn : List ℕ → List ℕ → Option Files → Option Files → Type 0
@@ -98,19 +104,19 @@ IsTornIn name bytes old new = Related (IsTorn name 0 (length bytes)) old new
 
 -- a part of a new WAL stands in an area that held no file: a torn `settings` and no other file; or
 -- that file whole, and a torn segment 1
-abbrev pub HoldsPart : Settings → Option Files → Option Files → Type 0
+abbrev pub HoldsPart : StoreSettings → Option Files → Option Files → Type 0
 HoldsPart s old new =
     IsTornIn settings_name (settings_file s) old new
     ⊎ IsTornIn (segment_name s) (segment_file s) (option_map (λ m. begun_wal s) old) new
 
 -- what a failure leaves of the WAL's area: all as it was; or, of one that held no file, a part of a
 -- new WAL
-abbrev pub IsPartMade : Settings → AreaState → AreaState → Type 0
+abbrev pub IsPartMade : StoreSettings → AreaState → AreaState → Type 0
 IsPartMade s old new = Keeps old new ⊎ (IsClear old × HoldsPart s old.files new.files)
 
 -- why `init` with these settings comes to its answer, where an area that isn't handed out means
 -- this. A WAL or summaries that are there change nothing
-abbrev pub InitAnswer : Settings → Untakens → InitAreas → InitAreas → InitResult → Type 0
+abbrev pub InitAnswer : StoreSettings → Untakens → InitAreas → InitAreas → InitResult → Type 0
 InitAnswer s Untaken old new (Ok end) = InitDone s old new end
 InitAnswer s Untaken old new (Err (init.Site fault)) = Untaken fault
 InitAnswer s Untaken old new (Err init.AlreadyInit) = IsFull old.wal × Keeps old.wal new.wal
@@ -122,7 +128,7 @@ InitAnswer s Untaken old new (Err (init.Sums why)) =
     AreaFails old.sums new.sums why × Keeps old.wal new.wal
 
 -- the same of the whole outside
-abbrev pub InitRan : Settings → Outside → Outside → InitResult → Type 0
+abbrev pub InitRan : StoreSettings → Outside → Outside → InitResult → Type 0
 InitRan s old new r =
     InitAnswer s (IsUntaken init_asks old new) (init_areas old) (init_areas new) r
 

@@ -7,7 +7,7 @@ use Rattle.std.specs.Global.{Vec}
 use Rattle.lsn_core.specs.Files.{Files}
 use Rattle.lsn_core.specs.Store.{Store, files_of}
 use Rattle.lsn_core.specs.declared.lsn.Lsn.{Lsn}
-use Rattle.lsn_core.specs.declared.segment.Settings.{Settings}
+use Rattle.lsn_core.specs.Segment.{StoreSettings}
 use Rattle.lsn_core.specs.declared.fault.AreaFault.{AreaFault}
 use Rattle.lsn_core.specs.declared.fault.AreaFault.TheVariants.{NoMemory}
 use Rattle.vault.specs.declared.area.Vault.{Ghosts as Vaults}
@@ -132,30 +132,30 @@ abbrev pub init_areas_in : {V : Type 0} → Vaults V → V → V → InitAreas
 init_areas_in vaults wal sums = record { wal = state_in vaults wal; sums = state_in vaults sums }
 
 -- why `init` with these settings comes to its answer over these two areas
-abbrev pub AnswersInit : {V : Type 0} → Vaults V → Settings → V → V → V → V → InitResult → Type 0
+abbrev pub AnswersInit : {V : Type 0} → Vaults V → StoreSettings → V → V → V → V → InitResult → Type 0
 AnswersInit vaults s wal sums wal_now sums_now r =
     InitAnswer s Never (init_areas_in vaults wal sums) (init_areas_in vaults wal_now sums_now) r
 
 -- why it is refused, with whatever settings
 abbrev pub RefusesInit : {V : Type 0} → Vaults V → V → V → V → V → InitFault → Type 0
 RefusesInit vaults wal sums wal_now sums_now fault =
-    (s : Settings) → AnswersInit vaults s wal sums wal_now sums_now (Err fault)
+    (s : StoreSettings) → AnswersInit vaults s wal sums wal_now sums_now (Err fault)
 
 -- the files with `settings` written, with a file of segment 1, and with both alone
-abbrev pub with_settings : Settings → Option Files → Option Files
+abbrev pub with_settings : StoreSettings → Option Files → Option Files
 with_settings s files = option_map (after_write settings_name 0 (settings_file s)) files
 
-abbrev pub with_segment : Settings → Option Files → Option Files
+abbrev pub with_segment : StoreSettings → Option Files → Option Files
 with_segment s files = option_map (λ m. insert m (segment_name s) (segment_file s)) files
 
-abbrev pub with_both : Settings → Option Files → Option Files
+abbrev pub with_both : StoreSettings → Option Files → Option Files
 with_both s files = option_map (λ m. new_wal s) files
 
 -- a write of either failed
-abbrev pub IsSettingsTorn : Settings → Option Files → Option Files → Type 0
+abbrev pub IsSettingsTorn : StoreSettings → Option Files → Option Files → Type 0
 IsSettingsTorn s old new = IsTornIn settings_name (settings_file s) old new
 
-abbrev pub IsSegmentTorn : Settings → Option Files → Option Files → Type 0
+abbrev pub IsSegmentTorn : StoreSettings → Option Files → Option Files → Type 0
 IsSegmentTorn s old new = IsTornIn (segment_name s) (segment_file s) old new
 
 -- a WAL with a shutdown checkpoint behind its entries
@@ -193,7 +193,7 @@ Ending = Result Lsn AreaFault
 abbrev pub FlushAnswer : Bool → Log → AreaState → AreaState → Ending → Type 0
 FlushAnswer stopped log old new (Ok end) =
     (stopped ≡ false)
-    × (end.0 ≡ log.end)
+    × (end.0 ≡ log.tip.end)
     × IsWrittenAt log.mib log.flushed log.pending old.files new.files
 FlushAnswer stopped log old new (Err why) =
     ((stopped ≡ false) ⊎ (why ≡ NoMemory)) × AreaFails old new why

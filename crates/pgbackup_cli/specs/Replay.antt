@@ -5,12 +5,12 @@ use Rattle.std.specs.FinMap.{empty, len}
 use Rattle.std.specs.Fmt.{decimal}
 use Rattle.lsn_core.specs.Names.{lsn_bytes}
 use Rattle.lsn_core.specs.Store.{files_of}
-use Rattle.lsn_core.specs.declared.segment.Settings.{Settings}
+use Rattle.lsn_core.specs.Segment.{StoreSettings}
 use Rattle.vault.specs.Site.{AreaState}
 use Rattle.vault.specs.Lending.{Names}
 use Rattle.wal_reader.specs.declared.fault.WalFault.{WalFault}
 use Rattle.history.specs.Pages.{page_count}
-use Rattle.recovery.specs.Reading.{HasSettings, IsReadWal, WalCause}
+use Rattle.recovery.specs.WholeWal.{HasSettings, IsReadWal, WalCause}
 use Rattle.recovery.specs.declared.replaying.ReadWal.{ReadWal}
 use Rattle.pgbackup_cli.specs.declared.answer.Status.{Status}
 use Rattle.pgbackup_cli.specs.declared.answer.Status.TheVariants as status
@@ -40,7 +40,7 @@ replay_asks out = wal_name ∷ (out ∷ [])
 -- a replay that was done: the output's files are those of the store that the whole WAL makes
 pub record ReplayDone (old new : ReplayAreas) (report : ReplayReport) : Type 0 where
   pub clear : IsClear old.out
-  pub settings : Settings
+  pub settings : StoreSettings
   pub given : HasSettings old.wal.files settings
   pub read : ReadWal
   pub read_is : IsReadWal settings.segment old.wal.files read

@@ -7,7 +7,8 @@ use Rattle.lsn_core.specs.Files.{Files}
 use Rattle.lsn_core.specs.Store.{Store}
 use Rattle.lsn_core.specs.Names.{segment_name_bytes}
 use Rattle.lsn_core.specs.declared.lsn.Lsn.{Lsn}
-use Rattle.lsn_core.specs.declared.segment.Settings.{Settings}
+use Rattle.lsn_core.specs.Segment.{StoreSettings}
+use Rattle.lsn_core.specs.Tip.{Tip}
 use Rattle.lsn_core.specs.declared.fault.AreaFault.{AreaFault}
 use Rattle.lsn_core.specs.declared.fault.AreaFault.TheVariants.{NoMemory}
 use Rattle.vault.specs.Area.{after_write, IsTorn, Related}
@@ -15,20 +16,21 @@ use Rattle.vault.specs.Site.{AreaState}
 use Rattle.vault.specs.Lending.{Names}
 use Rattle.wal_record.specs.declared.record.Record.{Record}
 use Rattle.wal_record.specs.Places.{origin}
+use Rattle.wal_record.specs.Tips.{first_tip, tip_behind}
 use Rattle.wal_reader.specs.Archive.{IsArchive}
 use Rattle.wal_reader.specs.declared.fault.WalFault.{WalFault}
 use Rattle.wal_reader.specs.Appended.{written_entries}
 use Rattle.history.specs.Entry.{Entry}
 use Rattle.history.specs.Whole.{entry_of, apply_all}
-use Rattle.history.specs.Written.{wal_of}
-use Rattle.recovery.specs.Reading.{HasSettings}
+use Rattle.history.specs.Written.{wal_of, tip_of}
+use Rattle.recovery.specs.WholeWal.{HasSettings}
 use Rattle.shared_store.specs.Begin.{BeginCause}
 use Rattle.crew.specs.declared.script.Task.{Task}
 use Rattle.crew.specs.declared.script.Line.{Line}
 use Rattle.crew.specs.declared.why.Why.{Why}
 use Rattle.crew.specs.Reasons.{why_bytes}
 use Rattle.crew.specs.Script.{IsScript, IsRefusedAt}
-use Rattle.crew.specs.Run.{Progress, progress, Answered, AllOwn}
+use Rattle.crew.specs.Run.{Progress, progress, Answered, AllOfRun}
 use Rattle.pgbackup_cli.specs.declared.answer.Status.{Status}
 use Rattle.pgbackup_cli.specs.declared.answer.Status.TheVariants as status
 use Rattle.pgbackup_cli.specs.declared.run.RunReport.{RunReport}
@@ -67,43 +69,87 @@ lines_in (task ∷ tasks) = task.lines
 -- segment 1 has these bytes from a place on, which may be none, and no other file changed
 abbrev pub IsWrittenAt : ℕ → ℕ → List ℕ → Option Files → Option Files → Type 0
 IsWrittenAt mib place bytes old new =
-    (new ≡ option_map (after_write (segment_name_bytes 1 mib) (place - origin mib) bytes) old) ⊎ ((bytes ≡ []) × (new ≡ old))
+    (new ≡ option_map (after_write (segment_name_bytes 1 mib) (place - origin mib) bytes) old)
+    ⊎ ((bytes ≡ []) × (new ≡ old))
 
--- no more than these bytes was written there: only they and what lies past the old end of the file may have changed
+-- no more than these bytes was written there: only they and what lies past the old end of the file
+-- may have changed
 abbrev pub IsTornAt : ℕ → ℕ → List ℕ → Option Files → Option Files → Type 0
-IsTornAt mib place bytes old new = Related (IsTorn (segment_name_bytes 1 mib) (place - origin mib) (length bytes)) old new
+IsTornAt mib place bytes old new =
+    Related (IsTorn (segment_name_bytes 1 mib) (place - origin mib) (length bytes)) old new
 
--- how a run ended: no line was left out, and the WAL has all entries of the history up to its end, which is told; or the device
--- failed, or memory ran out
+-- the entries that the WAL had, and behind them those that a history is written as
+abbrev pub all_entries : ℕ → List Record → List Entry → List Record
+all_entries mib entries history = entries ++ wal_of mib history
+
+-- a WAL of these files has all of them, and ends where the history does
+abbrev pub HoldsAll : ℕ → List Record → List Entry → Files → Type 0
+HoldsAll mib entries history files =
+    IsArchive mib files (all_entries mib entries history) (tip_of mib history)
+
+-- how a run ended: no line was left out, and the WAL has all entries of the history up to its end,
+-- which is told; or the device failed, or memory ran out
 abbrev pub IsEnding : ℕ → List Record → Progress → AreaState → AreaState → Result Lsn AreaFault → Type 0
 IsEnding mib entries last old new (Ok end) =
-    (last.stopped ≡ false) × IfSome new.files (λ m. IsArchive mib m (entries ++ wal_of mib last.history) end.0)
+    (last.stopped ≡ false)
+    × (end.0 ≡ (tip_of mib last.history).end)
+    × IfSome new.files (HoldsAll mib entries last.history)
 IsEnding mib entries last old new (Err why) =
     ((last.stopped ≡ false) ⊎ (why ≡ NoMemory)) × AreaCause old.faults new.faults why
 
 -- the bytes of the entries that a run made, each behind the one before
-abbrev pub own_bytes : ℕ → List Entry → List ℕ
-own_bytes mib history = written_entries (wal_of mib history)
+abbrev pub run_bytes : ℕ → List Entry → List ℕ
+run_bytes mib history = written_entries (wal_of mib history)
 
--- a script was run on a WAL that has an entry: each line's answer is the one that the history gives, and the entries before are a
--- beginning of the history. The history's own entries are written where the WAL ended; where that failed, in part. What the records
--- of all these make is what the history makes
+-- where a WAL of these entries ends
+abbrev pub found_tip : ℕ → List Record → Tip
+found_tip mib entries = tip_behind (first_tip mib) entries
+
+-- a WAL of these files has just these entries
+abbrev pub HasFound : ℕ → List Record → Files → Type 0
+HasFound mib entries files = IsArchive mib files entries (found_tip mib entries)
+
+-- the lines were answered, the first of them behind these entries
+abbrev pub AnswersAll : ℕ → List Record → RunReport → Progress → Type 0
+AnswersAll mib entries report last =
+    Answered mib (progress (map entry_of entries) 0 false) (lines_in report.script) report.answers last
+
+-- what the records of a WAL make from nothing, those of a run with them, is this store
+abbrev pub IsMadeBy : ℕ → List Record → List Entry → Store → Type 0
+IsMadeBy mib entries history store =
+    apply_all empty (map entry_of (all_entries mib entries history)) ≡ Some store
+
+-- the bytes of a run's entries stand where the WAL ended, and no other file changed; or no more
+-- than that was written
+abbrev pub WritesRun : ℕ → RunReport → List Entry → AreaState → AreaState → Type 0
+WritesRun mib report history old new =
+    IsWrittenAt mib report.opened.0 (run_bytes mib history) old.files new.files
+
+abbrev pub LeavesRun : ℕ → RunReport → List Entry → AreaState → AreaState → Type 0
+LeavesRun mib report history old new =
+    IsTornAt mib report.opened.0 (run_bytes mib history) old.files new.files
+
+-- a script was run on a WAL that has an entry: each line's answer is the one that the history
+-- gives, and the entries before are a beginning of the history. What the run added is written where
+-- the WAL ended; where that failed, in part. What the records of all these make is what the history
+-- makes
 pub record RunDone (old new : AreaState) (report : RunReport) : Type 0 where
-  pub settings : Settings
+  pub settings : StoreSettings
   pub given : HasSettings old.files settings
   pub entries : List Record
   pub some : 0 < length entries
-  pub archive : IfSome old.files (λ m. IsArchive settings.segment m entries report.opened.0)
+  pub opened : report.opened.0 ≡ (found_tip settings.segment entries).end
+  pub archive : IfSome old.files (HasFound settings.segment entries)
   pub last : Progress
-  pub answered : Answered settings.segment (progress (map entry_of entries) 0 false) (lines_in report.script) report.answers last
-  pub own : List Entry
-  pub grown : last.history ≡ map entry_of entries ++ own
-  pub own_is : AllOwn own
+  pub answered : AnswersAll settings.segment entries report last
+  pub added : List Entry
+  pub grown : last.history ≡ map entry_of entries ++ added
+  pub of_run : AllOfRun added
   pub store : Store
   pub state : apply_all empty last.history ≡ Some store
-  pub replayed : IfSome old.files (λ m. apply_all empty (map entry_of (entries ++ wal_of settings.segment last.history)) ≡ Some store)
-  pub left : IsTornAt settings.segment report.opened.0 (own_bytes settings.segment last.history) old.files new.files
-  pub written : IfOk report.ending (λ end. IsWrittenAt settings.segment report.opened.0 (own_bytes settings.segment last.history) old.files new.files)
+  pub replayed : IfSome old.files (λ m. IsMadeBy settings.segment entries last.history store)
+  pub left : LeavesRun settings.segment report last.history old new
+  pub written : IfOk report.ending (λ end. WritesRun settings.segment report last.history old new)
   pub ending : IsEnding settings.segment entries last old new report.ending
 
 -- ---- what `run` comes to

@@ -18,13 +18,9 @@ use crate::faults::{area_status, area_text, full_text, joined, refused_line, tak
 use crate::names::names_of;
 use crate::new_wal::write_wal;
 use crate::options::InitOptions;
-use lsn_core::{AreaFault, Lsn, NoMemory, SegSize, Settings, Text, lsn_text};
+use lsn_core::{AreaFault, Lsn, MOST_RELSEG, NoMemory, SegSize, Settings, Text, lsn_text};
 use std::alloc::Global;
 use vault::{Clock, Held, Site, TakeFault, Vault, give_two, take_all, two_of};
-
-/// How many blocks of a fork go into a segment of its files where nothing else is said (PostgreSQL
-/// manual, configure --with-segsize).
-const RELSEG: u32 = 131_072;
 
 /// Why a new store was not made.
 #[derive(Debug, Drop)]
@@ -60,16 +56,15 @@ impl From<NoMemory> for InitFault {
 /// The settings of a new store at a moment.
 fn settings_of(options: &InitOptions, moment: u64) -> Settings
     requires { IsInRange options.now }
-    ensures settings { result ≡ new_settings options.now moment }
-    ensures segment { IsSegmentMib result.segment }
-    ensures least { 1 ≤ result.relseg }
-    ensures most { result.relseg ≤ 131072 }
+    ensures { result ≡ new_settings options.now moment }
 {
-    Settings {
-        segment: options.segment.unwrap_or(SegSize::standard()),
-        relseg: options.relseg.unwrap_or(RELSEG),
-        system: options.system.unwrap_or((moment & 0xffff_ffff) << 32),
-    }
+    let segment = options.segment.unwrap_or(SegSize::standard());
+    let relseg = options.relseg.unwrap_or(MOST_RELSEG);
+    let system = options.system.unwrap_or((moment & 0xffff_ffff) << 32);
+    let Some(settings) = Settings::new(segment, relseg, system) else {
+        unreachable!()
+    };
+    settings
 }
 
 /// The moment that the system identifier is made of. A clock is asked only where none is given.
@@ -113,9 +108,6 @@ fn init_areas<V: Vault>(
     sums: &mut V,
     settings: Settings,
 ) -> (V, Result<Lsn, InitFault>)
-    requires segment { IsSegmentMib settings.segment }
-    requires least { 1 ≤ settings.relseg }
-    requires most { settings.relseg ≤ 131072 }
     ensures answer { AnswersInit V.Vault settings wal sums.old result.0 sums.new result.1 }
     ensures sums { V.files sums.new ≡ V.files sums.old }
     ensures wal_later { V.faults wal ≤ V.faults result.0 }
@@ -134,9 +126,6 @@ fn init_areas<V: Vault>(
 
 /// Makes a new store with these settings in the areas of a site.
 fn init_in<S: Site>(alloc: Global, site: &mut S, settings: Settings) -> Result<Lsn, InitFault>
-    requires segment { IsSegmentMib settings.segment }
-    requires least { 1 ≤ settings.relseg }
-    requires most { settings.relseg ≤ 131072 }
     requires home { AllHome (S.areas site.old) }
     ensures site { Works init_writes (of_site S.Site site.old) (of_site S.Site site.new) }
     ensures answer { InitRan settings (of_site S.Site site.old) (of_site S.Site site.new) result }

@@ -5,22 +5,17 @@ ghost use Rattle.lsn_core.specs.Causes.{HasCause};
 ghost use Rattle.pgbackup_cli.specs.Input.{script_limit, TakesAtMost};
 ghost use Rattle.pgbackup_cli.specs.Inner.{IsReadOn, IsInputOf};
 
+use byte_words::zeros;
+use crew::SCRIPT_LIMIT;
 use lsn_core::AreaFault;
-use std::alloc::{AllocError, Global};
+use std::alloc::Global;
 use vault::Source;
 
 /// How many bytes of the input are looked at: one more than a script may have (profile).
-const LIMIT: usize = 4_194_305;
+const LIMIT: usize = SCRIPT_LIMIT + 1;
 
 /// How many bytes one read asks for at most.
 const PIECE: usize = 65_536;
-
-/// So many bytes to read into.
-fn buffer(alloc: Global, size: usize) -> Result<Vec<u8>, AllocError>
-    ensures { IfOk result (λ v. length v.items ≡ size) }
-{
-    vec![in alloc; 0u8; size]
-}
 
 /// Reads behind the bytes that were read, at most so many, and says whether the input has ended.
 fn read_more<I: Source>(
@@ -34,7 +29,7 @@ fn read_more<I: Source>(
     ensures taken { TakesAtMost most (I.left input.old) (I.left input.new) }
     ensures cause { HasCause (I.faults input.old) (I.faults input.new) result }
 {
-    let mut piece = buffer(alloc, most.min(PIECE))?;
+    let mut piece = zeros(alloc, most.min(PIECE))?;
     let count = input.read(&mut piece)? as usize;
     bytes.extend_from_slice(&piece[..count])?;
     Ok(count == 0)

@@ -4,19 +4,17 @@ ghost use Rattle.std.specs.Prelude.{◌≡◌, [], IfOk, IfSome, OnOk, OnErr};
 ghost use Rattle.std.specs.FinMap.{empty};
 ghost use Rattle.lsn_core.specs.Causes.{HasCause};
 ghost use Rattle.vault.specs.Area.{bytes_of};
-ghost use Rattle.wal_record.specs.Places.{origin, first_start};
+ghost use Rattle.wal_record.specs.Places.{first_start};
+ghost use Rattle.wal_record.specs.Tips.{first_tip};
 ghost use Rattle.pgbackup_cli.specs.Init.{segment_name, first_entry, HoldsPart};
 ghost use Rattle.pgbackup_cli.specs.Inner.{with_settings, with_segment, with_both, checkpoint_in, IsSettingsTorn, IsSegmentTorn, IsCheckpointed, IsCheckpointLeft};
 
-use lsn_core::{AreaFault, Lsn, SegSize, Settings, WalTip};
+use lsn_core::{AreaFault, LONG_HEAD, Lsn, SegSize, Settings, WalTip};
 use std::alloc::Global;
 use vault::Vault;
 use wal_reader::settings_text;
 use wal_record::Kind;
 use wal_writer::WalState;
-
-/// How many bytes the head of a segment's first page has.
-const HEAD: u64 = 40;
 
 /// Syncs the area, and writes the file `settings`.
 fn write_settings<V: Vault>(
@@ -28,7 +26,7 @@ fn write_settings<V: Vault>(
     ensures left { OnErr result (IsSettingsTorn settings.now (V.files wal.old) (V.files wal.new)) }
     ensures cause { HasCause (V.faults wal.old) (V.faults wal.new) result }
 {
-    let text = settings_text(alloc, settings.segment, settings.relseg)?;
+    let text = settings_text(alloc, settings.segment(), settings.relseg())?;
     wal.sync()?;
     wal.write_at(b"settings", 0, text.as_bytes())
 }
@@ -37,17 +35,18 @@ fn write_settings<V: Vault>(
 fn first_start(segment: SegSize) -> Lsn
     ensures { result.0 ≡ first_start segment }
 {
-    Lsn(segment.bytes() + HEAD)
+    Lsn(segment.bytes() + LONG_HEAD)
 }
 
 /// Where a WAL without an entry ends.
 fn first_tip(segment: SegSize) -> WalTip
-    ensures end { result.end.0 ≡ origin segment }
-    ensures prev { result.prev.0 ≡ 0 }
+    ensures { result ≡ first_tip segment }
 {
     WalTip {
         end: Lsn(segment.bytes()),
         prev: Lsn(0),
+        redo: Lsn(0),
+        count: 0,
     }
 }
 
@@ -79,8 +78,9 @@ fn start_wal<V: Vault>(alloc: Global, area: V, settings: Settings) -> (V, Result
     ensures left { OnErr result.1 (IsSegmentTorn settings (V.files area) (V.files result.0)) }
     ensures cause { HasCause (V.faults area) (V.faults result.0) result.1 }
 {
-    let redo = first_start(settings.segment);
-    let mut wal = WalState::attach(alloc, area, settings, first_tip(settings.segment));
+    let redo = first_start(settings.segment());
+    let tip = first_tip(settings.segment());
+    let mut wal = WalState::attach(alloc, area, settings, tip);
     let answer = write_checkpoint(alloc, &mut wal, redo);
     (wal.detach(), answer)
 }

@@ -4,7 +4,7 @@ ghost use Rattle.std.specs.Prelude.{◌≡◌, ◌≤◌, IfSome};
 ghost use Rattle.lsn_core.specs.Segment.{IsSegmentMib};
 ghost use Rattle.pgbackup_cli.specs.Options.{decimal_number, segment_value, relseg_value, with_option, none_given, options_in, IsInRange};
 
-use lsn_core::{SegSize, Text};
+use lsn_core::{MOST_RELSEG, SegSize, Text};
 use text_numbers::decimal_in;
 
 /// What the words of `init` give, where they give it.
@@ -41,7 +41,7 @@ fn relseg_in(value: &[u8]) -> Option<u32>
     ensures range { IfSome result (λ blocks. (1 ≤ blocks) × (blocks ≤ 131072)) }
 {
     let blocks = number_in(value)?;
-    if 1 <= blocks && blocks <= 131_072 {
+    if 1 <= blocks && blocks <= u64::from(MOST_RELSEG) {
         Some(blocks as u32)
     } else {
         None

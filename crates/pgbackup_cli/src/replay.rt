@@ -124,7 +124,7 @@ fn replay_areas<V: Vault>(
     }
     let (settings, read) = read_wal(alloc, wal)?;
     let pages = page_count(&read.store)?;
-    write_out(alloc, out, &read.store, settings.relseg)?;
+    write_out(alloc, out, &read.store, settings.relseg())?;
     Ok(ReplayReport {
         end: read.tip.end,
         forks: read.store.fork_count(),
