@@ -1,6 +1,11 @@
-//! What several crates say and prove of lists of bytes: numbers as little-endian bytes, bytes
-//! written at a place, texts cut in two, buffers, places rounded up, and facts about contents that
-//! may not be told.
+//! What several crates say and prove of lists of bytes, so that each definition and lemma stands
+//! once: numbers as little-endian bytes, bytes written at a place, a page of zeros, texts cut in
+//! two, buffers to read into, places rounded up, and facts about contents that may not be told.
+//!
+//! Each reader answers exactly what stands in the bytes, None where too few do. The lemmas for
+//! readers of many fields stand in `proofs/Fields.antt`, those on cut texts in
+//! `proofs/Cutting.antt`, those on bytes written over others in `proofs/Overwritten.antt`. What the
+//! bytes mean is left to the crates above.
 #![tactic(auto)]
 
 mod buffers;
@@ -14,6 +19,3 @@ pub use cuts::{behind, behind_prefix, cut_at, place_of};
 pub use pieces::overwrite;
 pub use places::aligned;
 pub use reading::{u8_at, u16_at, u16_in, u32_at, u32_in, u64_at, u64_in};
-
-#[cfg(test)]
-mod tests;

@@ -27,7 +27,8 @@ pub fn u16_at(bytes: &[u8]) -> Option<(u16, &[u8])>
     Some((u16::from_le_bytes([front[0], front[1]]), rest))
 }
 
-/// The number of the first four bytes, and the bytes after them. None exactly where there are fewer.
+/// The number of the first four bytes, and the bytes after them. None exactly where there are
+/// fewer.
 pub fn u32_at(bytes: &[u8]) -> Option<(u32, &[u8])>
     ensures { option_map (λ x. (x.0, x.1.now)) result ≡ number_at w32 bytes.now }
 {

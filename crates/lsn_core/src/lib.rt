@@ -1,4 +1,15 @@
-//! Numbers and names: places in the WAL, relations and forks, segments, and the names of files.
+//! Numbers and names on which all other crates stand: places in the WAL and its tip, relations,
+//! forks and their blocks, segments, the settings of a store, sizes and limits, and the ways in
+//! which calls fail.
+//!
+//! What it writes, it reads: each name has a reader that is exact both ways, and `laws` says that
+//! a text is read as one thing and that a store's files have distinct names. `specs/Store.antt`
+//! and `specs/Blocks.antt` say what a store is and what a change leaves of it, `specs/Names.antt`
+//! how everything is named. The trait `Pages` is a store behind calls that may fail; an
+//! implementation may tell which store it shows, or nothing.
+//!
+//! Left to others: the digits in names (`text_numbers`), areas of files and their failures
+//! (`vault`), what the pages hold (`pg_page`), and what the WAL does to a store (`history`).
 #![tactic(auto)]
 
 mod fault;
@@ -24,6 +35,3 @@ pub use paths::path_fork;
 pub use segment::{SegSize, Settings};
 pub use sizes::{LONG_HEAD, MOST_BLOCKS, MOST_RELSEG, MOST_SEGMENTS, PAGE, PAGE_MAGIC, SHORT_HEAD};
 pub use text::Text;
-
-#[cfg(test)]
-mod tests;
