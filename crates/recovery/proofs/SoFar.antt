@@ -9,19 +9,20 @@ use Rattle.lsn_core.specs.Causes.{Rose}
 use Rattle.lsn_core.specs.Files.{Files}
 use Rattle.lsn_core.specs.Store.{Store}
 use Rattle.lsn_core.specs.Tip.{Tip}
+use Rattle.vault.specs.Frame.{OnlyReads}
+use Rattle.vault.specs.declared.area.Vault.{Ghosts}
 use Rattle.wal_record.specs.declared.record.Record.{Record}
 use Rattle.wal_record.specs.Tips.{first_tip, tip_after, tip_behind, IsWithin}
 use Rattle.wal_record.proofs.Tips.{tip_behind-append}
 use Rattle.wal_reader.specs.declared.fault.WalFault.{WalFault}
-use Rattle.wal_reader.specs.Causes.{CauseOf}
-use Rattle.wal_reader.specs.Cursor.{Cursor, NextAnswer, StepAnswer, moved, step_causes}
+use Rattle.wal_reader.specs.Cursor.{Cursor, NextAnswer, StepAnswer, Steps, moved, step_causes}
 use Rattle.wal_reader.specs.Archive.{held_bytes, EndsAt, Follows, IsDamagedAt, IsArchive, IsDamaged}
 use Rattle.wal_reader.proofs.Causing.{cause_passed}
 use Rattle.wal_reader.proofs.Passing.{Passes, Passes-push, Passes-end, Passes-damage}
 use Rattle.history.specs.Entry.{Entry}
 use Rattle.history.specs.Apply.{apply}
 use Rattle.history.specs.Whole.{entry_of, apply_all}
-use Rattle.recovery.specs.WholeWal.{IsReadWal, archive_causes, ReplayAnswer}
+use Rattle.recovery.specs.WholeWal.{IsReadWal, archive_causes, Replays}
 use Rattle.recovery.specs.declared.replaying.ReadWal.{ReadWal}
 
 then_some : {A : Type 0} (o : Option A) (x : A) → o ≡ Some x → (o >>= λ y. Some y) ≡ Some x
@@ -80,55 +81,53 @@ at_damage mib files tip store place so damaged =
 
 -- ---- what a loop over a cursor keeps
 
-pub record Keeps (mib : ℕ) (old files : Option Files) (before now : ℕ) (cursor : Cursor) (store : Store) : Type 0 where
-  pub fresh : cursor.fault ≡ None
-  pub segment : cursor.mib ≡ mib
-  pub same : files ≡ old
-  pub later : before ≤ now
-  pub so_far : IsSoFar mib old cursor.tip store
-  pub within : IsWithin mib cursor.tip
-
 -- an answer of a cursor that had met no fault
 answered : (c new : Cursor) (files : Option Files) (before now : ℕ) (result : Result (Option Record) WalFault) → c.fault ≡ None → NextAnswer c.fault c new files before now result
     → (new ≡ moved c result) × StepAnswer c.mib c.tip files before now result
 answered c new files before now result fresh answer = subst (λ (f : Option WalFault). NextAnswer f c new files before now result) fresh answer
 
--- the same of the files and the segment size that a loop keeps
-step_kept : (mib : ℕ) (old files : Option Files) (before now later : ℕ) (c new : Cursor) (store : Store) (result : Result (Option Record) WalFault) → Keeps mib old files before now c store
-    → NextAnswer c.fault c new files now later result → (new ≡ moved c result) × StepAnswer mib c.tip old now later result
-step_kept mib old files before now later c new store result kept answer =
-    let a = answered c new files now later result kept.fresh answer in
-    (a.0, subst (λ (f : Option Files). StepAnswer mib c.tip f now later result) kept.same (subst (λ (n : ℕ). StepAnswer n c.tip files now later result) kept.segment a.1))
-
-pub next_kept : (mib : ℕ) (old files after : Option Files) (before now later : ℕ) (c new : Cursor) (store last : Store) (r : Record) → Keeps mib old files before now c store
-    → NextAnswer c.fault c new files now later (Ok (Some r)) → after ≡ files → now ≤ later → apply store (entry_of r) ≡ Some last → Keeps mib old after before later new last
-next_kept mib old files after before now later c new store last r kept answer same rises step =
-    let a = step_kept mib old files before now later c new store (Ok (Some r)) kept answer in
-    subst (λ (cursor : Cursor). Keeps mib old after before later cursor last) (sym a.0)
-    (record {
-      fresh = kept.fresh;
-      segment = kept.segment;
-      same = same ∙ kept.same;
-      later = omega (arith, kept.later, rises);
-      so_far = one_more mib old c.tip store last r kept.so_far a.1.1 step;
-      within = a.1.0.within;
-    })
-
-pub end_kept : (mib : ℕ) (old files : Option Files) (before now later : ℕ) (c new : Cursor) (read : ReadWal) → Keeps mib old files before now c read.store → NextAnswer c.fault c new files now later (Ok None)
-    → read.tip ≡ new.tip → IsReadWal mib old read
-end_kept mib old files before now later c new read kept answer tip_is =
-    let a = step_kept mib old files before now later c new read.store (Ok None) kept answer in
-    let tip : c.tip ≡ read.tip = sym (tip_is ∙ ap (λ (x : Cursor). x.tip) a.0) in
-    at_end mib old read
-    (subst (λ (t : Tip). IsSoFar mib old t read.store) tip kept.so_far) (subst (IsWithin mib) tip kept.within)
-    (subst (λ (t : Tip). IfSome old (λ m. EndsAt mib (held_bytes mib m) t.end)) tip a.1)
-
 rose_earlier : (before now later : ℕ) → before ≤ now → Rose now later → Rose before later
 rose_earlier before now later le rose = omega (arith, le, rose)
 
-pub fault_kept : (mib : ℕ) (old files : Option Files) (before now later : ℕ) (c new : Cursor) (store : Store) (fault : WalFault) → Keeps mib old files before now c store
-    → NextAnswer c.fault c new files now later (Err fault) → ReplayAnswer mib old before later (Err fault)
-fault_kept mib old files before now later c new store fault kept answer =
-    let a = step_kept mib old files before now later c new store (Err fault) kept answer in
-    cause_passed (step_causes mib c.tip old) (archive_causes mib old) now later before later fault
-    (λ place why damaged. at_damage mib old c.tip store place kept.so_far damaged) (λ never. never) (λ never. never) (rose_earlier before now later kept.later) a.1
+module _ {V : Type 0} (g : Ghosts V) where
+  -- the area was only read, and the store follows what the cursor gave
+  pub record Keeps (mib : ℕ) (old now : V) (cursor : Cursor) (store : Store) : Type 0 where
+    pub fresh : cursor.fault ≡ None
+    pub segment : cursor.mib ≡ mib
+    pub reads : OnlyReads g old now
+    pub so_far : IsSoFar mib (g.files old) cursor.tip store
+    pub within : IsWithin mib cursor.tip
+
+  -- an answer of the cursor, of what the area held at first
+  step_kept : (mib : ℕ) (old now later : V) (c new : Cursor) (store : Store) (result : Result (Option Record) WalFault) → Keeps mib old now c store → Steps g c new now later result
+      → (new ≡ moved c result) × StepAnswer mib c.tip (g.files old) (g.faults now) (g.faults later) result
+  step_kept mib old now later c new store result kept answer =
+      let a = answered c new (g.files now) (g.faults now) (g.faults later) result kept.fresh answer in
+      (a.0, subst (λ (f : Option Files). StepAnswer mib c.tip f (g.faults now) (g.faults later) result) kept.reads.files (subst (λ (n : ℕ). StepAnswer n c.tip (g.files now) (g.faults now) (g.faults later) result) kept.segment a.1))
+
+  pub next_kept : (mib : ℕ) (old now later : V) (c new : Cursor) (store last : Store) (r : Record) → Keeps mib old now c store → Steps g c new now later (Ok (Some r)) → OnlyReads g now later → apply store (entry_of r) ≡ Some last
+      → Keeps mib old later new last
+  next_kept mib old now later c new store last r kept answer reads step =
+      let a = step_kept mib old now later c new store (Ok (Some r)) kept answer in
+      subst (λ (cursor : Cursor). Keeps mib old later cursor last) (sym a.0)
+      (record {
+        fresh = kept.fresh;
+        segment = kept.segment;
+        reads = record { files = reads.files ∙ kept.reads.files; past = reads.past ∙ kept.reads.past; faults = omega (arith, kept.reads.faults, reads.faults) };
+        so_far = one_more mib (g.files old) c.tip store last r kept.so_far a.1.1 step;
+        within = a.1.0.within;
+      })
+
+  pub end_kept : (mib : ℕ) (old now later : V) (c new : Cursor) (read : ReadWal) → Keeps mib old now c read.store → Steps g c new now later (Ok None) → read.tip ≡ new.tip → IsReadWal mib (g.files old) read
+  end_kept mib old now later c new read kept answer tip_is =
+      let a = step_kept mib old now later c new read.store (Ok None) kept answer in
+      let tip : c.tip ≡ read.tip = sym (tip_is ∙ ap (λ (x : Cursor). x.tip) a.0) in
+      at_end mib (g.files old) read
+      (subst (λ (t : Tip). IsSoFar mib (g.files old) t read.store) tip kept.so_far) (subst (IsWithin mib) tip kept.within)
+      (subst (λ (t : Tip). IfSome (g.files old) (λ m. EndsAt mib (held_bytes mib m) t.end)) tip a.1)
+
+  pub fault_kept : (mib : ℕ) (old now later : V) (c new : Cursor) (store : Store) (fault : WalFault) → Keeps mib old now c store → Steps g c new now later (Err fault) → Replays g mib old later (Err fault)
+  fault_kept mib old now later c new store fault kept answer =
+      let a = step_kept mib old now later c new store (Err fault) kept answer in
+      cause_passed (step_causes mib c.tip (g.files old)) (archive_causes mib (g.files old)) (g.faults now) (g.faults later) (g.faults old) (g.faults later) fault
+      (λ place why damaged. at_damage mib (g.files old) c.tip store place kept.so_far damaged) (λ never. never) (λ never. never) (rose_earlier (g.faults old) (g.faults now) (g.faults later) kept.reads.faults) a.1

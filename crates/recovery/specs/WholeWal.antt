@@ -3,6 +3,7 @@ use Rattle.std.specs.Prelude.{◌≡◌, ℕ, List, map, Option, Some, Result, O
 use Rattle.std.specs.FinMap.{empty}
 use Rattle.lsn_core.specs.Files.{Files}
 use Rattle.lsn_core.specs.Segment.{StoreSettings, IsRelseg}
+use Rattle.vault.specs.declared.area.Vault.{Ghosts}
 use Rattle.wal_record.specs.declared.record.Record.{Record}
 use Rattle.wal_record.specs.Tips.{first_tip, tip_behind, IsWithin}
 use Rattle.wal_reader.specs.declared.fault.WalFault.{WalFault}
@@ -28,6 +29,9 @@ archive_causes mib files = record no_causes { damaged = λ place why. IfSome fil
 abbrev pub ReplayAnswer : ℕ → Option Files → ℕ → ℕ → Result ReadWal WalFault → Type 0
 ReplayAnswer mib files before now (Ok read) = IsReadWal mib files read
 ReplayAnswer mib files before now (Err fault) = CauseOf (archive_causes mib files) before now fault
+
+abbrev pub Replays : {V : Type 0} → Ghosts V → ℕ → V → V → Result ReadWal WalFault → Type 0
+Replays g mib old now result = ReplayAnswer mib (g.files old) (g.faults old) (g.faults now) result
 
 -- the settings of the WAL of these files
 pub record HasSettings (files : Option Files) (settings : StoreSettings) : Type 0 where

@@ -1,7 +1,7 @@
 //! Replay of a WAL from its beginning into a store in memory.
 
-ghost use Rattle.std.specs.Prelude.{◌≡◌, ◌≤◌};
-ghost use Rattle.recovery.specs.WholeWal.{ReplayAnswer, WalAnswer};
+ghost use Rattle.vault.specs.Frame.{OnlyReads};
+ghost use Rattle.recovery.specs.WholeWal.{Replays, WalAnswer};
 
 use history::{PageMap, apply};
 use lsn_core::{Settings, WalTip};
@@ -23,9 +23,8 @@ pub fn replay<V: Vault>(
     wal: &mut V,
     settings: &Settings,
 ) -> Result<ReadWal, WalFault>
-    ensures answer { ReplayAnswer settings.now.segment (V.files wal.old) (V.faults wal.old) (V.faults wal.new) result }
-    ensures same { V.files wal.new ≡ V.files wal.old }
-    ensures later { V.faults wal.old ≤ V.faults wal.new }
+    ensures answer { Replays V.Vault settings.now.segment wal.old wal.new result }
+    ensures reads { OnlyReads V.Vault wal.old wal.new }
 {
     let mut cursor = WalCursor::first(settings);
     let mut store = PageMap::new(alloc);
@@ -43,8 +42,7 @@ pub fn replay<V: Vault>(
 /// holds the store's pages and one page of the WAL.
 pub fn read_wal<V: Vault>(alloc: Global, wal: &mut V) -> Result<(Settings, ReadWal), WalFault>
     ensures answer { WalAnswer (V.files wal.old) (V.faults wal.old) (V.faults wal.new) result }
-    ensures same { V.files wal.new ≡ V.files wal.old }
-    ensures later { V.faults wal.old ≤ V.faults wal.new }
+    ensures reads { OnlyReads V.Vault wal.old wal.new }
 {
     let settings = read_settings(alloc, wal)?;
     let read = replay(alloc, wal, &settings)?;

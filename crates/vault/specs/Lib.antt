@@ -8,3 +8,6 @@ pub mod Shelf
 pub mod Site
 pub mod Stream
 pub mod Whole
+pub mod Stops
+pub mod Record
+pub mod Frame

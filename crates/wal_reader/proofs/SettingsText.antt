@@ -11,6 +11,8 @@ use Rattle.std.proofs.lemmas.List.{take_all, length-append, append_cancel_left, 
 use Rattle.std.proofs.lemmas.List.Quantifiers.{position-Some}
 use Rattle.std.proofs.Math.Seq.{take-append_seam, drop-append-add, drop-cons}
 use Rattle.std.proofs.lemmas.Fmt.{decimal_injective, length-decimal-le}
+use Rattle.byte_words.specs.Cuts.{cut_at}
+use Rattle.byte_words.proofs.Cutting.{Lacks, front_of, back_of, cut_again, cut_whole}
 use Rattle.text_numbers.specs.Numbers.{all_digits}
 use Rattle.text_numbers.proofs.Decimal.{tells, decimal_is_digits}
 use Rattle.lsn_core.specs.Segment.{IsSegmentMib, IsRelseg, StoreSettings, segment_bytes}
@@ -18,71 +20,26 @@ use Rattle.lsn_core.specs.Names.{segment_name_bytes, eight_digits}
 use Rattle.lsn_core.specs.Files.{Files}
 use Rattle.wal_reader.specs.Head.{system_in}
 use Rattle.wal_reader.specs.Archive.{held_bytes, first_page}
-use Rattle.wal_reader.specs.Settings.{first_segment, settings_text, cut_line, IsSettingsText, GivesSettings, IsDamagedText, IsSettingsOf}
+use Rattle.wal_reader.specs.Settings.{first_segment, settings_text, IsSettingsText, GivesSettings, IsDamagedText, IsSettingsOf}
 use Rattle.wal_reader.specs.Inside.{line_of, HasNoLine, HasNoNumbers, Tells, TellsSettings, IsSystemOf}
 
--- a line end behind digits is the first one
-end_of_digits : (text tail : List ℕ) → all_digits text ≡ true → position_or_len (λ b. b == 10) (text ++ (10 ∷ tail)) ≡ length text
-end_of_digits [] tail numeral = refl
-end_of_digits (c ∷ cs) tail numeral =
+-- no digit is a line end
+no_line_end : (text : List ℕ) → all_digits text ≡ true → Lacks 10 text
+no_line_end [] numeral = tt
+no_line_end (c ∷ cs) numeral =
     let both : IsInRange 48 57 c × (all_digits cs ≡ true) = tells.parts c cs numeral in
-    let other : (c == 10) ≡ false = ne_eqb c 10 (λ e. omega (arith, both.0, e)) in
-    let more : position_or_len (λ b. b == 10) (cs ++ (10 ∷ tail)) ≡ length cs = end_of_digits cs tail both.1 in
-    rw (other, more) (omega arith)
-
--- a place that is found within
-placed : (size n m : ℕ) → m ≡ n → n < size → cond (nat_lt m size) (Some m) None ≡ Some n
-placed size n m e within = rw (e, lt-ltb n size within) refl
-
--- what stands before and behind a place
-abbrev parts : List ℕ → ℕ → List ℕ × List ℕ
-parts text i = (take i text, drop (i + 1) text)
-
-seam : (text tail : List ℕ) → parts (text ++ (10 ∷ tail)) (length text) ≡ (text, tail)
-seam text tail = rw (take-append_seam text (10 ∷ tail), drop-append-add text (10 ∷ tail) 1) refl
+    (ne_eqb c 10 (λ e. omega (arith, both.0, e)), no_line_end cs both.1)
 
 -- digits and a line end behind them are cut there
-cut_digits : (text tail : List ℕ) → all_digits text ≡ true → cut_line (text ++ (10 ∷ tail)) ≡ Some (text, tail)
-cut_digits text tail numeral =
-    ap (λ (o : Option ℕ). option_map (parts (text ++ (10 ∷ tail))) o)
-    (placed (length (text ++ (10 ∷ tail))) (length text) (position_or_len (λ b. b == 10) (text ++ (10 ∷ tail))) (end_of_digits text tail numeral) (omega (arith, length-append text (10 ∷ tail))))
-    ∙ ap (λ (x : List ℕ × List ℕ). Some x) (seam text tail)
-
--- what a slice behind a place is
-pub cut_at : (text : List ℕ) (i : ℕ) → Some i ≡ position (λ b. b == 10) text → Some (take i text, take (length text - (i + 1)) (drop (i + 1) text)) ≡ cut_line text
-cut_at text i at =
-    ap (λ (t : List ℕ). Some (take i text, t)) (take_all (length text - (i + 1)) (drop (i + 1) text) (omega (arith, length-drop (i + 1) text))) ∙ ap (option_map (parts text)) at
-
--- the two parts of a pair that is there
-abbrev front : Option (List ℕ × List ℕ) → List ℕ
-front None = []
-front (Some x) = x.0
-
-abbrev back : Option (List ℕ × List ℕ) → List ℕ
-back None = []
-back (Some x) = x.1
-
--- what is cut is whole
-whole_at : (text before behind : List ℕ) (o : Option ℕ) → position (λ b. b == 10) text ≡ o → option_map (parts text) o ≡ Some (before, behind) → text ≡ before ++ (10 ∷ behind)
-whole_at text before behind None at e = absurd (cc)
-whole_at text before behind (Some i) at e =
-    let found : (i < length text) × ((get_or text i 0 == 10) ≡ true) × ((k : ℕ) → k < i → (get_or text k 0 == 10) ≡ false) = position-Some (λ b. b == 10) text i 0 at in
-    let line_end : get_or text i 0 ≡ 10 = eqb-true (get_or text i 0) 10 found.1 in
-    let within : i < length text = found.0 in
-    let tail : drop i text ≡ 10 ∷ drop (i + 1) text = rw (add-one, drop-cons text i 0, line_end) refl in
-    let first : take i text ≡ before = ap front e in
-    let second : drop (i + 1) text ≡ behind = ap back e in
-    sym (take-append-drop i text) ∙ rw (tail, first, second) refl
-
-pub whole_line : (text before behind : List ℕ) → cut_line text ≡ Some (before, behind) → text ≡ before ++ (10 ∷ behind)
-whole_line text before behind e = whole_at text before behind (position (λ b. b == 10) text) refl e
+cut_digits : (text tail : List ℕ) → all_digits text ≡ true → cut_at 10 (text ++ (10 ∷ tail)) ≡ Some (text, tail)
+cut_digits text tail numeral = cut_again 10 text tail (no_line_end text numeral)
 
 -- a key, a number and a line end are read in one way
 pub line_once : (key : List ℕ) (n m : ℕ) (r s : List ℕ) → n < 2 ^ 64 → m < 2 ^ 64 → key ++ (decimal n ++ (10 ∷ r)) ≡ key ++ (decimal m ++ (10 ∷ s)) → (n ≡ m) × (r ≡ s)
 line_once key n m r s small less e =
     let same : decimal n ++ (10 ∷ r) ≡ decimal m ++ (10 ∷ s) = append_cancel_left key (decimal n ++ (10 ∷ r)) (decimal m ++ (10 ∷ s)) e in
-    let cuts : Some (decimal n, r) ≡ Some (decimal m, s) = sym (cut_digits (decimal n) r (decimal_is_digits n small)) ∙ ap cut_line same ∙ cut_digits (decimal m) s (decimal_is_digits m less) in
-    (decimal_injective n m small less (ap front cuts), ap back cuts)
+    let cuts : Some (decimal n, r) ≡ Some (decimal m, s) = sym (cut_digits (decimal n) r (decimal_is_digits n small)) ∙ ap (cut_at 10) same ∙ cut_digits (decimal m) s (decimal_is_digits m less) in
+    (decimal_injective n m small less (ap front_of cuts), ap back_of cuts)
 
 -- a text has one pair of numbers
 pub numbers_once : (m n p q : ℕ) → m < 2 ^ 64 → n < 2 ^ 64 → p < 2 ^ 64 → q < 2 ^ 64 → settings_text m n ≡ settings_text p q → (m ≡ p) × (n ≡ q)
@@ -125,34 +82,25 @@ first_name mib size =
     ap (λ (q : ℕ). codes "00000001" ++ (eight_digits q ++ eight_digits (1 % (4294967296 / segment_bytes mib)))) high
     ∙ ap (λ (r : ℕ). codes "00000001" ++ (eight_digits 0 ++ eight_digits r)) low ∙ name_of_one
 
--- a reader's answer in two clauses
-pub found_of : {A : Type 0} (o : Option A) (P : Type 0) (Q : A → Type 0) → MatchOption o P Q → IfSome o Q
-found_of None P Q m = tt
-found_of (Some x) P Q m = m
-
-pub none_of : {A : Type 0} (o : Option A) (P : Type 0) (Q : A → Type 0) → MatchOption o P Q → IfNone o P
-none_of None P Q m = m
-none_of (Some x) P Q m = tt
-
 never_some : {A : Type 0} (x : A) → None ≡ Some x → ⊥
 never_some x e = cc
 
 -- a line that isn't cut, or whose front is no number's text, is no line of a key and a number
-pub not_cut : (key bytes line : List ℕ) → bytes ≡ key ++ line → cut_line line ≡ None → HasNoLine bytes key
+pub not_cut : (key bytes line : List ℕ) → bytes ≡ key ++ line → cut_at 10 line ≡ None → HasNoLine bytes key
 not_cut key bytes line behind none n tail small e =
     let same : line ≡ decimal n ++ (10 ∷ tail) = append_cancel_left key line (decimal n ++ (10 ∷ tail)) (sym behind ∙ e) in
-    let some : cut_line line ≡ Some (decimal n, tail) = ap cut_line same ∙ cut_digits (decimal n) tail (decimal_is_digits n small) in
+    let some : cut_at 10 line ≡ Some (decimal n, tail) = ap (cut_at 10) same ∙ cut_digits (decimal n) tail (decimal_is_digits n small) in
     never_some (decimal n, tail) (sym none ∙ some)
 
-pub not_number : (key bytes line text after : List ℕ) → bytes ≡ key ++ line → cut_line line ≡ Some (text, after) → ((n : ℕ) → n < 2 ^ 64 → text ≡ decimal n → ⊥) → HasNoLine bytes key
+pub not_number : (key bytes line text after : List ℕ) → bytes ≡ key ++ line → cut_at 10 line ≡ Some (text, after) → ((n : ℕ) → n < 2 ^ 64 → text ≡ decimal n → ⊥) → HasNoLine bytes key
 not_number key bytes line text after behind cut none n tail small e =
     let same : line ≡ decimal n ++ (10 ∷ tail) = append_cancel_left key line (decimal n ++ (10 ∷ tail)) (sym behind ∙ e) in
-    let some : cut_line line ≡ Some (decimal n, tail) = ap cut_line same ∙ cut_digits (decimal n) tail (decimal_is_digits n small) in
-    none n small (ap front (sym cut ∙ some))
+    let some : cut_at 10 line ≡ Some (decimal n, tail) = ap (cut_at 10) same ∙ cut_digits (decimal n) tail (decimal_is_digits n small) in
+    none n small (ap front_of (sym cut ∙ some))
 
-pub is_number_line : (key bytes line text tail : List ℕ) (n : ℕ) → bytes ≡ key ++ line → cut_line line ≡ Some (text, tail) → text ≡ decimal n → bytes ≡ key ++ (decimal n ++ (10 ∷ tail))
+pub is_number_line : (key bytes line text tail : List ℕ) (n : ℕ) → bytes ≡ key ++ line → cut_at 10 line ≡ Some (text, tail) → text ≡ decimal n → bytes ≡ key ++ (decimal n ++ (10 ∷ tail))
 is_number_line key bytes line text tail n behind cut number =
-    behind ∙ ap (λ (l : List ℕ). key ++ l) (whole_line line text tail cut ∙ ap (λ (t : List ℕ). t ++ (10 ∷ tail)) number)
+    behind ∙ ap (λ (l : List ℕ). key ++ l) (cut_whole 10 line text tail cut ∙ ap (λ (t : List ℕ). t ++ (10 ∷ tail)) number)
 
 -- the second line
 abbrev pub second_line : ℕ → List ℕ

@@ -4,6 +4,7 @@ use Rattle.std.specs.FinMap.{get}
 use Rattle.lsn_core.specs.Files.{Files}
 use Rattle.lsn_core.specs.Segment.{StoreSettings, IsRelseg}
 use Rattle.lsn_core.specs.Tip.{Tip}
+use Rattle.vault.specs.declared.area.Vault.{Ghosts}
 use Rattle.wal_record.specs.declared.record.Record.{Record}
 use Rattle.wal_record.specs.Spelling.{IsWritable}
 use Rattle.wal_record.specs.Tips.{first_tip, tip_after, IsWithin}
@@ -49,6 +50,9 @@ moved c (Err fault) = record c { fault = Some fault }
 abbrev pub NextAnswer : Option WalFault → Cursor → Cursor → Option Files → ℕ → ℕ → Result (Option Record) WalFault → Type 0
 NextAnswer None c new files before now result = (new ≡ moved c result) × StepAnswer c.mib c.tip files before now result
 NextAnswer (Some fault) c new files before now result = (new ≡ c) × (result ≡ Err fault)
+
+abbrev pub Steps : {V : Type 0} → Ghosts V → Cursor → Cursor → V → V → Result (Option Record) WalFault → Type 0
+Steps g c new old now result = NextAnswer c.fault c new (g.files old) (g.faults old) (g.faults now) result
 
 -- settings are refused where the file of segment 1 isn't there, and where it is and the file `settings` is damaged
 abbrev pub settings_causes : Option Files → WalCauses

@@ -8,6 +8,7 @@ use Rattle.lsn_core.specs.Files.{Files}
 use Rattle.lsn_core.specs.Sizes.{page_size}
 use Rattle.lsn_core.specs.Tip.{Tip}
 use Rattle.vault.specs.Area.{bytes_of}
+use Rattle.vault.specs.declared.area.Vault.{Ghosts}
 use Rattle.wal_record.specs.declared.record.Record.{Record}
 use Rattle.wal_record.specs.declared.record.RecordFault.{RecordFault}
 use Rattle.wal_record.specs.declared.record.RecordFault.TheVariants as record_fault
@@ -20,6 +21,7 @@ use Rattle.wal_reader.specs.Scan.{all_zero}
 use Rattle.wal_reader.specs.Archive.{held_bytes, first_page, EndsAt, StandsAt, IsBroken}
 use Rattle.wal_reader.specs.Settings.{settings_text, GivesSettings, IsDamagedText}
 use Rattle.wal_reader.specs.Causes.{WalCauses, no_causes, CauseOf}
+use Rattle.wal_reader.specs.Cursor.{StepAnswer}
 
 -- ---- files
 
@@ -94,6 +96,10 @@ follow_causes mib page tip = record no_causes { damaged = λ place why. IsBroken
 abbrev pub FollowAnswer : ℕ → List ℕ → Tip → Result Record WalFault → Type 0
 FollowAnswer mib page tip (Ok r) = (tip.end ≡ origin mib → IsHead mib page) × StandsAt mib page tip r
 FollowAnswer mib page tip (Err fault) = CauseOf (follow_causes mib page tip) 0 0 fault
+
+-- the same over the whole archive
+abbrev pub StepsFrom : {V : Type 0} → Ghosts V → ℕ → Tip → V → V → Result (Option Record) WalFault → Type 0
+StepsFrom g mib tip old now result = StepAnswer mib tip (g.files old) (g.faults old) (g.faults now) result
 
 -- ---- settings
 

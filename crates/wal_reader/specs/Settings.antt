@@ -1,7 +1,5 @@
 -- The settings of a WAL: its file `settings` (profile), and the system identifier in its first page.
-use Rattle.std.specs.Prelude.{◌≡◌, ℕ, ◌≤◌, Option, Some, None, List, [], ◌∷◌, ◌++◌, codes, IsSome, take, drop, ◌+◌, ◌==◌}
-use Rattle.std.specs.List.{position}
-use Rattle.std.specs.Option.{option_map}
+use Rattle.std.specs.Prelude.{◌≡◌, ℕ, Option, Some, None, List, [], ◌∷◌, ◌++◌, codes, IsSome}
 use Rattle.std.specs.Fmt.{decimal}
 use Rattle.std.specs.FinMap.{get}
 use Rattle.lsn_core.specs.Files.{Files}
@@ -17,10 +15,6 @@ first_segment = codes "000000010000000000000001"
 -- the file `settings` (profile): two lines
 abbrev pub settings_text : ℕ → ℕ → List ℕ
 settings_text mib relseg = codes "segment-mib " ++ (decimal mib ++ (10 ∷ (codes "blocks-per-segment " ++ (decimal relseg ++ (10 ∷ [])))))
-
--- a text cut at its first line end: what stands before it, and behind it
-abbrev pub cut_line : List ℕ → Option (List ℕ × List ℕ)
-cut_line text = option_map (λ i. (take i text, drop (i + 1) text)) (position (λ b. b == 10) text)
 
 -- it gives these numbers, in their ranges
 pub record IsSettingsText (bytes : List ℕ) (mib relseg : ℕ) : Type 0 where

@@ -5,9 +5,10 @@
 
 ghost use Rattle.std.specs.Prelude.{◌≡◌, ◌≤◌, length, IfOk};
 ghost use Rattle.lsn_core.specs.Causes.{HasCause};
+ghost use Rattle.vault.specs.Frame.{OnlyReads};
 ghost use Rattle.wal_record.specs.Tips.{IsWithin};
-ghost use Rattle.wal_reader.specs.Cursor.{at_start, NextAnswer, StepAnswer};
-ghost use Rattle.wal_reader.specs.Inside.{IsFirstPage, TellsEnd, FollowAnswer};
+ghost use Rattle.wal_reader.specs.Cursor.{at_start, Steps};
+ghost use Rattle.wal_reader.specs.Inside.{IsFirstPage, TellsEnd, FollowAnswer, StepsFrom};
 
 use crate::entry::entry_behind;
 use crate::fault::{Damage, WalFault};
@@ -70,9 +71,8 @@ impl WalCursor {
         alloc: Global,
         wal: &mut V,
     ) -> Result<Option<Record>, WalFault>
-        ensures answer { NextAnswer self.old.fault self.old self.new (V.files wal.old) (V.faults wal.old) (V.faults wal.new) result }
-        ensures same { V.files wal.new ≡ V.files wal.old }
-        ensures later { V.faults wal.old ≤ V.faults wal.new }
+        ensures answer { Steps V.Vault self.old self.new wal.old wal.new result }
+        ensures reads { OnlyReads V.Vault wal.old wal.new }
     {
         if let Some(fault) = self.fault {
             return Err(fault);
@@ -98,7 +98,7 @@ fn is_end<V: Vault>(
     requires tip { IsWithin segment tip }
     requires page { IsFirstPage segment (V.files wal.old) page.now }
     ensures end { IfOk result (λ end. TellsEnd segment (V.files wal.old) tip.end end) }
-    ensures same { V.files wal.new ≡ V.files wal.old }
+    ensures reads { OnlyReads V.Vault wal.old wal.new }
     ensures cause { HasCause (V.faults wal.old) (V.faults wal.new) result }
 {
     let origin = segment.bytes();
@@ -136,9 +136,8 @@ fn step<V: Vault>(
     tip: WalTip,
 ) -> Result<Option<Record>, WalFault>
     requires { IsWithin segment tip }
-    ensures answer { StepAnswer segment tip (V.files wal.old) (V.faults wal.old) (V.faults wal.new) result }
-    ensures same { V.files wal.new ≡ V.files wal.old }
-    ensures later { V.faults wal.old ≤ V.faults wal.new }
+    ensures answer { StepsFrom V.Vault segment tip wal.old wal.new result }
+    ensures reads { OnlyReads V.Vault wal.old wal.new }
 {
     let page = page_of(alloc, wal, segment)?;
     if is_end(alloc, wal, segment, tip, &page)? {

@@ -3,27 +3,22 @@
 ghost use Rattle.std.specs.Prelude.{◌≡◌, ◌^◌, ◌≤◌, IfOk, length};
 ghost use Rattle.std.specs.Option.{option_map};
 ghost use Rattle.lsn_core.specs.Causes.{HasCause};
+ghost use Rattle.vault.specs.Frame.{OnlyReads};
 ghost use Rattle.wal_record.specs.Places.{origin};
 ghost use Rattle.wal_reader.specs.Scan.{all_zero};
 ghost use Rattle.wal_reader.specs.Inside.{IsFront, IsFrontIfThere, IsFrontRead, IsFirstPage, RunsIn, TellsZeros, TellsZerosFrom};
 
+use byte_words::zeros;
 use lsn_core::{AreaFault, PAGE, SegSize, segment_name};
-use std::alloc::{AllocError, Global};
+use std::alloc::Global;
 use vault::Vault;
-
-/// So many bytes to read into.
-fn buffer(alloc: Global, size: usize) -> Result<Vec<u8>, AllocError>
-    ensures { IfOk result (λ v. length v.items ≡ size) }
-{
-    vec![in alloc; 0u8; size]
-}
 
 /// Reads the front of a file.
 fn read_front<V: Vault>(wal: &mut V, name: &[u8], into: &mut [u8]) -> Result<u32, AreaFault>
     requires { length into.old ≤ 2 ^ 20 }
     ensures count { IfOk result (λ count. count ≤ length into.old) }
     ensures front { IfOk result (λ count. IsFrontRead (V.files wal.old) name.now (length into.old) into.new count) }
-    ensures same { V.files wal.new ≡ V.files wal.old }
+    ensures reads { OnlyReads V.Vault wal.old wal.new }
     ensures cause { HasCause (V.faults wal.old) (V.faults wal.new) result }
 {
     wal.read_at(name, 0, into)
@@ -33,10 +28,10 @@ fn read_front<V: Vault>(wal: &mut V, name: &[u8], into: &mut [u8]) -> Result<u32
 fn front<V: Vault>(alloc: Global, wal: &mut V, name: &[u8]) -> Result<Vec<u8>, AreaFault>
     ensures bytes { IfOk result (λ page. IsFront (V.files wal.old) name.now page.items) }
     ensures size { IfOk result (λ page. length page.items ≤ 8192) }
-    ensures same { V.files wal.new ≡ V.files wal.old }
+    ensures reads { OnlyReads V.Vault wal.old wal.new }
     ensures cause { HasCause (V.faults wal.old) (V.faults wal.new) result }
 {
-    let mut page = buffer(alloc, PAGE as usize)?;
+    let mut page = zeros(alloc, PAGE as usize)?;
     let count = read_front(wal, name, &mut page)?;
     page.truncate(count as usize);
     Ok(page)
@@ -49,7 +44,7 @@ pub fn front_if_there<V: Vault>(
     name: &[u8],
 ) -> Result<Option<Vec<u8>>, AreaFault>
     ensures bytes { IfOk result (λ found. IsFrontIfThere (V.files wal.old) name.now (option_map (λ v. v.items) found)) }
-    ensures same { V.files wal.new ≡ V.files wal.old }
+    ensures reads { OnlyReads V.Vault wal.old wal.new }
     ensures cause { HasCause (V.faults wal.old) (V.faults wal.new) result }
 {
     match wal.size(name)? {
@@ -66,7 +61,7 @@ pub fn page_of<V: Vault>(
 ) -> Result<Vec<u8>, AreaFault>
     ensures bytes { IfOk result (λ page. IsFirstPage segment (V.files wal.old) page.items) }
     ensures size { IfOk result (λ page. length page.items ≤ 8192) }
-    ensures same { V.files wal.new ≡ V.files wal.old }
+    ensures reads { OnlyReads V.Vault wal.old wal.new }
     ensures cause { HasCause (V.faults wal.old) (V.faults wal.new) result }
 {
     let bytes = segment.bytes();
@@ -93,7 +88,7 @@ fn zero_run<V: Vault>(
     requires { length into.old ≤ 2 ^ 20 }
     ensures run { IfOk result (λ run. RunsIn (V.files wal.old) name.now at (length into.old) run) }
     ensures count { IfOk result (λ run. run.0 ≤ length into.old) }
-    ensures same { V.files wal.new ≡ V.files wal.old }
+    ensures reads { OnlyReads V.Vault wal.old wal.new }
     ensures cause { HasCause (V.faults wal.old) (V.faults wal.new) result }
 {
     let count = wal.read_at(name, at, into)?;
@@ -112,7 +107,7 @@ fn scan<V: Vault>(
     requires order { from ≤ limit }
     requires piece { length piece.old ≡ 8192 }
     ensures zero { IfOk result (λ zero. TellsZeros (V.files wal.old) name.now from limit zero) }
-    ensures same { V.files wal.new ≡ V.files wal.old }
+    ensures reads { OnlyReads V.Vault wal.old wal.new }
     ensures cause { HasCause (V.faults wal.old) (V.faults wal.new) result }
 {
     let mut at = from;
@@ -140,10 +135,10 @@ pub fn is_zero_from<V: Vault>(
 ) -> Result<bool, AreaFault>
     requires { from ≤ origin segment }
     ensures zero { IfOk result (λ zero. TellsZerosFrom segment (V.files wal.old) from zero) }
-    ensures same { V.files wal.new ≡ V.files wal.old }
+    ensures reads { OnlyReads V.Vault wal.old wal.new }
     ensures cause { HasCause (V.faults wal.old) (V.faults wal.new) result }
 {
     let name = segment_name(alloc, 1, segment)?;
-    let mut piece = buffer(alloc, PAGE as usize)?;
+    let mut piece = zeros(alloc, PAGE as usize)?;
     scan(wal, name.as_bytes(), from, segment.bytes(), &mut piece)
 }

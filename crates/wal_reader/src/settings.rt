@@ -1,17 +1,17 @@
 //! The settings of a WAL: the file `settings`, and the system identifier in the first page.
 
-ghost use Rattle.std.specs.Prelude.{◌≡◌, ◌^◌, ◌<◌, ◌≤◌, ℕ, List, ◌++◌, IfOk, IfSome, IfNone, ◌==◌};
-ghost use Rattle.std.specs.List.{position};
-ghost use Rattle.std.specs.Option.{option_map};
+ghost use Rattle.std.specs.Prelude.{◌≡◌, ◌^◌, ◌<◌, IfOk, IfSome, IfNone};
+ghost use Rattle.vault.specs.Frame.{OnlyReads};
 ghost use Rattle.lsn_core.specs.Causes.{HasCause};
 ghost use Rattle.lsn_core.specs.Segment.{IsRelseg};
-ghost use Rattle.wal_reader.specs.Settings.{settings_text, cut_line, IsSettingsText, IsDamagedText};
+ghost use Rattle.wal_reader.specs.Settings.{settings_text, IsSettingsText, IsDamagedText};
 ghost use Rattle.wal_reader.specs.Inside.{line_of, HasNoLine, HasNoNumbers, TellsSettings, IsSystemOf};
 ghost use Rattle.wal_reader.specs.Cursor.{SettingsAnswer};
 
 use crate::fault::WalFault;
 use crate::head::system_in;
 use crate::page::{front_if_there, page_of};
+use byte_words::{behind_prefix, cut_at};
 use lsn_core::{AreaFault, MOST_RELSEG, NoMemory, SegSize, Settings, Text};
 use std::alloc::Global;
 use text_numbers::decimal_in;
@@ -34,41 +34,16 @@ pub fn settings_text(alloc: Global, segment: SegSize, relseg: u32) -> Result<Tex
     )?.into_bytes()))
 }
 
-/// What stands behind a key at the front.
-fn behind_key<'a>(bytes: &'a [u8], key: &[u8]) -> Option<&'a [u8]>
-    ensures found { IfSome result (λ tail. bytes.now ≡ key.now ++ tail.now) }
-    ensures none { IfNone result ((tail : List ℕ) → bytes.now ≡ key.now ++ tail → ⊥) }
-{
-    bytes.strip_prefix(key)
-}
-
-/// Where the first line end stands.
-fn line_end(bytes: &[u8]) -> Option<usize>
-    ensures { result ≡ position (λ b. b == 10) bytes.now }
-{
-    bytes.iter().position(|b| *b == b'\n')
-}
-
-/// What stands before the first line end, and what behind it.
-fn first_line(bytes: &[u8]) -> Option<(&[u8], &[u8])>
-    ensures { option_map (λ x. (x.0.now, x.1.now)) result ≡ cut_line bytes.now }
-{
-    match line_end(bytes) {
-        Some(end) => Some((&bytes[..end], &bytes[end + 1..])),
-        None => None,
-    }
-}
-
 /// The number of a line of a key and a number, and what stands behind the line.
 fn number_line<'a>(bytes: &'a [u8], key: &[u8]) -> Option<(u64, &'a [u8])>
     ensures found { IfSome result (λ x. bytes.now ≡ line_of key.now x.0 x.1.now) }
     ensures small { IfSome result (λ x. x.0 < 2 ^ 64) }
     ensures none { IfNone result (HasNoLine bytes.now key.now) }
 {
-    let Some(line) = behind_key(bytes, key) else {
+    let Some(line) = behind_prefix(bytes, key) else {
         return None;
     };
-    let Some((text, tail)) = first_line(line) else {
+    let Some((text, tail)) = cut_at(b'\n', line) else {
         return None;
     };
     match decimal_in(text) {
@@ -126,7 +101,7 @@ fn settings_in(bytes: &[u8]) -> Option<(SegSize, u32)>
 fn told_settings<V: Vault>(alloc: Global, wal: &mut V) -> Result<Option<(SegSize, u32)>, AreaFault>
     ensures told { IfOk result (TellsSettings (V.files wal.old)) }
     ensures range { IfOk result (λ told. IfSome told (λ x. IsRelseg x.1)) }
-    ensures same { V.files wal.new ≡ V.files wal.old }
+    ensures reads { OnlyReads V.Vault wal.old wal.new }
     ensures cause { HasCause (V.faults wal.old) (V.faults wal.new) result }
 {
     match front_if_there(alloc, wal, SETTINGS)? {
@@ -138,7 +113,7 @@ fn told_settings<V: Vault>(alloc: Global, wal: &mut V) -> Result<Option<(SegSize
 /// The system identifier that stands in the head of the first page.
 fn system_of<V: Vault>(alloc: Global, wal: &mut V, segment: SegSize) -> Result<u64, AreaFault>
     ensures system { IfOk result (IsSystemOf segment (V.files wal.old)) }
-    ensures same { V.files wal.new ≡ V.files wal.old }
+    ensures reads { OnlyReads V.Vault wal.old wal.new }
     ensures cause { HasCause (V.faults wal.old) (V.faults wal.new) result }
 {
     let page = page_of(alloc, wal, segment)?;
@@ -153,8 +128,7 @@ fn system_of<V: Vault>(alloc: Global, wal: &mut V, segment: SegSize) -> Result<u
 /// first 32 bytes aren't held.
 pub fn read_settings<V: Vault>(alloc: Global, wal: &mut V) -> Result<Settings, WalFault>
     ensures answer { SettingsAnswer (V.files wal.old) (V.faults wal.old) (V.faults wal.new) result }
-    ensures same { V.files wal.new ≡ V.files wal.old }
-    ensures later { V.faults wal.old ≤ V.faults wal.new }
+    ensures reads { OnlyReads V.Vault wal.old wal.new }
 {
     if wal.size(FIRST_SEGMENT)?.is_none() {
         return Err(WalFault::NotInit);

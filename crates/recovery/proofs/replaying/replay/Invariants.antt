@@ -5,7 +5,7 @@ use Rattle.recovery.proofs.replaying.replay.Given as goal
 
 -- the store follows the entries that the cursor gave
 abbrev pub invariant-loop-store : goal.invariant-loop-store
-invariant-loop-store g l = Keeps l.settings.segment (g.V.Vault.files l.fn.wal) (g.V.Vault.files l.wal) (g.V.Vault.faults l.fn.wal) (g.V.Vault.faults l.wal) l.cursor l.store
+invariant-loop-store g l = Keeps g.V.Vault l.settings.segment l.fn.wal l.wal l.cursor l.store
 
 -- each entry ends behind the one before, and within the WAL's room
 abbrev pub decreases-loop-store : goal.decreases-loop-store

@@ -16,20 +16,23 @@ returns-then-not-zero-clause-zero g c =
     (λ m. false ≡ all_zero (drop c.args.from (take c.args.limit (bytes_of m c.args.name.now))))
     (λ m kept run. sym (kept ∙ run_stops (bytes_of m c.args.name.now) c.loop-at.at c.args.limit c.in_ok-count.count within (sym run.zero_is ∙ c.if-not-zero.true)))
     c.loop-at.invariant.zero
-    (rw c.loop-at.invariant.same at c.in_ok-count.ensures.run)
+    (rw c.loop-at.invariant.reads.files at c.in_ok-count.ensures.run)
 
 pub loop-at-preserved : goal.loop-at-preserved
 loop-at-preserved g c =
     let within : c.loop-at.at + c.in_ok-count.count ≤ c.args.limit = omega (arith, c.in_ok-count.ensures.count, c.min-wanted.ensures, length-take c.min-wanted.result c.loop-at.piece, c.loop-at.invariant.within) in
     record {
       within = omega (arith, c.from-at.ensures, within);
-      same = c.zero_run.ensures.same ∙ c.loop-at.invariant.same;
-      later = omega (arith, c.zero_run.ensures.cause.later, c.loop-at.invariant.later);
+      reads = record {
+        files = c.zero_run.ensures.reads.files ∙ c.loop-at.invariant.reads.files;
+        past = c.zero_run.ensures.reads.past ∙ c.loop-at.invariant.reads.past;
+        faults = omega (arith, c.zero_run.ensures.reads.faults, c.loop-at.invariant.reads.faults);
+      };
       zero = when_both_told (g.V.Vault.files c.args.wal.now)
           (λ m. all_zero (drop c.args.from (take c.args.limit (bytes_of m c.args.name.now))) ≡ all_zero (drop c.loop-at.at (take c.args.limit (bytes_of m c.args.name.now))))
           (λ m. IsZeroRun (bytes_of m c.args.name.now) c.loop-at.at (length (take c.min-wanted.result c.loop-at.piece)) c.in_ok-count.count c.in_ok-count.zero)
           (λ m. all_zero (drop c.args.from (take c.args.limit (bytes_of m c.args.name.now))) ≡ all_zero (drop (c.loop-at.at + c.from-at.result) (take c.args.limit (bytes_of m c.args.name.now))))
           (λ m kept run. rw c.from-at.ensures (kept ∙ run_goes_on (bytes_of m c.args.name.now) c.loop-at.at c.args.limit c.in_ok-count.count within (sym run.zero_is ∙ c.if-not-zero.false)))
           c.loop-at.invariant.zero
-          (rw c.loop-at.invariant.same at c.in_ok-count.ensures.run);
+          (rw c.loop-at.invariant.reads.files at c.in_ok-count.ensures.run);
     }

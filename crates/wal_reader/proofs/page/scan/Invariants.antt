@@ -1,5 +1,6 @@
 use Rattle.std.proofs.Common.{◌-◌, ◌≡◌, ◌≤◌, IfSome, take, drop}
 use Rattle.vault.specs.Area.{bytes_of}
+use Rattle.vault.specs.Frame.{OnlyReads}
 use Rattle.wal_reader.specs.Scan.{all_zero}
 use Rattle.wal_reader.proofs.page.scan.Given as goal
 
@@ -7,8 +8,7 @@ use Rattle.wal_reader.proofs.page.scan.Given as goal
 abbrev pub invariant-loop-at : goal.invariant-loop-at
 invariant-loop-at g l = record {
   within : l.at ≤ l.limit;
-  same : g.V.Vault.files l.wal ≡ g.V.Vault.files l.fn.wal;
-  later : g.V.Vault.faults l.fn.wal ≤ g.V.Vault.faults l.wal;
+  reads : OnlyReads g.V.Vault l.fn.wal l.wal;
   zero : IfSome (g.V.Vault.files l.fn.wal) (λ m. all_zero (drop l.from (take l.limit (bytes_of m l.name))) ≡ all_zero (drop l.at (take l.limit (bytes_of m l.name))));
 }
 
