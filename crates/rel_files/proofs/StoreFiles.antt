@@ -19,7 +19,7 @@ use Rattle.lsn_core.specs.declared.ids.ForkId.{ForkId}
 use Rattle.lsn_core.specs.Files.{Files}
 use Rattle.lsn_core.specs.Names.{fork_path_bytes}
 use Rattle.lsn_core.specs.Store.{Store, ForkPages, fork_cmp, segment_count, segment_content, fork_files, with_files}
-use Rattle.lsn_core.proofs.ForkOrder.{fork_cmp_total}
+use Rattle.lsn_core.proofs.StoreFiles.{files_at, with_files-append}
 use Rattle.vault.specs.Area.{bytes_of, file_written, after_write, cut_to, after_cut}
 use Rattle.vault.proofs.Written.{file_written-some}
 use Rattle.lsn_core.specs.Blocks.{pages_of}
@@ -98,10 +98,6 @@ pages_more pages first block le lt =
 
 -- A fork that is written file by file.
 
-with_files-append : (m : Files) (xs ys : List (List ℕ × List ℕ)) → with_files m (xs ++ ys) ≡ with_files (with_files m xs) ys
-with_files-append m [] ys = refl
-with_files-append m (x ∷ xs) ys = with_files-append (insert m x.0 x.1) xs ys
-
 -- the first files of a fork
 abbrev pub first_files : ℕ → ForkId → ForkPages → ℕ → List (List ℕ × List ℕ)
 first_files relseg fork pages count = map (λ seg. (fork_path_bytes fork seg false, segment_content relseg pages seg)) (range_with_len 0 count)
@@ -121,10 +117,6 @@ segments relseg blocks count some e =
 
 -- A store that is written fork by fork.
 
--- the files of some forks of a store
-abbrev pub files_at : ℕ → Store → List ForkId → List (List ℕ × List ℕ)
-files_at relseg store forks = flat_map (λ fork. fork_files relseg (fork, pages_of store fork)) forks
-
 pub fork_more : (relseg : ℕ) (store : Store) (forks : List ForkId) (i : ℕ) (d : ForkId) → i < length forks → (m : Files) → with_files (with_files m (files_at relseg store (take i forks))) (fork_files relseg (get_or forks i d, pages_of store (get_or forks i d))) ≡ with_files m (files_at relseg store (take (i + 1) forks))
 fork_more relseg store forks i d lt m =
     let fork = get_or forks i d in
@@ -132,46 +124,3 @@ fork_more relseg store forks i d lt m =
     ap (λ (fs : List ForkId). with_files m (files_at relseg store fs)) (take_more forks i d lt)
     ∙ ap (with_files m) (flat_map-append (λ (f : ForkId). fork_files relseg (f, pages_of store f)) (take i forks) (fork ∷ []) ∙ ap (λ (fs : List (List ℕ × List ℕ)). files_at relseg store (take i forks) ++ fs) (append-nil (fork_files relseg (fork, pages_of store fork))))
     ∙ with_files-append m (files_at relseg store (take i forks)) (fork_files relseg (fork, pages_of store fork)))
-
-left : (a b : Bool) → T (a && b) → T a
-left true b p = tt
-left false b p = p
-
-right : (a b : Bool) → T (a && b) → T b
-right true b p = p
-right false b p = absurd p
-
-less : (r : Ordering) → T (is_lt r) → is_eq r ≡ false
-less Less p = refl
-less Equal p = absurd p
-less Greater p = absurd p
-
-abbrev Forks : Type 0
-Forks = List (ForkId × ForkPages)
-
--- an entry with what is found at its key
-abbrev read_in : Forks → ForkId × ForkPages → ForkId × ForkPages
-read_in es x = (x.0, unwrap_or (find fork_cmp x.0 es) [])
-
--- an entry before all these hides none of them
-skipped : (e : ForkId × ForkPages) (es fs : Forks) → T (below_all fork_cmp e.0 fs) → map (read_in (e ∷ es)) fs ≡ map (read_in es) fs
-skipped e es [] h = refl
-skipped e es (x ∷ fs) h =
-    let apart : eq_by_cmp fork_cmp x.0 e.0 ≡ false = (eq_by_cmp_equiv fork_cmp_total).symm x.0 e.0 ∙ less (fork_cmp e.0 x.0) (left _ _ h) in
-    ap (λ (b : Bool). (x.0, unwrap_or (cond b (Some e.1) (find fork_cmp x.0 es)) []) ∷ map (read_in (e ∷ es)) fs) apart
-    ∙ ap (λ (rest : Forks). read_in es x ∷ rest) (skipped e es fs (right _ _ h))
-
-found : (es : Forks) → T (is_sorted fork_cmp es) → map (read_in es) es ≡ es
-found [] h = refl
-found (e ∷ es) h =
-    ap (λ (b : Bool). (e.0, unwrap_or (cond b (Some e.1) (find fork_cmp e.0 es)) []) ∷ map (read_in (e ∷ es)) es) ((eq_by_cmp_equiv fork_cmp_total).refl e.0)
-    ∙ ap (λ (rest : Forks). e ∷ rest) (skipped e es es (left _ _ h) ∙ found es (right _ _ h))
-
--- at its forks a store has the pages of its entries
-pub all_files : (relseg : ℕ) (store : Store) → files_at relseg store (keys store) ≡ flat_map (fork_files relseg) (entries store)
-all_files relseg store =
-    flat_map-map (λ (fork : ForkId). fork_files relseg (fork, pages_of store fork)) (λ (e : ForkId × ForkPages). e.0) (entries store)
-    ∙ sym (flat_map-map (fork_files relseg) (λ (e : ForkId × ForkPages). (e.0, pages_of store e.0)) (entries store))
-    ∙ ap (flat_map (fork_files relseg)) (
-    ap (λ (g : ForkId → Option ForkPages). map (λ (e : ForkId × ForkPages). (e.0, unwrap_or (g e.0) [])) (entries store)) (λ i q. get-entries store q i)
-    ∙ found (entries store) (entries_sorted store))

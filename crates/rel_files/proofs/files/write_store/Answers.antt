@@ -4,7 +4,8 @@ use Rattle.std.specs.List.{flat_map}
 use Rattle.std.specs.FinMap.{keys, entries}
 use Rattle.lsn_core.specs.Store.{with_files, fork_files}
 use Rattle.lsn_core.specs.Blocks.{pages_of}
-use Rattle.rel_files.proofs.StoreFiles.{told_step, told_same, files_at, fork_more, all_files}
+use Rattle.lsn_core.proofs.StoreFiles.{files_at, all_files}
+use Rattle.rel_files.proofs.StoreFiles.{told_step, told_same, fork_more}
 use Rattle.rel_files.proofs.files.write_store.Goals as goal
 
 pub loop-fork-preserved : goal.loop-fork-preserved

@@ -1,7 +1,7 @@
 use Rattle.std.proofs.Common.{◌≡◌, ◌≤◌, take}
 use Rattle.std.specs.Option.{option_map}
 use Rattle.lsn_core.specs.Store.{with_files}
-use Rattle.rel_files.proofs.StoreFiles.{files_at}
+use Rattle.lsn_core.proofs.StoreFiles.{files_at}
 use Rattle.rel_files.proofs.files.write_store.Given as goal
 
 abbrev pub invariant-loop-fork : goal.invariant-loop-fork
