@@ -1,5 +1,5 @@
 -- A new WAL: what its two writes leave in an area that held no file.
-use Rattle.std.proofs.Common.{◌≡◌, ◌≢◌, ℕ, ◌+◌, ◌-◌, ◌*◌, ◌/◌, ◌%◌, ◌^◌, ◌<◌, ◌≤◌, Bool, true, false, cond, List, [], ◌∷◌, ◌++◌, length, take, Option, Some, None, IsSome, IfSome, IfOk, OnOk, OnErr, Result, Ok, Err, refl, sym, ap, subst, ◌∙◌, arith, inl, inr, unwrap_or}
+use Rattle.std.proofs.Common.{◌≡◌, ◌≢◌, ℕ, ◌+◌, ◌-◌, ◌*◌, ◌/◌, ◌%◌, ◌^◌, ◌<◌, ◌≤◌, Bool, true, false, cond, List, [], ◌∷◌, ◌++◌, length, take, Option, Some, None, IsSome, IfSome, IfOk, OnOk, OnErr, Result, Ok, Err, refl, sym, ap, subst, ◌∙◌, arith, inr, unwrap_or}
 use Rattle.std.proofs.lemmas.List.{append-nil, drop_all, take_all, length-append}
 use Rattle.std.specs.Option.{option_map}
 use Rattle.std.specs.Ordering.{nat_cmp, eq_by_cmp}
@@ -24,7 +24,7 @@ use Rattle.wal_record.specs.Places.{origin, first_start, record_behind, page_hea
 use Rattle.wal_record.proofs.Sealed.{length-page_head, length-written}
 use Rattle.wal_reader.specs.Head.{system_in}
 use Rattle.wal_reader.specs.Archive.{held_bytes, first_page, IsArchive}
-use Rattle.wal_reader.specs.Settings.{first_segment, settings_text, GivesSettings, IsSettingsOf}
+use Rattle.wal_reader.specs.Settings.{first_segment, GivesSettings, IsSettingsOf}
 use Rattle.wal_reader.proofs.First.{first_archive}
 use Rattle.wal_reader.proofs.SettingsText.{first_name}
 use Rattle.wal_writer.specs.Log.{Log, IsLog, log_at, next_record, lead, appended}
@@ -32,7 +32,7 @@ use Rattle.wal_writer.specs.Answers.{to_flush, after_flush, IsLeft}
 use Rattle.wal_writer.proofs.First.{first_flushed}
 use Rattle.pgbackup_cli.specs.Areas.{IsClear}
 use Rattle.pgbackup_cli.specs.Init.{InitAreas, InitDone, settings_name, segment_name, settings_file, segment_file, first_entry, begun_wal, new_wal, IsNewWal, HoldsPart}
-use Rattle.pgbackup_cli.specs.Inner.{with_settings, with_segment, IsSettingsTorn, IsSegmentTorn, checkpoint_in, checkpointed, with_checkpoint, IsCheckpointTorn}
+use Rattle.pgbackup_cli.specs.Inner.{with_settings, with_segment, IsSegmentTorn, checkpoint_in, checkpointed, with_checkpoint, IsCheckpointTorn}
 
 -- a file that is put into files
 get_own : (m : Files) (name bytes : List ℕ) → get (insert m name bytes) name ≡ Some bytes
