@@ -5,9 +5,9 @@ use Rattle.vault.specs.declared.site.Site.{Ghosts as Sites}
 use Rattle.vault.specs.declared.lending.Held.{Held}
 use Rattle.vault.specs.declared.lending.TakeFault.{TakeFault}
 use Rattle.vault.specs.Site.{Areas, AllHome, state_in}
-use Rattle.vault.specs.Lending.{Names, IsOneOf, IsNoneOf, AreDistinct, AreHome, AreAreasOf, AreOut, WritesAmong, TakeCause, IsTaken, IsNotTaken, GivesBack, all_away}
+use Rattle.vault.specs.Lending.{Names, AreDistinct, AreHome, AreAreasOf, AreOut, WritesAmong, TakeCause, IsTaken, IsNotTaken, GivesBack, all_away}
 use Rattle.vault.proofs.LentAreas.{writes_fewer}
-use Rattle.pgbackup_cli.specs.Outside.{Outside, IsUntaken}
+use Rattle.pgbackup_cli.specs.Outside.{IsUntaken}
 use Rattle.pgbackup_cli.specs.Inner.{of_site}
 
 abbrev held : {A : Type 0} → List ℕ → A → Held A

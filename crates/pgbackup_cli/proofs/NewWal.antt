@@ -1,5 +1,5 @@
 -- A new WAL: what its two writes leave in an area that held no file.
-use Rattle.std.proofs.Common.{◌≡◌, ◌≢◌, ℕ, ◌+◌, ◌-◌, ◌*◌, ◌/◌, ◌%◌, ◌^◌, ◌<◌, ◌≤◌, Bool, true, false, cond, List, [], ◌∷◌, ◌++◌, length, take, Option, Some, None, IsSome, IfSome, IfOk, OnOk, OnErr, Result, Ok, Err, refl, sym, ap, subst, ◌∙◌, arith, inl, inr, unwrap_or}
+use Rattle.std.proofs.Common.{◌≡◌, ◌≢◌, ℕ, ◌+◌, ◌-◌, ◌*◌, ◌/◌, ◌%◌, ◌^◌, ◌<◌, ◌≤◌, Bool, true, false, cond, List, [], ◌∷◌, ◌++◌, length, take, Option, Some, None, IsSome, IfSome, IfOk, OnOk, OnErr, Result, Ok, Err, refl, sym, ap, subst, ◌∙◌, arith, inr, unwrap_or}
 use Rattle.std.proofs.lemmas.List.{append-nil, drop_all, take_all, length-append}
 use Rattle.std.specs.Option.{option_map}
 use Rattle.std.specs.Ordering.{nat_cmp, eq_by_cmp}
@@ -24,7 +24,7 @@ use Rattle.wal_record.specs.Tips.{first_tip, tip_after}
 use Rattle.wal_record.proofs.Sealed.{length-page_head, length-written}
 use Rattle.wal_reader.specs.Head.{system_in}
 use Rattle.wal_reader.specs.Archive.{held_bytes, first_page, IsArchive}
-use Rattle.wal_reader.specs.Settings.{first_segment, settings_text, GivesSettings, IsSettingsOf}
+use Rattle.wal_reader.specs.Settings.{first_segment, GivesSettings, IsSettingsOf}
 use Rattle.wal_reader.proofs.First.{first_archive}
 use Rattle.wal_reader.proofs.SettingsText.{first_name}
 use Rattle.wal_writer.specs.Log.{Log, IsLog, log_at, next_record, lead, appended}

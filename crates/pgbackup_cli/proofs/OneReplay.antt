@@ -1,5 +1,5 @@
 -- A replay of what the areas hold has one answer.
-use Rattle.std.proofs.Common.{◌≡◌, ℕ, List, Option, Some, Result, Ok, Err, IsSome, sym, refl, ap, subst, ◌∙◌, true}
+use Rattle.std.proofs.Common.{◌≡◌, ℕ, Option, Some, Result, Ok, Err, IsSome, sym, refl, ap, subst, ◌∙◌, true}
 use Rattle.std.specs.FinMap.{len}
 use Rattle.lsn_core.specs.Files.{Files}
 use Rattle.lsn_core.specs.declared.lsn.Lsn.{Lsn}

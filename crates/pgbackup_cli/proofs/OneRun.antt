@@ -46,10 +46,10 @@ use Rattle.crew.specs.Run.{op_of, next_of, Progress, progress, IsStateOf, IsAcce
 use Rattle.pgbackup_cli.specs.declared.run.RunReport.{RunReport}
 use Rattle.pgbackup_cli.specs.declared.run.RunFault.{RunFault}
 use Rattle.pgbackup_cli.specs.declared.run.RunFault.TheVariants as run
-use Rattle.pgbackup_cli.specs.Run.{lines_in, IsWrittenAt, IsEnding, own_bytes, RunDone, HasScript, HasRefusedLine, RunAnswer, RunDoes, ending_status, run_status}
+use Rattle.pgbackup_cli.specs.Run.{lines_in, IsWrittenAt, IsEnding, own_bytes, RunDone, HasScript, HasRefusedLine, RunAnswer, ending_status, run_status}
 use Rattle.pgbackup_cli.specs.Input.{IsInput}
 use Rattle.pgbackup_cli.specs.Areas.{wal_name}
-use Rattle.pgbackup_cli.specs.Outside.{Outside, AllTold}
+use Rattle.pgbackup_cli.specs.Outside.{Outside}
 use Rattle.pgbackup_cli.specs.Laws.{is_decided, HasOneRun}
 use Rattle.pgbackup_cli.proofs.Told.{some_told, at_told, undecided, of_files}
 

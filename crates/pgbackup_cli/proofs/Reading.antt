@@ -1,7 +1,7 @@
 -- The input, read so far and read to its end.
 use Rattle.std.proofs.Common.{◌≡◌, ℕ, ◌+◌, ◌-◌, ◌≤◌, Bool, List, [], ◌++◌, length, take, drop, Option, Some, None, IfSome, refl, ap, sym, subst, ◌∙◌, arith}
 use Rattle.std.proofs.Math.Seq.{take-add}
-use Rattle.std.proofs.lemmas.List.{take_all, drop_all, drop-drop, length-drop}
+use Rattle.std.proofs.lemmas.List.{take_all, drop-drop, length-drop}
 use Rattle.std.specs.Option.{option_map}
 use Rattle.pgbackup_cli.specs.Input.{TakesAtMost}
 use Rattle.pgbackup_cli.specs.Inner.{IsMore}
