@@ -10,7 +10,7 @@ use Rattle.wal_reader.specs.declared.fault.WalFault.{WalFault}
 use Rattle.history.specs.Pages.{page_count}
 use Rattle.recovery.specs.declared.replaying.ReadWal.{ReadWal}
 use Rattle.recovery.specs.WholeWal.{WalAnswer, WalCause}
-use Rattle.recovery.specs.Laws.{IsOfFiles}
+use Rattle.wal_reader.specs.Causes.{IsOfFiles}
 use Rattle.recovery.proofs.OneWal.{one_wal}
 use Rattle.pgbackup_cli.specs.declared.replay.ReplayReport.{ReplayReport}
 use Rattle.pgbackup_cli.specs.declared.replay.ReplayFault.{ReplayFault}
@@ -35,7 +35,7 @@ fault_is : (f g : WalFault) → wal_refused f ≡ wal_refused g → f ≡ g
 unfolding wal_refused
 fault_is f g e = cc
 
-same_fault : (w x y : AreaState) (files : Files) (f g : WalFault) → w.files ≡ Some files → WalCause w.files w.faults x.faults f → WalCause w.files w.faults y.faults g → IsOfFiles (Err f) → IsOfFiles (Err g) → f ≡ g
+same_fault : (w x y : AreaState) (files : Files) (f g : WalFault) → w.files ≡ Some files → WalCause w.files w.faults x.faults f → WalCause w.files w.faults y.faults g → IsOfFiles f → IsOfFiles g → f ≡ g
 unfolding wal_refused
 same_fault w x y files f g told first second own other =
     fault_is f g (one_wal files w.faults x.faults w.faults y.faults (Err f) (Err g) (answer_at w x files (Err f) told first) (answer_at w y files (Err g) told second) own other)
@@ -47,7 +47,7 @@ read_or_refused s r f e = absurd (cc)
 done_is_read : (x : AreaState) (old new : ReplayAreas) (a : ReplayReport) (done : ReplayDone old new a) → WalAnswer old.wal.files old.wal.faults x.faults (Ok (done.settings, done.read))
 done_is_read x old new a done = (done.given, done.read_is)
 
-done_or_refused : (old new other : ReplayAreas) (files : Files) (a : ReplayReport) (f : WalFault) → old.wal.files ≡ Some files → ReplayDone old new a → WalCause old.wal.files old.wal.faults other.wal.faults f → IsOfFiles (Err f) → ⊥
+done_or_refused : (old new other : ReplayAreas) (files : Files) (a : ReplayReport) (f : WalFault) → old.wal.files ≡ Some files → ReplayDone old new a → WalCause old.wal.files old.wal.faults other.wal.faults f → IsOfFiles f → ⊥
 unfolding wal_read wal_refused
 done_or_refused old new other files a f told done cause own =
     read_or_refused done.settings done.read f

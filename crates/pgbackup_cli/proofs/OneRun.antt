@@ -3,34 +3,32 @@ use Rattle.std.proofs.Common.{◌-◌, IfOk, take, option_map, ◌≡◌, ℕ, �
 use Rattle.std.specs.Prelude.{codes}
 use Rattle.std.specs.FinMap.{get, empty}
 use Rattle.lsn_core.specs.Files.{Files}
-use Rattle.lsn_core.specs.Names.{segment_name_bytes}
-use Rattle.vault.specs.Area.{after_write}
-use Rattle.lsn_core.specs.Store.{Store, Pages}
+use Rattle.lsn_core.specs.Store.{Store, ForkPages}
 use Rattle.lsn_core.specs.declared.lsn.Lsn.{Lsn}
 use Rattle.lsn_core.specs.declared.lsn.Place.{Place}
 use Rattle.lsn_core.specs.Segment.{StoreSettings}
+use Rattle.lsn_core.specs.Tip.{Tip}
 use Rattle.lsn_core.specs.declared.fault.AreaFault.{AreaFault}
 use Rattle.vault.specs.Site.{AreaState}
 use Rattle.wal_record.specs.declared.record.Record.{Record}
-use Rattle.wal_record.specs.Places.{origin}
+use Rattle.wal_record.specs.Tips.{first_tip, wal_limit}
 use Rattle.wal_reader.specs.declared.fault.WalFault.{WalFault}
 use Rattle.wal_reader.specs.declared.fault.WalFault.TheVariants as wal
-use Rattle.wal_reader.specs.Archive.{Reads, IsArchive, IsDamaged}
-use Rattle.wal_reader.specs.Appended.{last_end}
+use Rattle.wal_reader.specs.Archive.{IsArchive, IsDamaged}
+use Rattle.wal_reader.specs.Causes.{IsOfFiles}
 use Rattle.wal_reader.specs.Settings.{first_segment, GivesSettings, IsDamagedText, IsSettingsOf}
 use Rattle.wal_reader.proofs.Once.{one_reading, ends_or_is_damaged}
 use Rattle.history.specs.declared.op.Op.{Op}
 use Rattle.history.specs.declared.op.Op.TheVariants as op
 use Rattle.history.specs.Entry.{Entry}
 use Rattle.history.specs.Whole.{entry_of, apply_all}
-use Rattle.history.specs.Written.{record_of, wal_of}
+use Rattle.history.specs.Written.{record_of, tip_of}
 use Rattle.history.specs.Op.{act_of_op, IsTidy}
 use Rattle.recovery.specs.declared.replaying.ReadWal.{ReadWal}
 use Rattle.recovery.specs.WholeWal.{HasSettings, WalCause}
-use Rattle.recovery.specs.Laws.{IsOfFiles}
 use Rattle.recovery.proofs.OneWal.{one_wal, one_settings}
 use Rattle.shared_store.specs.Begin.{BeginCause, HasNoEntry}
-use Rattle.shared_store.specs.Insert.{State, LacksFork, HasFork, IsPastEnd, IsForkFull, Refuses, op_record}
+use Rattle.shared_store.specs.Refusals.{LacksFork, HasFork, IsPastEnd, IsForkFull, Refuses}
 use Rattle.shared_store.specs.declared.fault.InsertFault.{InsertFault}
 use Rattle.shared_store.specs.declared.fault.InsertFault.TheVariants.{NoFork, ForkExists, PastEnd, ForkFull, NoMemory, WalFull}
 use Rattle.crew.specs.declared.script.Task.{Task}
@@ -42,12 +40,12 @@ use Rattle.crew.specs.declared.why.ScriptFault.{ScriptFault}
 use Rattle.crew.specs.declared.why.ScriptFault.TheVariants as script_fault
 use Rattle.crew.specs.Script.{IsScript, IsRefusedAt}
 use Rattle.crew.proofs.OneAnswer.{one_answer}
-use Rattle.crew.specs.Run.{op_of, next_of, Progress, progress, IsStateOf, IsAccepted, IsRefused, stops, StepAnswer, Answered}
+use Rattle.crew.specs.Run.{op_of, next_of, Progress, progress, IsAccepted, IsRefused, stops, StepAnswer, Answered}
 use Rattle.pgbackup_cli.specs.declared.run.RunReport.{RunReport}
 use Rattle.pgbackup_cli.specs.declared.run.RunFault.{RunFault}
 use Rattle.pgbackup_cli.specs.declared.run.RunFault.TheVariants as run
-use Rattle.pgbackup_cli.specs.Run.{lines_in, IsWrittenAt, IsEnding, own_bytes, RunDone, HasScript, HasRefusedLine, RunAnswer, ending_status, run_status}
-use Rattle.pgbackup_cli.specs.Input.{IsInput}
+use Rattle.pgbackup_cli.specs.Run.{lines_in, IsEnding, HasFound, found_tip, RunDone, HasScript, HasRefusedLine, RunAnswer, ending_status, run_status}
+use Rattle.pgbackup_cli.specs.Input.{script_limit, IsInput}
 use Rattle.pgbackup_cli.specs.Areas.{wal_name}
 use Rattle.pgbackup_cli.specs.Outside.{Outside}
 use Rattle.pgbackup_cli.specs.Laws.{is_decided, HasOneRun}
@@ -96,27 +94,18 @@ has_or_tidy store (op.Change at page) first second = absurd first
 past_or_full : (store : Store) (command : Op) → IsPastEnd store command → IsForkFull store command → ⊥
 past_or_full store (op.Create fork) first second = absurd first
 past_or_full store (op.Change at page) first second =
-    let same = ap (λ (p : Pages). length p) (some_is (get store at.fork) first.0 second.0 first.1.0 second.1.0) in
+    let same = ap (λ (p : ForkPages). length p) (some_is (get store at.fork) first.0 second.0 first.1.0 second.1.0) in
     absurd (omega (arith, same, first.1.1, second.1.1.0))
 
 past_or_tidy : (store : Store) (command : Op) → IsPastEnd store command → IsTidy store command → ⊥
 past_or_tidy store (op.Create fork) first second = absurd first
 past_or_tidy store (op.Change at page) first second =
-    let same = ap (λ (p : Pages). length p) (some_is (get store at.fork) first.0 second.pages first.1.0 second.there) in
+    let same = ap (λ (p : ForkPages). length p) (some_is (get store at.fork) first.0 second.pages first.1.0 second.there) in
     absurd (omega (arith, same, first.1.1, second.reached))
 
 full_or_tidy : (store : Store) (command : Op) → IsForkFull store command → IsTidy store command → ⊥
 full_or_tidy store (op.Create fork) first second = absurd first
 full_or_tidy store (op.Change at page) first second = absurd (omega (arith, first.1.1.1, second.number))
-
--- a refusal other than for want of memory: of a command whose entry would end there, on a store of so many entries
-abbrev pub WhyRefused : Store → ℕ → ℕ → ℕ → Op → InsertFault → Type 0
-WhyRefused store count limit end command (NoFork n) = (n ≡ count) × LacksFork store command
-WhyRefused store count limit end command (ForkExists n) = (n ≡ count) × HasFork store command
-WhyRefused store count limit end command (PastEnd n) = (n ≡ count) × IsPastEnd store command
-WhyRefused store count limit end command (ForkFull n) = (n ≡ count) × IsForkFull store command
-WhyRefused store count limit end command (WalFull n) = (n ≡ count) × (IsTidy store command × (limit < end))
-WhyRefused store count limit end command NoMemory = ⊥
 
 -- the refusals, by their numbers
 no_fork : ℕ → InsertFault
@@ -134,88 +123,70 @@ fork_full n = ForkFull n
 wal_full : ℕ → InsertFault
 wal_full n = WalFull n
 
-one_why : (store : Store) (count limit end : ℕ) (command : Op) (f g : InsertFault) → WhyRefused store count limit end command f → WhyRefused store count limit end command g → f ≡ g
+-- other than for want of memory
+one_why : (mib : ℕ) (store : Store) (tip : Tip) (command : Op) (f g : InsertFault) → Refuses mib store tip command f → Refuses mib store tip command g → stops f ≡ false → stops g ≡ false → f ≡ g
 unfolding no_fork fork_exists past_end fork_full wal_full
-one_why store count limit end command (NoFork n) (NoFork m) first second = ap no_fork (first.0 ∙ sym second.0)
-one_why store count limit end command (NoFork n) (ForkExists m) first second = absurd (lacks_or_has store command first.1 second.1)
-one_why store count limit end command (NoFork n) (PastEnd m) first second = absurd (lacks_or_past store command first.1 second.1)
-one_why store count limit end command (NoFork n) (ForkFull m) first second = absurd (lacks_or_full store command first.1 second.1)
-one_why store count limit end command (NoFork n) (WalFull m) first second = absurd (lacks_or_tidy store command first.1 second.1.0)
-one_why store count limit end command (NoFork n) NoMemory first second = absurd second
-one_why store count limit end command (ForkExists n) (NoFork m) first second = absurd (lacks_or_has store command second.1 first.1)
-one_why store count limit end command (ForkExists n) (ForkExists m) first second = ap fork_exists (first.0 ∙ sym second.0)
-one_why store count limit end command (ForkExists n) (PastEnd m) first second = absurd (has_or_past store command first.1 second.1)
-one_why store count limit end command (ForkExists n) (ForkFull m) first second = absurd (has_or_full store command first.1 second.1)
-one_why store count limit end command (ForkExists n) (WalFull m) first second = absurd (has_or_tidy store command first.1 second.1.0)
-one_why store count limit end command (ForkExists n) NoMemory first second = absurd second
-one_why store count limit end command (PastEnd n) (NoFork m) first second = absurd (lacks_or_past store command second.1 first.1)
-one_why store count limit end command (PastEnd n) (ForkExists m) first second = absurd (has_or_past store command second.1 first.1)
-one_why store count limit end command (PastEnd n) (PastEnd m) first second = ap past_end (first.0 ∙ sym second.0)
-one_why store count limit end command (PastEnd n) (ForkFull m) first second = absurd (past_or_full store command first.1 second.1)
-one_why store count limit end command (PastEnd n) (WalFull m) first second = absurd (past_or_tidy store command first.1 second.1.0)
-one_why store count limit end command (PastEnd n) NoMemory first second = absurd second
-one_why store count limit end command (ForkFull n) (NoFork m) first second = absurd (lacks_or_full store command second.1 first.1)
-one_why store count limit end command (ForkFull n) (ForkExists m) first second = absurd (has_or_full store command second.1 first.1)
-one_why store count limit end command (ForkFull n) (PastEnd m) first second = absurd (past_or_full store command second.1 first.1)
-one_why store count limit end command (ForkFull n) (ForkFull m) first second = ap fork_full (first.0 ∙ sym second.0)
-one_why store count limit end command (ForkFull n) (WalFull m) first second = absurd (full_or_tidy store command first.1 second.1.0)
-one_why store count limit end command (ForkFull n) NoMemory first second = absurd second
-one_why store count limit end command (WalFull n) (NoFork m) first second = absurd (lacks_or_tidy store command second.1 first.1.0)
-one_why store count limit end command (WalFull n) (ForkExists m) first second = absurd (has_or_tidy store command second.1 first.1.0)
-one_why store count limit end command (WalFull n) (PastEnd m) first second = absurd (past_or_tidy store command second.1 first.1.0)
-one_why store count limit end command (WalFull n) (ForkFull m) first second = absurd (full_or_tidy store command second.1 first.1.0)
-one_why store count limit end command (WalFull n) (WalFull m) first second = ap wal_full (first.0 ∙ sym second.0)
-one_why store count limit end command (WalFull n) NoMemory first second = absurd second
-one_why store count limit end command NoMemory g first second = absurd first
+one_why mib store tip command (NoFork n) (NoFork m) first second going also = ap no_fork (first.0 ∙ sym second.0)
+one_why mib store tip command (NoFork n) (ForkExists m) first second going also = absurd (lacks_or_has store command first.1 second.1)
+one_why mib store tip command (NoFork n) (PastEnd m) first second going also = absurd (lacks_or_past store command first.1 second.1)
+one_why mib store tip command (NoFork n) (ForkFull m) first second going also = absurd (lacks_or_full store command first.1 second.1)
+one_why mib store tip command (NoFork n) (WalFull m) first second going also = absurd (lacks_or_tidy store command first.1 second.1.0)
+one_why mib store tip command (NoFork n) NoMemory first second going also = absurd cc
+one_why mib store tip command (ForkExists n) (NoFork m) first second going also = absurd (lacks_or_has store command second.1 first.1)
+one_why mib store tip command (ForkExists n) (ForkExists m) first second going also = ap fork_exists (first.0 ∙ sym second.0)
+one_why mib store tip command (ForkExists n) (PastEnd m) first second going also = absurd (has_or_past store command first.1 second.1)
+one_why mib store tip command (ForkExists n) (ForkFull m) first second going also = absurd (has_or_full store command first.1 second.1)
+one_why mib store tip command (ForkExists n) (WalFull m) first second going also = absurd (has_or_tidy store command first.1 second.1.0)
+one_why mib store tip command (ForkExists n) NoMemory first second going also = absurd cc
+one_why mib store tip command (PastEnd n) (NoFork m) first second going also = absurd (lacks_or_past store command second.1 first.1)
+one_why mib store tip command (PastEnd n) (ForkExists m) first second going also = absurd (has_or_past store command second.1 first.1)
+one_why mib store tip command (PastEnd n) (PastEnd m) first second going also = ap past_end (first.0 ∙ sym second.0)
+one_why mib store tip command (PastEnd n) (ForkFull m) first second going also = absurd (past_or_full store command first.1 second.1)
+one_why mib store tip command (PastEnd n) (WalFull m) first second going also = absurd (past_or_tidy store command first.1 second.1.0)
+one_why mib store tip command (PastEnd n) NoMemory first second going also = absurd cc
+one_why mib store tip command (ForkFull n) (NoFork m) first second going also = absurd (lacks_or_full store command second.1 first.1)
+one_why mib store tip command (ForkFull n) (ForkExists m) first second going also = absurd (has_or_full store command second.1 first.1)
+one_why mib store tip command (ForkFull n) (PastEnd m) first second going also = absurd (past_or_full store command second.1 first.1)
+one_why mib store tip command (ForkFull n) (ForkFull m) first second going also = ap fork_full (first.0 ∙ sym second.0)
+one_why mib store tip command (ForkFull n) (WalFull m) first second going also = absurd (full_or_tidy store command first.1 second.1.0)
+one_why mib store tip command (ForkFull n) NoMemory first second going also = absurd cc
+one_why mib store tip command (WalFull n) (NoFork m) first second going also = absurd (lacks_or_tidy store command second.1 first.1.0)
+one_why mib store tip command (WalFull n) (ForkExists m) first second going also = absurd (has_or_tidy store command second.1 first.1.0)
+one_why mib store tip command (WalFull n) (PastEnd m) first second going also = absurd (past_or_tidy store command second.1 first.1.0)
+one_why mib store tip command (WalFull n) (ForkFull m) first second going also = absurd (full_or_tidy store command second.1 first.1.0)
+one_why mib store tip command (WalFull n) (WalFull m) first second going also = ap wal_full (first.0 ∙ sym second.0)
+one_why mib store tip command (WalFull n) NoMemory first second going also = absurd cc
+one_why mib store tip command NoMemory g first second going also = absurd cc
 
 -- ---- one line
 
--- where a command's entry would end, on the state of a history
-end_there : (mib : ℕ) (h : List Entry) (s : State) (command : Op) → IsStateOf mib h s → (op_record s.log command).end.0 ≡ (next_of mib h command).end.0
-end_there mib h s command is =
-    ap (λ (m : ℕ). (record_of m s.log.end s.log.prev (act_of_op command)).end.0) is.mib_is
-    ∙ ap (λ (n : ℕ). (record_of mib n s.log.prev (act_of_op command)).end.0) is.end
-
--- two states of one history have the same pages
-same_pages : (mib : ℕ) (h : List Entry) (s t : State) → IsStateOf mib h s → IsStateOf mib h t → s.pages ≡ t.pages
-same_pages mib h s t first second = some_is (apply_all empty h) s.pages t.pages first.pages second.pages
-
--- why a command is refused, by the history alone
-why_refused : (mib : ℕ) (h : List Entry) (store : Store) (s : State) (command : Op) (f : InsertFault) → IsStateOf mib h s → s.pages ≡ store → stops f ≡ false → Refuses s command f
-    → WhyRefused store (length h) (origin mib + 8192) (next_of mib h command).end.0 command f
-why_refused mib h store s command (NoFork n) is same going why = (why.0 ∙ is.count, subst (λ (p : Store). LacksFork p command) same why.1)
-why_refused mib h store s command (ForkExists n) is same going why = (why.0 ∙ is.count, subst (λ (p : Store). HasFork p command) same why.1)
-why_refused mib h store s command (PastEnd n) is same going why = (why.0 ∙ is.count, subst (λ (p : Store). IsPastEnd p command) same why.1)
-why_refused mib h store s command (ForkFull n) is same going why = (why.0 ∙ is.count, subst (λ (p : Store). IsForkFull p command) same why.1)
-why_refused mib h store s command (WalFull n) is same going why =
-    let limit : origin s.log.mib + 8192 ≡ origin mib + 8192 = ap (λ (m : ℕ). origin m + 8192) is.mib_is in
-    (why.0 ∙ is.count, (subst (λ (p : Store). IsTidy p command) same why.1.0, omega (arith, why.1.1, end_there mib h s command is, limit)))
-why_refused mib h store s command NoMemory is same going why = absurd cc
-
 -- a command that may be done, and whose entry has room, is refused for want of memory alone
-not_both : (store : Store) (count limit end : ℕ) (command : Op) (f : InsertFault) → IsTidy store command → end ≤ limit → WhyRefused store count limit end command f → ⊥
-not_both store count limit end command (NoFork n) tidy room why = lacks_or_tidy store command why.1 tidy
-not_both store count limit end command (ForkExists n) tidy room why = has_or_tidy store command why.1 tidy
-not_both store count limit end command (PastEnd n) tidy room why = past_or_tidy store command why.1 tidy
-not_both store count limit end command (ForkFull n) tidy room why = full_or_tidy store command why.1 tidy
-not_both store count limit end command (WalFull n) tidy room why = absurd (omega (arith, room, why.1.1))
-not_both store count limit end command NoMemory tidy room why = absurd why
+not_both : (mib : ℕ) (store : Store) (tip : Tip) (command : Op) (f : InsertFault) → IsTidy store command → (record_of mib tip (act_of_op command)).end.0 ≤ wal_limit mib → Refuses mib store tip command f → stops f ≡ false → ⊥
+not_both mib store tip command (NoFork n) tidy room why going = lacks_or_tidy store command why.1 tidy
+not_both mib store tip command (ForkExists n) tidy room why going = has_or_tidy store command why.1 tidy
+not_both mib store tip command (PastEnd n) tidy room why going = past_or_tidy store command why.1 tidy
+not_both mib store tip command (ForkFull n) tidy room why going = full_or_tidy store command why.1 tidy
+not_both mib store tip command (WalFull n) tidy room why going = absurd (omega (arith, room, why.1.1))
+not_both mib store tip command NoMemory tidy room why going = absurd cc
 
 goes_on : (now next : Progress) (f : InsertFault) → next ≡ progress now.history now.accepted (stops f) → next.stopped ≡ false → stops f ≡ false
 goes_on now next f is going = sym (ap (λ (p : Progress). p.stopped) is) ∙ going
 
+-- what is refused on a history's store is refused on it by another name
+refused_there : (mib : ℕ) (now : Progress) (command : Op) (f : InsertFault) (next : Progress) (store : Store) → apply_all empty now.history ≡ Some store → IsRefused mib now command f next → Refuses mib store (tip_of mib now.history) command f
+refused_there mib now command f next store state refused =
+    subst (λ (s : Store). Refuses mib s (tip_of mib now.history) command f) (some_is (apply_all empty now.history) refused.store store refused.state state) refused.why
+
 refused_once : (mib : ℕ) (now : Progress) (command : Op) (f g : InsertFault) (next other : Progress) → IsRefused mib now command f next → IsRefused mib now command g other
     → next.stopped ≡ false → other.stopped ≡ false → f ≡ g
 refused_once mib now command f g next other first second going also =
-    one_why first.state.pages (length now.history) (origin mib + 8192) (next_of mib now.history command).end.0 command f g
-    (why_refused mib now.history first.state.pages first.state command f first.is refl (goes_on now next f first.next_is going) first.why)
-    (why_refused mib now.history first.state.pages second.state command g second.is (same_pages mib now.history second.state first.state second.is first.is) (goes_on now other g second.next_is also) second.why)
+    one_why mib first.store (tip_of mib now.history) command f g first.why (refused_there mib now command g other first.store first.state second)
+    (goes_on now next f first.next_is going) (goes_on now other g second.next_is also)
 
 accepted_or_refused : (mib : ℕ) (now : Progress) (command : Op) (place : Place) (f : InsertFault) (next other : Progress) → IsAccepted mib now command place next → IsRefused mib now command f other
     → other.stopped ≡ false → ⊥
 accepted_or_refused mib now command place f next other first second going =
-    not_both first.state.pages (length now.history) (origin mib + 8192) (next_of mib now.history command).end.0 command f first.tidy first.on_page
-    (why_refused mib now.history first.state.pages second.state command f second.is (same_pages mib now.history second.state first.state second.is first.is) (goes_on now other f second.next_is going) second.why)
+    not_both mib first.store (tip_of mib now.history) command f first.tidy first.within (refused_there mib now command f other first.store first.state second) (goes_on now other f second.next_is going)
 
 place_at : ℕ → ℕ → Place
 place_at start end = record { start = record { 0 = start }; end = record { 0 = end } }
@@ -286,13 +257,6 @@ answered_once mib now (line ∷ lines) (a ∷ xs) (b ∷ ys) last other first se
 
 -- ---- where the WAL ends
 
-reads_to : (mib : ℕ) (held : List ℕ) (at prev : ℕ) (rs : List Record) (end : ℕ) → Reads mib held at prev rs end → end ≡ last_end at rs
-reads_to mib held at prev [] end reads = reads.1
-reads_to mib held at prev (r ∷ rs) end reads = reads_to mib held r.end.0 r.start.0 rs end reads.1
-
-archive_to : (mib : ℕ) (files : Files) (rs : List Record) (end : ℕ) → IsArchive mib files rs end → end ≡ last_end (origin mib) rs
-archive_to mib files rs end archive = reads_to mib _ (origin mib) 0 rs end archive
-
 lsn_at : ℕ → Lsn
 lsn_at at = record { 0 = at }
 
@@ -311,28 +275,11 @@ is_going : (mib : ℕ) (entries : List Record) (last : Progress) (w x : AreaStat
 is_going mib entries last w x (Ok end) is own = is.0
 is_going mib entries last w x (Err fault) is own = absurd (undecided fault own)
 
--- what a run that ended left is told where what was there before is
-left_told : (mib place : ℕ) (bytes : List ℕ) (old new : Option Files) (files : Files) → old ≡ Some files → IsWrittenAt mib place bytes old new → IsSome new
-left_told mib place bytes old new files told (inl e) = subst (λ (o : Option Files). IsSome o) (sym (e ∙ ap (option_map (after_write (segment_name_bytes 1 mib) (place - origin mib) bytes)) told)) refl
-left_told mib place bytes old new files told (inr e) = subst (λ (o : Option Files). IsSome o) (sym (e.1 ∙ told)) refl
-
-done_told : (w x : AreaState) (a : RunReport) (files : Files) (end : Lsn) → w.files ≡ Some files → a.ending ≡ Ok end → RunDone w x a → IsSome x.files
-done_told w x a files end told ended done =
-    left_told done.settings.segment a.opened.0 (own_bytes done.settings.segment done.last.history) w.files x.files files told
-    (subst (λ (r : Result Lsn AreaFault). IfOk r (λ e. IsWrittenAt done.settings.segment a.opened.0 (own_bytes done.settings.segment done.last.history) w.files x.files)) ended done.written)
-
-ends_once : (mib : ℕ) (entries : List Record) (last : Progress) (w x y : AreaState) (a b : Result Lsn AreaFault) → ((end : Lsn) → a ≡ Ok end → IsSome x.files) → ((end : Lsn) → b ≡ Ok end → IsSome y.files)
-    → IsEnding mib entries last w x a → IsEnding mib entries last w y b → IsEnded a → IsEnded b → a ≡ b
+ends_once : (mib : ℕ) (entries : List Record) (last : Progress) (w x y : AreaState) (a b : Result Lsn AreaFault) → IsEnding mib entries last w x a → IsEnding mib entries last w y b → IsEnded a → IsEnded b → a ≡ b
 unfolding ended_at
-ends_once mib entries last w x y (Ok a) (Ok b) told also first second own other =
-    let rs : List Record = entries ++ wal_of mib last.history in
-    let left = some_told x.files (told a refl) in
-    let other_left = some_told y.files (also b refl) in
-    let here : a.0 ≡ last_end (origin mib) rs = archive_to mib left.0 rs a.0 (at_told x.files left.0 (λ m. IsArchive mib m rs a.0) left.1 first.1) in
-    let there : b.0 ≡ last_end (origin mib) rs = archive_to mib other_left.0 rs b.0 (at_told y.files other_left.0 (λ m. IsArchive mib m rs b.0) other_left.1 second.1) in
-    ap ended_at (same_lsn a b (here ∙ sym there))
-ends_once mib entries last w x y (Ok a) (Err g) told also first second own other = absurd (undecided g other)
-ends_once mib entries last w x y (Err f) b told also first second own other = absurd (undecided f own)
+ends_once mib entries last w x y (Ok a) (Ok b) first second own other = ap ended_at (same_lsn a b (first.1.0 ∙ sym second.1.0))
+ends_once mib entries last w x y (Ok a) (Err g) first second own other = absurd (undecided g other)
+ends_once mib entries last w x y (Err f) b first second own other = absurd (undecided f own)
 
 -- ---- what was done
 
@@ -344,14 +291,14 @@ given_at : (w : AreaState) (files : Files) (s : StoreSettings) → w.files ≡ S
 given_at w files s told has = at_told w.files files (λ m. IsSettingsOf m s) told has.given
 
 -- from one beginning, the two lists of answers
-done_from : (mib : ℕ) (entries : List Record) (w x y : AreaState) (a b : RunReport) (last other : Progress) → ((end : Lsn) → a.ending ≡ Ok end → IsSome x.files) → ((end : Lsn) → b.ending ≡ Ok end → IsSome y.files)
-    → a.opened ≡ b.opened → Answered mib (progress (map entry_of entries) 0 false) (lines_in a.script) a.answers last → Answered mib (progress (map entry_of entries) 0 false) (lines_in a.script) b.answers other
+done_from : (mib : ℕ) (entries : List Record) (w x y : AreaState) (a b : RunReport) (last other : Progress) → a.opened ≡ b.opened
+    → Answered mib (progress (map entry_of entries) 0 false) (lines_in a.script) a.answers last → Answered mib (progress (map entry_of entries) 0 false) (lines_in a.script) b.answers other
     → IsEnding mib entries last w x a.ending → IsEnding mib entries other w y b.ending → IsEnded a.ending → IsEnded b.ending → IsSameReport a b
-done_from mib entries w x y a b last other told also open_same first second end end_other own own_other =
+done_from mib entries w x y a b last other open_same first second end end_other own own_other =
     let once = answered_once mib (progress (map entry_of entries) 0 false) (lines_in a.script) a.answers b.answers last other first second
     (is_going mib entries last w x a.ending end own) (is_going mib entries other w y b.ending end_other own_other) in
     let there : IsEnding mib entries last w y b.ending = subst (λ (p : Progress). IsEnding mib entries p w y b.ending) (sym once.1) end_other in
-    (open_same, once.0, ends_once mib entries last w x y a.ending b.ending told also end there own own_other)
+    (open_same, once.0, ends_once mib entries last w x y a.ending b.ending end there own own_other)
 
 done_once : (w x y : AreaState) (files : Files) (a b : RunReport) → w.files ≡ Some files → RunDone w x a → RunDone w y b
     → a.script ≡ b.script → IsEnded a.ending → IsEnded b.ending → IsSameReport a b
@@ -359,11 +306,11 @@ done_once w x y files a b told first second script own other =
     let mib : ℕ = first.settings.segment in
     let same : second.settings ≡ first.settings = one_settings files second.settings first.settings (given_at w files second.settings told second.given) (given_at w files first.settings told first.given) in
     let size : second.settings.segment ≡ mib = ap (λ (s : StoreSettings). s.segment) same in
-    let here : IsArchive mib files first.entries a.opened.0 = at_told w.files files (λ m. IsArchive mib m first.entries a.opened.0) told first.archive in
-    let there : IsArchive mib files second.entries b.opened.0 =
-    subst (λ (n : ℕ). IsArchive n files second.entries b.opened.0) size (at_told w.files files (λ m. IsArchive second.settings.segment m second.entries b.opened.0) told second.archive) in
-    let one = one_reading mib files first.entries second.entries a.opened.0 b.opened.0 here there in
+    let here : HasFound mib first.entries files = at_told w.files files (HasFound mib first.entries) told first.archive in
+    let there : HasFound mib second.entries files = subst (λ (n : ℕ). HasFound n second.entries files) size (at_told w.files files (HasFound second.settings.segment second.entries) told second.archive) in
+    let one = one_reading mib files first.entries second.entries (found_tip mib first.entries) (found_tip mib second.entries) here there in
     let back : second.entries ≡ first.entries = sym one.0 in
+    let opened : a.opened.0 ≡ b.opened.0 = first.opened ∙ ap (λ (t : Tip). t.end) one.1 ∙ ap (λ (n : ℕ). (found_tip n second.entries).end) (sym size) ∙ sym second.opened in
     let answered : Answered mib (progress (map entry_of first.entries) 0 false) (lines_in a.script) b.answers second.last =
     subst (λ (ts : List Task). Answered mib (progress (map entry_of first.entries) 0 false) (lines_in ts) b.answers second.last) (sym script)
     (subst (λ (rs : List Record). Answered mib (progress (map entry_of rs) 0 false) (lines_in b.script) b.answers second.last) back
@@ -371,8 +318,7 @@ done_once w x y files a b told first second script own other =
     let ending : IsEnding mib first.entries second.last w y b.ending =
     subst (λ (rs : List Record). IsEnding mib rs second.last w y b.ending) back
     (subst (λ (n : ℕ). IsEnding n second.entries second.last w y b.ending) size second.ending) in
-    done_from mib first.entries w x y a b first.last second.last (λ end e. done_told w x a files end told e first) (λ end e. done_told w y b files end told e second)
-    (same_lsn a.opened b.opened one.1) first.answered answered first.ending ending own other
+    done_from mib first.entries w x y a b first.last second.last (same_lsn a.opened b.opened opened) first.answered answered first.ending ending own other
 
 -- ---- why none was
 
@@ -381,17 +327,17 @@ given_or_damaged None mib relseg given damaged = damaged
 given_or_damaged (Some bytes) mib relseg given damaged = damaged mib relseg given
 
 -- settings and an archive that ends leave no cause why the WAL can't be read
-read_or_refused : (files : Files) (s : StoreSettings) (rs : List Record) (end before now : ℕ) (f : WalFault) → HasSettings (Some files) s → IsArchive s.segment files rs end → WalCause (Some files) before now f → IsOfFiles (Err f) → ⊥
+read_or_refused : (files : Files) (s : StoreSettings) (rs : List Record) (end : Tip) (before now : ℕ) (f : WalFault) → HasSettings (Some files) s → IsArchive s.segment files rs end → WalCause (Some files) before now f → IsOfFiles f → ⊥
 read_or_refused files s rs end before now (wal.Damaged place why) given archive cause own =
     let same : cause.0 ≡ s = one_settings files cause.0 s cause.1.0.given given.given in
     ends_or_is_damaged s.segment files rs end place.0 archive (subst (λ (t : StoreSettings). IsDamaged t.segment files place.0) same cause.1.1)
 read_or_refused files s rs end before now wal.SettingsDamaged given archive cause own = given_or_damaged (get files (codes "settings")) s.segment s.relseg given.given.given cause.1
 read_or_refused files s rs end before now wal.NotInit given archive cause own = none_some (get files first_segment) cause given.given.there
-read_or_refused files s rs end before now wal.Failed given archive cause own = absurd own
-read_or_refused files s rs end before now wal.NoMemory given archive cause own = absurd own
+read_or_refused files s rs end before now wal.Failed given archive cause own = own.0 refl
+read_or_refused files s rs end before now wal.NoMemory given archive cause own = own.1 refl
 
-empty_or_refused : (files : Files) (before now : ℕ) (f : WalFault) → HasNoEntry (Some files) → WalCause (Some files) before now f → IsOfFiles (Err f) → ⊥
-empty_or_refused files before now f empty cause own = read_or_refused files empty.settings [] empty.archive.0 before now f empty.given empty.archive.1 cause own
+empty_or_refused : (files : Files) (before now : ℕ) (f : WalFault) → HasNoEntry (Some files) → WalCause (Some files) before now f → IsOfFiles f → ⊥
+empty_or_refused files before now f empty cause own = read_or_refused files empty.settings [] (first_tip empty.settings.segment) before now f empty.given empty.archive cause own
 
 -- the WAL can't be read, or has no entry
 cause_is : (files : Option Files) (before now : ℕ) (f : WalFault) → BeginCause files before now f → WalCause files before now f ⊎ (HasNoEntry files × (f ≡ wal.NotInit))
@@ -409,12 +355,12 @@ fault_is : (f g : WalFault) → wal_refused f ≡ wal_refused g → f ≡ g
 unfolding wal_refused
 fault_is f g e = cc
 
-same_cause : (files : Files) (before now start end : ℕ) (f g : WalFault) → WalCause (Some files) before now f → WalCause (Some files) start end g → IsOfFiles (Err f) → IsOfFiles (Err g) → f ≡ g
+same_cause : (files : Files) (before now start end : ℕ) (f g : WalFault) → WalCause (Some files) before now f → WalCause (Some files) start end g → IsOfFiles f → IsOfFiles g → f ≡ g
 unfolding wal_refused
 same_cause files before now start end f g first second own other = fault_is f g (one_wal files before now start end (Err f) (Err g) first second own other)
 
 refused_by_one : (files : Files) (before now start end : ℕ) (f g : WalFault) → WalCause (Some files) before now f ⊎ (HasNoEntry (Some files) × (f ≡ wal.NotInit)) → WalCause (Some files) start end g ⊎ (HasNoEntry (Some files) × (g ≡ wal.NotInit))
-    → IsOfFiles (Err f) → IsOfFiles (Err g) → f ≡ g
+    → IsOfFiles f → IsOfFiles g → f ≡ g
 refused_by_one files before now start end f g (inl first) (inl second) own other = same_cause files before now start end f g first second own other
 refused_by_one files before now start end f g (inl first) (inr second) own other = absurd (empty_or_refused files before now f second.0 first own)
 refused_by_one files before now start end f g (inr first) (inl second) own other = absurd (empty_or_refused files start end g first.0 second other)
@@ -423,35 +369,35 @@ refused_by_one files before now start end f g (inr first) (inr second) own other
 cause_at : (w x : AreaState) (files : Files) (f : WalFault) → w.files ≡ Some files → BeginCause w.files w.faults x.faults f → WalCause (Some files) w.faults x.faults f ⊎ (HasNoEntry (Some files) × (f ≡ wal.NotInit))
 cause_at w x files f told cause = cause_is (Some files) w.faults x.faults f (subst (λ (o : Option Files). BeginCause o w.faults x.faults f) told cause)
 
-same_refusal : (w x y : AreaState) (files : Files) (f g : WalFault) → w.files ≡ Some files → BeginCause w.files w.faults x.faults f → BeginCause w.files w.faults y.faults g → IsOfFiles (Err f) → IsOfFiles (Err g) → f ≡ g
+same_refusal : (w x y : AreaState) (files : Files) (f g : WalFault) → w.files ≡ Some files → BeginCause w.files w.faults x.faults f → BeginCause w.files w.faults y.faults g → IsOfFiles f → IsOfFiles g → f ≡ g
 same_refusal w x y files f g told first second own other = refused_by_one files w.faults x.faults w.faults y.faults f g (cause_at w x files f told first) (cause_at w y files g told second) own other
 
 -- ---- done or refused
 
 -- an archive that has an entry is another than the empty one
-some_or_empty : (files : Files) (s : StoreSettings) (rs : List Record) (end : ℕ) → HasSettings (Some files) s → IsArchive s.segment files rs end → 0 < length rs → HasNoEntry (Some files) → ⊥
+some_or_empty : (files : Files) (s : StoreSettings) (rs : List Record) (end : Tip) → HasSettings (Some files) s → IsArchive s.segment files rs end → 0 < length rs → HasNoEntry (Some files) → ⊥
 some_or_empty files s rs end given archive some empty =
     let same : empty.settings ≡ s = one_settings files empty.settings s empty.given.given given.given in
-    let none : IsArchive s.segment files [] empty.archive.0 = subst (λ (t : StoreSettings). IsArchive t.segment files [] empty.archive.0) same empty.archive.1 in
-    let one = one_reading s.segment files rs [] end empty.archive.0 archive none in
+    let none : IsArchive s.segment files [] (first_tip s.segment) = subst (λ (t : StoreSettings). IsArchive t.segment files [] (first_tip t.segment)) same empty.archive in
+    let one = one_reading s.segment files rs [] end (first_tip s.segment) archive none in
     absurd (omega (arith, some, ap (λ (xs : List Record). length xs) one.0))
 
-begun_or_refused : (files : Files) (s : StoreSettings) (rs : List Record) (end before now : ℕ) (f : WalFault) → HasSettings (Some files) s → IsArchive s.segment files rs end → 0 < length rs
-    → WalCause (Some files) before now f ⊎ (HasNoEntry (Some files) × (f ≡ wal.NotInit)) → IsOfFiles (Err f) → ⊥
+begun_or_refused : (files : Files) (s : StoreSettings) (rs : List Record) (end : Tip) (before now : ℕ) (f : WalFault) → HasSettings (Some files) s → IsArchive s.segment files rs end → 0 < length rs
+    → WalCause (Some files) before now f ⊎ (HasNoEntry (Some files) × (f ≡ wal.NotInit)) → IsOfFiles f → ⊥
 begun_or_refused files s rs end before now f given archive some (inl cause) own = read_or_refused files s rs end before now f given archive cause own
 begun_or_refused files s rs end before now f given archive some (inr empty) own = some_or_empty files s rs end given archive some empty.0
 
-done_or_refused : (w x y : AreaState) (files : Files) (a : RunReport) (f : WalFault) → w.files ≡ Some files → RunDone w x a → BeginCause w.files w.faults y.faults f → IsOfFiles (Err f) → ⊥
+done_or_refused : (w x y : AreaState) (files : Files) (a : RunReport) (f : WalFault) → w.files ≡ Some files → RunDone w x a → BeginCause w.files w.faults y.faults f → IsOfFiles f → ⊥
 done_or_refused w x y files a f told done cause own =
-    begun_or_refused files done.settings done.entries a.opened.0 w.faults y.faults f (subst (λ (o : Option Files). HasSettings o done.settings) told done.given)
-    (at_told w.files files (λ m. IsArchive done.settings.segment m done.entries a.opened.0) told done.archive) done.some (cause_at w y files f told cause) own
+    begun_or_refused files done.settings done.entries (found_tip done.settings.segment done.entries) w.faults y.faults f (subst (λ (o : Option Files). HasSettings o done.settings) told done.given)
+    (at_told w.files files (HasFound done.settings.segment done.entries) told done.archive) done.some (cause_at w y files f told cause) own
 
 -- ---- the script
 
 -- two readings of one input
 same_bytes : (left now other : Option (List ℕ)) (whole bytes again : List ℕ) → left ≡ Some whole → IsInput bytes left now → IsInput again left other → bytes ≡ again
 same_bytes left now other whole bytes again told first second =
-    at_told left whole (λ w. bytes ≡ take 4194305 w) told first.bytes_are ∙ sym (at_told left whole (λ w. again ≡ take 4194305 w) told second.bytes_are)
+    at_told left whole (λ w. bytes ≡ take (script_limit + 1) w) told first.bytes_are ∙ sym (at_told left whole (λ w. again ≡ take (script_limit + 1) w) told second.bytes_are)
 
 script_of : Result (List Task) ScriptFault → List Task
 script_of (Ok script) = script

@@ -1,6 +1,6 @@
 -- A run on the store that was begun, flushed.
 use Rattle.std.proofs.Common.{ap, ◌∙◌}
-use Rattle.shared_store.specs.Insert.{state}
+use Rattle.shared_store.specs.State.{state_of}
 use Rattle.vault.specs.Site.{state_in}
 use Rattle.pgbackup_cli.proofs.RunDone.{run_done}
 use Rattle.pgbackup_cli.proofs.run.run_wal.Goals as goal
@@ -9,7 +9,7 @@ pub returns-clause-answer : goal.returns-clause-answer
 returns-clause-answer g c =
     let store = c.in-Ok.store in
     let ran = c.run_lines.new.store in
-    run_done _ _ _ (state store.wal.tail store.pages store.count) (state ran.wal.tail ran.pages ran.count) (state_in g.V.Vault ran.wal.area)
+    run_done _ _ _ (state_of store) (state_of ran) (state_in g.V.Vault ran.wal.area)
     c.in-Ok.ensures.begun c.end-opened.ensures.end
     (rw c.lines_of.ensures at c.in-Ok-run_lines.ensures.run)
     (ap (λ v. g.V.Vault.files v) c.run_lines.ensures.area ∙ c.in-Ok.ensures.same)
