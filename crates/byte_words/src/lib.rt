@@ -14,6 +14,3 @@ pub use cuts::{behind, behind_prefix, cut_at, place_of};
 pub use pieces::overwrite;
 pub use places::aligned;
 pub use reading::{u8_at, u16_at, u16_in, u32_at, u32_in, u64_at, u64_in};
-
-#[cfg(test)]
-mod tests;

@@ -18,6 +18,3 @@ pub use names::{fork_path, segment_name};
 pub use segment::{SegSize, Settings};
 pub use sizes::{LONG_HEAD, MOST_BLOCKS, MOST_RELSEG, MOST_SEGMENTS, PAGE, PAGE_MAGIC, SHORT_HEAD};
 pub use text::Text;
-
-#[cfg(test)]
-mod tests;

@@ -16,6 +16,3 @@ mod page;
 pub use image::restored_page;
 pub use make::make_page;
 pub use page::{Page, zero_page};
-
-#[cfg(test)]
-mod tests;

@@ -11,6 +11,3 @@ mod reading;
 pub use front::decimal_front;
 pub use hex::{eight_digits_front, hex_digits_in};
 pub use reading::{decimal_in, digits_in};
-
-#[cfg(test)]
-mod tests;

@@ -12,6 +12,3 @@ mod crc;
 mod tables;
 
 pub use crc::Crc;
-
-#[cfg(test)]
-mod tests;

@@ -32,6 +32,3 @@ pub use cursor::WalCursor;
 pub use fault::{Damage, WalFault};
 pub use laws::{appended_entries_are_read, archive_is_read_in_one_way};
 pub use settings::{read_settings, settings_text};
-
-#[cfg(test)]
-mod tests;

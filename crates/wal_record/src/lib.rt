@@ -21,6 +21,3 @@ pub use decode::decode_record;
 pub use encode::encode_record;
 pub use places::{end_of, first_tip, start_after, tip_after, wal_limit};
 pub use record::{BlockRef, Blocks, Body, Kind, Record, RecordFault};
-
-#[cfg(test)]
-mod tests;

@@ -18,6 +18,3 @@ mod tail;
 
 pub use fault::AppendFault;
 pub use state::{Flushed, WalState};
-
-#[cfg(test)]
-mod tests;
