@@ -105,6 +105,8 @@ pub fn zero_page() -> [u8; 8192]
     [0; 8192]
 }
 
+/// Whether the header is good: the version is 4 with 8192 bytes, and pd_lower, pd_upper and
+/// pd_special stand in order behind the header.
 fn is_good(page: &[u8; 8192]) -> bool
     ensures { IsTrue result ↔ IsGood page.now }
 {
@@ -112,7 +114,7 @@ fn is_good(page: &[u8; 8192]) -> bool
     u16_in(page, 18) == 8196 && 24 <= lower && lower <= upper && upper <= special && special <= 8192
 }
 
-// the eight bytes of pd_lsn
+/// The eight bytes of pd_lsn: the high half first.
 #[tactic(auto, unfolding(crate::specs::Header::lsn_field))]
 fn lsn_field(at: u64) -> [u8; 8]
     ensures { result ≡ lsn_field at }

@@ -21,7 +21,7 @@ use Rattle.lsn_core.specs.Files.{Files}
 use Rattle.wal_reader.specs.Head.{system_in}
 use Rattle.wal_reader.specs.Archive.{held_bytes, first_page}
 use Rattle.wal_reader.specs.Settings.{first_segment, settings_text, IsSettingsText, GivesSettings, IsDamagedText, IsSettingsOf}
-use Rattle.wal_reader.specs.Inside.{line_of, HasNoLine, HasNoNumbers, Tells, TellsSettings, IsSystemOf}
+use Rattle.wal_reader.specs.Inside.{line_of, HasNoLine, HasNoNumbers, TellsNumbers, TellsSettings, IsSystemOf}
 
 -- no digit is a line end
 no_line_end : (text : List ℕ) → all_digits text ≡ true → Lacks 10 text
@@ -152,7 +152,7 @@ whole_front : (bytes : List ℕ) → length (take 8192 bytes) ≤ 43 → take 81
 whole_front bytes short = take_all 8192 bytes (omega (arith, length-take 8192 bytes, short))
 
 pub told_by : (file : Option (List ℕ)) (front : List ℕ) (o : Option (ℕ × ℕ)) → Some front ≡ option_map (take 8192) file
-    → IfSome o (λ x. IsSettingsText front x.0 x.1) → IfNone o (IsDamagedText (Some front)) → Tells file o
+    → IfSome o (λ x. IsSettingsText front x.0 x.1) → IfNone o (IsDamagedText (Some front)) → TellsNumbers file o
 told_by None front o e found none = absurd (cc)
 told_by (Some bytes) front (Some x) e found none =
     let cut : front ≡ take 8192 bytes = cc in
@@ -163,7 +163,7 @@ told_by (Some bytes) front None e found none = λ mib relseg is.
     let whole : take 8192 bytes ≡ bytes = take_all 8192 bytes (omega (arith, length_settings bytes mib relseg is)) in
     none mib relseg (subst (λ (l : List ℕ). IsSettingsText l mib relseg) (sym (cut ∙ whole)) is)
 
-pub told_absent : (file : Option (List ℕ)) (mib : ℕ) → mib ≡ 16 → None ≡ option_map (take 8192) file → Tells file (Some (mib, 131072))
+pub told_absent : (file : Option (List ℕ)) (mib : ℕ) → mib ≡ 16 → None ≡ option_map (take 8192) file → TellsNumbers file (Some (mib, 131072))
 told_absent None mib standard e = (standard, refl)
 told_absent (Some bytes) mib standard e = absurd (cc)
 

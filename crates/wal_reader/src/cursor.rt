@@ -1,7 +1,8 @@
 //! A cursor over the archive.
 //!
-//! Where the archive goes on, where it ends and where it is damaged is said in `specs/Archive.antt`;
-//! what each call answers and how it leaves the cursor, in `specs/Cursor.antt`.
+//! Where the archive goes on, where it ends and where it is damaged is said in
+//! `specs/Archive.antt`; what each call answers and how it leaves the cursor, in
+//! `specs/Cursor.antt`.
 
 ghost use Rattle.std.specs.Prelude.{◌≡◌, ◌≤◌, length, IfOk};
 ghost use Rattle.lsn_core.specs.Causes.{HasCause};
