@@ -5,7 +5,7 @@ use Rattle.vault.specs.declared.site.Site.{Ghosts as Sites}
 use Rattle.vault.specs.declared.lending.Held.{Held}
 use Rattle.vault.specs.declared.lending.TakeFault.{TakeFault}
 use Rattle.vault.specs.Site.{Areas, AllHome, state_in}
-use Rattle.vault.specs.Lending.{Names, AreDistinct, AreHome, AreAreasOf, AreOut, WritesAmong, TakeCause, IsTaken, IsNotTaken, GivesBack, all_away}
+use Rattle.vault.specs.Lending.{Names, AreDistinct, AreHome, AreAreasOf, AreOut, WritesAmong, TakeCause, AreTaken, NoneTaken, GivesBack, all_away}
 use Rattle.vault.proofs.LentAreas.{writes_fewer}
 use Rattle.pgbackup_cli.specs.Outside.{IsUntaken}
 use Rattle.pgbackup_cli.specs.Inner.{of_site}
@@ -31,17 +31,17 @@ two_there g areas a b (x ∷ []) is = absurd is.2
 two_there g areas a b (x ∷ (y ∷ [])) is = refl
 two_there g areas a b (x ∷ (y ∷ (z ∷ more))) is = absurd is.2.2
 
-pub two_taken : {S A : Type 0} (s : Sites S A) (g : Vaults A) (names : Names) (a b : List ℕ) (old mid : S) (taken : List (Held A)) → names ≡ a ∷ (b ∷ []) → IsTaken s g names old mid taken → length taken ≡ 2
+pub two_taken : {S A : Type 0} (s : Sites S A) (g : Vaults A) (names : Names) (a b : List ℕ) (old mid : S) (taken : List (Held A)) → names ≡ a ∷ (b ∷ []) → AreTaken s g names old mid taken → length taken ≡ 2
 two_taken s g names a b old mid taken e is =
     two_there g (s.areas old) a b taken (subst (λ (ns : Names). AreAreasOf g (s.areas old) ns taken) e is.areas)
 
 -- those that were taken, by their names
-pub taken_as : {S A : Type 0} (s : Sites S A) (g : Vaults A) (names : Names) (a b : List ℕ) (old mid : S) (taken : List (Held A)) (x y : Held A) → names ≡ a ∷ (b ∷ []) → taken ≡ x ∷ (y ∷ []) → IsTaken s g names old mid taken → IsTaken s g (a ∷ (b ∷ [])) old mid (x ∷ (y ∷ []))
+pub taken_as : {S A : Type 0} (s : Sites S A) (g : Vaults A) (names : Names) (a b : List ℕ) (old mid : S) (taken : List (Held A)) (x y : Held A) → names ≡ a ∷ (b ∷ []) → taken ≡ x ∷ (y ∷ []) → AreTaken s g names old mid taken → AreTaken s g (a ∷ (b ∷ [])) old mid (x ∷ (y ∷ []))
 taken_as {A = A} s g names a b old mid taken x y named listed is =
-    subst (λ (xs : List (Held A)). IsTaken s g (a ∷ (b ∷ [])) old mid xs) listed (subst (λ (ns : Names). IsTaken s g ns old mid taken) named is)
+    subst (λ (xs : List (Held A)). AreTaken s g (a ∷ (b ∷ [])) old mid xs) listed (subst (λ (ns : Names). AreTaken s g ns old mid taken) named is)
 
 -- where none was taken, the site is as it was
-pub none_taken : {S A : Type 0} (s : Sites S A) (names others : Names) (old mid : S) (fault : TakeFault) → names ≡ others → IsNotTaken s names old mid fault → IsUntaken others (of_site s old) (of_site s mid) fault
+pub none_taken : {S A : Type 0} (s : Sites S A) (names others : Names) (old mid : S) (fault : TakeFault) → names ≡ others → NoneTaken s names old mid fault → IsUntaken others (of_site s old) (of_site s mid) fault
 none_taken s names others old mid fault named is =
     (is.areas, subst (λ (ns : Names). TakeCause ns (s.take_faults old) (s.take_faults mid) fault) named is.cause)
 
@@ -62,7 +62,7 @@ pub record TwoBack {S A : Type 0} (s : Sites S A) (g : Vaults A) (a b : List ℕ
   pub second_now : s.areas new b ≡ state_in g q_now
   pub later : s.take_faults old ≤ s.take_faults new
 
-pub two_back : {S A : Type 0} (s : Sites S A) (g : Vaults A) (a b : List ℕ) (old mid new : S) (n m : List ℕ) (p q p_now q_now : A) → AllHome (s.areas old) → IsTaken s g (a ∷ (b ∷ [])) old mid (held n p ∷ (held m q ∷ []))
+pub two_back : {S A : Type 0} (s : Sites S A) (g : Vaults A) (a b : List ℕ) (old mid new : S) (n m : List ℕ) (p q p_now q_now : A) → AllHome (s.areas old) → AreTaken s g (a ∷ (b ∷ [])) old mid (held n p ∷ (held m q ∷ []))
     → GivesBack s g (held n p_now ∷ (held m q_now ∷ [])) mid new → TwoBack s g a b old new p q p_now q_now
 two_back s g a b old mid new n m p q p_now q_now home taken gives =
     let e : n ≡ a = taken.areas.0 in
@@ -111,7 +111,7 @@ pub record OneBack {S A : Type 0} (s : Sites S A) (g : Vaults A) (a : List ℕ) 
   pub area_now : s.areas new a ≡ state_in g p_now
   pub later : s.take_faults old ≤ s.take_faults new
 
-pub one_back : {S A : Type 0} (s : Sites S A) (g : Vaults A) (a : List ℕ) (old mid new : S) (n : List ℕ) (p p_now : A) → AllHome (s.areas old) → IsTaken s g (a ∷ []) old mid (held n p ∷ [])
+pub one_back : {S A : Type 0} (s : Sites S A) (g : Vaults A) (a : List ℕ) (old mid new : S) (n : List ℕ) (p p_now : A) → AllHome (s.areas old) → AreTaken s g (a ∷ []) old mid (held n p ∷ [])
     → GivesBack s g (held n p_now ∷ []) mid new → OneBack s g a old new p p_now
 one_back s g a old mid new n p p_now home taken gives =
     let e : n ≡ a = taken.areas.0 in

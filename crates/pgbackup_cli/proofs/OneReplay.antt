@@ -2,7 +2,6 @@
 use Rattle.std.proofs.Common.{◌≡◌, ℕ, Option, Some, Result, Ok, Err, IsSome, sym, refl, ap, subst, ◌∙◌, true}
 use Rattle.std.specs.FinMap.{len}
 use Rattle.lsn_core.specs.Files.{Files}
-use Rattle.lsn_core.specs.declared.lsn.Lsn.{Lsn}
 use Rattle.lsn_core.specs.Segment.{StoreSettings}
 use Rattle.vault.specs.Site.{AreaState}
 use Rattle.vault.specs.declared.lending.TakeFault.{TakeFault}
@@ -59,10 +58,10 @@ done_or_refused old new other files a f told done cause own =
 done_with : ℕ → ℕ → ℕ → ReplayReport
 done_with end forks pages = record { end = record { 0 = end }; forks = forks; pages = pages }
 
-same_parts : (a b : ReplayReport) → a.end ≡ b.end → a.forks ≡ b.forks → a.pages ≡ b.pages → a ≡ b
+same_parts : (a b : ReplayReport) → a.end.0 ≡ b.end.0 → a.forks ≡ b.forks → a.pages ≡ b.pages → a ≡ b
 unfolding done_with
 same_parts a b end forks pages =
-    ap (λ (n : Lsn). done_with n.0 a.forks a.pages) end ∙ ap (λ (n : ℕ). done_with b.end.0 n a.pages) forks ∙ ap (λ (n : ℕ). done_with b.end.0 b.forks n) pages
+    ap (λ (n : ℕ). done_with n a.forks a.pages) end ∙ ap (λ (n : ℕ). done_with b.end.0 n a.pages) forks ∙ ap (λ (n : ℕ). done_with b.end.0 b.forks n) pages
 
 read_in : ReadWal → Result (StoreSettings × ReadWal) WalFault → ReadWal
 read_in other (Ok x) = x.1

@@ -277,7 +277,7 @@ is_going mib entries last w x (Err fault) is own = absurd (undecided fault own)
 
 ends_once : (mib : ℕ) (entries : List Record) (last : Progress) (w x y : AreaState) (a b : Result Lsn AreaFault) → IsEnding mib entries last w x a → IsEnding mib entries last w y b → IsEnded a → IsEnded b → a ≡ b
 unfolding ended_at
-ends_once mib entries last w x y (Ok a) (Ok b) first second own other = ap ended_at (same_lsn a b (first.1.0 ∙ sym second.1.0))
+ends_once mib entries last w x y (Ok a) (Ok b) first second own other = ap ended_at (same_lsn a b (first.1 ∙ sym second.1))
 ends_once mib entries last w x y (Ok a) (Err g) first second own other = absurd (undecided g other)
 ends_once mib entries last w x y (Err f) b first second own other = absurd (undecided f own)
 

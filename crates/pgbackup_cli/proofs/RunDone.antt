@@ -118,7 +118,7 @@ news_are mib rs added tip is =
 ended : (mib : ℕ) (entries : List Record) (last : Progress) (wal mid now : AreaState) (stopped : Bool) (log : Log) (ending : Result Lsn AreaFault) → FlushAnswer stopped log mid now ending → wal.faults ≤ mid.faults
     → (stopped ≡ false → last.stopped ≡ false) → log.tip ≡ tip_of mib last.history → (IsWrittenAt log.mib log.flushed log.pending mid.files now.files → IfSome now.files (HoldsAll mib entries last.history)) → IsEnding mib entries last wal now ending
 ended mib entries last wal mid now stopped log (Ok end) flushed later going tip archive =
-    (going flushed.0, flushed.1.0 ∙ ap (λ (t : Tip). t.end) tip, archive flushed.1.1)
+    (going flushed.0, flushed.1 ∙ ap (λ (t : Tip). t.end) tip, archive flushed.2)
 ended mib entries last wal mid now stopped log (Err area.Failed) flushed later going tip archive = (
   elim flushed.0 [ inl on ↦ inl (going on) | inr memory ↦ inr memory ],
   omega (arith, flushed.1, later),
@@ -132,7 +132,7 @@ placed P m n place other bytes again files old new mib at same before holds =
 
 -- what a flush that succeeded wrote
 flushed_to : (stopped : Bool) (log : Log) (mid now : AreaState) (ending : Result Lsn AreaFault) (W : Type 0) → FlushAnswer stopped log mid now ending → (IsWrittenAt log.mib log.flushed log.pending mid.files now.files → W) → IfOk ending (λ end. W)
-flushed_to stopped log mid now (Ok end) W flushed leads = leads flushed.1.1
+flushed_to stopped log mid now (Ok end) W flushed leads = leads flushed.2
 flushed_to stopped log mid now (Err why) W flushed leads = tt
 
 -- what the WAL held before, told at the state that a run begins on

@@ -7,7 +7,7 @@ use Rattle.std.specs.Global.{Vec}
 use Rattle.lsn_core.specs.Files.{Files}
 use Rattle.lsn_core.specs.Store.{Store, files_of}
 use Rattle.lsn_core.specs.declared.lsn.Lsn.{Lsn}
-use Rattle.lsn_core.specs.Segment.{StoreSettings}
+use Rattle.lsn_core.specs.Segment.{StoreSettings, IsSegmentMib, IsRelseg}
 use Rattle.lsn_core.specs.declared.fault.AreaFault.{AreaFault}
 use Rattle.lsn_core.specs.declared.fault.AreaFault.TheVariants.{NoMemory}
 use Rattle.vault.specs.declared.area.Vault.{Ghosts as Vaults}
@@ -126,6 +126,10 @@ abbrev pub TellsClear : Option Files → Bool → Type 0
 TellsClear files clear = IfSome files (λ m. IsTrue clear ↔ (m ≡ empty))
 
 -- ---- `init`
+
+-- settings are in their ranges
+abbrev pub HasRanges : StoreSettings → Type 0
+HasRanges s = IsSegmentMib s.segment × IsRelseg s.relseg
 
 -- the areas of the WAL and of the summaries
 abbrev pub init_areas_in : {V : Type 0} → Vaults V → V → V → InitAreas

@@ -45,7 +45,7 @@ pub record ReplayDone (old new : ReplayAreas) (report : ReplayReport) : Type 0 w
   pub read : ReadWal
   pub read_is : IsReadWal settings.segment old.wal.files read
   pub written : new.out.files ≡ option_map (λ m. files_of settings.relseg read.store) old.out.files
-  pub end : report.end ≡ read.tip.end
+  pub end : report.end.0 ≡ read.tip.end
   pub forks : report.forks ≡ len read.store
   pub pages : report.pages ≡ page_count read.store
 

@@ -7,7 +7,7 @@ ghost use Rattle.vault.specs.Area.{bytes_of};
 ghost use Rattle.wal_record.specs.Places.{first_start};
 ghost use Rattle.wal_record.specs.Tips.{first_tip};
 ghost use Rattle.pgbackup_cli.specs.Init.{segment_name, first_entry, HoldsPart};
-ghost use Rattle.pgbackup_cli.specs.Inner.{with_settings, with_segment, with_both, checkpoint_in, IsSettingsTorn, IsSegmentTorn, IsCheckpointed, IsCheckpointLeft};
+ghost use Rattle.pgbackup_cli.specs.Inner.{HasRanges, with_settings, with_segment, with_both, checkpoint_in, IsSettingsTorn, IsSegmentTorn, IsCheckpointed, IsCheckpointLeft};
 
 use lsn_core::{AreaFault, LONG_HEAD, Lsn, SegSize, Settings, WalTip};
 use std::alloc::Global;
@@ -25,6 +25,7 @@ fn write_settings<V: Vault>(
     ensures written { OnOk result (V.files wal.new ≡ with_settings settings.now (V.files wal.old)) }
     ensures left { OnErr result (IsSettingsTorn settings.now (V.files wal.old) (V.files wal.new)) }
     ensures cause { HasCause (V.faults wal.old) (V.faults wal.new) result }
+    ensures known { HasRanges settings.now }
 {
     let text = settings_text(alloc, settings.segment(), settings.relseg())?;
     wal.sync()?;
@@ -97,6 +98,7 @@ pub fn write_wal<V: Vault>(
     ensures written { OnOk result.1 (V.files result.0 ≡ with_both settings (V.files area)) }
     ensures left { OnErr result.1 (HoldsPart settings (V.files area) (V.files result.0)) }
     ensures cause { HasCause (V.faults area) (V.faults result.0) result.1 }
+    ensures known { HasRanges settings }
 {
     let mut area = area;
     if let Err(fault) = write_settings(alloc, &mut area, &settings) {

@@ -21,7 +21,7 @@ use crate::faults::{
 };
 use crate::names::{names_of, output_name};
 use history::PageMap;
-use lsn_core::{AreaFault, Lsn, NoMemory, Text, lsn_text};
+use lsn_core::{AreaFault, Lsn, NoMemory, Settings, Text, lsn_text};
 use recovery::read_wal;
 use rel_files::write_store;
 use std::alloc::Global;
@@ -97,13 +97,12 @@ fn write_out<V: Vault>(
     alloc: Global,
     out: &mut V,
     store: &PageMap,
-    relseg: u32,
+    settings: &Settings,
 ) -> Result<(), AreaFault>
-    requires { 0 < relseg }
-    ensures written { OnOk result (IsWrittenOut V.Vault relseg store.now out.old out.new) }
+    ensures written { OnOk result (IsWrittenOut V.Vault settings.now.relseg store.now out.old out.new) }
     ensures cause { HasCause (V.faults out.old) (V.faults out.new) result }
 {
-    write_store(alloc, out, store, relseg)?;
+    write_store(alloc, out, store, settings.relseg())?;
     out.sync()
 }
 
@@ -124,7 +123,7 @@ fn replay_areas<V: Vault>(
     }
     let (settings, read) = read_wal(alloc, wal)?;
     let pages = page_count(&read.store)?;
-    write_out(alloc, out, &read.store, settings.relseg())?;
+    write_out(alloc, out, &read.store, &settings)?;
     Ok(ReplayReport {
         end: read.tip.end,
         forks: read.store.fork_count(),
