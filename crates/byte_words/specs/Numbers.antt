@@ -14,7 +14,9 @@ None >>= f = None
 
 -- the number at the front, and the bytes after it
 abbrev pub number_at : Width → List ℕ → Option (ℕ × List ℕ)
-number_at w bytes = if nat_lt (length bytes) (byte_len w) then None else Some (from_le_bytes w (take (byte_len w) bytes), drop (byte_len w) bytes)
+number_at w bytes =
+    if nat_lt (length bytes) (byte_len w) then None
+    else Some (from_le_bytes w (take (byte_len w) bytes), drop (byte_len w) bytes)
 
 -- the numbers at a place
 abbrev pub u16_in : List ℕ → ℕ → ℕ

@@ -18,7 +18,8 @@ TextsHaveOneLsn = (text : List ℕ) (a b : ℕ) → IsLsnText text a → IsLsnTe
 
 -- the name that is written is that of timeline 1
 abbrev pub WrittenNamesAreRead : Type 0
-WrittenNamesAreRead = (number mib : ℕ) → segment_name_bytes number mib ≡ segment_file_bytes 1 number mib
+WrittenNamesAreRead = (number mib : ℕ)
+    → segment_name_bytes number mib ≡ segment_file_bytes 1 number mib
 
 -- a name is that of one segment
 abbrev pub NamesHaveOneSegment : Type 0
@@ -44,4 +45,5 @@ FilesAreDistinct = (relseg : ℕ) (store : Store) → 0 < relseg → HasNamedFor
 abbrev pub FilesHoldSegments : Type 0
 FilesHoldSegments = (relseg : ℕ) (store : Store) (fork : ForkId) (seg : ℕ)
     → 0 < relseg → HasNamedForks store → IsNamed fork seg
-    → get (files_of relseg store) (fork_path_bytes fork seg false) ≡ segment_in relseg seg (get store fork)
+    → get (files_of relseg store) (fork_path_bytes fork seg false)
+    ≡ segment_in relseg seg (get store fork)

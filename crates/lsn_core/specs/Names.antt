@@ -32,7 +32,8 @@ per_group mib = 2 ^ 32 / segment_bytes mib
 
 -- a segment's number in two groups of eight digits
 abbrev pub number_groups : ℕ → ℕ → List ℕ
-number_groups number mib = eight_digits (number / per_group mib) ++ eight_digits (number % per_group mib)
+number_groups number mib =
+    eight_digits (number / per_group mib) ++ eight_digits (number % per_group mib)
 
 -- the name of a segment file of timeline 1 (WAL Internals), by its number and the size in MiB
 abbrev pub segment_name_bytes : ℕ → ℕ → List ℕ

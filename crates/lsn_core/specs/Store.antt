@@ -59,4 +59,5 @@ files_of relseg store = with_files empty (store_files relseg store)
 abbrev pub segment_in : ℕ → ℕ → Option ForkPages → Option (List ℕ)
 segment_in relseg seg None = None
 segment_in relseg seg (Some pages) =
-    if nat_lt seg (segment_count relseg (length pages)) then Some (segment_content relseg pages seg) else None
+    if nat_lt seg (segment_count relseg (length pages))
+    then Some (segment_content relseg pages seg) else None

@@ -13,7 +13,8 @@ all_digits text = list_all is_ascii_digit text
 -- 1 to 10 decimal digits of a number below 2^32; leading zeros may stand
 abbrev pub is_number : List ℕ → Bool
 is_number text =
-    nat_le 1 (length text) && (nat_le (length text) 10 && (all_digits text && nat_lt (digits_value 10 text) (2 ^ 32)))
+    nat_le 1 (length text) && (nat_le (length text) 10
+    && (all_digits text && nat_lt (digits_value 10 text) (2 ^ 32)))
 
 -- the number that such digits write
 abbrev pub number_of : List ℕ → Option ℕ
