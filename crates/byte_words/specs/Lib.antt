@@ -1,3 +1,4 @@
 pub mod Numbers
+pub mod Cuts
 pub mod Pieces
 pub mod Told

@@ -1,5 +1,5 @@
--- Numbers as little-endian bytes, read from the front of a list.
-use Rattle.std.specs.Prelude.{ℕ, ◌+◌, ◌*◌, ◌<◌, List, length, get_or, take, drop, Option, Some, None, nat_lt, if◌then◌else◌}
+-- Numbers as little-endian bytes, read from the front of a list; and places rounded up.
+use Rattle.std.specs.Prelude.{ℕ, ◌+◌, ◌*◌, ◌/◌, ◌<◌, List, length, get_or, take, drop, Option, Some, None, nat_lt, if◌then◌else◌}
 use Rattle.std.specs.Int.{Width, byte_len, from_le_bytes}
 
 -- each element is a byte
@@ -25,3 +25,7 @@ u32_in bytes at = u16_in bytes at + 65536 * u16_in bytes (at + 2)
 
 abbrev pub u64_in : List ℕ → ℕ → ℕ
 u64_in bytes at = u32_in bytes at + 4294967296 * u32_in bytes (at + 4)
+
+-- the next multiple of 8
+abbrev pub aligned : ℕ → ℕ
+aligned at = (at + 7) / 8 * 8

@@ -8,3 +8,7 @@ overwritten bytes at piece = take at bytes ++ (piece ++ drop (at + length piece)
 -- the list with zeros behind it up to a length
 abbrev pub zero_filled : List ℕ → ℕ → List ℕ
 zero_filled bytes size = bytes ++ replicate (size - length bytes) 0
+
+-- a page of zeros
+unfoldable pub zero_page : List ℕ
+zero_page = replicate 8192 0

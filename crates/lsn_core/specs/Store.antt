@@ -18,24 +18,24 @@ kind_number Init = 1
 abbrev pub fork_cmp : ForkId → ForkId → Ordering
 fork_cmp a b = ordering_then (ordering_then (nat_cmp a.rel.db b.rel.db) (nat_cmp a.rel.rel b.rel.rel)) (nat_cmp (kind_number a.kind) (kind_number b.kind))
 
--- a page is a list of 8192 bytes
-abbrev pub Pages : Type 0
-Pages = List (List ℕ)
+-- the pages of a fork, in order; a page is a list of 8192 bytes
+abbrev pub ForkPages : Type 0
+ForkPages = List (List ℕ)
 
 -- a store is a finite map from fork to its pages
 abbrev pub Store : Type 0
-Store = FinMap fork_cmp Pages
+Store = FinMap fork_cmp ForkPages
 
 -- how many segment files a fork of so many blocks has: one always
 abbrev pub segment_count : ℕ → ℕ → ℕ
 segment_count relseg blocks = max 1 ((blocks + (relseg - 1)) / relseg)
 
 -- the bytes of a segment file
-abbrev pub segment_content : ℕ → Pages → ℕ → List ℕ
+abbrev pub segment_content : ℕ → ForkPages → ℕ → List ℕ
 segment_content relseg pages seg = flat_map (λ page. page) (take relseg (drop (seg * relseg) pages))
 
 -- the files of a fork, at so many blocks a file
-abbrev pub fork_files : ℕ → ForkId × Pages → List (List ℕ × List ℕ)
+abbrev pub fork_files : ℕ → ForkId × ForkPages → List (List ℕ × List ℕ)
 fork_files relseg e = map (λ seg. (fork_path_bytes e.0 seg false, segment_content relseg e.1 seg)) (range_with_len 0 (segment_count relseg (length e.1)))
 
 -- files put into a directory, one after the other

@@ -76,3 +76,10 @@ pub struct BlockId {
     pub fork: ForkId,
     pub block: u32,
 }
+
+/// A fork, and how many blocks it has.
+#[derive(Clone, Copy, Debug, PartialEq, Eq)]
+pub struct ForkLen {
+    pub fork: ForkId,
+    pub blocks: u32,
+}

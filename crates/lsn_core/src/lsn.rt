@@ -6,6 +6,7 @@ ghost use Rattle.lsn_core.specs.Names.{lsn_bytes};
 use crate::fault::NoMemory;
 use crate::text::Text;
 use std::alloc::Global;
+use std::marker::Model;
 
 /// A log sequence number: a byte position in the WAL (PostgreSQL manual, pg_lsn type).
 #[derive(Clone, Copy, Debug, PartialEq, Eq, PartialOrd, Ord)]
@@ -18,12 +19,29 @@ pub struct Place {
     pub end: Lsn,
 }
 
-/// The end of an archive of WAL: where the last entry ends, and where it starts (0 where there is
-/// none).
+/// The end of a WAL: where its last entry ends, where that starts (0 where there is none), the
+/// latest redo point, and how many entries there are. Contracts see a `Tip`.
 #[derive(Clone, Copy, Debug, PartialEq, Eq)]
 pub struct WalTip {
     pub end: Lsn,
     pub prev: Lsn,
+    pub redo: Lsn,
+    pub count: u64,
+}
+
+impl Model for WalTip {
+    ghost use Rattle.lsn_core.specs.Tip.{Tip};
+
+    ghost Value = { Tip };
+
+    ghost view = { λ t. record { end = t.end.0; prev = t.prev.0; redo = t.redo.0; count = t.count } };
+
+    ghost inverse = { λ t. record {
+      end = record { 0 = t.end };
+      prev = record { 0 = t.prev };
+      redo = record { 0 = t.redo };
+      count = t.count;
+    } };
 }
 
 /// The LSN as it is printed: two upper-case hexadecimal numbers, the high and the low 32 bits,

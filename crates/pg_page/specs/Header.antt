@@ -1,8 +1,10 @@
 -- The header of a page (PostgreSQL manual, Database Page Layout), and the hole in its middle.
-use Rattle.std.specs.Prelude.{◌≡◌, ℕ, ◌+◌, ◌-◌, ◌*◌, ◌/◌, ◌%◌, ◌^◌, ◌≤◌, List, ◌++◌, length, get_or, replicate, Option, Some, None, nat_lt, if◌then◌else◌}
+use Rattle.std.specs.Prelude.{◌≡◌, ℕ, ◌+◌, ◌-◌, ◌*◌, ◌/◌, ◌%◌, ◌^◌, ◌≤◌, List, ◌++◌, length, replicate, Option, Some, None, nat_lt, if◌then◌else◌}
 use Rattle.std.specs.Int.{w16, w32, to_le_bytes}
 use Rattle.byte_words.specs.Numbers.{u16_in, u32_in}
 use Rattle.byte_words.specs.Pieces.{overwritten}
+-- a page of zeros, as an added block is
+unfoldable pub use Rattle.byte_words.specs.Pieces.{zero_page}
 
 -- pd_lower, pd_upper, pd_special and pd_pagesize_version
 abbrev pub lower_of : List ℕ → ℕ
@@ -55,7 +57,3 @@ unfoldable pub made_page : ℕ → ℕ → ℕ → List ℕ
 made_page lower upper fill =
     replicate 12 0 ++ (made_fields lower upper ++ (replicate 4 0
     ++ (replicate (lower - 24) fill ++ (replicate (upper - lower) 0 ++ replicate (8192 - upper) fill))))
-
--- a page of zeros, as an added block is
-unfoldable pub zero_page : List ℕ
-zero_page = replicate 8192 0

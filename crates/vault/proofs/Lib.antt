@@ -2,10 +2,13 @@ pub mod LentAreas
 pub mod MemoryFiles
 pub mod Printed
 pub mod Reading
+pub mod SetAreas
 pub mod Slots
 pub mod Written
+pub mod Taking
 pub mod Torn
 pub mod Undone
 pub mod Through
+pub mod Giving
 pub mod Honest
 pub mod Picked
