@@ -9,5 +9,6 @@ pub mod Taking
 pub mod Torn
 pub mod Undone
 pub mod Through
+pub mod Giving
 pub mod Honest
 pub mod Picked

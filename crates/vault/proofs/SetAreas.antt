@@ -1,5 +1,5 @@
 -- The areas of a site, of which one is set.
-use Rattle.std.proofs.Common.{◌≡◌, ◌≢◌, ℕ, ◌≤◌, Bool, true, false, List, refl, inl, inr, ◌⊎◌, Result, Ok, Err, OnOk, OnErr, ap}
+use Rattle.std.proofs.Common.{◌≡◌, ◌≢◌, ℕ, Bool, true, false, List, refl, inl, inr, ◌⊎◌, Result, Ok, Err, OnOk, OnErr, ap}
 use Rattle.std.specs.Str.{bytes_eq}
 use Rattle.std.proofs.lemmas.Slice.Eq.{bytes_eq-Decides}
 use Rattle.vault.specs.Site.{AreaState, Areas, AllHome, away, set_at}

@@ -1,11 +1,10 @@
 -- Areas of a list, taken one after the other.
-use Rattle.std.proofs.Common.{◌≡◌, ℕ, ◌≤◌, true, List, [], ◌∷◌, ◌++◌, refl, sym, ◌∙◌, inl, inr, arith, append-nil, append_assoc}
+use Rattle.std.proofs.Common.{◌≡◌, ℕ, ◌≤◌, true, List, [], ◌∷◌, ◌++◌, sym, ◌∙◌, inl, inr, arith, append-nil, append_assoc}
 use Rattle.vault.specs.declared.area.Vault.{Ghosts}
 use Rattle.vault.specs.declared.site.Site.{Ghosts as SiteGhosts}
 use Rattle.vault.specs.declared.lending.Held.{Held}
 use Rattle.vault.specs.declared.lending.TakeFault.{TakeFault}
-use Rattle.vault.specs.Site.{AllHome, state_in}
-use Rattle.vault.specs.Lending.{Names, IsOneOf, IsNoneOf, AreDistinct, AreHome, names_of, all_away, AreAreasOf, AreOut, TakeCause, AreTaken, NoneTaken, GivesBack}
+use Rattle.vault.specs.Lending.{Names, IsNoneOf, AreDistinct, AreHome, names_of, all_away, AreAreasOf, AreOut, AreTaken, NoneTaken, GivesBack}
 use Rattle.vault.proofs.SetAreas.{same_home}
 use Rattle.vault.proofs.LentAreas.{is_among, distinct_front, distinct_next, away_none, away_push, rest_home, areas_push, areas_named, taken_are_out, back_again}
 

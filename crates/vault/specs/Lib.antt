@@ -7,6 +7,7 @@ pub mod MemoryStreams
 pub mod Shelf
 pub mod Site
 pub mod Stream
+pub mod Printing
 pub mod Whole
 pub mod Stops
 pub mod Record

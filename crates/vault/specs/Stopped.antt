@@ -5,7 +5,7 @@ use Rattle.std.specs.FinMap.{empty}
 use Rattle.lsn_core.specs.Files.{Files}
 use Rattle.vault.specs.Area.{after_write}
 use Rattle.vault.specs.Record.{Change, changed, files_by, changes_of, told}
-use Rattle.vault.specs.Memory.{MemoryArea, new_area}
+use Rattle.vault.specs.Memory.{MemoryArea, new_area, IsOnlyChanged}
 use Rattle.vault.specs.Frame.{LeavesNow}
 use Rattle.vault.specs.declared.change.Change.{Change as Kept}
 use Rattle.vault.specs.declared.stopped.Pick.{Pick}
@@ -35,6 +35,11 @@ left_of Noise (inr other) files = changed (inr other) files
 abbrev pub left_since : Pick → List Change → Files → Files
 left_since pick [] files = files
 left_since pick (change ∷ earlier) files = left_of pick change (left_since pick earlier files)
+
+-- changes were made again, of each what is picked
+pub record IsRedone (pick : Pick) (changes : List Change) (old new : MemoryArea) : Type 0 where
+  pub files : new.files ≡ left_since pick changes old.files
+  pub rest : IsOnlyChanged old new
 
 -- the files of a new area after these changes: all up to the last sync, and what is kept of those since
 abbrev pub left_by : Pick → List Change → Files

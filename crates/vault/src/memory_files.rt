@@ -4,8 +4,8 @@ ghost use Rattle.std.specs.Prelude.{◌≡◌, ◌-◌, ◌^◌, ◌≤◌, ℕ,
 ghost use Rattle.std.specs.Option.{option_map};
 ghost use Rattle.std.specs.FinMap.{get, keys};
 ghost use Rattle.byte_words.specs.Pieces.{zero_filled};
-ghost use Rattle.vault.specs.Area.{bytes_of, file_written, after_write, after_cut, after_remove};
-ghost use Rattle.vault.specs.Memory.{files_in, reads_in, read_count, more_read};
+ghost use Rattle.vault.specs.Area.{bytes_of, file_written, after_cut, after_remove};
+ghost use Rattle.vault.specs.Memory.{files_in, reads_in, read_count, IsWritten, IsReadCounted};
 
 use byte_words::overwrite;
 use lsn_core::{NoMemory, Text};
@@ -63,8 +63,7 @@ pub fn write_file(
     at: u64,
     piece: &[u8],
 ) -> Result<(), NoMemory>
-    ensures written { OnOk result (files_in files.new ≡ after_write name.now at piece.now (files_in files.old)) }
-    ensures same { OnErr result (files_in files.new ≡ files_in files.old) }
+    ensures { IsWritten name.now at piece.now files.old files.new result }
 {
     match files.get_mut(name) {
         Some(bytes) => write_over(bytes, at, piece),
@@ -81,8 +80,7 @@ fn make_file(
     piece: &[u8],
 ) -> Result<(), NoMemory>
     requires { get (files_in files.old) name.now ≡ None }
-    ensures written { OnOk result (files_in files.new ≡ after_write name.now at piece.now (files_in files.old)) }
-    ensures same { OnErr result (files_in files.new ≡ files_in files.old) }
+    ensures { IsWritten name.now at piece.now files.old files.new result }
 {
     let mut bytes = Vec::new(alloc);
     write_over(&mut bytes, at, piece)?;
@@ -150,8 +148,7 @@ pub fn count_read(
     name: &[u8],
     count: u32,
 ) -> Result<(), NoMemory>
-    ensures counted { OnOk result (reads_in reads.new ≡ more_read name.now count (reads_in reads.old)) }
-    ensures same { OnErr result (reads_in reads.new ≡ reads_in reads.old) }
+    ensures { IsReadCounted name.now count reads.old reads.new result }
 {
     let so_far = count_in(reads, name);
     reads.insert(name.to_vec(alloc)?, so_far.saturating_add(u64::from(count)))?;

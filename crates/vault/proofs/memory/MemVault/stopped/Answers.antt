@@ -14,7 +14,7 @@ returns-clause-files c =
     let kept = c.self.inside.changes.items in
     let count = c.durable_count.result in
     let back = c.split_at.result.1.now in
-    ap (λ (a : MemoryArea). a.files) c.in_ok-settle.ensures.done
+    ap (λ (a : MemoryArea). a.files) c.in_ok-settle.ensures.made
     ∙ stopped_files count (pick_of c.args.pick) kept c.split_at.result.0.now back c.args.self.now.changes c.in_ok-area.area.files c.redo_all.new.self.files c.redo_all-2.new.self.files
     (ap (λ (a : MemoryArea). a.changes) c.self.view_is)
     (subst (IsSplitAt count) c.deref-2.ensures.value c.durable_count.ensures.splits)
