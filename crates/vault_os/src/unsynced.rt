@@ -1,6 +1,6 @@
 //! What the next sync of an area makes durable.
 
-ghost use Rattle.std.specs.Prelude.{◌≡◌, IsTrue, IsErr, OnOk, OnErr, false, true};
+ghost use Rattle.std.specs.Prelude.{◌≡◌, IsErr, OnOk, OnErr, false, true};
 
 use crate::errors::SystemError;
 use crate::files::sync_at;
