@@ -2,7 +2,7 @@
 
 ghost use Rattle.std.specs.Prelude.{◌≡◌, ◌+◌, ◌-◌, ◌<◌, ◌≤◌, ◌↔◌, length, replicate, IsTrue, IsSome, IfSome};
 ghost use Rattle.byte_words.specs.Pieces.{overwritten};
-ghost use Rattle.pg_page.specs.Header.{IsGood, lsn_of, lsn_field, hole_of, hole_zeroed, with_lsn, zero_page, made_page};
+ghost use Rattle.pg_page.specs.Header.{IsGood, lsn_of, lsn_field, hole_of, hole_zeroed, with_lsn, zero_page};
 
 use byte_words::{overwrite, u16_in};
 use std::marker::Model;

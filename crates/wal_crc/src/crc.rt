@@ -1,7 +1,6 @@
 //! The running sum.
 
-ghost use Rattle.std.specs.Prelude.{◌≡◌, ℕ, ◌+◌, ◌*◌, fold};
-ghost use Rattle.std.specs.Int.{w64, from_le_bytes};
+ghost use Rattle.std.specs.Prelude.{◌≡◌, ℕ, fold};
 ghost use Rattle.wal_crc.specs.Crc.{bit_steps, byte_step, crc_start, crc_run, finished};
 
 use crate::tables::after_zeros;

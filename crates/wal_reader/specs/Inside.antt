@@ -1,5 +1,5 @@
 -- What functions inside the crate answer. No public contract cites these.
-use Rattle.std.specs.Prelude.{◌≡◌, ℕ, ◌+◌, ◌-◌, ◌<◌, ◌≤◌, ◌^◌, ◌↔◌, Bool, IsTrue, List, [], ◌∷◌, ◌++◌, length, take, drop, min, codes, Option, Some, None, IfSome, Result, Ok, Err}
+use Rattle.std.specs.Prelude.{◌≡◌, ℕ, ◌+◌, ◌-◌, ◌<◌, ◌≤◌, ◌^◌, ◌↔◌, Bool, IsTrue, List, ◌∷◌, ◌++◌, length, take, drop, min, codes, Option, Some, None, IfSome, Result, Ok, Err}
 use Rattle.std.specs.FinMap.{get}
 use Rattle.std.specs.Fmt.{decimal}
 use Rattle.std.specs.Global.{Vec}

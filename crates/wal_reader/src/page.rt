@@ -53,18 +53,15 @@ pub fn front_if_there<V: Vault>(
 }
 
 /// The held bytes of the archive's first page.
-pub fn page_of<V: Vault>(
-    alloc: Global,
-    wal: &mut V,
-    segment: SegSize,
-) -> Result<Vec<u8>, AreaFault>
+pub fn page_of<V: Vault>(alloc: Global, wal: &mut V, segment: SegSize) -> Result<Vec<u8>, AreaFault>
     ensures bytes { IfOk result (λ page. IsFirstPage segment (V.files wal.old) page.items) }
     ensures size { IfOk result (λ page. length page.items ≤ 8192) }
     ensures reads { OnlyReads V.Vault wal.old wal.new }
     ensures cause { HasCause (V.faults wal.old) (V.faults wal.new) result }
 {
+    // The first page lies within the segment: the file's bytes behind it are passed over.
     let bytes = segment.bytes();
-    prove!(8192 <= bytes);
+    prove!(PAGE <= bytes);
     let name = segment_name(alloc, 1, segment)?;
     let page = front(alloc, wal, name.as_bytes())?;
     Ok(page)

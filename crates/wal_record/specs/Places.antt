@@ -1,5 +1,5 @@
 -- Where entries stand on the first page of the WAL (PostgreSQL manual, WAL Internals).
-use Rattle.std.specs.Prelude.{ℕ, ◌+◌, ◌-◌, ◌*◌, ◌/◌, List, ◌++◌, ◌==◌, if◌then◌else◌}
+use Rattle.std.specs.Prelude.{ℕ, ◌+◌, ◌-◌, List, ◌++◌, ◌==◌, if◌then◌else◌}
 use Rattle.std.specs.Int.{w16, w32, w64, to_le_bytes}
 use Rattle.byte_words.specs.Numbers.{aligned}
 use Rattle.byte_words.specs.Pieces.{zero_filled}

@@ -5,7 +5,7 @@ ghost use Rattle.lsn_core.specs.Causes.{HasCause};
 ghost use Rattle.wal_record.specs.Spelling.{IsWritable};
 ghost use Rattle.wal_record.specs.Tips.{IsWithin};
 ghost use Rattle.wal_writer.specs.Log.{IsLog, log_at, flushed_to, rewound};
-ghost use Rattle.wal_writer.specs.Answers.{AppendAnswer, to_flush, Flushes, Tears, IsUndone};
+ghost use Rattle.wal_writer.specs.Answers.{AppendAnswer, Flushes, Tears, IsUndone};
 ghost use Rattle.wal_writer.specs.Inside.{WritesTail, TearsTail, WritesPiece, TearsPiece};
 
 use crate::fault::AppendFault;
@@ -38,8 +38,8 @@ impl Flushed {
 }
 
 impl<V: Vault> WalState<V> {
-    /// The WAL of an area with these settings whose archive ends so: at the start of segment 1,
-    /// or behind an entry of its first page. Nothing waits to be flushed.
+    /// The WAL of an area with these settings whose archive ends with this tip, within the WAL's
+    /// room. Nothing waits to be flushed.
     pub fn attach(alloc: Global, area: V, settings: Settings, tip: WalTip) -> WalState<V>
         requires { IsWithin settings.segment tip }
         ensures area { result.area ≡ area }
@@ -59,7 +59,7 @@ impl<V: Vault> WalState<V> {
     }
 
     /// Appends an entry in memory, at the start of the segment behind its page's head. `WalFull`
-    /// exactly where it would end past the first page; a refusal changes nothing.
+    /// exactly where it would end past the WAL's room; a refusal changes nothing.
     pub fn append(&mut self, alloc: Global, kind: Kind) -> Result<Record, AppendFault>
         requires { IsWritable kind }
         ensures answer { AppendAnswer kind self.old.tail self.new.tail result }
