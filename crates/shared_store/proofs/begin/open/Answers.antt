@@ -11,7 +11,7 @@ pub returns-then-read-eq0-clause-answer : goal.returns-then-read-eq0-clause-answ
 returns-then-read-eq0-clause-answer g c =
     let settings = c.in_ok-settings.settings in
     let read = c.in_ok-read.read in
-    let same = c.in_ok-sync.ensures.same ∙ c.in_ok-settings.ensures.same in
+    let same = c.in_ok-sync.ensures.same ∙ c.in_ok-settings.ensures.reads.files in
     let none : read.tip.count ≡ 0 = ap (λ (r : ReadWal). r.tip.count) (sym c.read.view_is) ∙ c.if-read-eq0.true in
     inr (record {
       settings = settings;
@@ -24,7 +24,7 @@ pub returns-clause-answer : goal.returns-clause-answer
 returns-clause-answer g c =
     let settings = c.in_ok-settings.settings in
     let read = c.in_ok-read.read in
-    let same = c.in_ok-sync.ensures.same ∙ c.in_ok-settings.ensures.same in
+    let same = c.in_ok-sync.ensures.same ∙ c.in_ok-settings.ensures.reads.files in
     let count : read.tip.count ≡ c.read.inside.0.0.count = ap (λ (r : ReadWal). r.tip.count) (sym c.read.view_is) in
     let some : 0 < read.tip.count = omega (arith, count, c.if-read-eq0.false) in
     record {
