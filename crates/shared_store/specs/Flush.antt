@@ -1,5 +1,5 @@
 -- What a flush of a store does to the area of its WAL.
-use Rattle.std.specs.Prelude.{ℕ, ◌<◌, ◌≤◌}
+use Rattle.std.specs.Prelude.{◌<◌, ◌≤◌}
 use Rattle.vault.specs.declared.area.Vault.{Ghosts}
 use Rattle.wal_writer.specs.Log.{Log, flushed_to}
 use Rattle.wal_writer.specs.Answers.{IsWrittenOut, IsLeft}
