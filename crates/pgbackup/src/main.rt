@@ -35,14 +35,25 @@ fn run_words(rt: &HostRuntime) -> Result<Status, NoMemory> {
     let mut input = OsSource::new(rt.clone()?);
     let mut out = OsSink::new(rt.clone()?);
     let mut clock = OsClock::new(rt.clone()?);
-    Ok(pgbackup(
+    let status = pgbackup(
         rt.alloc(),
         &words,
         &mut site,
         &mut input,
         &mut out,
         &mut clock,
-    ))
+    );
+    if status == Status::Device {
+        say(rt, site.said().or(input.said()).or(out.said()));
+    }
+    Ok(status)
+}
+
+/// Prints what the system said of a device that failed, as one line on standard error.
+fn say(rt: &HostRuntime, said: Option<&str>) {
+    if let Some(said) = said {
+        let _ = eprintln!(rt; "pgbackup: {said}");
+    }
 }
 
 fn main(rt: HostRuntime) -> ExitCode {

@@ -7,40 +7,40 @@
 #![tactic(auto)]
 
 #[cfg(test)]
-mod byte_words;
+mod byte_words_tests;
 #[cfg(test)]
 mod calls;
 #[cfg(test)]
-mod crew;
+mod crew_run_tests;
 #[cfg(test)]
-mod crew_runs;
+mod crew_tests;
 #[cfg(test)]
-mod history;
+mod history_tests;
 #[cfg(test)]
-mod lsn_core;
+mod lsn_core_tests;
 #[cfg(test)]
-mod pg_page;
+mod pg_page_tests;
 #[cfg(test)]
-mod replay;
+mod replay_tests;
 #[cfg(test)]
 mod samples;
 #[cfg(test)]
-mod shared_store;
+mod shared_store_tests;
 #[cfg(test)]
-mod store;
+mod store_tests;
 #[cfg(test)]
-mod text_numbers;
+mod text_numbers_tests;
 #[cfg(test)]
-mod vault_memory;
+mod vault_memory_tests;
 #[cfg(test)]
-mod vault_os;
+mod vault_os_tests;
 #[cfg(test)]
-mod vault_streams;
+mod vault_streams_tests;
 #[cfg(test)]
-mod wal_crc;
+mod wal_crc_tests;
 #[cfg(test)]
-mod wal_reader;
+mod wal_reader_tests;
 #[cfg(test)]
-mod wal_record;
+mod wal_record_tests;
 #[cfg(test)]
-mod wal_writer;
+mod wal_writer_tests;

@@ -1,5 +1,5 @@
 use crate::samples::{ARCHIVE, NEW_WAL, main_fork};
-use lsn_core::{ForkKind, Lsn, Place};
+use lsn_core::{BlockId, ForkKind, Lsn, Place};
 use std::alloc::Global;
 use std::process::Abort;
 use std::test::Fail;
@@ -26,7 +26,7 @@ fn image() -> &'static [u8] {
 }
 
 #[test]
-fn one_creation_and_one_image(rt: HostRuntime) -> Result<(), Fail> {
+fn a_checkpoint_and_a_creation_are_read(rt: HostRuntime) -> Result<(), Fail> {
     let first = decode_record(rt.alloc(), checkpoint(), PLACE, Some(Lsn(0)))?;
     assert_eq!(rt;
         (first.start, first.end, first.prev, first.xid),
@@ -41,15 +41,20 @@ fn one_creation_and_one_image(rt: HostRuntime) -> Result<(), Fail> {
         (fork.rel.db(), fork.rel.rel(), fork.kind),
         (5, 16384, ForkKind::Main)
     );
+    Ok(())
+}
+
+#[test]
+fn an_image_is_read(rt: HostRuntime) -> Result<(), Fail> {
     let changed = decode_record(rt.alloc(), image(), PLACE, None)?;
     let Kind::Generic(blocks) = &changed.kind else {
         return Err("no blocks")?;
     };
-    let block = blocks.as_slice().first().ok_or("no block")?;
-    assert_eq!(rt;
-        (block.at.fork, block.at.block, blocks.as_slice().len()),
-        (*fork, 0, 1)
-    );
+    let [block] = blocks.as_slice() else {
+        return Err("not one block")?;
+    };
+    let fork = main_fork(16384).ok_or("no relation")?;
+    assert_eq!(rt; block.at, BlockId { fork, block: 0 });
     let Body::Image(page) = block.body;
     assert_eq!(rt; page.hole(), Some((32, 8160)));
     assert_eq!(rt; page.bytes()[..32], ARCHIVE[0xc1..0xe1]);
