@@ -27,8 +27,3 @@ pub use run::{Answer, Answers, run_is_read_again, run_lines};
 pub use script::{Command, Line, Lines, SCRIPT_LIMIT, Script, Task};
 pub use shape::PageShape;
 pub use why::{ScriptFault, Why, why_text};
-
-#[cfg(test)]
-mod run_tests;
-#[cfg(test)]
-mod tests;

@@ -17,6 +17,3 @@ mod page_map;
 pub use applying::{ApplyFault, apply};
 pub use op::Op;
 pub use page_map::PageMap;
-
-#[cfg(test)]
-mod tests;

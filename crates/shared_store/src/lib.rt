@@ -18,6 +18,3 @@ mod store;
 pub use begin::BeginFault;
 pub use fault::{InsertFault, Receipt};
 pub use store::Store;
-
-#[cfg(test)]
-mod tests;
