@@ -1,7 +1,9 @@
-# Two commands do all on a machine with the kit: `make demo` runs the program on a sample script, `make test` is the gate.
+# On a machine with the kit: `make try` shows the program on a sample script, unproved; `make demo` proves it first;
+# `make test` is the gate, and `make edits` tries the wrong bodies that the gate leaves out, or those of NAMES='..'.
 PREFIX ?= /usr/local
+NAMES ?=
 
-.PHONY: build demo test bench conformance install clean
+.PHONY: build demo try test edits bench conformance install clean
 
 build:
 	./demo/build
@@ -9,8 +11,14 @@ build:
 demo: build
 	./demo/tour bin/pgbackup
 
+try:
+	./demo/try
+
 test:
 	rt ci
+
+edits:
+	./edits/run $(NAMES)
 
 conformance: build
 	python3 conformance/replay.py bin/pgbackup

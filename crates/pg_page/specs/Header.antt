@@ -34,7 +34,8 @@ pub record IsGood (page : List ℕ) : Type 0 where
 
 -- the hole of a good page: from pd_lower to pd_upper, where that isn't empty
 abbrev pub hole_of : List ℕ → Option (ℕ × ℕ)
-hole_of page = if nat_lt (lower_of page) (upper_of page) then Some (lower_of page, upper_of page) else None
+hole_of page =
+    if nat_lt (lower_of page) (upper_of page) then Some (lower_of page, upper_of page) else None
 
 -- the page with zeros in its hole
 unfoldable pub hole_zeroed : List ℕ → List ℕ
@@ -50,10 +51,14 @@ with_lsn at page = overwritten page 0 (lsn_field at)
 
 -- the header's places of a page made from nothing, with no special space
 unfoldable pub made_fields : ℕ → ℕ → List ℕ
-made_fields lower upper = to_le_bytes w16 lower ++ (to_le_bytes w16 upper ++ (to_le_bytes w16 8192 ++ to_le_bytes w16 8196))
+made_fields lower upper =
+    to_le_bytes w16 lower ++ (to_le_bytes w16 upper
+    ++ (to_le_bytes w16 8192 ++ to_le_bytes w16 8196))
 
--- a page made from nothing: `fill` outside the header and the hole, all else zero but the header's places
+-- a page made from nothing: `fill` outside the header and the hole, all else zero but the header's
+-- places
 unfoldable pub made_page : ℕ → ℕ → ℕ → List ℕ
 made_page lower upper fill =
     replicate 12 0 ++ (made_fields lower upper ++ (replicate 4 0
-    ++ (replicate (lower - 24) fill ++ (replicate (upper - lower) 0 ++ replicate (8192 - upper) fill))))
+    ++ (replicate (lower - 24) fill
+    ++ (replicate (upper - lower) 0 ++ replicate (8192 - upper) fill))))

@@ -16,4 +16,5 @@ image_of page = image_without page (hole_of page)
 
 -- the page of an image: zeros stand at the offset where bytes were left out
 unfoldable pub restored : ℕ → List ℕ → List ℕ
-restored offset image = take offset image ++ (replicate (8192 - length image) 0 ++ drop offset image)
+restored offset image =
+    take offset image ++ (replicate (8192 - length image) 0 ++ drop offset image)

@@ -21,6 +21,7 @@ pub fn make_page(lower: u16, upper: u16, fill: u8) -> Option<Page>
     Some(Page::from_good(bytes))
 }
 
+/// The bytes of that page.
 fn made_bytes(lower: u16, upper: u16, fill: u8) -> [u8; 8192]
     requires least { 24 ≤ lower }
     requires order { lower ≤ upper }
@@ -34,7 +35,7 @@ fn made_bytes(lower: u16, upper: u16, fill: u8) -> [u8; 8192]
     bytes
 }
 
-// pd_lower, pd_upper, pd_special and pd_pagesize_version
+/// The bytes of pd_lower, pd_upper, pd_special and pd_pagesize_version.
 #[tactic(auto, unfolding(crate::specs::Header::made_fields))]
 fn made_fields(lower: u16, upper: u16) -> [u8; 8]
     ensures { result ≡ made_fields lower upper }

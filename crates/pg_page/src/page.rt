@@ -2,7 +2,7 @@
 
 ghost use Rattle.std.specs.Prelude.{◌≡◌, ◌+◌, ◌-◌, ◌<◌, ◌≤◌, ◌↔◌, length, replicate, IsTrue, IsSome, IfSome};
 ghost use Rattle.byte_words.specs.Pieces.{overwritten};
-ghost use Rattle.pg_page.specs.Header.{IsGood, lsn_of, lsn_field, hole_of, hole_zeroed, with_lsn, zero_page, made_page};
+ghost use Rattle.pg_page.specs.Header.{IsGood, lsn_of, lsn_field, hole_of, hole_zeroed, with_lsn, zero_page};
 
 use byte_words::{overwrite, u16_in};
 use std::marker::Model;
@@ -105,6 +105,8 @@ pub fn zero_page() -> [u8; 8192]
     [0; 8192]
 }
 
+/// Whether the header is good: the version is 4 with 8192 bytes, and pd_lower, pd_upper and
+/// pd_special stand in order behind the header.
 fn is_good(page: &[u8; 8192]) -> bool
     ensures { IsTrue result ↔ IsGood page.now }
 {
@@ -112,7 +114,7 @@ fn is_good(page: &[u8; 8192]) -> bool
     u16_in(page, 18) == 8196 && 24 <= lower && lower <= upper && upper <= special && special <= 8192
 }
 
-// the eight bytes of pd_lsn
+/// The eight bytes of pd_lsn: the high half first.
 #[tactic(auto, unfolding(crate::specs::Header::lsn_field))]
 fn lsn_field(at: u64) -> [u8; 8]
     ensures { result ≡ lsn_field at }

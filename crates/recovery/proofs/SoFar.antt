@@ -15,7 +15,7 @@ use Rattle.wal_record.specs.declared.record.Record.{Record}
 use Rattle.wal_record.specs.Tips.{first_tip, tip_after, tip_behind, IsWithin}
 use Rattle.wal_record.proofs.Tips.{tip_behind-append}
 use Rattle.wal_reader.specs.declared.fault.WalFault.{WalFault}
-use Rattle.wal_reader.specs.Cursor.{Cursor, NextAnswer, StepAnswer, Steps, moved, step_causes}
+use Rattle.wal_reader.specs.Cursor.{Cursor, NextAnswer, StepAnswer, Steps, cursor_after, step_causes}
 use Rattle.wal_reader.specs.Archive.{held_bytes, EndsAt, Follows, IsDamagedAt, IsArchive, IsDamaged}
 use Rattle.wal_reader.proofs.Causing.{cause_passed}
 use Rattle.wal_reader.proofs.Passing.{Passes, Passes-push, Passes-end, Passes-damage}
@@ -83,7 +83,7 @@ at_damage mib files tip store place so damaged =
 
 -- an answer of a cursor that had met no fault
 answered : (c new : Cursor) (files : Option Files) (before now : ℕ) (result : Result (Option Record) WalFault) → c.fault ≡ None → NextAnswer c.fault c new files before now result
-    → (new ≡ moved c result) × StepAnswer c.mib c.tip files before now result
+    → (new ≡ cursor_after c result) × StepAnswer c.mib c.tip files before now result
 answered c new files before now result fresh answer = subst (λ (f : Option WalFault). NextAnswer f c new files before now result) fresh answer
 
 rose_earlier : (before now later : ℕ) → before ≤ now → Rose now later → Rose before later
@@ -100,7 +100,7 @@ module _ {V : Type 0} (g : Ghosts V) where
 
   -- an answer of the cursor, of what the area held at first
   step_kept : (mib : ℕ) (old now later : V) (c new : Cursor) (store : Store) (result : Result (Option Record) WalFault) → Keeps mib old now c store → Steps g c new now later result
-      → (new ≡ moved c result) × StepAnswer mib c.tip (g.files old) (g.faults now) (g.faults later) result
+      → (new ≡ cursor_after c result) × StepAnswer mib c.tip (g.files old) (g.faults now) (g.faults later) result
   step_kept mib old now later c new store result kept answer =
       let a = answered c new (g.files now) (g.faults now) (g.faults later) result kept.fresh answer in
       (a.0, subst (λ (f : Option Files). StepAnswer mib c.tip f (g.faults now) (g.faults later) result) kept.reads.files (subst (λ (n : ℕ). StepAnswer n c.tip (g.files now) (g.faults now) (g.faults later) result) kept.segment a.1))

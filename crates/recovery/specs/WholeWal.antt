@@ -14,7 +14,8 @@ use Rattle.wal_reader.specs.Settings.{IsSettingsOf}
 use Rattle.history.specs.Whole.{entry_of, apply_all}
 use Rattle.recovery.specs.declared.replaying.ReadWal.{ReadWal}
 
--- a WAL was read whole: the entries of the archive, the tip behind them, and the store that they make from nothing
+-- a WAL was read whole: the entries of the archive, the tip behind them, and the store that they
+-- make from nothing
 pub record IsReadWal (mib : ℕ) (files : Option Files) (read : ReadWal) : Type 0 where
   pub entries : List Record
   pub archive : IfSome files (λ m. IsArchive mib m entries read.tip)
@@ -24,7 +25,9 @@ pub record IsReadWal (mib : ℕ) (files : Option Files) (read : ReadWal) : Type 
 
 -- it can't be where the archive is damaged
 abbrev pub archive_causes : ℕ → Option Files → WalCauses
-archive_causes mib files = record no_causes { damaged = λ place why. IfSome files (λ m. IsDamaged mib m place) }
+archive_causes mib files = record no_causes {
+  damaged = λ place why. IfSome files (λ m. IsDamaged mib m place);
+}
 
 abbrev pub ReplayAnswer : ℕ → Option Files → ℕ → ℕ → Result ReadWal WalFault → Type 0
 ReplayAnswer mib files before now (Ok read) = IsReadWal mib files read
@@ -38,10 +41,16 @@ pub record HasSettings (files : Option Files) (settings : StoreSettings) : Type 
   pub given : IfSome files (λ m. IsSettingsOf m settings)
   pub blocks : IsRelseg settings.relseg
 
+-- the archive of these files is damaged at a place, by the settings that they have
+abbrev pub HasDamage : Option Files → ℕ → Type 0
+HasDamage files place =
+    (settings : StoreSettings)
+    × (HasSettings files settings × IfSome files (λ m. IsDamaged settings.segment m place))
+
 -- a WAL can't be read where its settings can't, and where they can and its archive is damaged
 abbrev pub wal_causes : Option Files → WalCauses
 wal_causes files = record (settings_causes files) {
-  damaged = λ place why. (settings : StoreSettings) × (HasSettings files settings × IfSome files (λ m. IsDamaged settings.segment m place));
+  damaged = λ place why. HasDamage files place;
 }
 
 abbrev pub WalCause : Option Files → ℕ → ℕ → WalFault → Type 0

@@ -1,7 +1,6 @@
 //! The running sum.
 
-ghost use Rattle.std.specs.Prelude.{◌≡◌, ℕ, ◌+◌, ◌*◌, fold};
-ghost use Rattle.std.specs.Int.{w64, from_le_bytes};
+ghost use Rattle.std.specs.Prelude.{◌≡◌, ℕ, fold};
 ghost use Rattle.wal_crc.specs.Crc.{bit_steps, byte_step, crc_start, crc_run, finished};
 
 use crate::tables::after_zeros;
@@ -47,7 +46,7 @@ impl Crc {
     }
 }
 
-// The register after some bytes more, in eights.
+/// The register after some bytes more, in eights.
 fn after_eights(register: u32, eights: &[[u8; 8]]) -> u32
     ensures { result ≡ fold crc_run register eights.now }
 {
@@ -56,14 +55,14 @@ fn after_eights(register: u32, eights: &[[u8; 8]]) -> u32
         .fold(register, |r, eight| after_eight(r, *eight))
 }
 
-// The register after some bytes more.
+/// The register after some bytes more.
 fn after_bytes(register: u32, bytes: &[u8]) -> u32
     ensures { result ≡ crc_run register bytes.now }
 {
     bytes.iter().fold(register, |r, byte| after_byte(r, *byte))
 }
 
-// The register after eight bytes more.
+/// The register after eight bytes more.
 #[inline(always)]
 fn after_eight(register: u32, eight: [u8; 8]) -> u32
     ensures { result ≡ crc_run register eight }
@@ -71,7 +70,7 @@ fn after_eight(register: u32, eight: [u8; 8]) -> u32
     emptied(u64::from_le_bytes(eight) ^ u64::from(register))
 }
 
-// The register once the 64 bits of a word have left it.
+/// The register once the 64 bits of a word have left it.
 #[inline(always)]
 fn emptied(word: u64) -> u32
     ensures { result ≡ bit_steps 64 word }
@@ -87,7 +86,7 @@ fn emptied(word: u64) -> u32
         ^ after_zeros(0, bytes[7])
 }
 
-// The register after one byte more.
+/// The register after one byte more.
 #[inline(always)]
 fn after_byte(register: u32, byte: u8) -> u32
     ensures { result ≡ byte_step register byte }

@@ -13,7 +13,7 @@ pub(crate) fn after_zeros(zeros: usize, byte: u8) -> u32
     REGISTERS[zeros][byte as usize]
 }
 
-// By the number of bytes of zeros, then by the byte.
+/// What `after_zeros` gives, by the number of bytes of zeros and then by the byte.
 static REGISTERS: [[u32; 256]; 8] = [
     [
         0x00000000, 0xf26b8303, 0xe13b70f7, 0x1350f3f4, 0xc79a971f, 0x35f1141c, 0x26a1e7e8,

@@ -1,4 +1,10 @@
 //! CRC-32C for a caller in C, as bench/ measures it.
+//!
+//! `wal_crc32c` gives the sum that `specs/Crc.antt` of `wal_crc` says. It is a static library of
+//! that one function, which `rt lib` builds.
+//!
+//! Left to the caller, of whom no proof knows: that the pointer and the length are those of bytes
+//! that may be read.
 #![tactic(auto)]
 
 ghost use Rattle.std.specs.Prelude.{◌≡◌};

@@ -38,11 +38,11 @@ byte_of_part page offset size i below = get_or-take size (drop offset page) i 0 
 
 pub number_of_part : (page : List ℕ) (offset size : ℕ) → 4 ≤ size → u32_in (take size (drop offset page)) 0 ≡ u32_in page offset
 number_of_part page offset size long =
-    let moved = λ (n : ℕ). get_or page n 0 in
-    let b0 : get_or (take size (drop offset page)) 0 0 ≡ get_or page offset 0 = byte_of_part page offset size 0 (omega arith) ∙ ap moved (omega arith) in
+    let cursor_after = λ (n : ℕ). get_or page n 0 in
+    let b0 : get_or (take size (drop offset page)) 0 0 ≡ get_or page offset 0 = byte_of_part page offset size 0 (omega arith) ∙ ap cursor_after (omega arith) in
     let b1 : get_or (take size (drop offset page)) 1 0 ≡ get_or page (offset + 1) 0 = byte_of_part page offset size 1 (omega arith) in
     let b2 : get_or (take size (drop offset page)) 2 0 ≡ get_or page (offset + 2) 0 = byte_of_part page offset size 2 (omega arith) in
-    let b3 : get_or (take size (drop offset page)) 3 0 ≡ get_or page (offset + 2 + 1) 0 = byte_of_part page offset size 3 (omega arith) ∙ ap moved (omega arith) in
+    let b3 : get_or (take size (drop offset page)) 3 0 ≡ get_or page (offset + 2 + 1) 0 = byte_of_part page offset size 3 (omega arith) ∙ ap cursor_after (omega arith) in
     rw (b0, b1, b2, b3) refl
 
 pub record HasSize (mib : ℕ) (page : List ℕ) (start size : ℕ) : Type 0 where

@@ -1,5 +1,5 @@
 -- Entries read so far, for a loop over a cursor.
-use Rattle.std.proofs.Common.{◌≡◌, ℕ, List, [], ◌∷◌, ◌++◌, refl, subst}
+use Rattle.std.proofs.Common.{ℕ, List, [], ◌∷◌, ◌++◌, refl}
 use Rattle.lsn_core.specs.Tip.{Tip}
 use Rattle.wal_record.specs.declared.record.Record.{Record}
 use Rattle.wal_record.specs.Tips.{tip_after, tip_behind}

@@ -1,15 +1,12 @@
 -- The file `settings`: its lines are read in one way, and it is short.
-use Rattle.std.proofs.Common.{◌≡◌, ℕ, ◌+◌, ◌-◌, ◌/◌, ◌%◌, ◌<◌, ◌≤◌, ◌^◌, ◌==◌, true, false, List, [], ◌∷◌, ◌++◌, length, get_or, take, drop, codes, Option, Some, None, IsSome, IfSome, IfNone, refl, ap, sym, subst, ◌∙◌, arith, cond, nat_lt, add-one}
+use Rattle.std.proofs.Common.{◌≡◌, ℕ, ◌/◌, ◌%◌, ◌<◌, ◌≤◌, ◌^◌, ◌==◌, true, false, List, [], ◌∷◌, ◌++◌, length, take, codes, Option, Some, None, IsSome, IfSome, IfNone, refl, ap, sym, subst, ◌∙◌, arith}
 use Rattle.std.specs.Fmt.{decimal, digits}
 use Rattle.std.specs.Int.{IsInRange}
-use Rattle.std.specs.List.{position, position_or_len}
-use Rattle.std.specs.Option.{option_map, MatchOption, is_some}
+use Rattle.std.specs.Option.{option_map, is_some}
 use Rattle.std.specs.FinMap.{get}
 use Rattle.std.proofs.Math.Nat.{le-div_iff_mul-le, div-eq_of_lt, mod-eq_of_lt}
-use Rattle.std.proofs.lemmas.Bool.{ne_eqb, lt-ltb, eqb-true}
-use Rattle.std.proofs.lemmas.List.{take_all, length-append, append_cancel_left, length-drop, take-append-drop, length-take}
-use Rattle.std.proofs.lemmas.List.Quantifiers.{position-Some}
-use Rattle.std.proofs.Math.Seq.{take-append_seam, drop-append-add, drop-cons}
+use Rattle.std.proofs.lemmas.Bool.{ne_eqb, eqb-true}
+use Rattle.std.proofs.lemmas.List.{take_all, length-append, append_cancel_left, length-take}
 use Rattle.std.proofs.lemmas.Fmt.{decimal_injective, length-decimal-le}
 use Rattle.byte_words.specs.Cuts.{cut_at}
 use Rattle.byte_words.proofs.Cutting.{Lacks, front_of, back_of, cut_again, cut_whole}
@@ -18,10 +15,8 @@ use Rattle.text_numbers.proofs.Decimal.{tells, decimal_is_digits}
 use Rattle.lsn_core.specs.Segment.{IsSegmentMib, IsRelseg, StoreSettings, segment_bytes}
 use Rattle.lsn_core.specs.Names.{segment_name_bytes, eight_digits}
 use Rattle.lsn_core.specs.Files.{Files}
-use Rattle.wal_reader.specs.Head.{system_in}
-use Rattle.wal_reader.specs.Archive.{held_bytes, first_page}
 use Rattle.wal_reader.specs.Settings.{first_segment, settings_text, IsSettingsText, GivesSettings, IsDamagedText, IsSettingsOf}
-use Rattle.wal_reader.specs.Inside.{line_of, HasNoLine, HasNoNumbers, Tells, TellsSettings, IsSystemOf}
+use Rattle.wal_reader.specs.Inside.{HasNoLine, HasNoNumbers, TellsNumbers, TellsSettings, IsSystemOf}
 
 -- no digit is a line end
 no_line_end : (text : List ℕ) → all_digits text ≡ true → Lacks 10 text
@@ -152,7 +147,7 @@ whole_front : (bytes : List ℕ) → length (take 8192 bytes) ≤ 43 → take 81
 whole_front bytes short = take_all 8192 bytes (omega (arith, length-take 8192 bytes, short))
 
 pub told_by : (file : Option (List ℕ)) (front : List ℕ) (o : Option (ℕ × ℕ)) → Some front ≡ option_map (take 8192) file
-    → IfSome o (λ x. IsSettingsText front x.0 x.1) → IfNone o (IsDamagedText (Some front)) → Tells file o
+    → IfSome o (λ x. IsSettingsText front x.0 x.1) → IfNone o (IsDamagedText (Some front)) → TellsNumbers file o
 told_by None front o e found none = absurd (cc)
 told_by (Some bytes) front (Some x) e found none =
     let cut : front ≡ take 8192 bytes = cc in
@@ -163,7 +158,7 @@ told_by (Some bytes) front None e found none = λ mib relseg is.
     let whole : take 8192 bytes ≡ bytes = take_all 8192 bytes (omega (arith, length_settings bytes mib relseg is)) in
     none mib relseg (subst (λ (l : List ℕ). IsSettingsText l mib relseg) (sym (cut ∙ whole)) is)
 
-pub told_absent : (file : Option (List ℕ)) (mib : ℕ) → mib ≡ 16 → None ≡ option_map (take 8192) file → Tells file (Some (mib, 131072))
+pub told_absent : (file : Option (List ℕ)) (mib : ℕ) → mib ≡ 16 → None ≡ option_map (take 8192) file → TellsNumbers file (Some (mib, 131072))
 told_absent None mib standard e = (standard, refl)
 told_absent (Some bytes) mib standard e = absurd (cc)
 

@@ -1,5 +1,5 @@
 -- Why a call that reads the WAL fails: the cause of each fault, once for all calls.
-use Rattle.std.specs.Prelude.{◌≡◌, ◌≢◌, ℕ}
+use Rattle.std.specs.Prelude.{◌≢◌, ℕ}
 use Rattle.lsn_core.specs.Causes.{Rose}
 use Rattle.lsn_core.specs.declared.fault.AreaFault.{AreaFault}
 use Rattle.lsn_core.specs.declared.fault.AreaFault.TheVariants as area
@@ -7,7 +7,8 @@ use Rattle.wal_reader.specs.declared.fault.Damage.{Damage}
 use Rattle.wal_reader.specs.declared.fault.WalFault.{WalFault}
 use Rattle.wal_reader.specs.declared.fault.WalFault.TheVariants.{Damaged, SettingsDamaged, NotInit, Failed, NoMemory}
 
--- when a call refuses what the area holds: the archive is damaged at a place, the settings are damaged, or there is no WAL
+-- when a call refuses what the area holds: the archive is damaged at a place, the settings are
+-- damaged, or there is no WAL
 pub record WalCauses : Type 1 where
   pub damaged : ℕ → Damage → Type 0
   pub settings : Type 0
@@ -17,7 +18,8 @@ pub record WalCauses : Type 1 where
 abbrev pub no_causes : WalCauses
 no_causes = record { damaged = λ place why. ⊥; settings = ⊥; missing = ⊥ }
 
--- the cause of a fault, where a call refuses so, and the area's count of faults was one number before it and is another one now
+-- the cause of a fault, where a call refuses so, and the area's count of faults was one number
+-- before it and is another one now
 abbrev pub CauseOf : WalCauses → ℕ → ℕ → WalFault → Type 0
 CauseOf causes before now (Damaged place why) = causes.damaged place.0 why
 CauseOf causes before now SettingsDamaged = causes.settings
@@ -30,6 +32,6 @@ abbrev pub IsOfFiles : WalFault → Type 0
 IsOfFiles fault = (fault ≢ Failed) × (fault ≢ NoMemory)
 
 -- what an area's fault is to a reader of the WAL
-abbrev pub area_fault : AreaFault → WalFault
-area_fault area.Failed = Failed
-area_fault area.NoMemory = NoMemory
+abbrev pub wal_fault_of : AreaFault → WalFault
+wal_fault_of area.Failed = Failed
+wal_fault_of area.NoMemory = NoMemory

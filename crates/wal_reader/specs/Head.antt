@@ -5,9 +5,9 @@ use Rattle.lsn_core.specs.Segment.{segment_bytes}
 use Rattle.lsn_core.specs.Sizes.{long_head, page_magic, page_size}
 use Rattle.wal_record.specs.Places.{origin}
 
--- a long page header for the start of segment 1, with no entry continued there: flag 1 isn't set and
--- nothing remains. The magic number is the profile's, flag 2 tells the long form, and flag 4 (removable)
--- may be set. The system identifier and the padding may be any
+-- a long page header for the start of segment 1, with no entry continued there: flag 1 isn't set
+-- and nothing remains. The magic number is the profile's, flag 2 tells the long form, and flag 4
+-- (removable) may be set. The system identifier and the padding may be any
 pub record IsHead (mib : ℕ) (page : List ℕ) : Type 0 where
   pub held : long_head ≤ length page
   pub magic : u16_in page 0 ≡ page_magic

@@ -1,4 +1,5 @@
--- The settings of a WAL: its file `settings` (profile), and the system identifier in its first page.
+-- The settings of a WAL: its file `settings` (profile), and the system identifier in its first
+-- page.
 use Rattle.std.specs.Prelude.{◌≡◌, ℕ, Option, Some, None, List, [], ◌∷◌, ◌++◌, codes, IsSome}
 use Rattle.std.specs.Fmt.{decimal}
 use Rattle.std.specs.FinMap.{get}
@@ -14,7 +15,9 @@ first_segment = codes "000000010000000000000001"
 
 -- the file `settings` (profile): two lines
 abbrev pub settings_text : ℕ → ℕ → List ℕ
-settings_text mib relseg = codes "segment-mib " ++ (decimal mib ++ (10 ∷ (codes "blocks-per-segment " ++ (decimal relseg ++ (10 ∷ [])))))
+settings_text mib relseg =
+    codes "segment-mib " ++ (decimal mib ++ (10 ∷
+    (codes "blocks-per-segment " ++ (decimal relseg ++ (10 ∷ [])))))
 
 -- it gives these numbers, in their ranges
 pub record IsSettingsText (bytes : List ℕ) (mib relseg : ℕ) : Type 0 where
@@ -22,7 +25,8 @@ pub record IsSettingsText (bytes : List ℕ) (mib relseg : ℕ) : Type 0 where
   pub blocks : IsRelseg relseg
   pub text : bytes ≡ settings_text mib relseg
 
--- the settings that files give: those of the file `settings`, or 16 MiB and 131072 blocks where it isn't there
+-- the settings that files give: those of the file `settings`, or 16 MiB and 131072 blocks where it
+-- isn't there
 abbrev pub GivesSettings : Option (List ℕ) → ℕ → ℕ → Type 0
 GivesSettings None mib relseg = (mib ≡ 16) × (relseg ≡ most_relseg)
 GivesSettings (Some bytes) mib relseg = IsSettingsText bytes mib relseg
@@ -31,6 +35,9 @@ GivesSettings (Some bytes) mib relseg = IsSettingsText bytes mib relseg
 abbrev pub IsDamagedText : Option (List ℕ) → Type 0
 IsDamagedText None = ⊥
 IsDamagedText (Some bytes) = (mib relseg : ℕ) → IsSettingsText bytes mib relseg → ⊥
+
+abbrev pub HasDamagedSettings : Files → Type 0
+HasDamagedSettings files = IsDamagedText (get files (codes "settings"))
 
 -- the settings of a WAL: the file of segment 1 is there, and the identifier stands in its head
 pub record IsSettingsOf (files : Files) (s : StoreSettings) : Type 0 where

@@ -1,7 +1,8 @@
 //! A cursor over the archive.
 //!
-//! Where the archive goes on, where it ends and where it is damaged is said in `specs/Archive.antt`;
-//! what each call answers and how it leaves the cursor, in `specs/Cursor.antt`.
+//! Where the archive goes on, where it ends and where it is damaged is said in
+//! `specs/Archive.antt`; what each call answers and how it leaves the cursor, in
+//! `specs/Cursor.antt`.
 
 ghost use Rattle.std.specs.Prelude.{◌≡◌, ◌≤◌, length, IfOk};
 ghost use Rattle.lsn_core.specs.Causes.{HasCause};
@@ -66,11 +67,7 @@ impl WalCursor {
     /// be asked again. `Damaged` exactly where the archive is damaged behind the entries so far.
     /// After a fault other than `Failed` it answers the same fault again; after `Failed` it stands
     /// as before the call. It reads the page anew, and the file up to a byte other than zero.
-    pub fn next<V: Vault>(
-        &mut self,
-        alloc: Global,
-        wal: &mut V,
-    ) -> Result<Option<Record>, WalFault>
+    pub fn next<V: Vault>(&mut self, alloc: Global, wal: &mut V) -> Result<Option<Record>, WalFault>
         ensures answer { Steps V.Vault self.old self.new wal.old wal.new result }
         ensures reads { OnlyReads V.Vault wal.old wal.new }
     {
@@ -112,12 +109,7 @@ fn is_end<V: Vault>(
 }
 
 /// The entry that follows behind a tip, where the archive goes on.
-fn follows(
-    alloc: Global,
-    page: &[u8],
-    segment: SegSize,
-    tip: WalTip,
-) -> Result<Record, WalFault>
+fn follows(alloc: Global, page: &[u8], segment: SegSize, tip: WalTip) -> Result<Record, WalFault>
     requires tip { IsWithin segment tip }
     requires page { length page.now ≤ 8192 }
     ensures { FollowAnswer segment page.now tip result }

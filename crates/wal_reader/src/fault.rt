@@ -2,7 +2,7 @@
 
 ghost use Rattle.std.specs.Prelude.{◌≡◌};
 ghost use Rattle.wal_reader.specs.declared.fault.WalFault.TheVariants as wal;
-ghost use Rattle.wal_reader.specs.Causes.{area_fault};
+ghost use Rattle.wal_reader.specs.Causes.{wal_fault_of};
 
 use lsn_core::{AreaFault, Lsn, NoMemory};
 
@@ -38,7 +38,7 @@ impl From<NoMemory> for WalFault {
 }
 
 impl From<AreaFault> for WalFault {
-    ghost from_gives = { λ fault e. e ≡ area_fault fault };
+    ghost from_gives = { λ fault e. e ≡ wal_fault_of fault };
 
     fn from(fault: AreaFault) -> Self {
         match fault {

@@ -1,12 +1,11 @@
 //! Reading the archive from its wal: the first page, and whether all behind an offset is zero.
 
 ghost use Rattle.std.specs.Prelude.{◌≡◌, ◌^◌, ◌≤◌, IfOk, length};
-ghost use Rattle.std.specs.Option.{option_map};
 ghost use Rattle.lsn_core.specs.Causes.{HasCause};
 ghost use Rattle.vault.specs.Frame.{OnlyReads};
 ghost use Rattle.wal_record.specs.Places.{origin};
 ghost use Rattle.wal_reader.specs.Scan.{all_zero};
-ghost use Rattle.wal_reader.specs.Inside.{IsFront, IsFrontIfThere, IsFrontRead, IsFirstPage, RunsIn, TellsZeros, TellsZerosFrom};
+ghost use Rattle.wal_reader.specs.Inside.{IsFileFront, IsFrontIfThere, IsFrontRead, IsFirstPage, RunsIn, TellsZeros, TellsZerosFrom};
 
 use byte_words::zeros;
 use lsn_core::{AreaFault, PAGE, SegSize, segment_name};
@@ -17,7 +16,7 @@ use vault::Vault;
 fn read_front<V: Vault>(wal: &mut V, name: &[u8], into: &mut [u8]) -> Result<u32, AreaFault>
     requires { length into.old ≤ 2 ^ 20 }
     ensures count { IfOk result (λ count. count ≤ length into.old) }
-    ensures front { IfOk result (λ count. IsFrontRead (V.files wal.old) name.now (length into.old) into.new count) }
+    ensures read { IfOk result (IsFrontRead (V.files wal.old) name.now (length into.old) into.new) }
     ensures reads { OnlyReads V.Vault wal.old wal.new }
     ensures cause { HasCause (V.faults wal.old) (V.faults wal.new) result }
 {
@@ -26,7 +25,7 @@ fn read_front<V: Vault>(wal: &mut V, name: &[u8], into: &mut [u8]) -> Result<u32
 
 /// The first 8192 bytes of a file, or all that it has.
 fn front<V: Vault>(alloc: Global, wal: &mut V, name: &[u8]) -> Result<Vec<u8>, AreaFault>
-    ensures bytes { IfOk result (λ page. IsFront (V.files wal.old) name.now page.items) }
+    ensures bytes { IfOk result (λ page. IsFileFront (V.files wal.old) name.now page.items) }
     ensures size { IfOk result (λ page. length page.items ≤ 8192) }
     ensures reads { OnlyReads V.Vault wal.old wal.new }
     ensures cause { HasCause (V.faults wal.old) (V.faults wal.new) result }
@@ -43,7 +42,7 @@ pub fn front_if_there<V: Vault>(
     wal: &mut V,
     name: &[u8],
 ) -> Result<Option<Vec<u8>>, AreaFault>
-    ensures bytes { IfOk result (λ found. IsFrontIfThere (V.files wal.old) name.now (option_map (λ v. v.items) found)) }
+    ensures bytes { IfOk result (IsFrontIfThere (V.files wal.old) name.now) }
     ensures reads { OnlyReads V.Vault wal.old wal.new }
     ensures cause { HasCause (V.faults wal.old) (V.faults wal.new) result }
 {
@@ -54,18 +53,15 @@ pub fn front_if_there<V: Vault>(
 }
 
 /// The held bytes of the archive's first page.
-pub fn page_of<V: Vault>(
-    alloc: Global,
-    wal: &mut V,
-    segment: SegSize,
-) -> Result<Vec<u8>, AreaFault>
+pub fn page_of<V: Vault>(alloc: Global, wal: &mut V, segment: SegSize) -> Result<Vec<u8>, AreaFault>
     ensures bytes { IfOk result (λ page. IsFirstPage segment (V.files wal.old) page.items) }
     ensures size { IfOk result (λ page. length page.items ≤ 8192) }
     ensures reads { OnlyReads V.Vault wal.old wal.new }
     ensures cause { HasCause (V.faults wal.old) (V.faults wal.new) result }
 {
+    // The first page lies within the segment: the file's bytes behind it are passed over.
     let bytes = segment.bytes();
-    prove!(8192 <= bytes);
+    prove!(PAGE <= bytes);
     let name = segment_name(alloc, 1, segment)?;
     let page = front(alloc, wal, name.as_bytes())?;
     Ok(page)

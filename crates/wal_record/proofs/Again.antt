@@ -15,7 +15,7 @@ use Rattle.wal_record.specs.declared.fields.Front.{Front}
 use Rattle.wal_record.specs.declared.fields.Extent.{Extent}
 use Rattle.wal_record.specs.declared.fields.Announced.{Announced}
 use Rattle.wal_record.specs.Heads.{rel_bytes}
-use Rattle.wal_record.specs.Spelling.{fork_number, rel_name, body_of, IsWritable}
+use Rattle.wal_record.specs.Spelling.{fork_number, full_name, body_of, IsWritable}
 use Rattle.wal_record.specs.Decoding.{front_at, main_at, rel_at, kind_numbered, kind_flagged, shutdown_at, create_at, extent_at, announced_at}
 
 -- a test that passes
@@ -53,7 +53,7 @@ main_again len more lt =
     step_again w8 (2 ^ 8) wide8 _ len more _ _ refl lt (
     passes _ _ _ (and_from (nat_eq 255 255) (len == len) refl (eq-eqb _ _ refl))))
 
-pub rel_again : (rel : Relation) (more : List ℕ) → (0 < rel.db) × (0 < rel.rel) → (rel.db < 2 ^ 32) × (rel.rel < 2 ^ 32) → rel_at (rel_bytes (Some (rel_name rel)) more) ≡ Some (rel, more)
+pub rel_again : (rel : Relation) (more : List ℕ) → (0 < rel.db) × (0 < rel.rel) → (rel.db < 2 ^ 32) × (rel.rel < 2 ^ 32) → rel_at (rel_bytes (Some (full_name rel)) more) ≡ Some (rel, more)
 unfolding rel_at
 rel_again rel more some fits =
     step_again w32 (2 ^ 32) wide32 _ 1663 (to_le_bytes w32 rel.db ++ (to_le_bytes w32 rel.rel ++ more)) _ _ refl (omega arith) (
@@ -96,11 +96,11 @@ pub shutdown_again : (redo : Lsn) → IsWritable (Shutdown redo) → shutdown_at
 shutdown_again redo fits = shutdown_followed redo [] fits refl
 
 create_followed : (fork : ForkId) (end : List ℕ) → IsWritable (Create fork) → length end ≡ 0
-    → create_at (to_le_bytes w8 255 ++ (to_le_bytes w8 16 ++ rel_bytes (Some (rel_name fork.rel)) (to_le_bytes w32 (fork_number fork.kind) ++ end))) ≡ Some fork
+    → create_at (to_le_bytes w8 255 ++ (to_le_bytes w8 16 ++ rel_bytes (Some (full_name fork.rel)) (to_le_bytes w32 (fork_number fork.kind) ++ end))) ≡ Some fork
 unfolding create_at
 create_followed fork end fits nil =
     let last : List ℕ = to_le_bytes w32 (fork_number fork.kind) ++ end in
-    let main : List ℕ = rel_bytes (Some (rel_name fork.rel)) last in
+    let main : List ℕ = rel_bytes (Some (full_name fork.rel)) last in
     takes_again _ _ main _ (main_again 16 main (omega arith)) (
     takes_again _ _ (fork.rel, last) _ (rel_again fork.rel last fits.0 fits.1) (
     step_again w32 (2 ^ 32) wide32 last (fork_number fork.kind) end _ _ refl (number_fits fork.kind) (
@@ -119,12 +119,12 @@ extent_again extent more bl bo bi =
 
 pub announced_again : (head : Announced) (more : List ℕ) → head.at.block < 32768 → (0 < head.at.fork.rel.db) × (0 < head.at.fork.rel.rel) → (head.at.fork.rel.db < 2 ^ 32) × (head.at.fork.rel.rel < 2 ^ 32)
     → head.extent.len < 2 ^ 16 → head.extent.offset < 2 ^ 16 → head.extent.info < 2 ^ 8
-    → announced_at (to_le_bytes w8 0 ++ (to_le_bytes w8 (fork_number head.at.fork.kind + 0x10 + 0) ++ (to_le_bytes w16 0 ++ (to_le_bytes w16 head.extent.len ++ (to_le_bytes w16 head.extent.offset ++ (to_le_bytes w8 head.extent.info ++ rel_bytes (Some (rel_name head.at.fork.rel)) (to_le_bytes w32 head.at.block ++ more)))))))
+    → announced_at (to_le_bytes w8 0 ++ (to_le_bytes w8 (fork_number head.at.fork.kind + 0x10 + 0) ++ (to_le_bytes w16 0 ++ (to_le_bytes w16 head.extent.len ++ (to_le_bytes w16 head.extent.offset ++ (to_le_bytes w8 head.extent.info ++ rel_bytes (Some (full_name head.at.fork.rel)) (to_le_bytes w32 head.at.block ++ more)))))))
     ≡ Some (head, more)
 unfolding announced_at
 announced_again head more number some fits bl bo bi =
     let r6 : List ℕ = to_le_bytes w32 head.at.block ++ more in
-    let r5 : List ℕ = rel_bytes (Some (rel_name head.at.fork.rel)) r6 in
+    let r5 : List ℕ = rel_bytes (Some (full_name head.at.fork.rel)) r6 in
     let r4 : List ℕ = to_le_bytes w16 head.extent.len ++ (to_le_bytes w16 head.extent.offset ++ (to_le_bytes w8 head.extent.info ++ r5)) in
     let r2 : List ℕ = to_le_bytes w16 0 ++ r4 in
     step_again w8 (2 ^ 8) wide8 _ 0 (to_le_bytes w8 (fork_number head.at.fork.kind + 0x10 + 0) ++ r2) _ _ refl (omega arith) (

@@ -25,7 +25,7 @@ use Rattle.wal_record.specs.declared.fields.Front.{Front}
 use Rattle.wal_record.specs.declared.fields.Extent.{Extent}
 use Rattle.wal_record.specs.declared.fields.Announced.{Announced}
 use Rattle.wal_record.specs.Heads.{rel_bytes}
-use Rattle.wal_record.specs.Spelling.{fork_number, rel_name, manager_of, info_of, body_of, total_of, spelling, IsWritable, IsWritableBlock, IsEntry}
+use Rattle.wal_record.specs.Spelling.{fork_number, full_name, manager_of, info_of, body_of, total_of, spelling, IsWritable, IsWritableBlock, IsEntry}
 use Rattle.wal_record.specs.Decoding.{Answers, extent_of, block_at, kind_at, is_linked, record_at}
 use Rattle.wal_record.proofs.Taken.{passed_on, took, FrontTaken, front_takes, shutdown_takes, create_takes, announced_takes}
 use Rattle.wal_record.proofs.Images.{page_takes, page_again, image_fits}
@@ -33,7 +33,7 @@ use Rattle.wal_record.proofs.Again.{passes, takes_again, front_again, shutdown_a
 
 -- the announcement of a block with an image, and what stands behind it
 block_front : BlockId → Extent → List ℕ → List ℕ
-block_front at x more = to_le_bytes w8 0 ++ (to_le_bytes w8 (fork_number at.fork.kind + 0x10 + 0) ++ (to_le_bytes w16 0 ++ (to_le_bytes w16 x.len ++ (to_le_bytes w16 x.offset ++ (to_le_bytes w8 x.info ++ rel_bytes (Some (rel_name at.fork.rel)) (to_le_bytes w32 at.block ++ more))))))
+block_front at x more = to_le_bytes w8 0 ++ (to_le_bytes w8 (fork_number at.fork.kind + 0x10 + 0) ++ (to_le_bytes w16 0 ++ (to_le_bytes w16 x.len ++ (to_le_bytes w16 x.offset ++ (to_le_bytes w8 x.info ++ rel_bytes (Some (full_name at.fork.rel)) (to_le_bytes w32 at.block ++ more))))))
 
 -- the written form of a block is its announcement and its image
 block_body : (at : BlockId) (page : List ℕ) → body_of (Generic (record { at = at; body = Image page } ∷ [])) ≡ block_front at (extent_of (hole_of page)) (image_of page)

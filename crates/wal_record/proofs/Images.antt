@@ -7,10 +7,10 @@ use Rattle.pg_page.specs.Image.{restored, image_of}
 use Rattle.pg_page.proofs.ImageLaws.{restored_image, restored_whole, hole_zeroed-None, image_of-Some, image_of-None, length-image_of-Some, length-image_of-None, hole_bounds, restored_zeroed, restored_left_out}
 use Rattle.wal_record.specs.declared.fields.Extent.{Extent}
 use Rattle.wal_record.specs.Spelling.{image_head_of}
-use Rattle.wal_record.specs.Decoding.{is_good, good_page, extent_of, is_same_extent, page_at}
+use Rattle.wal_record.specs.Decoding.{has_good_header, good_page, extent_of, is_same_extent, page_at}
 use Rattle.wal_record.proofs.Taken.{passed, passed_on, took}
 
-pub good_told : (page : List ℕ) → is_good page ≡ true → IsGood page
+pub good_told : (page : List ℕ) → has_good_header page ≡ true → IsGood page
 good_told page t =
     let a = and_parts (length page == 8192) _ t in
     let b = and_parts (version_of page == 8196) _ a.1 in
@@ -26,7 +26,7 @@ good_told page t =
       top = leb-true _ _ f.1;
     }
 
-pub good_tested : (page : List ℕ) → IsGood page → is_good page ≡ true
+pub good_tested : (page : List ℕ) → IsGood page → has_good_header page ≡ true
 good_tested page g =
     and_from _ _ (eq-eqb _ _ g.whole) (and_from _ _ (eq-eqb _ _ g.version) (and_from _ _ (le-leb _ _ g.lower) (and_from _ _ (le-leb _ _ g.upper) (and_from _ _ (le-leb _ _ g.special) (le-leb _ _ g.top)))))
 
@@ -109,7 +109,7 @@ again_by page (Some (lower, upper)) e good zeroed =
       back = ap (restored lower) (image_of-Some page lower upper e) ∙ restored_image page lower upper good zeroed e;
     }
 
-read_again : (extent : Extent) (bytes page : List ℕ) → ((length bytes == extent.len) && (nat_le extent.offset extent.len && nat_le extent.len 8192)) ≡ true → restored extent.offset bytes ≡ page → is_good page ≡ true → is_same_extent extent (extent_of (hole_of page)) ≡ true → page_at extent bytes ≡ Some page
+read_again : (extent : Extent) (bytes page : List ℕ) → ((length bytes == extent.len) && (nat_le extent.offset extent.len && nat_le extent.len 8192)) ≡ true → restored extent.offset bytes ≡ page → has_good_header page ≡ true → is_same_extent extent (extent_of (hole_of page)) ≡ true → page_at extent bytes ≡ Some page
 unfolding page_at good_page
 read_again extent bytes page t back good own = rw (t, back, good, own) refl
 

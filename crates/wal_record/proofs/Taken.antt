@@ -17,7 +17,7 @@ use Rattle.wal_record.specs.declared.fields.Front.{Front}
 use Rattle.wal_record.specs.declared.fields.Extent.{Extent}
 use Rattle.wal_record.specs.declared.fields.Announced.{Announced}
 use Rattle.wal_record.specs.Heads.{rel_bytes}
-use Rattle.wal_record.specs.Spelling.{fork_number, rel_name, body_of, IsWritable}
+use Rattle.wal_record.specs.Spelling.{fork_number, full_name, body_of, IsWritable}
 use Rattle.wal_record.specs.Decoding.{front_at, main_at, rel_at, kind_numbered, kind_flagged, shutdown_at, create_at, extent_at, announced_at}
 
 -- a test at the end of a reading
@@ -85,7 +85,7 @@ main_takes len bytes more fits e =
     }))))
 
 pub record RelTaken (bytes : List ℕ) (rel : Relation) (more : List ℕ) : Type 0 where
-  pub spelled : bytes ≡ rel_bytes (Some (rel_name rel)) more
+  pub spelled : bytes ≡ rel_bytes (Some (full_name rel)) more
   pub fits : IsBytes more
   pub some : (0 < rel.db) × (0 < rel.rel)
   pub rel_fits : (rel.db < 2 ^ 32) × (rel.rel < 2 ^ 32)
@@ -163,7 +163,7 @@ create_takes bytes fork fits e =
     passed _ _ fork P g3 (λ t same.
     let nil : r2 ≡ [] = nil_from_length r2 (eqb-true _ _ t) in
     let last : rel.1 ≡ to_le_bytes w32 (fork_number kind) ++ [] = put_front w32 number (fork_number kind) rel.1 r2 _ (number_told number kind e3) e2 nil in
-    let main-is : main ≡ rel_bytes (Some (rel_name rel.0)) (to_le_bytes w32 (fork_number kind) ++ []) = r.spelled ∙ ap (rel_bytes (Some (rel_name rel.0))) last in
+    let main-is : main ≡ rel_bytes (Some (full_name rel.0)) (to_le_bytes w32 (fork_number kind) ++ []) = r.spelled ∙ ap (rel_bytes (Some (full_name rel.0))) last in
     subst (CreateTaken bytes) same (record {
       spelled = m.spelled ∙ ap (λ (l : List ℕ). to_le_bytes w8 255 ++ (to_le_bytes w8 16 ++ l)) main-is;
       writable = (r.some, r.rel_fits);
@@ -188,7 +188,7 @@ extent_takes bytes x fits e =
 
 -- the announcement of one block
 pub record AnnouncedTaken (bytes : List ℕ) (head : Announced) (more : List ℕ) : Type 0 where
-  pub spelled : bytes ≡ to_le_bytes w8 0 ++ (to_le_bytes w8 (fork_number head.at.fork.kind + 0x10 + 0) ++ (to_le_bytes w16 0 ++ (to_le_bytes w16 head.extent.len ++ (to_le_bytes w16 head.extent.offset ++ (to_le_bytes w8 head.extent.info ++ rel_bytes (Some (rel_name head.at.fork.rel)) (to_le_bytes w32 head.at.block ++ more))))))
+  pub spelled : bytes ≡ to_le_bytes w8 0 ++ (to_le_bytes w8 (fork_number head.at.fork.kind + 0x10 + 0) ++ (to_le_bytes w16 0 ++ (to_le_bytes w16 head.extent.len ++ (to_le_bytes w16 head.extent.offset ++ (to_le_bytes w8 head.extent.info ++ rel_bytes (Some (full_name head.at.fork.rel)) (to_le_bytes w32 head.at.block ++ more))))))
   pub number : head.at.block < 32768
   pub some : (0 < head.at.fork.rel.db) × (0 < head.at.fork.rel.rel)
   pub rel_fits : (head.at.fork.rel.db < 2 ^ 32) × (head.at.fork.rel.rel < 2 ^ 32)
@@ -209,8 +209,8 @@ announced_takes bytes x fits e =
     passed _ _ x P g7 (λ t same.
     let tests = and_parts (id == 0) ((data_len == 0) && nat_lt block 32768) t in
     let more = and_parts (data_len == 0) (nat_lt block 32768) tests.1 in
-    let back : extent.1 ≡ rel_bytes (Some (rel_name rel.0)) (to_le_bytes w32 block ++ r7) = t6.spelled ∙ ap (rel_bytes (Some (rel_name rel.0))) e7 in
-    let image : r4 ≡ to_le_bytes w16 extent.0.len ++ (to_le_bytes w16 extent.0.offset ++ (to_le_bytes w8 extent.0.info ++ rel_bytes (Some (rel_name rel.0)) (to_le_bytes w32 block ++ r7))) =
+    let back : extent.1 ≡ rel_bytes (Some (full_name rel.0)) (to_le_bytes w32 block ++ r7) = t6.spelled ∙ ap (rel_bytes (Some (full_name rel.0))) e7 in
+    let image : r4 ≡ to_le_bytes w16 extent.0.len ++ (to_le_bytes w16 extent.0.offset ++ (to_le_bytes w8 extent.0.info ++ rel_bytes (Some (full_name rel.0)) (to_le_bytes w32 block ++ r7))) =
     t5.spelled ∙ ap (λ (l : List ℕ). to_le_bytes w16 extent.0.len ++ (to_le_bytes w16 extent.0.offset ++ (to_le_bytes w8 extent.0.info ++ l))) back in
     subst (λ (y : Announced × List ℕ). AnnouncedTaken bytes y.0 y.1) same (record {
       spelled = put_front w8 id 0 bytes r1 _ (eqb-true _ _ tests.0) e1 (put_front w8 flags (fork_number kind + 0x10 + 0) r1 r2 _ (flags_told flags kind e3) e2 (put_front w16 data_len 0 r2 r4 _ (eqb-true _ _ more.0) e4 image));

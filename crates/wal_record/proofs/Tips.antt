@@ -1,12 +1,12 @@
 -- Where the next entry starts, and what a tip keeps with it.
-use Rattle.std.proofs.Common.{◌≡◌, ℕ, ◌+◌, ◌<◌, ◌≤◌, Bool, true, false, List, [], ◌∷◌, ◌++◌, refl, ap, ◌∙◌, arith, inl, inr}
+use Rattle.std.proofs.Common.{◌≡◌, ℕ, ◌+◌, ◌<◌, ◌≤◌, Bool, true, false, List, [], ◌∷◌, ◌++◌, refl, arith, inl, inr}
 use Rattle.std.specs.Prelude.{◌==◌, if◌then◌else◌}
 use Rattle.std.proofs.lemmas.Bool.{cases_eq, eq-eqb, ne_eqb}
 use Rattle.lsn_core.specs.Sizes.{long_head}
 use Rattle.lsn_core.specs.Tip.{Tip}
 use Rattle.wal_record.specs.declared.record.Record.{Record}
 use Rattle.wal_record.specs.Places.{origin, start_after}
-use Rattle.wal_record.specs.Tips.{first_tip, redo_after, tip_after, tip_behind, wal_limit, IsWithin}
+use Rattle.wal_record.specs.Tips.{first_tip, tip_after, tip_behind, wal_limit, IsWithin}
 
 pub start_at_origin : (mib at : ℕ) → at ≡ origin mib → start_after mib at ≡ at + long_head
 start_at_origin mib at e = rw (eq-eqb at (origin mib) e) (omega (arith, e))

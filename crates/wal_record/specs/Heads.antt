@@ -2,7 +2,8 @@
 use Rattle.std.specs.Prelude.{ℕ, List, [], ◌∷◌, ◌++◌, Option, Some, None}
 use Rattle.std.specs.Int.{w8, w16, w32, to_le_bytes}
 
--- an image: its length, where its hole begins, and its flags (1 it has a hole, 2 it is to be applied)
+-- an image: its length, where its hole begins, and its flags (1 it has a hole, 2 it is to be
+-- applied)
 pub record ImageHead : Type 0 where
   pub len : ℕ
   pub offset : ℕ
@@ -14,7 +15,8 @@ pub record RelName : Type 0 where
   pub db : ℕ
   pub rel : ℕ
 
--- a block: id, flags, length of its data, its image, its relation unless that is the one before, its number
+-- a block: id, flags, length of its data, its image, its relation unless that is the one before,
+-- its number
 pub record BlockHead : Type 0 where
   pub id : ℕ
   pub flags : ℕ
@@ -31,14 +33,18 @@ pub data MainHead : Type 0 where
 
 abbrev pub image_bytes : Option ImageHead → List ℕ → List ℕ
 image_bytes None rest = rest
-image_bytes (Some h) rest = to_le_bytes w16 h.len ++ (to_le_bytes w16 h.offset ++ (to_le_bytes w8 h.info ++ rest))
+image_bytes (Some h) rest =
+    to_le_bytes w16 h.len ++ (to_le_bytes w16 h.offset ++ (to_le_bytes w8 h.info ++ rest))
 
 abbrev pub rel_bytes : Option RelName → List ℕ → List ℕ
 rel_bytes None rest = rest
-rel_bytes (Some r) rest = to_le_bytes w32 r.space ++ (to_le_bytes w32 r.db ++ (to_le_bytes w32 r.rel ++ rest))
+rel_bytes (Some r) rest =
+    to_le_bytes w32 r.space ++ (to_le_bytes w32 r.db ++ (to_le_bytes w32 r.rel ++ rest))
 
 abbrev pub block_bytes : BlockHead → List ℕ → List ℕ
-block_bytes h rest = to_le_bytes w8 h.id ++ (to_le_bytes w8 h.flags ++ (to_le_bytes w16 h.data_len ++ image_bytes h.image (rel_bytes h.rel (to_le_bytes w32 h.block ++ rest))))
+block_bytes h rest =
+    to_le_bytes w8 h.id ++ (to_le_bytes w8 h.flags ++ (to_le_bytes w16 h.data_len
+    ++ image_bytes h.image (rel_bytes h.rel (to_le_bytes w32 h.block ++ rest))))
 
 abbrev pub main_bytes : MainHead → List ℕ → List ℕ
 main_bytes Absent rest = rest

@@ -35,8 +35,11 @@ info_of (Generic blocks) = 0x00
 
 -- the main data: a checkpoint's 24 bytes (profile), or the relation and fork of a creation
 abbrev pub main_of : Kind → List ℕ
-main_of (Shutdown redo) = to_le_bytes w64 redo.0 ++ (to_le_bytes w32 1 ++ (to_le_bytes w32 1 ++ (1 ∷ replicate 7 0)))
-main_of (Create fork) = to_le_bytes w32 1663 ++ (to_le_bytes w32 fork.rel.db ++ (to_le_bytes w32 fork.rel.rel ++ to_le_bytes w32 (fork_number fork.kind)))
+main_of (Shutdown redo) =
+    to_le_bytes w64 redo.0 ++ (to_le_bytes w32 1 ++ (to_le_bytes w32 1 ++ (1 ∷ replicate 7 0)))
+main_of (Create fork) =
+    to_le_bytes w32 1663 ++ (to_le_bytes w32 fork.rel.db
+    ++ (to_le_bytes w32 fork.rel.rel ++ to_le_bytes w32 (fork_number fork.kind)))
 main_of (Generic blocks) = []
 
 abbrev pub blocks_of : Kind → List BlockRef
@@ -64,17 +67,21 @@ abbrev pub is_same : Option Relation → Relation → Bool
 is_same None rel = false
 is_same (Some last) rel = (last.db == rel.db) && (last.rel == rel.rel)
 
-abbrev pub rel_name : Relation → RelName
-rel_name rel = record { space = 1663; db = rel.db; rel = rel.rel }
+-- the flag of a block whose relation isn't told again
+abbrev pub same_flag : Option Relation → Relation → ℕ
+same_flag last rel = if is_same last rel then 0x80 else 0
+
+abbrev pub full_name : Relation → RelName
+full_name rel = record { space = 1663; db = rel.db; rel = rel.rel }
 
 -- the announcement of a block, by its id and the relation of the block before
 abbrev pub head_of : ℕ → Option Relation → BlockRef → BlockHead
 head_of id last b = record {
   id = id;
-  flags = fork_number b.at.fork.kind + body_flag b.body + (if is_same last b.at.fork.rel then 0x80 else 0);
+  flags = fork_number b.at.fork.kind + body_flag b.body + same_flag last b.at.fork.rel;
   data_len = 0;
   image = body_image b.body;
-  rel = (if is_same last b.at.fork.rel then None else Some (rel_name b.at.fork.rel));
+  rel = (if is_same last b.at.fork.rel then None else Some (full_name b.at.fork.rel));
   block = b.at.block;
 }
 
@@ -82,14 +89,21 @@ abbrev pub heads_of : ℕ → Option Relation → List BlockRef → List BlockHe
 heads_of id last [] = []
 heads_of id last (b ∷ bs) = head_of id last b ∷ heads_of (id + 1) (Some b.at.fork.rel) bs
 
+-- the announcement of a block that is an entry's only one
+abbrev pub one_head : BlockRef → List ℕ
+one_head b = heads_bytes (head_of 0 None b ∷ []) Absent []
+
 -- main data of up to 255 bytes is announced by one byte of length
 abbrev pub main_head_of : List ℕ → MainHead
 main_head_of [] = Absent
-main_head_of (b ∷ bs) = if nat_le (length (b ∷ bs)) 255 then Short (length (b ∷ bs)) else Long (length (b ∷ bs))
+main_head_of (b ∷ bs) =
+    if nat_le (length (b ∷ bs)) 255 then Short (length (b ∷ bs)) else Long (length (b ∷ bs))
 
 -- what stands behind the header: the announcements, the blocks' bodies, and the main data
 abbrev pub body_of : Kind → List ℕ
-body_of kind = heads_bytes (heads_of 0 None (blocks_of kind)) (main_head_of (main_of kind)) (flat_map (λ b. body_bytes b.body) (blocks_of kind) ++ main_of kind)
+body_of kind =
+    heads_bytes (heads_of 0 None (blocks_of kind)) (main_head_of (main_of kind))
+    (flat_map (λ b. body_bytes b.body) (blocks_of kind) ++ main_of kind)
 
 -- how many bytes an entry has
 abbrev pub total_of : Kind → ℕ
@@ -97,13 +111,17 @@ total_of kind = 24 + length (body_of kind)
 
 -- the first 20 bytes of an entry's header
 abbrev pub front_of : Record → List ℕ
-front_of r = to_le_bytes w32 (total_of r.kind) ++ (to_le_bytes w32 r.xid ++ (to_le_bytes w64 r.prev.0 ++ (to_le_bytes w8 (info_of r.kind) ++ (to_le_bytes w8 (manager_of r.kind) ++ to_le_bytes w16 0))))
+front_of r =
+    to_le_bytes w32 (total_of r.kind) ++ (to_le_bytes w32 r.xid ++ (to_le_bytes w64 r.prev.0
+    ++ (to_le_bytes w8 (info_of r.kind)
+    ++ (to_le_bytes w8 (manager_of r.kind) ++ to_le_bytes w16 0))))
 
 -- an entry as it is written, with these four bytes of sum
 unfoldable pub spelling : ℕ → Record → List ℕ
 spelling crc r = front_of r ++ (to_le_bytes w32 crc ++ body_of r.kind)
 
--- an entry as it is written: its sum is the CRC-32C of the bytes behind the header and then of the header's first 20 bytes
+-- an entry as it is written: its sum is the CRC-32C of the bytes behind the header and then of the
+-- header's first 20 bytes
 abbrev pub sealed : Record → List ℕ
 sealed r = spelling (crc32c (body_of r.kind ++ front_of r)) r
 
@@ -120,12 +138,15 @@ pub record IsWritableBlock (b : BlockRef) : Type 0 where
 -- a kind that can be written: so far one block an entry
 abbrev pub IsWritable : Kind → Type 0
 IsWritable (Shutdown redo) = redo.0 < 2 ^ 64
-IsWritable (Create fork) = ((0 < fork.rel.db) × (0 < fork.rel.rel)) × ((fork.rel.db < 2 ^ 32) × (fork.rel.rel < 2 ^ 32))
+IsWritable (Create fork) =
+    ((0 < fork.rel.db) × (0 < fork.rel.rel))
+    × ((fork.rel.db < 2 ^ 32) × (fork.rel.rel < 2 ^ 32))
 IsWritable (Generic []) = ⊥
 IsWritable (Generic (b ∷ [])) = IsWritableBlock b
 IsWritable (Generic (b ∷ (c ∷ bs))) = ⊥
 
--- bytes are the written form of an entry at a place, whatever its sum, where the entry before it starts at a place that may be asked
+-- bytes are the written form of an entry at a place, whatever its sum, where the entry before it
+-- starts at a place that may be asked
 pub record IsEntry (bytes : List ℕ) (place : Place) (prev : Option Lsn) (r : Record) : Type 0 where
   pub crc : ℕ
   pub crc_fits : crc < 2 ^ 32

@@ -16,7 +16,12 @@ redo_after tip r = if tip.count == 0 then r.start.0 else tip.redo
 
 -- the end with one more entry
 abbrev pub tip_after : Tip → Record → Tip
-tip_after tip r = record { end = r.end.0; prev = r.start.0; redo = redo_after tip r; count = tip.count + 1 }
+tip_after tip r = record {
+  end = r.end.0;
+  prev = r.start.0;
+  redo = redo_after tip r;
+  count = tip.count + 1;
+}
 
 -- the end with several more, in turn
 abbrev pub tip_behind : Tip → List Record → Tip
@@ -31,7 +36,8 @@ record_at_tip mib tip kind = record_behind (start_after mib tip.end) tip.prev ki
 abbrev pub wal_limit : ℕ → ℕ
 wal_limit mib = origin mib + page_size
 
--- an end within that room, at or behind each place that it tells, with a byte at least for each entry that it counts
+-- an end within that room, at or behind each place that it tells, with a byte at least for each
+-- entry that it counts
 pub record IsWithin (mib : ℕ) (tip : Tip) : Type 0 where
   pub count : origin mib + tip.count ≤ tip.end
   pub prev : tip.prev ≤ tip.end

@@ -1,6 +1,6 @@
 //! Reading an entry.
 
-ghost use Rattle.std.specs.Prelude.{◌≡◌, ◌≤◌, [], ◌∷◌, length, IfOk};
+ghost use Rattle.std.specs.Prelude.{◌≡◌, [], ◌∷◌, IfOk};
 ghost use Rattle.std.specs.Option.{option_map};
 ghost use Rattle.wal_record.specs.declared.record.Record.{Record};
 ghost use Rattle.wal_record.specs.declared.record.Kind.TheVariants.{Generic};
@@ -30,7 +30,7 @@ pub fn decode_record(
     read(alloc, bytes, place, prev)
 }
 
-// as the reading function says
+/// The entry that `record_at` of `specs/Decoding.antt` finds, and `Form` where it finds none.
 #[tactic(auto, unfolding(crate::specs::Decoding::record_at))]
 fn read(alloc: Global, bytes: &[u8], place: Place, prev: Option<Lsn>) -> Result<Record, RecordFault>
     ensures { Answers (record_at place prev bytes.now) result }
@@ -51,6 +51,7 @@ fn read(alloc: Global, bytes: &[u8], place: Place, prev: Option<Lsn>) -> Result<
     })
 }
 
+/// Whether an entry that tells this link may stand behind one that starts at `prev`.
 fn is_linked(prev: Option<Lsn>, at: u64) -> bool
     ensures { result ≡ is_linked prev at }
 {
@@ -60,7 +61,7 @@ fn is_linked(prev: Option<Lsn>, at: u64) -> bool
     }
 }
 
-// what an entry of this manager and info says
+/// What an entry of this manager and info says.
 #[tactic(auto, unfolding(crate::specs::Decoding::kind_at))]
 fn kind_of(alloc: Global, manager: u8, info: u8, bytes: &[u8]) -> Result<Kind, RecordFault>
     ensures { Answers (kind_at manager info bytes.now) result }
@@ -75,6 +76,7 @@ fn kind_of(alloc: Global, manager: u8, info: u8, bytes: &[u8]) -> Result<Kind, R
     }
 }
 
+/// What an entry of one block says.
 fn one_block(alloc: Global, bytes: &[u8]) -> Result<Kind, RecordFault>
     ensures { Answers (option_map (λ b. Generic (b ∷ [])) (block_at bytes.now)) result }
 {
@@ -84,6 +86,7 @@ fn one_block(alloc: Global, bytes: &[u8]) -> Result<Kind, RecordFault>
     Ok(Kind::Generic(Blocks::one(alloc, block.at, block.body)?))
 }
 
+/// The redo point of a shutdown checkpoint on timeline 1.
 #[tactic(auto, unfolding(crate::specs::Decoding::shutdown_at))]
 fn shutdown_of(bytes: &[u8]) -> Option<Lsn>
     ensures { result ≡ shutdown_at bytes.now }
@@ -100,6 +103,7 @@ fn shutdown_of(bytes: &[u8]) -> Option<Lsn>
     }
 }
 
+/// The fork that is created.
 #[tactic(auto, unfolding(crate::specs::Decoding::create_at))]
 fn create_of(bytes: &[u8]) -> Option<ForkId>
     ensures { result ≡ create_at bytes.now }
@@ -117,6 +121,7 @@ fn create_of(bytes: &[u8]) -> Option<ForkId>
     }
 }
 
+/// The one block of an entry, and its page.
 #[tactic(auto, unfolding(crate::specs::Decoding::block_at))]
 fn block_of(bytes: &[u8]) -> Option<BlockRef>
     ensures { result ≡ block_at bytes.now }
@@ -131,7 +136,8 @@ fn block_of(bytes: &[u8]) -> Option<BlockRef>
     })
 }
 
-// the page of an image, where what was left out is just the page's hole
+/// The page of an image. None where its header isn't good, and where what was left out isn't just
+/// the page's hole.
 #[tactic(auto, unfolding(crate::specs::Decoding::page_at))]
 fn page_of(extent: Extent, image: &[u8]) -> Option<Page>
     ensures { result ≡ page_at extent image.now }
@@ -147,6 +153,7 @@ fn page_of(extent: Extent, image: &[u8]) -> Option<Page>
     }
 }
 
+/// The page of bytes with a good header.
 #[tactic(auto, unfolding(crate::specs::Decoding::good_page))]
 fn good_page(bytes: &[u8; 8192]) -> Option<Page>
     ensures { result ≡ good_page bytes.now }

@@ -1,11 +1,11 @@
 //! Writing an entry.
 
-ghost use Rattle.std.specs.Prelude.{◌≡◌, ◌+◌, ◌≤◌, [], ◌∷◌, ◌++◌, length, Some, None, IfOk, OnOk};
+ghost use Rattle.std.specs.Prelude.{◌≡◌, ◌+◌, ◌≤◌, [], ◌∷◌, ◌++◌, length, Some, IfOk, OnOk};
 ghost use Rattle.wal_crc.specs.Crc.{crc32c};
 ghost use Rattle.pg_page.specs.Image.{image_of, without_hole};
 ghost use Rattle.wal_record.specs.declared.record.Kind.TheVariants.{Shutdown, Generic, Create};
-ghost use Rattle.wal_record.specs.Heads.{Absent, rel_bytes, heads_bytes};
-ghost use Rattle.wal_record.specs.Spelling.{fork_number, rel_name, manager_of, info_of, head_of, body_of, total_of, front_of, sealed, IsWritable};
+ghost use Rattle.wal_record.specs.Heads.{rel_bytes};
+ghost use Rattle.wal_record.specs.Spelling.{fork_number, full_name, manager_of, info_of, one_head, body_of, total_of, front_of, sealed, IsWritable};
 
 use crate::fields::extent_of;
 use crate::record::{BlockRef, Body, Kind, Record};
@@ -29,7 +29,7 @@ pub fn encode_record(alloc: Global, rec: &Record) -> Result<Vec<u8>, NoMemory>
     Ok(bytes)
 }
 
-// the CRC-32C of two pieces
+/// The CRC-32C of two pieces, one behind the other.
 fn sum_of(body: &[u8], front: &[u8]) -> u32
     ensures { result ≡ crc32c (body.now ++ front.now) }
 {
@@ -39,7 +39,7 @@ fn sum_of(body: &[u8], front: &[u8]) -> u32
     crc.value()
 }
 
-// the first 20 bytes of the header, where so many bytes stand behind the header
+/// The first 20 bytes of the header, where so many bytes stand behind the header.
 fn front_of(alloc: Global, rec: &Record, size: usize) -> Result<Vec<u8>, AllocError>
     requires size { 24 + size ≡ total_of rec.now.kind }
     requires most { size ≤ 8217 }
@@ -56,6 +56,7 @@ fn front_of(alloc: Global, rec: &Record, size: usize) -> Result<Vec<u8>, AllocEr
     Ok(bytes)
 }
 
+/// The number of the resource manager of a kind (access/rmgrlist.h).
 fn manager_of(kind: &Kind) -> u8
     ensures { result ≡ manager_of kind.now }
 {
@@ -66,6 +67,7 @@ fn manager_of(kind: &Kind) -> u8
     }
 }
 
+/// The info byte of a kind.
 fn info_of(kind: &Kind) -> u8
     ensures { result ≡ info_of kind.now }
 {
@@ -76,6 +78,7 @@ fn info_of(kind: &Kind) -> u8
     }
 }
 
+/// The number of a fork (common/relpath.h, ForkNumber).
 fn fork_number(kind: ForkKind) -> u8
     ensures { result ≡ fork_number kind }
 {
@@ -85,7 +88,7 @@ fn fork_number(kind: ForkKind) -> u8
     }
 }
 
-// what stands behind the header
+/// What stands behind the header: announcements, blocks and main data.
 fn body_of(alloc: Global, kind: &Kind) -> Result<Vec<u8>, AllocError>
     requires { IsWritable kind.now }
     ensures { IfOk result (λ bytes. bytes.items ≡ body_of kind.now) }
@@ -97,6 +100,7 @@ fn body_of(alloc: Global, kind: &Kind) -> Result<Vec<u8>, AllocError>
     }
 }
 
+/// What stands behind the header of a checkpoint: its 24 bytes of main data (profile).
 fn checkpoint(alloc: Global, redo: Lsn) -> Result<Vec<u8>, AllocError>
     ensures { IfOk result (λ bytes. bytes.items ≡ body_of (Shutdown redo)) }
 {
@@ -109,6 +113,7 @@ fn checkpoint(alloc: Global, redo: Lsn) -> Result<Vec<u8>, AllocError>
     Ok(bytes)
 }
 
+/// What stands behind the header of a creation: the fork as main data.
 fn creation(alloc: Global, fork: ForkId) -> Result<Vec<u8>, AllocError>
     ensures { IfOk result (λ bytes. bytes.items ≡ body_of (Create fork)) }
 {
@@ -119,15 +124,16 @@ fn creation(alloc: Global, fork: ForkId) -> Result<Vec<u8>, AllocError>
     Ok(bytes)
 }
 
-// a relation of tablespace 1663
+/// A relation of tablespace 1663, pg_default.
 fn rel_bytes(rel: Rel) -> [u8; 12]
-    ensures { result ≡ rel_bytes (Some (rel_name rel)) [] }
+    ensures { result ≡ rel_bytes (Some (full_name rel)) [] }
 {
     let [a, b, c, d] = rel.db().to_le_bytes();
     let [e, f, g, h] = rel.rel().to_le_bytes();
     [0x7f, 0x06, 0, 0, a, b, c, d, e, f, g, h]
 }
 
+/// What stands behind the header of an entry of one block: its announcement and its image.
 fn one_block(alloc: Global, block: &BlockRef) -> Result<Vec<u8>, AllocError>
     ensures { IfOk result (λ bytes. bytes.items ≡ body_of (Generic (block.now ∷ []))) }
 {
@@ -137,9 +143,9 @@ fn one_block(alloc: Global, block: &BlockRef) -> Result<Vec<u8>, AllocError>
     Ok(bytes)
 }
 
-// the announcement of an entry's one block
+/// The announcement of an entry's one block.
 fn head_of(alloc: Global, block: &BlockRef) -> Result<Vec<u8>, AllocError>
-    ensures { IfOk result (λ bytes. bytes.items ≡ heads_bytes (head_of 0 None block.now ∷ []) Absent []) }
+    ensures { IfOk result (λ bytes. bytes.items ≡ one_head block.now) }
 {
     let Body::Image(page) = &block.body;
     let extent = extent_of(page);
@@ -153,7 +159,7 @@ fn head_of(alloc: Global, block: &BlockRef) -> Result<Vec<u8>, AllocError>
     Ok(bytes)
 }
 
-// a page without its hole
+/// Adds a page without its hole.
 fn add_image(bytes: &mut Vec<u8>, page: &Page) -> Result<(), AllocError>
     ensures { OnOk result (bytes.new.items ≡ bytes.old.items ++ image_of page.now) }
 {
@@ -168,19 +174,14 @@ fn add_image(bytes: &mut Vec<u8>, page: &Page) -> Result<(), AllocError>
     }
 }
 
-// bytes without those from one place to another
+/// Adds bytes without those from one place to another.
 #[tactic(auto, unfolding(pg_page::specs::Image::without_hole))]
-fn add_around(
-    bytes: &mut Vec<u8>,
-    page: &[u8],
-    lower: usize,
-    upper: usize,
-) -> Result<(), AllocError>
-    requires order { lower ≤ upper }
-    requires within { upper ≤ length page.now }
-    ensures { OnOk result (bytes.new.items ≡ bytes.old.items ++ without_hole lower upper page.now) }
+fn add_around(bytes: &mut Vec<u8>, page: &[u8], from: usize, to: usize) -> Result<(), AllocError>
+    requires order { from ≤ to }
+    requires within { to ≤ length page.now }
+    ensures { OnOk result (bytes.new.items ≡ bytes.old.items ++ without_hole from to page.now) }
 {
-    bytes.extend_from_slice(&page[..lower])?;
-    bytes.extend_from_slice(&page[upper..])?;
+    bytes.extend_from_slice(&page[..from])?;
+    bytes.extend_from_slice(&page[to..])?;
     Ok(())
 }

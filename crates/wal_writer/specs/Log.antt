@@ -7,8 +7,8 @@ use Rattle.wal_record.specs.declared.record.Kind.{Kind}
 use Rattle.wal_record.specs.Places.{origin, written_entry, page_head}
 use Rattle.wal_record.specs.Tips.{tip_after, record_at_tip, IsWithin}
 
--- the segment size in MiB and the system identifier, the place up to which all is flushed, the end of the WAL,
--- and the bytes from the flushed position to that end
+-- the segment size in MiB and the system identifier, the place up to which all is flushed, the end
+-- of the WAL, and the bytes from the flushed position to that end
 pub record Log : Type 0 where
   pub mib : ℕ
   pub system : ℕ
@@ -17,7 +17,13 @@ pub record Log : Type 0 where
   pub pending : List ℕ
 
 abbrev pub log_of : StoreSettings → ℕ → Tip → List ℕ → Log
-log_of settings flushed tip pending = record { mib = settings.segment; system = settings.system; flushed = flushed; tip = tip; pending = pending }
+log_of settings flushed tip pending = record {
+  mib = settings.segment;
+  system = settings.system;
+  flushed = flushed;
+  tip = tip;
+  pending = pending;
+}
 
 -- what a log keeps
 pub record IsLog (log : Log) : Type 0 where
@@ -39,11 +45,17 @@ lead log = if log.tip.end == origin log.mib then page_head log.mib log.system el
 
 -- the WAL with one more entry
 abbrev pub appended : Log → Record → Log
-appended log r = record log { tip = tip_after log.tip r; pending = log.pending ++ (lead log ++ written_entry r) }
+appended log r = record log {
+  tip = tip_after log.tip r;
+  pending = log.pending ++ (lead log ++ written_entry r);
+}
 
 -- the WAL once it is flushed up to a place
 abbrev pub flushed_to : Log → ℕ → Log
-flushed_to log to = record log { flushed = max log.flushed to; pending = drop (to - log.flushed) log.pending }
+flushed_to log to = record log {
+  flushed = max log.flushed to;
+  pending = drop (to - log.flushed) log.pending;
+}
 
 -- the WAL with an earlier end again: what was appended since is gone
 abbrev pub rewound : Log → Tip → Log

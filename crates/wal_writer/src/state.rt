@@ -5,8 +5,8 @@ ghost use Rattle.lsn_core.specs.Causes.{HasCause};
 ghost use Rattle.wal_record.specs.Spelling.{IsWritable};
 ghost use Rattle.wal_record.specs.Tips.{IsWithin};
 ghost use Rattle.wal_writer.specs.Log.{IsLog, log_at, flushed_to, rewound};
-ghost use Rattle.wal_writer.specs.Answers.{AppendAnswer, to_flush, IsWrittenOut, IsLeft, IsUndone};
-ghost use Rattle.wal_writer.specs.Inside.{HasWritten, IsPieceTorn};
+ghost use Rattle.wal_writer.specs.Answers.{AppendAnswer, Flushes, Tears, IsUndone};
+ghost use Rattle.wal_writer.specs.Inside.{WritesTail, TearsTail, WritesPiece, TearsPiece};
 
 use crate::fault::AppendFault;
 use crate::tail::Tail;
@@ -38,8 +38,8 @@ impl Flushed {
 }
 
 impl<V: Vault> WalState<V> {
-    /// The WAL of an area with these settings whose archive ends so: at the start of segment 1,
-    /// or behind an entry of its first page. Nothing waits to be flushed.
+    /// The WAL of an area with these settings whose archive ends with this tip, within the WAL's
+    /// room. Nothing waits to be flushed.
     pub fn attach(alloc: Global, area: V, settings: Settings, tip: WalTip) -> WalState<V>
         requires { IsWithin settings.segment tip }
         ensures area { result.area ≡ area }
@@ -59,7 +59,7 @@ impl<V: Vault> WalState<V> {
     }
 
     /// Appends an entry in memory, at the start of the segment behind its page's head. `WalFull`
-    /// exactly where it would end past the first page; a refusal changes nothing.
+    /// exactly where it would end past the WAL's room; a refusal changes nothing.
     pub fn append(&mut self, alloc: Global, kind: Kind) -> Result<Record, AppendFault>
         requires { IsWritable kind }
         ensures answer { AppendAnswer kind self.old.tail self.new.tail result }
@@ -75,11 +75,11 @@ impl<V: Vault> WalState<V> {
         requires { to.0 ≤ self.old.tail.tip.end }
         ensures idle { to.0 ≤ self.old.tail.flushed → self.new ≡ self.old }
         ensures succeeds { to.0 ≤ self.old.tail.flushed → IsOk result }
-        ensures written { OnOk result (self.old.tail.flushed < to.0 → IsWrittenOut self.old.tail to.0 (V.files self.old.area) (V.files self.new.area)) }
+        ensures written { OnOk result (Flushes V.Vault to.0 self.old self.new) }
         ensures flushed { OnOk result (self.new.tail ≡ flushed_to self.old.tail to.0) }
         ensures mark { IfOk result (λ mark. mark.to.0 ≡ self.new.tail.flushed) }
         ensures stands { OnErr result (self.new.tail ≡ self.old.tail) }
-        ensures left { OnErr result (IsLeft self.old.tail to.0 (V.files self.old.area) (V.files self.new.area)) }
+        ensures left { OnErr result (Tears V.Vault to.0 self.old self.new) }
         ensures cause { HasCause (V.faults self.old.area) (V.faults self.new.area) result }
     {
         if self.tail.flushed() < to.0 {
@@ -133,8 +133,8 @@ impl<V: Vault> WalState<V> {
 fn write_out<V: Vault>(alloc: Global, area: &mut V, tail: &Tail, to: u64) -> Result<(), AreaFault>
     requires from { tail.now.flushed ≤ to }
     requires to { to ≤ tail.now.tip.end }
-    ensures written { OnOk result (IsWrittenOut tail.now to (V.files area.old) (V.files area.new)) }
-    ensures left { OnErr result (IsLeft tail.now to (V.files area.old) (V.files area.new)) }
+    ensures written { OnOk result (WritesTail V.Vault tail.now to area.old area.new) }
+    ensures left { OnErr result (TearsTail V.Vault tail.now to area.old area.new) }
     ensures cause { HasCause (V.faults area.old) (V.faults area.new) result }
 {
     let name = segment_name(alloc, 1, tail.segment())?;
@@ -143,8 +143,8 @@ fn write_out<V: Vault>(alloc: Global, area: &mut V, tail: &Tail, to: u64) -> Res
 
 /// Writes bytes at a place of a file and syncs the area.
 fn write_synced<V: Vault>(area: &mut V, name: &[u8], at: u64, piece: &[u8]) -> Result<(), AreaFault>
-    ensures written { OnOk result (HasWritten name.now at piece.now (V.files area.old) (V.files area.new)) }
-    ensures left { OnErr result (IsPieceTorn name.now at piece.now (V.files area.old) (V.files area.new)) }
+    ensures written { OnOk result (WritesPiece V.Vault name.now at piece.now area.old area.new) }
+    ensures left { OnErr result (TearsPiece V.Vault name.now at piece.now area.old area.new) }
     ensures cause { HasCause (V.faults area.old) (V.faults area.new) result }
 {
     area.write_at(name, at, piece)?;

@@ -10,7 +10,7 @@ ghost use Rattle.wal_writer.specs.Answers.{AppendAnswer, to_flush};
 use crate::entry::entry_behind;
 use crate::fault::AppendFault;
 use crate::head::page_head;
-use lsn_core::{Lsn, SegSize, Settings, WalTip};
+use lsn_core::{SegSize, Settings, WalTip};
 use std::alloc::{AllocError, Global};
 use std::marker::Model;
 use wal_record::{Kind, Record, tip_after, wal_limit};

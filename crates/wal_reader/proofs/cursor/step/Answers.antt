@@ -1,5 +1,5 @@
 -- What follows on the first page follows in the archive, which goes on there.
-use Rattle.std.proofs.Common.{◌≡◌, ◌≤◌, ℕ, List, sym, subst, length}
+use Rattle.std.proofs.Common.{◌≤◌, ℕ, List, sym, subst, length}
 use Rattle.wal_reader.specs.Inside.{IsFirstPage}
 use Rattle.wal_reader.proofs.Steps.{goes_on, entry_found, fault_found}
 use Rattle.wal_reader.proofs.cursor.step.Goals as goal

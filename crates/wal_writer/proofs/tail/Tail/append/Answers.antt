@@ -1,6 +1,6 @@
 -- The bytes not yet flushed reach to the end of the entry.
 use Rattle.std.proofs.Common.{List, ℕ, ◌++◌, sym, ap, ◌∙◌, arith}
-use Rattle.wal_record.specs.Tips.{tip_after, record_at_tip}
+use Rattle.wal_record.specs.Tips.{record_at_tip}
 use Rattle.wal_writer.specs.Log.{Log, log_of, lead}
 use Rattle.wal_writer.proofs.Lengths.{append_keeps}
 use Rattle.wal_writer.proofs.tail.Tail.append.Goals as goal

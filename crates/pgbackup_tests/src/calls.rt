@@ -1,0 +1,57 @@
+//! Calls of the program over a site in memory.
+
+ghost use Rattle.vault.specs.Site.{AllHome};
+
+use lsn_core::Text;
+use pgbackup_cli::{Status, pgbackup};
+use std::alloc::Global;
+use std::process::Abort;
+use std::test::Fail;
+use vault::{MemSink, MemSource, SetClock, Site};
+
+/// A moment of 2023, in seconds.
+pub(crate) const MOMENT: u64 = 1_700_000_000;
+
+/// The words of a command line, which stand between spaces.
+pub(crate) fn words_in(alloc: Global, line: &str) -> Result<Vec<Text>, Fail> {
+    let mut words = Vec::new(alloc);
+    for word in line.split_whitespace() {
+        words.push(Text::from_vec(Vec::from_slice(alloc, word.as_bytes())?))?;
+    }
+    Ok(words)
+}
+
+/// A call of the program: its words, its input, its status, and all that it prints.
+pub(crate) type Call<'a> = (&'a str, &'a str, Status, &'a str);
+
+/// Makes a call of the program.
+fn call<S: Site>(rt: &impl Abort, alloc: Global, site: &mut S, call: &Call) -> Result<(), Fail>
+    requires { AllHome (S.areas site.old) }
+    ensures { AllHome (S.areas site.new) }
+{
+    let (line, script, status, printed) = *call;
+    let words = words_in(alloc, line)?;
+    let mut input = MemSource::new(alloc, script.as_bytes(), &[])?;
+    let mut out = MemSink::new(alloc, &[])?;
+    let mut clock = SetClock::new(MOMENT);
+    let ended = pgbackup(alloc, &words, site, &mut input, &mut out, &mut clock);
+    assert_eq!(rt; out.bytes(), printed.as_bytes(), "{line}");
+    assert_eq!(rt; ended, status, "{line}");
+    Ok(())
+}
+
+/// Makes calls of the program in turn, over one site.
+pub(crate) fn make_calls<S: Site>(
+    rt: &impl Abort,
+    alloc: Global,
+    site: &mut S,
+    calls: &[Call],
+) -> Result<(), Fail>
+    requires { AllHome (S.areas site.old) }
+    ensures { AllHome (S.areas site.new) }
+{
+    for row in calls {
+        call(rt, alloc, site, row)?;
+    }
+    Ok(())
+}

@@ -1,0 +1,132 @@
+use crew::{Command, Line, PageShape, Script, ScriptFault, read_script, why_text};
+use lsn_core::{BlockId, ForkId, ForkKind, Rel};
+use std::alloc::Global;
+use std::test::Fail;
+
+fn fork(kind: ForkKind, db: u32, rel: u32) -> Option<ForkId> {
+    Some(ForkId {
+        rel: Rel::new(db, rel)?,
+        kind,
+    })
+}
+
+fn change(fork: ForkId, block: u32, lower: u16, upper: u16, fill: u8) -> Option<Command> {
+    let shape = PageShape::new(lower, upper, fill)?;
+    Some(Command::Change(BlockId { fork, block }, shape))
+}
+
+// the script of a text, which is shorter than memory is
+fn script_of(alloc: Global, text: &[u8]) -> Result<Script, ScriptFault> {
+    if text.len() > 1_000_000_000 {
+        return Err(ScriptFault::NoMemory);
+    }
+    read_script(alloc, text)
+}
+
+// where and why a text is refused
+fn refusal(alloc: Global, text: &[u8]) -> Option<(u32, &'static [u8])> {
+    match script_of(alloc, text) {
+        Ok(_) => None,
+        Err(ScriptFault::Line(line, why)) => Some((line, why_text(why))),
+        Err(ScriptFault::NoMemory) => None,
+    }
+}
+
+// the one line of the one worker
+fn only_line(script: &Script) -> Option<(&[u8], Line)> {
+    let [task] = script.workers() else {
+        return None;
+    };
+    let [line] = task.lines.as_slice() else {
+        return None;
+    };
+    Some((task.name.as_bytes(), *line))
+}
+
+#[test]
+fn commands_are_taken(rt: HostRuntime) -> Result<(), Fail> {
+    let main = fork(ForkKind::Main, 1, 2).ok_or("fork")?;
+    let init = fork(ForkKind::Init, 1, 2).ok_or("fork")?;
+    let last = fork(ForkKind::Main, 4_294_967_295, 4_294_967_295).ok_or("fork")?;
+    for (line, command) in [
+        ("create 1/2", Command::Create(main)),
+        ("\tcreate \t 1/2 ", Command::Create(main)),
+        ("create 0000000001/0000000002", Command::Create(main)),
+        ("create 1/2_init", Command::Create(init)),
+        ("create 4294967295/4294967295", Command::Create(last)),
+        (
+            "change 1/2@0=24,8192,7",
+            change(main, 0, 24, 8192, 7).ok_or("page")?,
+        ),
+        (
+            "change 1/2_init@4294967295=24,24,255",
+            change(init, 4_294_967_295, 24, 24, 255).ok_or("page")?,
+        ),
+        (
+            "change 1/2@00=0000000024,0008192,00",
+            change(main, 0, 24, 8192, 0).ok_or("page")?,
+        ),
+    ] {
+        let text = format!(in rt.alloc(); "# head\n  worker \t a_1\t \n\n{line}\n#{line}")?;
+        let script = script_of(rt.alloc(), text.as_bytes())?;
+        let found = only_line(&script);
+        assert_eq!(rt;
+            found,
+            Some((b"a_1".as_slice(), Line { number: 4, command })),
+            "{line}"
+        );
+    }
+    Ok(())
+}
+
+#[test]
+fn lines_are_refused(rt: HostRuntime) {
+    for (text, number, why) in [
+        ("\n#\u{7f}\n", 2, "Bytes"),
+        ("worker a\r\n", 1, "Bytes"),
+        ("x\0", 1, "Bytes"),
+        ("worker a\nworker a\u{1}", 2, "Bytes"),
+        (" # a", 1, "Word"),
+        ("  ", 1, "Word"),
+        ("\t\n", 1, "Word"),
+        ("worker", 1, "Word"),
+        ("worker a b", 1, "Word"),
+        ("worker A", 1, "Word"),
+        ("worker abcdefghijklmnopqrstuvwxyz0123456", 1, "Word"),
+        ("create 0/1", 1, "Word"),
+        ("worker a\ncreate 1/0", 2, "Word"),
+        ("worker a\ncreate 1/2_vm", 2, "Word"),
+        ("worker a\ncreate 1/2_init_init", 2, "Word"),
+        ("worker a\ncreate 4294967296/1", 2, "Word"),
+        ("worker a\ncreate 00000000001/2", 2, "Word"),
+        ("worker a\ncreate 1/2 1/3", 2, "Word"),
+        ("worker a\nchange 1/2@4294967296=24,24,255", 2, "Word"),
+        ("worker a\nchange 1/2@0=24,8192,256", 2, "Word"),
+        ("worker a\nchange 1/2@0=23,8192,0", 2, "Word"),
+        ("worker a\nchange 1/2@0=24,8193,0", 2, "Word"),
+        ("worker a\nchange 1/2@0=25,24,0", 2, "Word"),
+        ("worker a\nchange 1/2@0=24,65560,0", 2, "Word"),
+        ("worker a\nchange 1/2@0=24,8192,0,0", 2, "Word"),
+        ("worker a\nerase 1/2", 2, "Word"),
+        ("worker a\nworker B", 2, "Word"),
+        ("create 1/2\nworker a", 1, "NoWorker"),
+        ("worker a\n\nworker a\nworker a", 3, "Twice"),
+        ("worker a\nworker b", 2, "Many"),
+    ] {
+        assert_eq!(rt;
+            refusal(rt.alloc(), text.as_bytes()),
+            Some((number, why.as_bytes())),
+            "{text}"
+        );
+    }
+}
+
+#[test]
+fn four_mebibytes_are_the_most(rt: HostRuntime) -> Result<(), Fail> {
+    let mut text = Vec::new(rt.alloc());
+    text.resize(4_194_304, b'#')?;
+    assert_eq!(rt; script_of(rt.alloc(), &text)?.workers().len(), 0);
+    text.push(b'#')?;
+    assert_eq!(rt; refusal(rt.alloc(), &text), Some((1, b"Long".as_slice())));
+    Ok(())
+}

@@ -1,0 +1,90 @@
+use crate::samples::{NEW_WAL, SEGMENT};
+use lsn_core::{AreaFault, Lsn, SegSize, Settings, WalTip};
+use std::test::Fail;
+use vault::{MemVault, read_whole};
+use wal_record::Kind;
+use wal_writer::{AppendFault, WalState};
+
+#[test]
+fn first_entry_is_flushed_behind_its_page_head(rt: HostRuntime) -> Result<(), Fail> {
+    let alloc = rt.alloc();
+    let settings = Settings {
+        segment: SegSize::new(1).ok_or("no size")?,
+        relseg: 131_072,
+        system: 7,
+    };
+    let tip = WalTip {
+        end: Lsn(0x100000),
+        prev: Lsn(0),
+    };
+    let area = MemVault::new(alloc, &[1])?;
+    let mut wal = WalState::attach(alloc, area, settings, tip);
+    let first = wal.append(alloc, Kind::Shutdown(Lsn(0x100028)))?;
+    assert_eq!(rt;
+        (first.start, first.end, first.prev, first.xid),
+        (Lsn(0x100028), Lsn(0x100060), Lsn(0), 0)
+    );
+    assert_eq!(rt;
+        wal.flush_to(alloc, first.end).err(),
+        Some(AreaFault::Failed)
+    );
+    assert_eq!(rt; (wal.flushed(), wal.end()), (Lsn(0x100000), first.end));
+    assert_eq!(rt; wal.flush_to(alloc, first.end)?.to(), first.end);
+    assert_eq!(rt; (wal.flushed(), wal.end()), (first.end, first.end));
+    let mut area = wal.detach();
+    let bytes = read_whole(alloc, &mut area, SEGMENT)?;
+    assert_eq!(rt; bytes.as_slice(), NEW_WAL.as_slice());
+    Ok(())
+}
+
+#[test]
+fn entries_end_with_the_first_page(rt: HostRuntime) -> Result<(), Fail> {
+    let alloc = rt.alloc();
+    let settings = Settings {
+        segment: SegSize::new(1).ok_or("no size")?,
+        relseg: 131_072,
+        system: 7,
+    };
+    let tip = WalTip {
+        end: Lsn(0x101fc8),
+        prev: Lsn(0x101f90),
+    };
+    let area = MemVault::new(alloc, &[])?;
+    let mut wal = WalState::attach(alloc, area, settings, tip);
+    let last = wal.append(alloc, Kind::Shutdown(Lsn(0x101fc8)))?;
+    assert_eq!(rt; (last.end, last.prev), (Lsn(0x102000), Lsn(0x101f90)));
+    assert_eq!(rt;
+        wal.append(alloc, Kind::Shutdown(last.end)).err(),
+        Some(AppendFault::WalFull)
+    );
+    assert_eq!(rt; wal.end(), last.end);
+    Ok(())
+}
+
+#[test]
+fn what_was_appended_last_is_taken_back(rt: HostRuntime) -> Result<(), Fail> {
+    let alloc = rt.alloc();
+    let settings = Settings {
+        segment: SegSize::new(1).ok_or("no size")?,
+        relseg: 131_072,
+        system: 7,
+    };
+    let start = WalTip {
+        end: Lsn(0x100000),
+        prev: Lsn(0),
+    };
+    let area = MemVault::new(alloc, &[])?;
+    let mut wal = WalState::attach(alloc, area, settings, start);
+    let tip = wal.tip();
+    assert_eq!(rt; tip, start);
+    let refused = wal.append(alloc, Kind::Shutdown(Lsn(1)))?;
+    assert_eq!(rt; wal.tip().prev, refused.start);
+    wal.rewind(tip);
+    assert_eq!(rt; wal.tip(), start);
+    let first = wal.append(alloc, Kind::Shutdown(Lsn(0x100028)))?;
+    assert_eq!(rt; wal.flush_to(alloc, first.end)?.to(), first.end);
+    let mut area = wal.detach();
+    let bytes = read_whole(alloc, &mut area, SEGMENT)?;
+    assert_eq!(rt; bytes.as_slice(), NEW_WAL.as_slice());
+    Ok(())
+}
