@@ -12,3 +12,5 @@ pub mod Through
 pub mod Giving
 pub mod Honest
 pub mod Picked
+pub mod Changed
+pub mod Moments

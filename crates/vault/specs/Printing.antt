@@ -6,4 +6,5 @@ use Rattle.vault.specs.declared.stream.Sink.{Ghosts}
 
 -- a line was printed to a sink
 abbrev pub Prints : {O : Type 0} → Ghosts O → List ℕ → O → O → Result (Unit {0}) AreaFault → Type 0
-Prints g line old new result = Tells line (g.bytes old) (g.bytes new) (g.faults old) (g.faults new) result
+Prints g line old new result =
+    Tells line (g.bytes old) (g.bytes new) (g.faults old) (g.faults new) result

@@ -13,7 +13,10 @@ use Rattle.vault.specs.declared.stopped.Pick.TheVariants.{Nothing, All, FirstHal
 
 -- the four picks, by their number
 abbrev pub pick_of : ℕ → Pick
-pick_of n = if nat_eq (n % 4) 0 then Nothing else if nat_eq (n % 4) 1 then All else if nat_eq (n % 4) 2 then FirstHalves else Noise
+pick_of n =
+    if nat_eq (n % 4) 0 then Nothing
+    else if nat_eq (n % 4) 1 then All
+    else if nat_eq (n % 4) 2 then FirstHalves else Noise
 
 -- what is kept of a piece that was written
 abbrev pub kept_piece : Pick → List ℕ → List ℕ
@@ -41,12 +44,14 @@ pub record IsRedone (pick : Pick) (changes : List Change) (old new : MemoryArea)
   pub files : new.files ≡ left_since pick changes old.files
   pub rest : IsOnlyChanged old new
 
--- the files of a new area after these changes: all up to the last sync, and what is kept of those since
+-- the files of a new area after these changes: all up to the last sync, and what is kept of those
+-- since
 abbrev pub left_by : Pick → List Change → Files
 left_by pick [] = empty
 left_by pick (inl w ∷ earlier) = left_of pick (inl w) (left_by pick earlier)
 left_by pick (inr (inl c) ∷ earlier) = left_of pick (inr (inl c)) (left_by pick earlier)
-left_by pick (inr (inr (Some name)) ∷ earlier) = left_of pick (inr (inr (Some name))) (left_by pick earlier)
+left_by pick (inr (inr (Some name)) ∷ earlier) =
+    left_of pick (inr (inr (Some name))) (left_by pick earlier)
 left_by pick (inr (inr None) ∷ earlier) = files_by earlier
 
 -- no call was made on an area since it was made, none is to fail, and it has no fuse
@@ -57,6 +62,9 @@ IsFresh area = area ≡ record (new_area []) { files = area.files; changes = are
 abbrev pub IsSettled : MemoryArea → Type 0
 IsSettled area = LeavesNow (λ files. files ≡ area.files) (Some (told area.changes))
 
--- all of the first changes of a list is kept, and of the others what is picked; the list is as an area keeps it
+-- all of the first changes of a list is kept, and of the others what is picked; the list is as an
+-- area keeps it
 abbrev pub IsSplitAt : ℕ → List Kept → Type 0
-IsSplitAt count kept = (pick : Pick) → left_by pick (changes_of kept) ≡ left_since pick (changes_of (drop count kept)) (files_by (changes_of (take count kept)))
+IsSplitAt count kept =
+    (pick : Pick) → left_by pick (changes_of kept) ≡
+    left_since pick (changes_of (drop count kept)) (files_by (changes_of (take count kept)))
