@@ -245,7 +245,7 @@ AnswersReplay vaults wal out wal_now out_now r =
     ReplayAnswer Never (replay_areas_in vaults wal out) (replay_areas_in vaults wal_now out_now) r
 
 -- an area that held no file has those of a store
-abbrev pub IsWrittenOut : {V : Type 0} → Vaults V → ℕ → Store → V → V → Type 0
-IsWrittenOut vaults relseg store old new =
+abbrev pub IsWrittenOut : {V : Type 0} → Vaults V → StoreSettings → Store → V → V → Type 0
+IsWrittenOut vaults settings store old new =
     IfSome (vaults.files old) (λ m. m ≡ empty)
-    → vaults.files new ≡ option_map (λ m. files_of relseg store) (vaults.files old)
+    → vaults.files new ≡ option_map (λ m. files_of settings.relseg store) (vaults.files old)

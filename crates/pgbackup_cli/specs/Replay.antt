@@ -1,15 +1,17 @@
 -- `replay`: what replaying a WAL into an output does, prints and ends with.
-use Rattle.std.specs.Prelude.{◌≡◌, ◌≢◌, ℕ, List, [], ◌∷◌, ◌++◌, IfSome, Result, Ok, Err, codes}
+use Rattle.std.specs.Prelude.{◌≡◌, ◌≢◌, ℕ, List, [], ◌∷◌, ◌++◌, IfSome, Some, Result, Ok, Err, codes}
 use Rattle.std.specs.Option.{option_map}
 use Rattle.std.specs.FinMap.{empty, len}
 use Rattle.std.specs.Fmt.{decimal}
 use Rattle.lsn_core.specs.Names.{lsn_bytes}
-use Rattle.lsn_core.specs.Store.{files_of}
+use Rattle.lsn_core.specs.Store.{Store, files_of}
+use Rattle.wal_record.specs.declared.record.Record.{Record}
 use Rattle.lsn_core.specs.Segment.{StoreSettings}
 use Rattle.vault.specs.Site.{AreaState}
 use Rattle.vault.specs.Lending.{Names}
 use Rattle.wal_reader.specs.declared.fault.WalFault.{WalFault}
 use Rattle.history.specs.Pages.{page_count}
+use Rattle.history.specs.Whole.{whole}
 use Rattle.recovery.specs.WholeWal.{HasSettings, IsReadWal, WalCause}
 use Rattle.recovery.specs.declared.replaying.ReadWal.{ReadWal}
 use Rattle.pgbackup_cli.specs.declared.answer.Status.{Status}
@@ -37,6 +39,10 @@ replay_areas out o = record { wal = o.areas wal_name; out = o.areas out }
 abbrev pub replay_asks : List ℕ → Names
 replay_asks out = wal_name ∷ (out ∷ [])
 
+-- a store is what the whole WAL makes from nothing, up to a place, where the WAL is told
+abbrev pub IsWhole : AreaState → List Record → ℕ → Store → Type 0
+IsWhole wal entries place store = IfSome wal.files (λ m. whole entries place ≡ Some store)
+
 -- a replay that was done: the output's files are those of the store that the whole WAL makes
 pub record ReplayDone (old new : ReplayAreas) (report : ReplayReport) : Type 0 where
   pub clear : IsClear old.out
@@ -44,6 +50,7 @@ pub record ReplayDone (old new : ReplayAreas) (report : ReplayReport) : Type 0 w
   pub given : HasSettings old.wal.files settings
   pub read : ReadWal
   pub read_is : IsReadWal settings.segment old.wal.files read
+  pub made : IsWhole old.wal read_is.entries report.end.0 read.store
   pub written : new.out.files ≡ option_map (λ m. files_of settings.relseg read.store) old.out.files
   pub end : report.end.0 ≡ read.tip.end
   pub forks : report.forks ≡ len read.store

@@ -99,7 +99,7 @@ fn write_out<V: Vault>(
     store: &PageMap,
     settings: &Settings,
 ) -> Result<(), AreaFault>
-    ensures written { OnOk result (IsWrittenOut V.Vault settings.now.relseg store.now out.old out.new) }
+    ensures written { OnOk result (IsWrittenOut V.Vault settings.now store.now out.old out.new) }
     ensures cause { HasCause (V.faults out.old) (V.faults out.new) result }
 {
     write_store(alloc, out, store, settings.relseg())?;

@@ -8,6 +8,7 @@ use Rattle.recovery.specs.declared.replaying.ReadWal.{ReadWal}
 use Rattle.lsn_core.specs.Files.{Files}
 use Rattle.lsn_core.specs.Store.{files_of}
 use Rattle.byte_words.specs.Told.{when_told}
+use Rattle.pgbackup_cli.proofs.WholeRead.{whole_read}
 use Rattle.pgbackup_cli.proofs.replay.replay_areas.Goals as goal
 
 pub returns-clause-answer : goal.returns-clause-answer
@@ -20,6 +21,7 @@ returns-clause-answer g c =
       given = c.in_ok-settings.ensures.answer.0;
       read = c.in_ok-settings.read;
       read_is = c.in_ok-settings.ensures.answer.1;
+      made = whole_read c.in_ok-settings.settings.segment (g.V.Vault.files c.args.wal.now) c.in_ok-settings.read _ c.in_ok-settings.ensures.answer.1 (ap (λ (r : ReadWal). r.tip.end) c.read.view_is);
       written = subst (λ (f : Option Files). g.V.Vault.files c.write_out.new.out ≡ option_map (λ m. files_of c.in_ok-settings.settings.relseg c.in_ok-settings.read.store) f) c.in_ok-is_clear.ensures.same
           (c.in_ok-write_out.ensures.written (subst (λ (f : Option Files). IfSome f (λ m. m ≡ empty)) (sym c.in_ok-is_clear.ensures.same) clear)
           ∙ ap (λ (r : ReadWal). option_map (λ m. files_of c.in_ok-settings.settings.relseg r.store) (g.V.Vault.files c.is_clear.new.area)) c.read.view_is);
