@@ -33,6 +33,8 @@ mod text_numbers_tests;
 #[cfg(test)]
 mod vault_lending_tests;
 #[cfg(test)]
+mod vault_long_tests;
+#[cfg(test)]
 mod vault_memory_tests;
 #[cfg(test)]
 mod vault_os_reads_tests;
