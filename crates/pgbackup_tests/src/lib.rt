@@ -31,7 +31,13 @@ mod store_tests;
 #[cfg(test)]
 mod text_numbers_tests;
 #[cfg(test)]
+mod vault_lending_tests;
+#[cfg(test)]
+mod vault_long_tests;
+#[cfg(test)]
 mod vault_memory_tests;
+#[cfg(test)]
+mod vault_os_reads_tests;
 #[cfg(test)]
 mod vault_os_tests;
 #[cfg(test)]

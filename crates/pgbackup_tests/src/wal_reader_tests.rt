@@ -59,7 +59,7 @@ fn three_entries_are_read_up_to_the_end(rt: HostRuntime) -> Result<(), Fail> {
     let fork = main_fork(16384).ok_or("not 0")?;
     let mut area = archive_with(alloc, BEFORE_PADDING, 0, b"", 0)?;
     let settings = read_settings(alloc, &mut area)?;
-    assert_eq!(rt; settings.system, 7);
+    assert_eq!(rt; settings.system(), 7);
     let mut cursor = WalCursor::first(&settings);
     assert_eq!(rt; cursor.tip().end, Lsn(0x100_0000));
     let first = cursor.next(alloc, &mut area)?.ok_or("a first entry")?;
@@ -194,7 +194,7 @@ fn numbers_given(alloc: Global, text: &[u8]) -> Result<(u64, u32), WalFault> {
     area.cut(b"settings", 0)?;
     area.write_at(b"settings", 0, text)?;
     let settings = read_settings(alloc, &mut area)?;
-    Ok((settings.segment.bytes() / 1_048_576, settings.relseg))
+    Ok((settings.segment().bytes() / 1_048_576, settings.relseg()))
 }
 
 #[test]
@@ -266,7 +266,7 @@ fn a_wal_has_segments_of_one_mebibyte(rt: HostRuntime) -> Result<(), Fail> {
         b"segment-mib 1\nblocks-per-segment 131072\n",
     )?;
     let settings = read_settings(alloc, &mut area)?;
-    assert_eq!(rt; settings.system, 7);
+    assert_eq!(rt; settings.system(), 7);
     let cursor = WalCursor::first(&settings);
     assert_eq!(rt; cursor.tip().end, Lsn(0x10_0000));
     assert_eq!(rt; read_through(alloc, &mut area)?, (0, None));

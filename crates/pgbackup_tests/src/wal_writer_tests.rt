@@ -1,3 +1,5 @@
+ghost use Rattle.std.specs.Prelude.{◌≡◌, IfOk};
+
 use crate::samples::{NEW_WAL, SEGMENT};
 use lsn_core::{AreaFault, Lsn, SegSize, Settings, WalTip};
 use std::test::Fail;
@@ -5,20 +7,27 @@ use vault::{MemVault, read_whole};
 use wal_record::Kind;
 use wal_writer::{AppendFault, WalState};
 
+/// The end of a WAL with segments of 1 MiB that has no entry.
+const START: WalTip = WalTip {
+    end: Lsn(0x100000),
+    prev: Lsn(0),
+    redo: Lsn(0),
+    count: 0,
+};
+
+/// The settings of that WAL.
+fn settings() -> Result<Settings, Fail>
+    ensures { IfOk result (λ s. s.segment ≡ 1) }
+{
+    let size = SegSize::new(1).ok_or("no size")?;
+    Ok(Settings::new(size, 131_072, 7).ok_or("no settings")?)
+}
+
 #[test]
 fn first_entry_is_flushed_behind_its_page_head(rt: HostRuntime) -> Result<(), Fail> {
     let alloc = rt.alloc();
-    let settings = Settings {
-        segment: SegSize::new(1).ok_or("no size")?,
-        relseg: 131_072,
-        system: 7,
-    };
-    let tip = WalTip {
-        end: Lsn(0x100000),
-        prev: Lsn(0),
-    };
     let area = MemVault::new(alloc, &[1])?;
-    let mut wal = WalState::attach(alloc, area, settings, tip);
+    let mut wal = WalState::attach(alloc, area, settings()?, START);
     let first = wal.append(alloc, Kind::Shutdown(Lsn(0x100028)))?;
     assert_eq!(rt;
         (first.start, first.end, first.prev, first.xid),
@@ -29,6 +38,11 @@ fn first_entry_is_flushed_behind_its_page_head(rt: HostRuntime) -> Result<(), Fa
         Some(AreaFault::Failed)
     );
     assert_eq!(rt; (wal.flushed(), wal.end()), (Lsn(0x100000), first.end));
+    let tip = wal.tip();
+    assert_eq!(rt;
+        (tip.prev, tip.redo, tip.count),
+        (first.start, first.start, 1)
+    );
     assert_eq!(rt; wal.flush_to(alloc, first.end)?.to(), first.end);
     assert_eq!(rt; (wal.flushed(), wal.end()), (first.end, first.end));
     let mut area = wal.detach();
@@ -40,17 +54,14 @@ fn first_entry_is_flushed_behind_its_page_head(rt: HostRuntime) -> Result<(), Fa
 #[test]
 fn entries_end_with_the_first_page(rt: HostRuntime) -> Result<(), Fail> {
     let alloc = rt.alloc();
-    let settings = Settings {
-        segment: SegSize::new(1).ok_or("no size")?,
-        relseg: 131_072,
-        system: 7,
-    };
     let tip = WalTip {
         end: Lsn(0x101fc8),
         prev: Lsn(0x101f90),
+        redo: Lsn(0x100028),
+        count: 3,
     };
     let area = MemVault::new(alloc, &[])?;
-    let mut wal = WalState::attach(alloc, area, settings, tip);
+    let mut wal = WalState::attach(alloc, area, settings()?, tip);
     let last = wal.append(alloc, Kind::Shutdown(Lsn(0x101fc8)))?;
     assert_eq!(rt; (last.end, last.prev), (Lsn(0x102000), Lsn(0x101f90)));
     assert_eq!(rt;
@@ -64,23 +75,14 @@ fn entries_end_with_the_first_page(rt: HostRuntime) -> Result<(), Fail> {
 #[test]
 fn what_was_appended_last_is_taken_back(rt: HostRuntime) -> Result<(), Fail> {
     let alloc = rt.alloc();
-    let settings = Settings {
-        segment: SegSize::new(1).ok_or("no size")?,
-        relseg: 131_072,
-        system: 7,
-    };
-    let start = WalTip {
-        end: Lsn(0x100000),
-        prev: Lsn(0),
-    };
     let area = MemVault::new(alloc, &[])?;
-    let mut wal = WalState::attach(alloc, area, settings, start);
+    let mut wal = WalState::attach(alloc, area, settings()?, START);
     let tip = wal.tip();
-    assert_eq!(rt; tip, start);
+    assert_eq!(rt; tip, START);
     let refused = wal.append(alloc, Kind::Shutdown(Lsn(1)))?;
     assert_eq!(rt; wal.tip().prev, refused.start);
     wal.rewind(tip);
-    assert_eq!(rt; wal.tip(), start);
+    assert_eq!(rt; wal.tip(), START);
     let first = wal.append(alloc, Kind::Shutdown(Lsn(0x100028)))?;
     assert_eq!(rt; wal.flush_to(alloc, first.end)?.to(), first.end);
     let mut area = wal.detach();
