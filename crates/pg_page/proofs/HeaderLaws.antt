@@ -1,8 +1,9 @@
 -- A page whose LSN is set, or whose hole is zeroed, keeps its header's other fields.
-use Rattle.std.proofs.Common.{◌≡◌, ℕ, ◌+◌, ◌-◌, ◌^◌, ◌<◌, ◌≤◌, List, length, get_or, take, drop, replicate, refl, ◌∙◌, arith}
-use Rattle.std.proofs.lemmas.List.{length-replicate, length-take-le}
+use Rattle.std.proofs.Common.{◌≡◌, ℕ, ◌+◌, ◌-◌, ◌^◌, ◌<◌, ◌≤◌, List, length, get_or, take, drop, replicate, ◌⊎◌, ◌++◌, inl, inr, refl, sym, ap, subst, ◌∙◌, arith}
+use Rattle.std.proofs.lemmas.List.{length-append, get_or-replicate, length-drop, length-replicate, length-take, length-take-le, take-append-drop}
+use Rattle.std.proofs.lemmas.Bool.{cases_lt}
 use Rattle.byte_words.specs.Pieces.{overwritten}
-use Rattle.byte_words.proofs.Overwritten.{length-overwritten, overwritten_before, overwritten_behind, overwritten_between}
+use Rattle.byte_words.proofs.Overwritten.{length-overwritten, overwritten_before, overwritten_behind, overwritten_within, overwritten_between}
 use Rattle.pg_page.specs.Header.{IsGood, lower_of, upper_of, special_of, version_of, lsn_of, lsn_field, hole_of, hole_zeroed, with_lsn}
 
 -- two pages with the same bytes from 12 to 19
@@ -45,7 +46,7 @@ behind_same : (p : List ℕ) (at : ℕ) (piece : List ℕ) → 24 ≤ at → at 
 behind_same p at piece least fits =
     same_header p (overwritten p at piece) (length-overwritten p at piece fits) (λ i _ lt. overwritten_before p at piece i (omega arith) (omega arith))
 
-length-lsn_field : (at : ℕ) → length (lsn_field at) ≡ 8
+pub length-lsn_field : (at : ℕ) → length (lsn_field at) ≡ 8
 unfolding lsn_field
 length-lsn_field at = refl
 
@@ -99,3 +100,63 @@ unfolding hole_zeroed
 hole_zeroed-hole_zeroed p g =
     let s = hole_same p g in
     rw (s.lower, s.upper) (twice p (lower_of p) (upper_of p - lower_of p) (replicate (upper_of p - lower_of p) 0) (length-replicate {A = ℕ} (upper_of p - lower_of p) 0) (omega (arith, g.whole, g.upper, g.special, g.top)))
+
+-- the header below: one with another LSN, or with its hole zeroed, is good only where it was
+same_back : (p q : List ℕ) → IsSameHeader p q → IsSameHeader q p
+same_back p q s = record { size = sym s.size; lower = sym s.lower; upper = sym s.upper; special = sym s.special; version = sym s.version }
+
+length_under : (p piece : List ℕ) → length piece ≡ 8 → length (overwritten p 0 piece) ≡ 8192 → length p ≡ 8192
+length_under p piece eight e = omega (arith, eight, e, length-append piece (drop (0 + length piece) p), length-drop (0 + length piece) p)
+
+pub IsGood-under_lsn : (at : ℕ) (p : List ℕ) → IsGood (with_lsn at p) → IsGood p
+unfolding with_lsn
+IsGood-under_lsn at p g =
+    let eight = length-lsn_field at in
+    good_again (overwritten p 0 (lsn_field at)) p (same_back p (overwritten p 0 (lsn_field at)) (front_same p (lsn_field at) (length_under p (lsn_field at) eight g.whole) eight)) g
+
+-- zeros over a hole that the header can't have
+none_written : (p : List ℕ) (at n : ℕ) → n ≡ 0 → overwritten p at (replicate n 0) ≡ p
+none_written p at n e =
+    ap (λ k. overwritten p at (replicate k 0)) e
+    ∙ ap (λ k. take at p ++ drop k p) (let same : at + 0 ≡ at = omega arith in same)
+    ∙ take-append-drop at p
+
+length_past : (p : List ℕ) (lower upper : ℕ) → length p ≡ 8192 → lower < upper → 8192 < upper → length (overwritten p lower (replicate (upper - lower) 0)) ≡ 8192 → ⊥
+length_past p lower upper whole order past e =
+    omega (arith, whole, e, length-append (take lower p) (replicate (upper - lower) 0 ++ drop (lower + length (replicate {A = ℕ} (upper - lower) 0)) p), length-append (replicate {A = ℕ} (upper - lower) 0) (drop (lower + length (replicate {A = ℕ} (upper - lower) 0)) p), length-take lower p, length-replicate {A = ℕ} (upper - lower) 0)
+
+-- a byte is as it was, or zero
+cell : (p : List ℕ) (at n i : ℕ) → at + n ≤ length p → (get_or (overwritten p at (replicate n 0)) i 0 ≡ get_or p i 0) ⊎ (get_or (overwritten p at (replicate n 0)) i 0 ≡ 0)
+cell p at n i fits =
+    let size : length (replicate {A = ℕ} n 0) ≡ n = length-replicate {A = ℕ} n 0 in
+    elim (cases_lt i at) [
+      | inl before ↦ inl (overwritten_before p at (replicate n 0) i (omega arith) before)
+      | inr from ↦ elim (cases_lt i (at + n)) [
+        | inl in_it ↦
+            let e : i ≡ at + (i - at) = omega arith in
+            inr (ap (λ k. get_or (overwritten p at (replicate n 0)) k 0) e ∙ overwritten_within p at (replicate n 0) (i - at) (omega arith) (omega (arith, size)) ∙ get_or-replicate {A = ℕ} n (i - at) 0 0 (omega arith))
+        | inr behind ↦ inl (overwritten_behind p at (replicate n 0) i (omega arith) (omega (arith, size)))
+      ]
+    ]
+
+low_again : (p : List ℕ) (at n : ℕ) → at + n ≤ length p → lower_of p < 24 → lower_of (overwritten p at (replicate n 0)) < 24
+low_again p at n fits low =
+    elim (cell p at n 12 fits) [
+      | inl a ↦ elim (cell p at n 13 fits) [ inl b ↦ omega (arith, a, b, low) | inr b ↦ omega (arith, a, b, low) ]
+      | inr a ↦ elim (cell p at n 13 fits) [ inl b ↦ omega (arith, a, b, low) | inr b ↦ omega (arith, a, b, low) ]
+    ]
+
+pub IsGood-under_zeros : (p : List ℕ) → length p ≡ 8192 → IsGood (hole_zeroed p) → IsGood p
+unfolding hole_zeroed
+IsGood-under_zeros p whole g =
+    let z : List ℕ = replicate (upper_of p - lower_of p) 0 in
+    elim (cases_lt (lower_of p) (upper_of p)) [
+      | inr none ↦ subst IsGood (none_written p (lower_of p) (upper_of p - lower_of p) (omega arith)) g
+      | inl order ↦ elim (cases_lt 8192 (upper_of p)) [
+        | inl past ↦ absurd (length_past p (lower_of p) (upper_of p) whole order past g.whole)
+        | inr most ↦ elim (cases_lt (lower_of p) 24) [
+          | inl low ↦ absurd (omega (arith, low_again p (lower_of p) (upper_of p - lower_of p) (omega (arith, whole)) low, g.lower))
+          | inr least ↦ good_again (overwritten p (lower_of p) z) p (same_back p (overwritten p (lower_of p) z) (behind_same p (lower_of p) z least (omega (arith, whole, length-replicate {A = ℕ} (upper_of p - lower_of p) 0)))) g
+        ]
+      ]
+    ]

@@ -1,3 +1,4 @@
 pub mod HeaderLaws
 pub mod ImageLaws
 pub mod MadeLaws
+pub mod PatchLaws

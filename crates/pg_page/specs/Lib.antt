@@ -1,2 +1,4 @@
 pub mod Header
 pub mod Image
+pub mod Frags
+pub mod Laws

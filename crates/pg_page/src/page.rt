@@ -41,7 +41,7 @@ impl Page {
     }
 
     /// The page of bytes with a good header.
-    pub(crate) fn from_good(bytes: [u8; 8192]) -> Page
+    pub fn from_good(bytes: [u8; 8192]) -> Page
         requires { IsGood bytes }
         ensures { result ≡ bytes }
     {
@@ -72,10 +72,7 @@ impl Page {
     pub fn lsn(&self) -> u64
         ensures { result ≡ lsn_of self.now }
     {
-        let page = &self.bytes;
-        let high = u32::from_le_bytes([page[0], page[1], page[2], page[3]]);
-        let low = u32::from_le_bytes([page[4], page[5], page[6], page[7]]);
-        u64::from(high) * 4_294_967_296 + u64::from(low)
+        lsn_of(&self.bytes)
     }
 
     /// Sets the page's LSN.
@@ -95,6 +92,15 @@ impl Page {
         let upper = usize::from(u16_in(&self.bytes, 14));
         fill_between(&mut self.bytes, lower, upper, 0);
     }
+}
+
+/// The LSN of a page, also of one whose header isn't good.
+pub fn lsn_of(page: &[u8; 8192]) -> u64
+    ensures { result ≡ lsn_of page.now }
+{
+    let high = u32::from_le_bytes([page[0], page[1], page[2], page[3]]);
+    let low = u32::from_le_bytes([page[4], page[5], page[6], page[7]]);
+    u64::from(high) * 4_294_967_296 + u64::from(low)
 }
 
 /// A page of zeros, as an added block is. Its header isn't good.
