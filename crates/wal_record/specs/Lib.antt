@@ -1,5 +1,11 @@
+pub mod Outcome
+pub mod Header
 pub mod Heads
+pub mod Announcements
 pub mod Spelling
+pub mod Parts
+pub mod Content
 pub mod Decoding
-pub mod Places
+pub mod Entry
 pub mod Tips
+pub mod Sound

@@ -1,23 +1,31 @@
-//! Entries of the WAL: what they are, how they are written and where they stand (PostgreSQL manual,
-//! WAL Internals; access/xlogrecord.h).
+//! Entries of the WAL: what they are, how they are written and read (PostgreSQL manual, WAL
+//! Internals; access/xlogrecord.h), and how the end of a WAL, a tip, moves over them.
 //!
-//! `specs/Spelling.antt` says of each entry which bytes are its written form. `encode_record` gives
-//! just these, with their sum. `decode_record` finds the entry that bytes are the written form of,
-//! and refuses exactly the bytes that are that of none; it doesn't test the sum yet. Where entries
-//! stand is said in `specs/Places.antt`, and how the end of a WAL, a tip, moves over them in
-//! `specs/Tips.antt`. So far an entry has one block, written as a whole page.
+//! `encode_record` gives the written form of an entry with its sum, which `specs/Spelling.antt`
+//! says. `decode_record` is the reading of `specs/Decoding.antt`: header and sum, the announcements
+//! of blocks and main data (`specs/Heads.antt`), and what these say, or the first why it is refused
+//! (`specs/Content.antt`). `laws` says that this is just the grammar of `specs/Entry.antt`, that
+//! what is written is read again, that no entry begins another, and that what is read is sound
+//! (`specs/Sound.antt`).
 //!
-//! Left to others: what a page is (`pg_page`), which entries an archive has (`wal_reader`) and what
-//! they do to a store (`history`). Nothing here calls an area.
+//! Left to others: where entries stand (`wal_pages`), what a page is (`pg_page`), which entries an
+//! archive has (`wal_archive`) and what they do to a store (`history`). Nothing here calls an area.
 #![tactic(auto)]
 
+mod announce;
+mod blocks;
+mod content;
 mod decode;
 mod encode;
-mod fields;
+mod header;
+mod laws;
+mod names;
+mod parts;
 mod places;
 mod record;
 
 pub use decode::decode_record;
 pub use encode::encode_record;
-pub use places::{end_of, first_tip, start_after, tip_after, wal_limit};
-pub use record::{BlockRef, Blocks, Body, Kind, Record, RecordFault};
+pub use laws::{announcements_are_read, entries_are_read, entries_are_sound, written_is_read};
+pub use places::{first_tip, tip_after, wal_limit};
+pub use record::{BlockRef, Blocks, Body, Kind, Record, RecordFault, Why};

@@ -1,36 +1,12 @@
-//! Where entries stand and where a WAL ends, on its first page (PostgreSQL manual, WAL Internals).
+//! Where a WAL ends.
 
-ghost use Rattle.std.specs.Prelude.{◌≡◌, ◌+◌, ◌<◌, ◌≤◌, ◌^◌};
-ghost use Rattle.byte_words.specs.Numbers.{aligned};
-ghost use Rattle.wal_record.specs.Places.{start_after};
-ghost use Rattle.wal_record.specs.Tips.{first_tip, tip_after, wal_limit};
+ghost use Rattle.std.specs.Prelude.{◌≡◌, ◌<◌, ◌^◌};
+ghost use Rattle.wal_record.specs.Tips.{first_tip, is_redo_mark, tip_after, wal_limit};
 
-use crate::record::Record;
-use byte_words::aligned;
-use lsn_core::{LONG_HEAD, Lsn, PAGE, SegSize, WalTip};
+use crate::record::{Kind, Record};
+use lsn_core::{Lsn, MOST_SEGMENTS, SegSize, WalTip};
 
-/// Where the entry after this place starts: at the start of segment 1 behind its page's head, and
-/// elsewhere at the place.
-pub fn start_after(size: SegSize, at: Lsn) -> Lsn
-    ensures { result.0 ≡ start_after size at.0 }
-{
-    if at.0 == size.bytes() {
-        Lsn(size.bytes() + LONG_HEAD)
-    } else {
-        at
-    }
-}
-
-/// Where an entry of so many bytes ends that starts there: at the next multiple of 8.
-pub fn end_of(start: Lsn, total: usize) -> Lsn
-    requires start { start.0 ≤ 2 ^ 52 }
-    requires total { total ≤ 2 ^ 52 }
-    ensures { result.0 ≡ aligned (start.0 + total) }
-{
-    Lsn(aligned(start.0 + total as u64))
-}
-
-/// The end of a WAL without an entry.
+/// The end of a WAL without an entry: it begins with segment 1.
 pub fn first_tip(size: SegSize) -> WalTip
     ensures { result ≡ first_tip size }
 {
@@ -42,7 +18,8 @@ pub fn first_tip(size: SegSize) -> WalTip
     }
 }
 
-/// The end of a WAL with one more entry.
+/// The end of a WAL with one more entry. The latest redo point is the start of the latest redo
+/// mark, or of the first entry.
 pub fn tip_after(tip: WalTip, entry: &Record) -> WalTip
     requires { tip.count < 2 ^ 63 }
     ensures { result ≡ tip_after tip entry.now }
@@ -50,7 +27,7 @@ pub fn tip_after(tip: WalTip, entry: &Record) -> WalTip
     WalTip {
         end: entry.end,
         prev: entry.start,
-        redo: if tip.count == 0 {
+        redo: if tip.count == 0 || is_redo_mark(&entry.kind) {
             entry.start
         } else {
             tip.redo
@@ -59,9 +36,16 @@ pub fn tip_after(tip: WalTip, entry: &Record) -> WalTip
     }
 }
 
-/// Where the room of a WAL ends: so far with its first page.
+/// Whether an entry is the start of a checkpoint.
+fn is_redo_mark(kind: &Kind) -> bool
+    ensures { result ≡ is_redo_mark kind.now }
+{
+    matches!(kind, Kind::RedoMark(_))
+}
+
+/// Where the room of a WAL ends: behind its last segment, of number 1,048,576.
 pub fn wal_limit(size: SegSize) -> Lsn
     ensures { result.0 ≡ wal_limit size }
 {
-    Lsn(size.bytes() + PAGE)
+    Lsn((MOST_SEGMENTS + 1) * size.bytes())
 }

@@ -1,10 +1,10 @@
 //! What an entry of the WAL is.
 
 ghost use Rattle.std.specs.Prelude.{◌≡◌, [], ◌∷◌, IfOk};
-ghost use Rattle.wal_record.specs.declared.record.RecordFault.TheVariants.{NoMemory};
+ghost use Rattle.wal_record.specs.declared.record.RecordFault.TheVariants.{Content, NoMemory};
 
-use lsn_core::{BlockId, ForkId, Lsn};
-use pg_page::Page;
+use lsn_core::{BlockId, ForkId, Lsn, Rel};
+use pg_page::{Frags, Page};
 use std::alloc::{AllocError, AllocFailed, Global};
 use std::marker::Model;
 
@@ -19,15 +19,27 @@ pub struct Record {
     pub kind: Kind,
 }
 
-/// What an entry says.
+/// What an entry says (catalog/pg_control.h, catalog/storage_xlog.h, access/generic_xlog.h).
 #[derive(Debug, Drop)]
 pub enum Kind {
     /// A checkpoint at shutdown, with its redo point.
     Shutdown(Lsn),
+    /// A checkpoint of a running store, with its redo point.
+    Online(Lsn),
+    /// The start of a checkpoint, which is its redo point. The number is written as 1.
+    RedoMark(u32),
+    /// Nothing.
+    NoOp,
+    /// The end of a backup, with the place where it started.
+    BackupEnd(Lsn),
+    /// Pages of one or more relations, as a whole.
+    Images(Blocks),
     /// Blocks of one or more relations that changed.
     Generic(Blocks),
     /// A fork is created.
     Create(ForkId),
+    /// A relation is truncated to so many blocks, with flags: 1 its main fork, 2 and 4 others.
+    Truncate(Rel, u32, u32),
 }
 
 /// The blocks of an entry, in order. Contracts see the list.
@@ -71,26 +83,71 @@ impl Blocks {
 }
 
 /// A block of an entry, and how the entry changes it.
-#[derive(Clone, Copy, Debug)]
+#[derive(Debug, Drop)]
 pub struct BlockRef {
     pub at: BlockId,
     pub body: Body,
 }
 
 /// How an entry changes a block.
-#[derive(Clone, Copy, Debug)]
+#[derive(Debug, Drop)]
 pub enum Body {
     /// The page as a whole.
     Image(Page),
+    /// Bytes that are written over the page, at these places.
+    Delta(Frags),
 }
 
-/// Why bytes are no entry.
+/// Why bytes are no entry. The first one that holds, in this order.
 #[derive(Clone, Copy, Debug, PartialEq, Eq)]
 pub enum RecordFault {
-    /// They are not the written form of an entry.
-    Form,
+    /// The total length is below 24 or above 4,194,304.
+    Length,
+    /// The link isn't to the start of the entry before.
+    Prev,
+    /// The sum isn't that of the bytes.
+    Crc,
+    /// The manager and the info byte are those of no kind.
+    Unsupported(u8, u8),
+    /// The announcements of blocks and main data don't fit each other or the total length.
+    Header,
+    /// What the entry says is refused.
+    Content(Why),
     /// Memory ran out.
     NoMemory,
+}
+
+/// Why what an entry says is refused (profile).
+#[derive(Clone, Copy, Debug, PartialEq, Eq)]
+pub enum Why {
+    /// An image is compressed.
+    Compressed,
+    /// An image isn't to be applied.
+    NotApplied,
+    /// A tablespace other than 1663.
+    Tablespace,
+    /// A fork other than main and init.
+    Fork,
+    /// A database or relation number of 0.
+    Relation,
+    /// A block number of 32,768 or more.
+    BlockRange,
+    /// The page of an image has a bad header.
+    ImagePage,
+    /// A delta is no list of good fragments.
+    Fragments,
+    /// Blocks or main data that the kind doesn't have.
+    Shape,
+    /// The first entry of the archive is no shutdown checkpoint whose redo point is its own start.
+    First,
+}
+
+impl From<Why> for RecordFault {
+    ghost from_gives = { λ why e. e ≡ Content why };
+
+    fn from(why: Why) -> Self {
+        RecordFault::Content(why)
+    }
 }
 
 impl From<AllocError> for RecordFault {

@@ -1,0 +1,63 @@
+-- Main data that is written is read.
+use Rattle.std.proofs.Common.{◌≡◌, ℕ, ◌^◌, ◌<◌, List, [], ◌++◌, length, Some, refl, arith}
+use Rattle.std.specs.Int.{w32, w64, to_le_bytes}
+use Rattle.std.proofs.lemmas.Bool.{eq-eqb}
+use Rattle.byte_words.specs.Numbers.{◌>>=◌}
+use Rattle.byte_words.proofs.Fields.{wide32, wide64, step_again}
+use Rattle.lsn_core.specs.Relation.{Relation}
+use Rattle.lsn_core.specs.declared.lsn.Lsn.{Lsn}
+use Rattle.wal_record.specs.Parts.{checkpoint_at, mark_at, start_at, named_at, creation_at, truncation_at}
+use Rattle.wal_record.specs.Spelling.{full_name, checkpoint_bytes, relation_bytes, truncation_bytes, IsRelation}
+use Rattle.wal_record.proofs.Steps.{takes_again, passes}
+
+checkpoint_followed : (redo : Lsn) (end : List ℕ) → redo.0 < 2 ^ 64 → length end ≡ 0 → checkpoint_at (to_le_bytes w64 redo.0 ++ (to_le_bytes w32 1 ++ (to_le_bytes w32 1 ++ (to_le_bytes w64 1 ++ end)))) ≡ Some redo
+unfolding checkpoint_at
+checkpoint_followed redo end lt nil =
+    let r3 : List ℕ = to_le_bytes w64 1 ++ end in
+    let r2 : List ℕ = to_le_bytes w32 1 ++ r3 in
+    let r1 : List ℕ = to_le_bytes w32 1 ++ r2 in
+    step_again w64 (2 ^ 64) wide64 _ redo.0 r1 _ _ refl lt (
+    step_again w32 (2 ^ 32) wide32 r1 1 r2 _ _ refl (omega arith) (
+    step_again w32 (2 ^ 32) wide32 r2 1 r3 _ _ refl (omega arith) (
+    step_again w64 (2 ^ 64) wide64 r3 1 end _ _ refl (omega arith) (passes _ _ _ _ (eq-eqb (length end) 0 nil) refl))))
+
+pub checkpoint_again : (redo : Lsn) → redo.0 < 2 ^ 64 → checkpoint_at (checkpoint_bytes redo) ≡ Some redo
+checkpoint_again redo lt = checkpoint_followed redo [] lt refl
+
+mark_followed : (n : ℕ) (end : List ℕ) → n < 2 ^ 32 → length end ≡ 0 → mark_at (to_le_bytes w32 n ++ end) ≡ Some n
+unfolding mark_at
+mark_followed n end lt nil = step_again w32 (2 ^ 32) wide32 _ n end _ _ refl lt (passes _ _ _ _ (eq-eqb (length end) 0 nil) refl)
+
+pub mark_again : (n : ℕ) → n < 2 ^ 32 → mark_at (to_le_bytes w32 n) ≡ Some n
+mark_again n lt = mark_followed n [] lt refl
+
+start_followed : (start : Lsn) (end : List ℕ) → start.0 < 2 ^ 64 → length end ≡ 0 → start_at (to_le_bytes w64 start.0 ++ end) ≡ Some start
+unfolding start_at
+start_followed start end lt nil = step_again w64 (2 ^ 64) wide64 _ start.0 end _ _ refl lt (passes _ _ _ _ (eq-eqb (length end) 0 nil) refl)
+
+pub start_again : (start : Lsn) → start.0 < 2 ^ 64 → start_at (to_le_bytes w64 start.0) ≡ Some start
+start_again start lt = start_followed start [] lt refl
+
+named_again : (rel : Relation) (more : List ℕ) → IsRelation rel → named_at (relation_bytes rel more) ≡ Some (full_name rel, more)
+unfolding named_at
+named_again rel more is =
+    let r2 : List ℕ = to_le_bytes w32 rel.rel ++ more in
+    let r1 : List ℕ = to_le_bytes w32 rel.db ++ r2 in
+    step_again w32 (2 ^ 32) wide32 _ 1663 r1 _ _ refl (omega arith) (
+    step_again w32 (2 ^ 32) wide32 r1 rel.db r2 _ _ refl is.fits.0 (
+    step_again w32 (2 ^ 32) wide32 r2 rel.rel more _ _ refl is.fits.1 refl))
+
+creation_followed : (rel : Relation) (n : ℕ) (end : List ℕ) → IsRelation rel → n < 2 ^ 32 → length end ≡ 0 → creation_at (relation_bytes rel (to_le_bytes w32 n ++ end)) ≡ Some (full_name rel, n)
+unfolding creation_at
+creation_followed rel n end is lt nil =
+    takes_again (named_at (relation_bytes rel (to_le_bytes w32 n ++ end))) _ (full_name rel, to_le_bytes w32 n ++ end) _ (named_again rel (to_le_bytes w32 n ++ end) is) (
+    step_again w32 (2 ^ 32) wide32 (to_le_bytes w32 n ++ end) n end _ _ refl lt (passes _ _ _ _ (eq-eqb (length end) 0 nil) refl))
+
+pub creation_again : (rel : Relation) (n : ℕ) → IsRelation rel → n < 2 ^ 32 → creation_at (relation_bytes rel (to_le_bytes w32 n)) ≡ Some (full_name rel, n)
+creation_again rel n is lt = creation_followed rel n [] is lt refl
+
+pub truncation_again : (rel : Relation) (count flags : ℕ) → IsRelation rel → count < 2 ^ 32 → flags < 2 ^ 32 → truncation_at (truncation_bytes rel count flags) ≡ Some (count, (full_name rel, flags))
+unfolding truncation_at
+truncation_again rel count flags is bc bf =
+    step_again w32 (2 ^ 32) wide32 _ count (relation_bytes rel (to_le_bytes w32 flags)) (λ n. creation_at n.1 >>= λ named. Some (n.0, named)) _ refl bc (
+    takes_again (creation_at (relation_bytes rel (to_le_bytes w32 flags))) (λ named. Some (count, named)) (full_name rel, flags) _ (creation_again rel flags is bf) refl)

@@ -1,0 +1,93 @@
+-- The parts behind an entry's announcements: images, fragments and main data, each read from bytes.
+use Rattle.std.specs.Prelude.{ℕ, zero, suc, ◌-◌, List, [], ◌∷◌, length, take, drop, Option, Some, None, nat_lt, nat_le, ◌==◌, ◌&&◌, if◌then◌else◌}
+use Rattle.std.specs.Option.{is_none}
+use Rattle.std.specs.Int.{w16, w32, w64}
+use Rattle.byte_words.specs.Numbers.{◌>>=◌, number_at}
+use Rattle.lsn_core.specs.declared.lsn.Lsn.{Lsn}
+use Rattle.pg_page.specs.Frags.{Fragment, bad_frag, is_good}
+use Rattle.pg_page.specs.Image.{restored}
+use Rattle.wal_record.specs.declared.announce.RelName.{RelName}
+
+-- what stands at the end of the bytes, so much
+abbrev pub last_of : ℕ → List ℕ → List ℕ
+last_of size bytes = drop (length bytes - size) bytes
+
+-- the page of these bytes, where its header is good
+unfoldable pub good_page : List ℕ → Option (List ℕ)
+good_page bytes = if is_good bytes then Some bytes else None
+
+-- the page of an image: the hole that is left out becomes zeros
+unfoldable pub page_at : ℕ → List ℕ → Option (List ℕ)
+page_at offset image =
+    if nat_le offset (length image) && nat_le (length image) 8192 then
+    good_page (restored offset image)
+    else None
+
+-- the fragment at the front of a delta, and the bytes after it
+unfoldable pub frag_at : List ℕ → Option (Fragment × List ℕ)
+frag_at bytes =
+    number_at w16 bytes >>= λ at.
+    number_at w16 at.1 >>= λ len.
+    if nat_lt (length len.1) len.0 then None
+    else Some (record { at = at.0; bytes = take len.0 len.1 }, drop len.0 len.1)
+
+abbrev pub with_frag : Fragment → Option (List Fragment) → Option (List Fragment)
+with_frag frag None = None
+with_frag frag (Some frags) = Some (frag ∷ frags)
+
+-- the fragments of a delta, so many at most
+unfoldable pub frags_at : ℕ → List ℕ → Option (List Fragment)
+frags_at n [] = Some []
+frags_at zero (b ∷ bs) = None
+frags_at (suc n) (b ∷ bs) =
+    frag_at (b ∷ bs) >>= λ frag. with_frag frag.0 (frags_at n frag.1)
+
+-- the fragments of a delta, all of them good
+unfoldable pub delta_at : List ℕ → Option (List Fragment)
+delta_at bytes =
+    frags_at (length bytes) bytes >>= λ frags.
+    if is_none (bad_frag frags) then Some frags else None
+
+-- a checkpoint's main data: redo point, timeline 1, previous timeline 1, byte 1, seven zeros
+unfoldable pub checkpoint_at : List ℕ → Option Lsn
+checkpoint_at main =
+    number_at w64 main >>= λ redo.
+    number_at w32 redo.1 >>= λ timeline.
+    number_at w32 timeline.1 >>= λ before.
+    number_at w64 before.1 >>= λ last.
+    if (timeline.0 == 1) && ((before.0 == 1) && ((last.0 == 1) && (length last.1 == 0))) then
+    Some (record { 0 = redo.0 })
+    else None
+
+-- main data that is one number
+unfoldable pub mark_at : List ℕ → Option ℕ
+mark_at main =
+    number_at w32 main >>= λ number.
+    if length number.1 == 0 then Some number.0 else None
+
+unfoldable pub start_at : List ℕ → Option Lsn
+start_at main =
+    number_at w64 main >>= λ start.
+    if length start.1 == 0 then Some (record { 0 = start.0 }) else None
+
+-- the name of a relation, and the bytes after it
+unfoldable pub named_at : List ℕ → Option (RelName × List ℕ)
+named_at bytes =
+    number_at w32 bytes >>= λ space.
+    number_at w32 space.1 >>= λ db.
+    number_at w32 db.1 >>= λ rel.
+    Some (record { space = space.0; db = db.0; rel = rel.0 }, rel.1)
+
+-- a relation and a number
+unfoldable pub creation_at : List ℕ → Option (RelName × ℕ)
+creation_at main =
+    named_at main >>= λ name.
+    number_at w32 name.1 >>= λ fork.
+    if length fork.1 == 0 then Some (name.0, fork.0) else None
+
+-- a number, a relation and a number
+unfoldable pub truncation_at : List ℕ → Option (ℕ × (RelName × ℕ))
+truncation_at main =
+    number_at w32 main >>= λ count.
+    creation_at count.1 >>= λ named.
+    Some (count.0, named)
