@@ -1,3 +1,6 @@
-pub mod Lengths
-pub mod Endings
-pub mod First
+pub mod Ready
+pub mod Tears
+pub mod WritesOn
+pub mod Waiting
+pub mod NextRead
+pub mod Whole

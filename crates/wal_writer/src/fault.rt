@@ -9,7 +9,7 @@ use std::alloc::AllocError;
 /// Why an entry was not appended.
 #[derive(Clone, Copy, Debug, PartialEq, Eq)]
 pub enum AppendFault {
-    /// The entry would end past the WAL's room, so far its first page.
+    /// The entry would end behind the last segment, of number 1,048,576.
     WalFull,
     /// Memory ran out.
     NoMemory,

@@ -4,18 +4,20 @@ ghost use Rattle.std.specs.Prelude.{◌≡◌, ◌<◌, ◌≤◌, IsOk, IfOk, O
 ghost use Rattle.lsn_core.specs.Causes.{HasCause};
 ghost use Rattle.wal_record.specs.Spelling.{IsWritable};
 ghost use Rattle.wal_record.specs.Tips.{IsWithin};
-ghost use Rattle.wal_writer.specs.Log.{IsLog, log_at, flushed_to, rewound};
-ghost use Rattle.wal_writer.specs.Answers.{AppendAnswer, Flushes, Tears, IsUndone};
-ghost use Rattle.wal_writer.specs.Inside.{WritesTail, TearsTail, WritesPiece, TearsPiece};
+ghost use Rattle.wal_writer.specs.Log.{IsLog, IsReady, log_at, flush_end, touched_to};
+ghost use Rattle.wal_writer.specs.Answers.{PrepareAnswer, AddAnswer, AppendAnswer};
+ghost use Rattle.wal_writer.specs.Answers.{FlushesAt, Flushes, TearsAt, Tears, Keeps, FlushWrites};
 
 use crate::fault::AppendFault;
+use crate::pieces::write_synced;
+use crate::prepared::Prepared;
 use crate::tail::Tail;
-use lsn_core::{AreaFault, Lsn, Settings, WalTip, segment_name};
+use lsn_core::{AreaFault, Lsn, NoMemory, Settings, WalTip};
 use std::alloc::Global;
 use vault::Vault;
 use wal_record::{Kind, Record};
 
-/// The WAL of an area: entries are appended in memory, and flushed into the file of segment 1.
+/// The WAL of an area: entries are appended in memory, and flushed into its segment files.
 #[derive(Drop)]
 pub struct WalState<V: Vault> {
     area: V,
@@ -58,8 +60,26 @@ impl<V: Vault> WalState<V> {
         self.area
     }
 
-    /// Appends an entry in memory, at the start of the segment behind its page's head. `WalFull`
-    /// exactly where it would end past the WAL's room; a refusal changes nothing.
+    /// The entry of a kind that comes next, with its bytes, which is to be added yet. `WalFull`
+    /// exactly where it would end behind the last segment.
+    pub fn prepare(&self, alloc: Global, kind: Kind) -> Result<Prepared, AppendFault>
+        requires { IsWritable kind }
+        ensures { PrepareAnswer kind self.now.tail result }
+    {
+        self.tail.prepare(alloc, kind)
+    }
+
+    /// Adds the entry that comes next in memory, as `prepare` gave it for the WAL as it stands.
+    /// Want of memory changes nothing.
+    pub fn add(&mut self, entry: Prepared) -> Result<Record, NoMemory>
+        requires { IsReady self.old.tail entry }
+        ensures answer { AddAnswer entry self.old.tail self.new.tail result }
+        ensures area { self.new.area ≡ self.old.area }
+    {
+        self.tail.add(entry)
+    }
+
+    /// Appends an entry in memory: prepares and adds it. A refusal changes nothing.
     pub fn append(&mut self, alloc: Global, kind: Kind) -> Result<Record, AppendFault>
         requires { IsWritable kind }
         ensures answer { AppendAnswer kind self.old.tail self.new.tail result }
@@ -68,23 +88,28 @@ impl<V: Vault> WalState<V> {
         self.tail.append(alloc, kind)
     }
 
-    /// Writes what stands before a place and isn't flushed yet, and syncs the area. Up to the
-    /// flushed position nothing is to be done. After a fault the flushed position stands, and the
-    /// next flush writes the same bytes again.
+    /// Writes what stands before a place and isn't flushed yet, in pieces of at most 1 MiB, and
+    /// syncs the area. Up to the flushed position nothing is to be done. After a fault the flushed
+    /// position stands, and the next flush writes the same bytes again, at least up to where this
+    /// one may have written. Whatever it answers, and wherever it is stopped, the archive before
+    /// the flushed position stays.
     pub fn flush_to(&mut self, alloc: Global, to: Lsn) -> Result<Flushed, AreaFault>
         requires { to.0 ≤ self.old.tail.tip.end }
         ensures idle { to.0 ≤ self.old.tail.flushed → self.new ≡ self.old }
         ensures succeeds { to.0 ≤ self.old.tail.flushed → IsOk result }
-        ensures written { OnOk result (Flushes V.Vault to.0 self.old self.new) }
-        ensures flushed { OnOk result (self.new.tail ≡ flushed_to self.old.tail to.0) }
+        ensures flushed { OnOk result (Flushes V.Vault to.0 self.old self.new) }
         ensures mark { IfOk result (λ mark. mark.to.0 ≡ self.new.tail.flushed) }
-        ensures stands { OnErr result (self.new.tail ≡ self.old.tail) }
-        ensures left { OnErr result (Tears V.Vault to.0 self.old self.new) }
+        ensures reached { IfOk result (λ mark. to.0 ≤ mark.to.0) }
+        ensures stands { OnErr result
+            (self.new.tail ≡ touched_to self.old.tail (flush_end self.old.tail to.0)) }
+        ensures left { Tears V.Vault to.0 self.old self.new }
+        ensures moments { Keeps V.Vault self.old self.new }
+        ensures frame { FlushWrites V.Vault self.old self.new }
         ensures cause { HasCause (V.faults self.old.area) (V.faults self.new.area) result }
     {
         if self.tail.flushed() < to.0 {
-            write_out(alloc, &mut self.area, &self.tail, to.0)?;
-            self.tail.advance(to.0);
+            let at = self.tail.flush_end(to.0);
+            self.flush_until(alloc, at)?;
         }
         Ok(Flushed {
             to: Lsn(self.tail.flushed()),
@@ -99,7 +124,7 @@ impl<V: Vault> WalState<V> {
         Lsn(self.tail.flushed())
     }
 
-    /// Where the last entry ends; before the first one, where the segment begins.
+    /// Where the last entry ends; before the first one, where segment 1 begins.
     pub fn end(&self) -> Lsn
         ensures end { result.0 ≡ self.now.tail.tip.end }
         ensures known { IsLog self.now.tail }
@@ -115,38 +140,23 @@ impl<V: Vault> WalState<V> {
         self.tail.tip()
     }
 
-    /// Goes back to an earlier end: what was appended since is dropped, as if it had never been.
-    /// Takes no memory. What is flushed stays.
-    pub fn rewind(&mut self, tip: WalTip)
-        requires from { self.old.tail.flushed ≤ tip.end }
-        requires to { tip.end ≤ self.old.tail.tip.end }
-        requires tip { IsWithin self.old.tail.mib tip }
-        ensures rewound { self.new.tail ≡ rewound self.old.tail tip }
-        ensures undone { IsUndone self.old.tail self.new.tail tip }
-        ensures area { self.new.area ≡ self.old.area }
+    /// Writes what stands before a place behind the flushed position, and syncs the area.
+    fn flush_until(&mut self, alloc: Global, at: u64) -> Result<(), AreaFault>
+        requires from { self.old.tail.flushed ≤ at }
+        requires to { at ≤ self.old.tail.tip.end }
+        ensures flushed { OnOk result (FlushesAt V.Vault at self.old self.new) }
+        ensures stands { OnErr result (self.new.tail ≡ touched_to self.old.tail at) }
+        ensures left { TearsAt V.Vault at self.old self.new }
+        ensures frame { FlushWrites V.Vault self.old self.new }
+        ensures cause { HasCause (V.faults self.old.area) (V.faults self.new.area) result }
     {
-        self.tail.rewind(tip);
+        let size = self.tail.segment();
+        let from = self.tail.flushed();
+        let written = write_synced(alloc, &mut self.area, size, from, self.tail.until(at));
+        match written {
+            Ok(()) => self.tail.advance(at),
+            Err(_) => self.tail.touch(at),
+        }
+        written
     }
-}
-
-/// Writes what stands before a place and isn't flushed yet, and syncs the area.
-fn write_out<V: Vault>(alloc: Global, area: &mut V, tail: &Tail, to: u64) -> Result<(), AreaFault>
-    requires from { tail.now.flushed ≤ to }
-    requires to { to ≤ tail.now.tip.end }
-    ensures written { OnOk result (WritesTail V.Vault tail.now to area.old area.new) }
-    ensures left { OnErr result (TearsTail V.Vault tail.now to area.old area.new) }
-    ensures cause { HasCause (V.faults area.old) (V.faults area.new) result }
-{
-    let name = segment_name(alloc, 1, tail.segment())?;
-    write_synced(area, name.as_bytes(), tail.offset(), tail.until(to))
-}
-
-/// Writes bytes at a place of a file and syncs the area.
-fn write_synced<V: Vault>(area: &mut V, name: &[u8], at: u64, piece: &[u8]) -> Result<(), AreaFault>
-    ensures written { OnOk result (WritesPiece V.Vault name.now at piece.now area.old area.new) }
-    ensures left { OnErr result (TearsPiece V.Vault name.now at piece.now area.old area.new) }
-    ensures cause { HasCause (V.faults area.old) (V.faults area.new) result }
-{
-    area.write_at(name, at, piece)?;
-    area.sync()
 }

@@ -1,25 +1,25 @@
 //! The end of the WAL in memory, and the bytes before it that aren't flushed yet.
 
-ghost use Rattle.std.specs.Prelude.{◌≡◌, ◌-◌, ◌<◌, ◌≤◌, length, take, drop, IfOk};
-ghost use Rattle.wal_record.specs.Places.{origin};
+ghost use Rattle.std.specs.Prelude.{◌≡◌, ◌-◌, ◌<◌, ◌≤◌, length, drop};
 ghost use Rattle.wal_record.specs.Spelling.{IsWritable};
 ghost use Rattle.wal_record.specs.Tips.{IsWithin};
-ghost use Rattle.wal_writer.specs.Log.{Log, IsLog, log_at, lead, flushed_to, rewound};
-ghost use Rattle.wal_writer.specs.Answers.{AppendAnswer, to_flush};
+ghost use Rattle.wal_writer.specs.Log.{Log, IsLog, IsReady, log_at, flush_end, to_flush, flushed_to, touched_to};
+ghost use Rattle.wal_writer.specs.Answers.{PrepareAnswer, AddAnswer, AppendAnswer};
 
-use crate::entry::entry_behind;
 use crate::fault::AppendFault;
-use crate::head::page_head;
-use lsn_core::{SegSize, Settings, WalTip};
-use std::alloc::{AllocError, Global};
+use crate::prepared::{Prepared, prepare};
+use lsn_core::{NoMemory, SegSize, Settings, WalTip};
+use std::alloc::Global;
 use std::marker::Model;
-use wal_record::{Kind, Record, tip_after, wal_limit};
+use wal_pages::Layout;
+use wal_record::{Kind, Record, tip_after};
 
 /// The end of the WAL. Contracts see a `Log`.
 #[derive(Drop)]
 pub struct Tail {
-    settings: Settings,
+    layout: Layout,
     flushed: u64,
+    touched: u64,
     tip: WalTip,
     pending: Vec<u8>,
 }
@@ -29,9 +29,9 @@ impl Model for Tail {
 
     ghost Value = { Log };
 
-    ghost view = { λ t. log_of t.settings t.flushed t.tip t.pending.items };
+    ghost view = { λ t. log_of t.layout t.flushed t.touched t.tip t.pending.items };
 
-    ghost invariant = { λ t. IsLog (log_of t.settings t.flushed t.tip t.pending.items) };
+    ghost invariant = { λ t. IsLog (log_of t.layout t.flushed t.touched t.tip t.pending.items) };
 }
 
 impl Tail {
@@ -40,10 +40,11 @@ impl Tail {
         requires { IsWithin settings.segment tip }
         ensures { result ≡ log_at settings tip }
     {
-        let flushed = tip.end.0;
+        let end = tip.end.0;
         Tail {
-            settings,
-            flushed,
+            layout: Layout::new(&settings),
+            flushed: end,
+            touched: end,
             tip,
             pending: Vec::new(alloc),
         }
@@ -53,7 +54,7 @@ impl Tail {
     pub fn segment(&self) -> SegSize
         ensures { result ≡ self.now.mib }
     {
-        self.settings.segment()
+        self.layout.settings().segment()
     }
 
     /// Where all before it is flushed.
@@ -72,78 +73,70 @@ impl Tail {
         self.tip
     }
 
+    /// The entry of a kind that comes next.
+    pub fn prepare(&self, alloc: Global, kind: Kind) -> Result<Prepared, AppendFault>
+        requires { IsWritable kind }
+        ensures { PrepareAnswer kind self.now result }
+    {
+        prepare(alloc, self.layout, self.tip, kind)
+    }
+
+    /// Adds the entry that comes next. Want of memory changes nothing.
+    pub fn add(&mut self, entry: Prepared) -> Result<Record, NoMemory>
+        requires { IsReady self.old entry }
+        ensures { AddAnswer entry self.old self.new result }
+    {
+        self.pending.extend_from_slice(entry.bytes())?;
+        self.tip = tip_after(self.tip, entry.record());
+        Ok(entry.into_record())
+    }
+
     /// Appends an entry. A refusal changes nothing.
     pub fn append(&mut self, alloc: Global, kind: Kind) -> Result<Record, AppendFault>
         requires { IsWritable kind }
         ensures { AppendAnswer kind self.old self.new result }
     {
-        let segment = self.settings.segment();
-        let (record, entry) = entry_behind(alloc, segment, self.tip, kind)?;
-        if record.end.0 > wal_limit(segment).0 {
-            return Err(AppendFault::WalFull);
-        }
-        let mut piece = self.lead(alloc)?;
-        piece.extend_from_slice(&entry)?;
-        self.pending.extend_from_slice(&piece)?;
-        self.tip = tip_after(self.tip, &record);
-        Ok(record)
+        let entry = self.prepare(alloc, kind)?;
+        Ok(self.add(entry)?)
     }
 
-    /// What stands before the next entry.
-    fn lead(&self, alloc: Global) -> Result<Vec<u8>, AllocError>
-        ensures { IfOk result (λ bytes. bytes.items ≡ lead self.now) }
+    /// How far a flush up to a place goes.
+    pub fn flush_end(&self, to: u64) -> u64
+        requires { to ≤ self.now.tip.end }
+        ensures end { result ≡ flush_end self.now to }
+        ensures least { to ≤ result }
+        ensures most { result ≤ self.now.tip.end }
     {
-        if self.tip.end.0 == self.settings.segment().bytes() {
-            page_head(alloc, &self.settings)
-        } else {
-            Ok(Vec::new(alloc))
-        }
+        to.max(self.touched)
     }
 
     /// The bytes up to a place that aren't flushed yet.
-    pub fn until(&self, to: u64) -> &[u8]
-        requires from { self.now.flushed ≤ to }
-        requires to { to ≤ self.now.tip.end }
-        ensures { result.now ≡ to_flush self.now to }
+    pub fn until(&self, at: u64) -> &[u8]
+        requires from { self.now.flushed ≤ at }
+        requires to { at ≤ self.now.tip.end }
+        ensures bytes { result.now ≡ to_flush self.now at }
+        ensures size { length result.now ≡ at - self.now.flushed }
     {
-        &self.pending[..(to - self.flushed) as usize]
-    }
-
-    /// How far the flushed position is behind the start of the segment.
-    pub fn offset(&self) -> u64
-        ensures { result ≡ self.now.flushed - origin self.now.mib }
-    {
-        self.flushed - self.settings.segment().bytes()
+        &self.pending[..(at - self.flushed) as usize]
     }
 
     /// Everything up to a place is flushed now.
-    pub fn advance(&mut self, to: u64)
-        requires from { self.old.flushed ≤ to }
-        requires to { to ≤ self.old.tip.end }
-        ensures { self.new ≡ flushed_to self.old to }
+    pub fn advance(&mut self, at: u64)
+        requires from { self.old.flushed ≤ at }
+        requires to { at ≤ self.old.tip.end }
+        ensures { self.new ≡ flushed_to self.old at }
     {
-        drop_front(&mut self.pending, (to - self.flushed) as usize);
-        self.flushed = to;
+        drop_front(&mut self.pending, (at - self.flushed) as usize);
+        self.flushed = at;
     }
 
-    /// Goes back to an earlier end: what was appended since is dropped. Takes no memory.
-    pub fn rewind(&mut self, tip: WalTip)
-        requires from { self.old.flushed ≤ tip.end }
-        requires to { tip.end ≤ self.old.tip.end }
-        requires tip { IsWithin self.old.mib tip }
-        ensures { self.new ≡ rewound self.old tip }
+    /// A flush up to a place failed.
+    pub fn touch(&mut self, at: u64)
+        requires { at ≤ self.old.tip.end }
+        ensures { self.new ≡ touched_to self.old at }
     {
-        keep_front(&mut self.pending, (tip.end.0 - self.flushed) as usize);
-        self.tip = tip;
+        self.touched = self.touched.max(at);
     }
-}
-
-/// Keeps so many bytes at the front.
-fn keep_front(bytes: &mut Vec<u8>, count: usize)
-    requires { count ≤ length bytes.old.items }
-    ensures { bytes.new.items ≡ take count bytes.old.items }
-{
-    bytes.truncate(count);
 }
 
 /// Drops so many bytes from the front.
