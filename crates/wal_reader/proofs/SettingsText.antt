@@ -1,10 +1,8 @@
 -- The file `settings`: its lines are read in one way, and it is short.
-use Rattle.std.proofs.Common.{◌≡◌, ℕ, ◌/◌, ◌%◌, ◌<◌, ◌≤◌, ◌^◌, ◌==◌, true, false, List, [], ◌∷◌, ◌++◌, length, take, codes, Option, Some, None, IsSome, IfSome, IfNone, refl, ap, sym, subst, ◌∙◌, arith}
-use Rattle.std.specs.Fmt.{decimal, digits}
+use Rattle.std.proofs.Common.{◌≡◌, ℕ, ◌<◌, ◌≤◌, ◌^◌, ◌==◌, true, false, List, [], ◌∷◌, ◌++◌, length, take, codes, Option, Some, None, IfSome, IfNone, refl, ap, sym, subst, ◌∙◌, arith}
+use Rattle.std.specs.Fmt.{decimal}
 use Rattle.std.specs.Int.{IsInRange}
-use Rattle.std.specs.Option.{option_map, is_some}
-use Rattle.std.specs.FinMap.{get}
-use Rattle.std.proofs.Math.Nat.{le-div_iff_mul-le, div-eq_of_lt, mod-eq_of_lt}
+use Rattle.std.specs.Option.{option_map}
 use Rattle.std.proofs.lemmas.Bool.{ne_eqb, eqb-true}
 use Rattle.std.proofs.lemmas.List.{take_all, length-append, append_cancel_left, length-take}
 use Rattle.std.proofs.lemmas.Fmt.{decimal_injective, length-decimal-le}
@@ -12,11 +10,9 @@ use Rattle.byte_words.specs.Cuts.{cut_at}
 use Rattle.byte_words.proofs.Cutting.{Lacks, front_of, back_of, cut_again, cut_whole}
 use Rattle.text_numbers.specs.Numbers.{all_digits}
 use Rattle.text_numbers.proofs.Decimal.{tells, decimal_is_digits}
-use Rattle.lsn_core.specs.Segment.{IsSegmentMib, IsRelseg, StoreSettings, segment_bytes}
-use Rattle.lsn_core.specs.Names.{segment_name_bytes, eight_digits}
-use Rattle.lsn_core.specs.Files.{Files}
-use Rattle.wal_reader.specs.Settings.{first_segment, settings_text, IsSettingsText, GivesSettings, IsDamagedText, IsSettingsOf}
-use Rattle.wal_reader.specs.Inside.{HasNoLine, HasNoNumbers, TellsNumbers, TellsSettings, IsSystemOf}
+use Rattle.lsn_core.specs.Segment.{IsSegmentMib, IsRelseg}
+use Rattle.wal_reader.specs.Settings.{settings_text, IsSettingsText, GivesSettings, IsDamagedText}
+use Rattle.wal_reader.specs.Inside.{HasNoLine, HasNoNumbers, TellsNumbers}
 
 -- no digit is a line end
 no_line_end : (text : List ℕ) → all_digits text ≡ true → Lacks 10 text
@@ -62,20 +58,6 @@ length_settings bytes m n is =
     let first : length (decimal m) ≤ 4 = length-decimal-le 4 m (omega arith) (omega (arith, is.segment.most)) (omega (arith, is.segment.most)) in
     let second : length (decimal n) ≤ 6 = length-decimal-le 6 n (omega arith) (omega (arith, is.blocks.most)) (omega (arith, is.blocks.most)) in
     omega (arith, ap length is.text, first, second, length-append (decimal m) (10 ∷ (codes "blocks-per-segment " ++ (decimal n ++ (10 ∷ [])))), length-append (decimal n) (10 ∷ []))
-
--- the name of segment 1 is one at every segment size
-name_of_one : codes "00000001" ++ (eight_digits 0 ++ eight_digits 1) ≡ first_segment
-unfolding digits
-name_of_one = refl
-
-pub first_name : (mib : ℕ) → IsSegmentMib mib → segment_name_bytes 1 mib ≡ first_segment
-first_name mib size =
-    let some : 0 < segment_bytes mib = omega (arith, size.least) in
-    let many : 2 ≤ 4294967296 / segment_bytes mib = (le-div_iff_mul-le some).1 (omega (arith, size.most)) in
-    let high : 1 / (4294967296 / segment_bytes mib) ≡ 0 = div-eq_of_lt many in
-    let low : 1 % (4294967296 / segment_bytes mib) ≡ 1 = mod-eq_of_lt many in
-    ap (λ (q : ℕ). codes "00000001" ++ (eight_digits q ++ eight_digits (1 % (4294967296 / segment_bytes mib)))) high
-    ∙ ap (λ (r : ℕ). codes "00000001" ++ (eight_digits 0 ++ eight_digits r)) low ∙ name_of_one
 
 never_some : {A : Type 0} (x : A) → None ≡ Some x → ⊥
 never_some x e = cc
@@ -161,19 +143,3 @@ told_by (Some bytes) front None e found none = λ mib relseg is.
 pub told_absent : (file : Option (List ℕ)) (mib : ℕ) → mib ≡ 16 → None ≡ option_map (take 8192) file → TellsNumbers file (Some (mib, 131072))
 told_absent None mib standard e = (standard, refl)
 told_absent (Some bytes) mib standard e = absurd (cc)
-
--- a file that has a size is there
-is_there : (o : Option (List ℕ)) (size : Option ℕ) → size ≡ option_map length o → is_some size ≡ true → IsSome o
-is_there None size e some = absurd (cc)
-is_there (Some bytes) size e some = refl
-
--- what is asked of an area, taken together
-pub are_settings : (files : Option Files) (size : Option ℕ) (told : Option (ℕ × ℕ)) (s : StoreSettings) → is_some size ≡ true → told ≡ Some (s.segment, s.relseg)
-    → IfSome files (λ m. size ≡ option_map length (get m first_segment)) → TellsSettings files told → IsSystemOf s.segment files s.system
-    → IfSome files (λ m. IsSettingsOf m s)
-are_settings None size told s some numbers has tells system = tt
-are_settings (Some m) size told s some numbers has tells system = record {
-  there = is_there (get m first_segment) size has some;
-  given = rw numbers at tells;
-  system = system;
-}

@@ -1,28 +1,32 @@
 -- What functions inside the crate answer. No public contract cites these.
-use Rattle.std.specs.Prelude.{◌≡◌, ℕ, ◌+◌, ◌-◌, ◌<◌, ◌≤◌, ◌^◌, ◌↔◌, Bool, IsTrue, List, ◌∷◌, ◌++◌, length, take, drop, min, codes, Option, Some, None, IfSome, Result, Ok, Err}
+use Rattle.std.specs.Prelude.{◌≡◌, ℕ, true, false, Result, Ok, Err, if◌then◌else◌, ◌<◌, ◌^◌, Bool, ◌==◌, ◌&&◌, nat_le, List, [], ◌∷◌, ◌++◌, length, take, min, get_or, codes, Option, Some, None, IfSome}
 use Rattle.std.specs.FinMap.{get}
 use Rattle.std.specs.Fmt.{decimal}
 use Rattle.std.specs.Global.{Vec}
 use Rattle.std.specs.Option.{option_map}
-use Rattle.byte_words.specs.Numbers.{u32_in}
 use Rattle.lsn_core.specs.Files.{Files}
+use Rattle.lsn_core.specs.Names.{segment_name_bytes}
 use Rattle.lsn_core.specs.Sizes.{page_size}
-use Rattle.lsn_core.specs.Tip.{Tip}
 use Rattle.vault.specs.Area.{bytes_of}
 use Rattle.vault.specs.declared.area.Vault.{Ghosts}
+use Rattle.lsn_core.specs.Segment.{StoreSettings, segment_bytes}
+use Rattle.lsn_core.specs.Tip.{Tip}
+use Rattle.lsn_core.specs.declared.lsn.Lsn.{Lsn}
+use Rattle.wal_pages.specs.Places.{start_after, end_of}
 use Rattle.wal_record.specs.declared.record.Record.{Record}
 use Rattle.wal_record.specs.declared.record.RecordFault.{RecordFault}
-use Rattle.wal_record.specs.declared.record.RecordFault.TheVariants as record_fault
-use Rattle.wal_record.specs.Places.{origin, start_after}
-use Rattle.wal_reader.specs.declared.fault.Damage.TheVariants.{Form}
+use Rattle.wal_record.specs.declared.record.RecordFault.TheVariants as refusal
+use Rattle.wal_record.specs.Decoding.{record_at}
+use Rattle.wal_record.specs.Sound.{IsSound}
+use Rattle.wal_record.specs.Tips.{wal_limit}
+use Rattle.wal_archive.specs.declared.fault.Damage.{Damage}
+use Rattle.wal_archive.specs.Archive.{is_segment}
+use Rattle.wal_archive.specs.Rules.{Found, Gives, Bad, judged, place_behind, refused, as_first}
 use Rattle.wal_reader.specs.declared.fault.WalFault.{WalFault}
 use Rattle.wal_reader.specs.declared.fault.WalFault.TheVariants.{Damaged, NoMemory}
-use Rattle.wal_reader.specs.Head.{IsHead, system_in}
-use Rattle.wal_reader.specs.Scan.{all_zero}
-use Rattle.wal_reader.specs.Archive.{held_bytes, first_page, EndsAt, StandsAt, NoneStands, IsBroken}
-use Rattle.wal_reader.specs.Settings.{settings_text, GivesSettings, IsDamagedText}
 use Rattle.wal_reader.specs.Causes.{WalCauses, no_causes, CauseOf}
 use Rattle.wal_reader.specs.Cursor.{StepAnswer}
+use Rattle.wal_reader.specs.Settings.{settings_text, GivesSettings, IsDamagedText, system_at}
 
 -- ---- files
 
@@ -40,80 +44,77 @@ abbrev pub IsFrontRead : Option Files → List ℕ → ℕ → List ℕ → ℕ 
 IsFrontRead files name wanted buffer count =
     IfSome files (λ m. take count buffer ≡ take wanted (bytes_of m name))
 
--- the held bytes of the archive's first page
-abbrev pub IsFirstPage : ℕ → Option Files → List ℕ → Type 0
-IsFirstPage mib files page = IfSome files (λ m. page ≡ first_page (held_bytes mib m))
+-- ---- names
 
--- so many bytes from a place on, fewer than wanted just where the file ends, and whether each of
--- them is zero
-pub record IsZeroRun (bytes : List ℕ) (at wanted count : ℕ) (zero : Bool) : Type 0 where
-  pub counted : count ≡ min wanted (length bytes - at)
-  pub zero_is : zero ≡ all_zero (take count (drop at bytes))
+-- the name of the file of a segment of the archive, by the segment's number
+pub record NamesSegment (mib : ℕ) (name : List ℕ) (seg : ℕ) : Type 0 where
+  pub segment : is_segment seg ≡ true
+  pub named : name ≡ segment_name_bytes seg mib
 
--- the same of a file
-abbrev pub RunsIn : Option Files → List ℕ → ℕ → ℕ → ℕ × Bool → Type 0
-RunsIn files name at wanted run =
-    IfSome files (λ m. IsZeroRun (bytes_of m name) at wanted run.0 run.1)
+-- one of the names is that of a segment's file
+abbrev pub IsNamedIn : ℕ → List (List ℕ) → ℕ → Type 0
+IsNamedIn mib names seg = (i : ℕ) × (i < length names) × NamesSegment mib (get_or names i []) seg
 
--- whether a file's bytes between two offsets are all zero
-abbrev pub TellsZeros : Option Files → List ℕ → ℕ → ℕ → Bool → Type 0
-TellsZeros files name from limit zero =
-    IfSome files (λ m. zero ≡ all_zero (drop from (take limit (bytes_of m name))))
+abbrev pub lesser : Option ℕ → Option ℕ → Option ℕ
+lesser None b = b
+lesser (Some a) None = Some a
+lesser (Some a) (Some b) = Some (min a b)
 
--- whether all that the archive holds from an offset on is zero
-abbrev pub TellsZerosFrom : ℕ → Option Files → ℕ → Bool → Type 0
-TellsZerosFrom mib files from zero =
-    IfSome files (λ m. zero ≡ all_zero (drop from (held_bytes mib m)))
+-- ---- the cursor
 
--- whether the archive ends at a place
-abbrev pub TellsEnd : ℕ → Option Files → ℕ → Bool → Type 0
-TellsEnd mib files at end = IfSome files (λ m. IsTrue end ↔ EndsAt mib (held_bytes mib m) at)
-
--- ---- entries
-
--- the bytes of an entry at an offset of the page, as many as the number there says
-pub record IsWhole (page : List ℕ) (offset : ℕ) (bytes : List ℕ) : Type 0 where
-  pub bytes_are : bytes ≡ take (u32_in page offset) (drop offset page)
-  pub number : offset + 4 ≤ length page
-  pub whole : offset + u32_in page offset ≤ length page
-
--- that number or these bytes aren't all held
-abbrev pub IsCutOff : List ℕ → ℕ → Type 0
-IsCutOff page offset = offset + 4 ≤ length page → offset + u32_in page offset ≤ length page → ⊥
+-- an entry from a start to an end lies in the room of the WAL
+abbrev pub is_in_room : ℕ → ℕ → ℕ → Bool
+is_in_room mib start end = nat_le (segment_bytes mib) start && nat_le end (wal_limit mib)
 
 -- what a refusal of the bytes from a place on is to a cursor
 abbrev pub fault_at : ℕ → RecordFault → WalFault
-fault_at start record_fault.Form = Damaged (record { 0 = start }) Form
-fault_at start record_fault.NoMemory = NoMemory
+fault_at start refusal.Length = Damaged (refused start refusal.Length)
+fault_at start refusal.Prev = Damaged (refused start refusal.Prev)
+fault_at start refusal.Crc = Damaged (refused start refusal.Crc)
+fault_at start (refusal.Unsupported manager info) =
+    Damaged (refused start (refusal.Unsupported manager info))
+fault_at start refusal.Header = Damaged (refused start refusal.Header)
+fault_at start (refusal.Content why) = Damaged (refused start (refusal.Content why))
+fault_at start refusal.NoMemory = NoMemory
 
--- no entry stands behind a tip
-abbrev pub entry_causes : ℕ → List ℕ → Tip → WalCauses
-entry_causes mib page tip = record no_causes {
-  damaged = λ place why. (place ≡ start_after mib tip.end) × NoneStands mib page tip;
+-- the place that bytes have behind an end, in the room or not
+abbrev pub has_room : ℕ → ℕ → List ℕ → Bool
+has_room mib end bytes =
+    is_in_room mib (start_after mib end) (end_of mib (start_after mib end) (length bytes))
+
+-- bytes behind an end are refused so
+abbrev pub judge_causes : ℕ → ℕ → Option Lsn → List ℕ → WalCauses
+judge_causes mib end prev bytes = record no_causes {
+  damaged = λ damage.
+      judged (start_after mib end) (record_at (place_behind mib end bytes) prev bytes) ≡ Bad damage;
 }
 
--- the entry behind a tip. No area is asked: its count stands
-abbrev pub EntryAnswer : ℕ → List ℕ → Tip → Result Record WalFault → Type 0
-EntryAnswer mib page tip (Ok r) = StandsAt mib page tip r
-EntryAnswer mib page tip (Err fault) = CauseOf (entry_causes mib page tip) 0 0 fault
+-- the entry that bytes are behind an end; none where they lie outside the room. No area is asked:
+-- its count stands
+abbrev pub JudgeAnswer : ℕ → ℕ → Option Lsn → List ℕ → Result (Option Record) WalFault → Type 0
+JudgeAnswer mib end prev bytes (Ok None) = has_room mib end bytes ≡ false
+JudgeAnswer mib end prev bytes (Ok (Some r)) =
+    (has_room mib end bytes ≡ true)
+    × ((record_at (place_behind mib end bytes) prev bytes ≡ Ok r) × IsSound r.kind)
+JudgeAnswer mib end prev bytes (Err fault) = CauseOf (judge_causes mib end prev bytes) 0 0 fault
 
--- what stands behind a tip is broken
-abbrev pub follow_causes : ℕ → List ℕ → Tip → WalCauses
-follow_causes mib page tip = record no_causes {
-  damaged = λ place why. IsBroken mib page tip place;
-}
+-- what a cursor that is set at a place finds where an entry is read there
+abbrev pub as_first_at : ℕ → ℕ → Record → Found
+as_first_at mib from r =
+    if from == start_after mib (segment_bytes mib) then as_first (Gives r) else Gives r
 
--- the entry behind a tip, and at the start of the page behind its head, where the archive goes on
-abbrev pub FollowAnswer : ℕ → List ℕ → Tip → Result Record WalFault → Type 0
-FollowAnswer mib page tip (Ok r) =
-    (tip.end ≡ origin mib → IsHead mib page) × StandsAt mib page tip r
-FollowAnswer mib page tip (Err fault) = CauseOf (follow_causes mib page tip) 0 0 fault
+-- the entry, or why it may not be the archive's first one
+abbrev pub FirstAnswer : ℕ → ℕ → Record → Result (Option Record) WalFault → Type 0
+FirstAnswer mib from r (Ok None) = ⊥
+FirstAnswer mib from r (Ok (Some q)) = (q ≡ r) × (as_first_at mib from r ≡ Gives r)
+FirstAnswer mib from r (Err fault) =
+    (damage : Damage) × (fault ≡ Damaged damage) × (as_first_at mib from r ≡ Bad damage)
 
--- the same over the whole archive
+-- what stands where a cursor does
 abbrev pub StepsFrom : {V : Type 0} → Ghosts V
-    → ℕ → Tip → V → V → Result (Option Record) WalFault → Type 0
-StepsFrom g mib tip old now result =
-    StepAnswer mib tip (g.files old) (g.faults old) (g.faults now) result
+    → StoreSettings → Bool → Tip → V → V → Result (Option Record) WalFault → Type 0
+StepsFrom g s set tip old now result =
+    StepAnswer s set tip (g.files old) (g.faults old) (g.faults now) result
 
 -- ---- settings
 
@@ -139,6 +140,6 @@ TellsNumbers file None = IsDamagedText file
 abbrev pub TellsSettings : Option Files → Option (ℕ × ℕ) → Type 0
 TellsSettings files told = IfSome files (λ m. TellsNumbers (get m (codes "settings")) told)
 
--- the system identifier in the head of the archive's first page
-abbrev pub IsSystemOf : ℕ → Option Files → ℕ → Type 0
-IsSystemOf mib files system = IfSome files (λ m. system ≡ system_in (first_page (held_bytes mib m)))
+-- the system identifier in the first page of a segment
+abbrev pub TellsSystem : ℕ → Option Files → Option ℕ → ℕ → Type 0
+TellsSystem mib files seg system = IfSome files (λ m. system ≡ system_at mib m seg)

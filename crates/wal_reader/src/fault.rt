@@ -2,26 +2,23 @@
 
 ghost use Rattle.std.specs.Prelude.{◌≡◌};
 ghost use Rattle.wal_reader.specs.declared.fault.WalFault.TheVariants as wal;
-ghost use Rattle.wal_reader.specs.Causes.{wal_fault_of};
+ghost use Rattle.wal_reader.specs.Causes.{wal_fault_of, wal_fault_read};
 
-use lsn_core::{AreaFault, Lsn, NoMemory};
-
-/// What is wrong with damaged WAL.
-#[derive(Clone, Copy, Debug, PartialEq, Eq)]
-pub enum Damage {
-    /// What stands there is not what has to: the head of the page, or an entry in its written form
-    /// that may stand there.
-    Form,
-}
+use crate::file_name::FileName;
+use lsn_core::{AreaFault, NoMemory};
+use wal_archive::{Damage, ReadFault};
 
 /// Why a WAL can't be read.
 #[derive(Clone, Copy, Debug, PartialEq, Eq)]
 pub enum WalFault {
-    /// The archive is damaged at this place: the start of the page or of an entry.
-    Damaged(Lsn, Damage),
+    /// The archive is damaged, a segment of it is missing, or an entry is of a kind or of a content
+    /// that isn't taken.
+    Damaged(Damage),
     /// The file `settings` is not of its grammar.
     SettingsDamaged,
-    /// There is no WAL: the file of segment 1 isn't there.
+    /// This name is that of a segment file of a timeline other than 1, the first in byte order.
+    Timeline(FileName),
+    /// There is no WAL: no name is 24 upper-case hexadecimal digits.
     NotInit,
     /// The area of the WAL failed, and its count of faults rose.
     Failed,
@@ -44,6 +41,18 @@ impl From<AreaFault> for WalFault {
         match fault {
             AreaFault::Failed => WalFault::Failed,
             AreaFault::NoMemory => WalFault::NoMemory,
+        }
+    }
+}
+
+impl From<ReadFault> for WalFault {
+    ghost from_gives = { λ fault e. e ≡ wal_fault_read fault };
+
+    fn from(fault: ReadFault) -> Self {
+        match fault {
+            ReadFault::Bad(damage) => WalFault::Damaged(damage),
+            ReadFault::Failed => WalFault::Failed,
+            ReadFault::NoMemory => WalFault::NoMemory,
         }
     }
 }

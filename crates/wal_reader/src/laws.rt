@@ -1,20 +1,28 @@
-//! What holds of every archive.
+//! What holds of the files of every WAL.
 
+ghost use Rattle.wal_reader.specs.Laws.{HasOneSettings, HasSettingsOrIsRefused, HasOneRefusal};
 ghost use Rattle.wal_reader.specs.Laws.{HasOneReading, EndsOrIsDamaged, HasOneDamage};
-ghost use Rattle.wal_reader.specs.Appended.{AppendedIsRead, WrittenIsRead};
+ghost use Rattle.wal_reader.specs.Laws.{HasOneReadingFrom, EndsOrIsDamagedFrom, HasOneDamageFrom};
+
+/// The answers on a WAL's settings shut each other out, whatever its files are: they have one
+/// system of settings, or are refused by one fault.
+pub fn settings_are_read_in_one_way()
+    ensures settings { HasOneSettings }
+    ensures refused { HasSettingsOrIsRefused }
+    ensures fault { HasOneRefusal }
+{}
 
 /// The answers on an archive shut each other out, whatever its files are: it has one list of
-/// entries and one end, or it is damaged at one place.
+/// entries and one end, or it is damaged at one place in one way.
 pub fn archive_is_read_in_one_way()
     ensures reading { HasOneReading }
     ensures ends { EndsOrIsDamaged }
     ensures damage { HasOneDamage }
 {}
 
-/// Entries on the first page whose bytes are written at the end of an archive that has an entry,
-/// each linked to the one before it, are read behind those that were there, and the archive ends
-/// where the last of them does (PostgreSQL manual, WAL Internals).
-pub fn appended_entries_are_read()
-    ensures bytes { AppendedIsRead }
-    ensures write { WrittenIsRead }
+/// The same of what is read from a place on.
+pub fn archive_is_read_in_one_way_from_a_place()
+    ensures reading { HasOneReadingFrom }
+    ensures ends { EndsOrIsDamagedFrom }
+    ensures damage { HasOneDamageFrom }
 {}

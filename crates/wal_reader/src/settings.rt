@@ -1,24 +1,22 @@
 //! The settings of a WAL: the file `settings`, and the system identifier in the first page.
 
-ghost use Rattle.std.specs.Prelude.{◌≡◌, ◌^◌, ◌<◌, IfOk, IfSome, IfNone};
+ghost use Rattle.std.specs.Prelude.{◌≡◌, ◌^◌, ◌<◌, ◌≤◌, IfOk, IfSome, IfNone};
 ghost use Rattle.vault.specs.Frame.{OnlyReads};
 ghost use Rattle.lsn_core.specs.Causes.{HasCause};
 ghost use Rattle.lsn_core.specs.Segment.{IsRelseg};
 ghost use Rattle.wal_reader.specs.Settings.{settings_text, IsSettingsText, IsDamagedText};
-ghost use Rattle.wal_reader.specs.Inside.{line_of, HasNoLine, HasNoNumbers, TellsSettings, IsSystemOf};
-ghost use Rattle.wal_reader.specs.Cursor.{SettingsAnswer};
+ghost use Rattle.wal_reader.specs.Settings.{system_in, SettingsAnswer};
+ghost use Rattle.wal_reader.specs.Inside.{line_of, HasNoLine, HasNoNumbers};
+ghost use Rattle.wal_reader.specs.Inside.{TellsSettings, TellsSystem};
 
 use crate::fault::WalFault;
-use crate::head::system_in;
-use crate::page::{front_if_there, page_of};
-use byte_words::{behind_prefix, cut_at};
-use lsn_core::{AreaFault, MOST_RELSEG, NoMemory, SegSize, Settings, Text};
+use crate::front::{front, front_if_there};
+use crate::names::{has_wal_name, least_segment, other_timeline};
+use byte_words::{behind_prefix, cut_at, u64_in};
+use lsn_core::{AreaFault, MOST_RELSEG, NoMemory, SegSize, Settings, Text, segment_name};
 use std::alloc::Global;
 use text_numbers::decimal_in;
 use vault::Vault;
-
-/// The name of segment 1's file, the same at every segment size (PostgreSQL manual, WAL Internals).
-const FIRST_SEGMENT: &[u8] = b"000000010000000000000001";
 
 /// The name of the file of settings (profile).
 const SETTINGS: &[u8] = b"settings";
@@ -110,33 +108,59 @@ fn told_settings<V: Vault>(alloc: Global, wal: &mut V) -> Result<Option<(SegSize
     }
 }
 
-/// The system identifier that stands in the head of the first page.
-fn system_of<V: Vault>(alloc: Global, wal: &mut V, segment: SegSize) -> Result<u64, AreaFault>
-    ensures system { IfOk result (IsSystemOf segment (V.files wal.old)) }
+/// The system identifier that stands in a page head; 0 where its first 32 bytes aren't held.
+fn system_in(page: &[u8]) -> u64
+    ensures { result ≡ system_in page.now }
+{
+    if page.len() < 32 {
+        return 0;
+    }
+    u64_in(page, 24)
+}
+
+/// The system identifier in the first page of a segment; 0 where there is none.
+fn system_at<V: Vault>(
+    alloc: Global,
+    wal: &mut V,
+    size: SegSize,
+    segment: Option<u64>,
+) -> Result<u64, AreaFault>
+    requires { IfSome segment (λ seg. seg ≤ 1048576) }
+    ensures system { IfOk result (TellsSystem size (V.files wal.old) segment) }
     ensures reads { OnlyReads V.Vault wal.old wal.new }
     ensures cause { HasCause (V.faults wal.old) (V.faults wal.new) result }
 {
-    let page = page_of(alloc, wal, segment)?;
+    let Some(number) = segment else {
+        return Ok(0);
+    };
+    let name = segment_name(alloc, number, size)?;
+    let page = front(alloc, wal, name.as_bytes())?;
     Ok(system_in(&page))
 }
 
-/// The settings of a WAL. `NotInit` exactly where the file of segment 1 isn't there, and
-/// `SettingsDamaged` exactly where it is and the file `settings` is there and not of its grammar:
-/// the lines `segment-mib M` and `blocks-per-segment N`, each with a line end, M a power of two
-/// from 1 to 1024 and N from 1 to 131072, in decimal without leading zeros (profile). Without that
-/// file M is 16 and N 131072. The system identifier is that of the first page's head, 0 where its
-/// first 32 bytes aren't held.
+/// The settings of a WAL, or why there are none, in this order. `NotInit` exactly where no name of
+/// the area is 24 upper-case hexadecimal digits. `SettingsDamaged` exactly where the file
+/// `settings` is there and not of its grammar: the lines `segment-mib M` and `blocks-per-segment
+/// N`, each with a line end, M a power of two from 1 to 1024 and N from 1 to 131072, in decimal
+/// without leading zeros (profile). Without that file M is 16 and N 131072. `Timeline` exactly
+/// where a name is that of a segment file of a timeline other than 1, with the first such name in
+/// byte order. The system identifier is that of the first page of the least segment that is there;
+/// 0 where there is none, or where that page's first 32 bytes aren't held.
 pub fn read_settings<V: Vault>(alloc: Global, wal: &mut V) -> Result<Settings, WalFault>
     ensures answer { SettingsAnswer (V.files wal.old) (V.faults wal.old) (V.faults wal.new) result }
     ensures reads { OnlyReads V.Vault wal.old wal.new }
 {
-    if wal.size(FIRST_SEGMENT)?.is_none() {
+    let names = wal.names(alloc)?;
+    if !has_wal_name(&names) {
         return Err(WalFault::NotInit);
     }
     let Some(told) = told_settings(alloc, wal)? else {
         return Err(WalFault::SettingsDamaged);
     };
-    let system = system_of(alloc, wal, told.0)?;
+    if let Some(name) = other_timeline(&names, told.0) {
+        return Err(WalFault::Timeline(name));
+    }
+    let system = system_at(alloc, wal, told.0, least_segment(&names, told.0))?;
     match Settings::new(told.0, told.1, system) {
         Some(settings) => Ok(settings),
         None => Err(WalFault::SettingsDamaged),

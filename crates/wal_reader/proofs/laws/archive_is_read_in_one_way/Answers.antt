@@ -1,4 +1,5 @@
-use Rattle.wal_reader.proofs.Once.{one_reading, ends_or_is_damaged, one_damage}
+-- An archive is read in one way.
+use Rattle.wal_reader.proofs.OneReading.{one_reading, ends_or_is_damaged, one_damage}
 use Rattle.wal_reader.proofs.laws.archive_is_read_in_one_way.Goals as goal
 
 pub returns-clause-reading : goal.returns-clause-reading
