@@ -1,25 +1,49 @@
 -- Where the WAL of a history ends, what its entries make, and what they are written as.
-use Rattle.std.proofs.Common.{◌≡◌, List, [], ◌∷◌, ◌++◌, map, Option, Some, refl, ap, ◌∙◌}
+use Rattle.std.proofs.Common.{◌≡◌, ℕ, ◌+◌, Bool, true, false, cond, List, [], ◌∷◌, ◌++◌, map, Option, Some, refl, ap, ◌∙◌}
+use Rattle.std.specs.Prelude.{◌==◌, ◌||◌}
 use Rattle.byte_words.specs.Numbers.{◌>>=◌}
 use Rattle.byte_words.proofs.Fields.{bind_some}
 use Rattle.lsn_core.specs.Store.{Store}
 use Rattle.lsn_core.specs.Tip.{Tip}
+use Rattle.lsn_core.specs.Relation.{Relation}
 use Rattle.wal_record.specs.declared.record.Record.{Record}
-use Rattle.wal_record.specs.Tips.{tip_behind, tip_after}
-use Rattle.history.specs.Entry.{Entry}
-use Rattle.history.specs.Apply.{apply}
-use Rattle.history.specs.Whole.{entry_of, apply_all}
-use Rattle.history.specs.Written.{tip_over, tip_past}
+use Rattle.wal_record.specs.declared.record.Kind.{Kind}
+use Rattle.wal_record.specs.declared.record.Kind.TheVariants as kind
+use Rattle.wal_record.specs.Tips.{is_redo_mark, tip_behind, tip_after}
+use Rattle.history.specs.Entry.{Truncate, Mark, IdleCut, Entry, is_of_run}
+use Rattle.history.specs.Apply.{apply, apply_all}
+use Rattle.history.specs.Whole.{cuts_main, act_of, entry_of}
+use Rattle.history.specs.Written.{is_redo, tip_over, tip_past, behind, behind_all, next_record, written}
+use Rattle.history.specs.Laws.{HistoriesAreWrittenOn}
 
 -- a history that goes on
 pub tip_over-append : (tip : Tip) (es fs : List Entry) → tip_over tip (es ++ fs) ≡ tip_over (tip_over tip es) fs
 tip_over-append tip [] fs = refl
 tip_over-append tip (e ∷ es) fs = tip_over-append (tip_past tip e) es fs
 
+-- a record starts a checkpoint where its act does
+no_redo : (rel : Relation) (count flags : ℕ) (b : Bool) → is_redo (cond b (Truncate rel count) (Mark (IdleCut rel count flags))) ≡ false
+no_redo rel count flags true = refl
+no_redo rel count flags false = refl
+
+pub redo_told : (k : Kind) → is_redo (act_of k) ≡ is_redo_mark k
+redo_told (kind.Shutdown redo) = refl
+redo_told (kind.Online redo) = refl
+redo_told (kind.RedoMark n) = refl
+redo_told kind.NoOp = refl
+redo_told (kind.BackupEnd start) = refl
+redo_told (kind.Images blocks) = refl
+redo_told (kind.Generic blocks) = refl
+redo_told (kind.Create fork) = refl
+redo_told (kind.Truncate rel count flags) = no_redo rel count _ (cuts_main flags)
+
 -- the entries that were read end where their records do
+past_read : (tip : Tip) (r : Record) → tip_past tip (entry_of r) ≡ tip_after tip r
+past_read tip r = ap (λ b. record { end = r.end.0; prev = r.start.0; redo = cond ((tip.count == 0) || b) r.start.0 tip.redo; count = tip.count + 1 }) (redo_told r.kind)
+
 pub tip_over_read : (tip : Tip) (rs : List Record) → tip_over tip (map entry_of rs) ≡ tip_behind tip rs
 tip_over_read tip [] = refl
-tip_over_read tip (r ∷ rs) = tip_over_read (tip_after tip r) rs
+tip_over_read tip (r ∷ rs) = ap (λ (t : Tip). tip_over t (map entry_of rs)) (past_read tip r) ∙ tip_over_read (tip_after tip r) rs
 
 then_some : {A : Type 0} (o : Option A) (x : A) → o ≡ Some x → (o >>= λ y. Some y) ≡ Some x
 then_some o x e = rw e refl
@@ -41,3 +65,14 @@ apply_all-behind store [] fs next made =
 apply_all-behind store (e ∷ es) fs next made =
     let b = bind_some (apply store e) (λ s. apply_all s es) next made in
     ap (λ (o : Option Store). o >>= λ s. apply_all s (es ++ fs)) b.1 ∙ apply_all-behind b.0 es fs next b.2
+
+-- what is written of a history's beginning stands
+one_on : (b : Bool) (r : Record) (xs ys : List Record) → cond b (r ∷ (xs ++ ys)) (xs ++ ys) ≡ cond b (r ∷ xs) xs ++ ys
+one_on true r xs ys = refl
+one_on false r xs ys = refl
+
+pub written_on : HistoriesAreWrittenOn
+written_on mib before [] more = refl
+written_on mib before (e ∷ es) more =
+    ap (λ (rs : List Record). cond (is_of_run e) (next_record mib before e.act ∷ rs) rs) (written_on mib (behind before e) es more)
+    ∙ one_on (is_of_run e) (next_record mib before e.act) (written mib (behind before e) es) (written mib (behind_all (behind before e) es) more)

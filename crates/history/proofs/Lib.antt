@@ -1,3 +1,9 @@
 pub mod StoreMap
-pub mod Commands
+pub mod UndoLaws
+pub mod Stores
+pub mod Names
+pub mod Pushes
 pub mod Histories
+pub mod WrittenLaws
+pub mod RedoLaws
+pub mod Applicable

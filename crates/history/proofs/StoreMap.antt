@@ -1,5 +1,5 @@
 -- A map from fork to pages, seen as the store that it is.
-use Rattle.std.proofs.Common.{◌≡◌, ℕ, Bool, true, false, cond, T, ◌&&◌, List, [], ◌∷◌, map, length, sum, Option, Some, None, option_map, unwrap_or, is_some, refl, sym, ap, subst, ◌∙◌}
+use Rattle.std.proofs.Common.{◌≡◌, ℕ, Bool, true, false, cond, T, ◌&&◌, List, [], ◌∷◌, map, take, length, sum, Option, Some, None, option_map, unwrap_or, is_some, refl, sym, ap, subst, ◌∙◌}
 use Rattle.std.proofs.lemmas.List.{length-map}
 use Rattle.std.specs.Global.{Vec}
 use Rattle.std.specs.declared.cmp.Ordering.{Ordering}
@@ -11,12 +11,15 @@ use Rattle.std.specs.List.Sorted.{IsStrictlySortedBy}
 use Rattle.std.specs.Map.{lookup, keys_of, values_of}
 use Rattle.std.specs.BTreeMap.{BTreeMap, UpdatesBy, IsOrdered}
 use Rattle.std.specs.BTreeMap as tree
-use Rattle.std.specs.FinMap.{find, get, insert, contains_key, keys, len, len-entries, entries, from_sorted, is_sorted, get-from_entries, get-from_sorted, get-insert, entries-from_sorted, same_map}
+use Rattle.std.specs.FinMap.{find, get, insert, remove, get-remove, contains_key, keys, len, len-entries, entries, from_sorted, is_sorted, get-from_entries, get-from_sorted, get-insert, entries-from_sorted, same_map}
 use Rattle.std.specs.FinMap.Entries.{below_all}
 use Rattle.lsn_core.specs.declared.ids.ForkId.{ForkId}
 use Rattle.lsn_core.specs.Store.{Store, ForkPages, fork_cmp}
 use Rattle.lsn_core.proofs.ForkOrder.{fork_cmp_total, fork_cmp-IsAntisymmetric, derived_cmp, derived_is}
-use Rattle.lsn_core.specs.Blocks.{with_block, with_page, with_fork}
+use Rattle.std.specs.Prelude.{slice_set}
+use Rattle.lsn_core.specs.declared.ids.BlockId.{BlockId}
+use Rattle.lsn_core.specs.Blocks.{with_block, with_page, with_fork, with_cut_pages, with_cut}
+use Rattle.history.specs.Undo.{with_set_found, with_set, with_pages_found, with_pages}
 use Rattle.history.specs.Pages.{store_in, page_count}
 
 abbrev Forks : Type 0
@@ -52,7 +55,7 @@ store-insert m n fork v updates =
     ∙ sym (get-insert fork_cmp_total (store_in m) fork v.items q))
 
 -- inserted again, what stands there changes nothing
-insert_same : (store : Store) (fork : ForkId) (found : ForkPages) → get store fork ≡ Some found → insert store fork found ≡ store
+pub insert_same : (store : Store) (fork : ForkId) (found : ForkPages) → get store fork ≡ Some found → insert store fork found ≡ store
 insert_same store fork found e =
     same_map fork_cmp_total fork_cmp-IsAntisymmetric _ _ (λ q.
     get-insert fork_cmp_total store fork found q
@@ -139,3 +142,44 @@ pub written_new : (m same n : Forks) (fork : ForkId) (block : ℕ) (page : List 
     → start.items ≡ [] → w.items ≡ with_block start.items block page → store_in n ≡ with_page (store_in m) fork block page
 written_new m same n fork block page start w e found updates none put =
     written m n fork block page None w found (subst (λ m. UpdatesBy derived_cmp (derived_cmp fork) m n (Some w)) e updates) (put ∙ ap (λ (ps : ForkPages). with_block ps block page) none)
+
+-- a fork that was cut, and a missing one that stays so
+pub cut_there : (m n : Forks) (fork : ForkId) (count : ℕ) (found w : Vec (List ℕ)) → Some found ≡ tree.get derived_cmp m fork → UpdatesBy derived_cmp (derived_cmp fork) m n (Some w) → w.items ≡ take count found.items → store_in n ≡ with_cut (store_in m) fork count
+cut_there m n fork count found w e updates cut =
+    store-insert m n fork w (updated m n fork (Some w) updates)
+    ∙ ap (insert (store_in m) fork) cut
+    ∙ sym (ap (with_cut_pages (store_in m) fork count) (get_found m fork (Some found) e))
+
+pub cut_missing : (m same : Forks) (fork : ForkId) (count : ℕ) → same ≡ m → None ≡ tree.get derived_cmp m fork → store_in same ≡ with_cut (store_in m) fork count
+cut_missing m same fork count e none =
+    ap store_in e ∙ sym (ap (with_cut_pages (store_in m) fork count) (get_found m fork None none))
+
+-- a fork that was taken away
+pub unmade : (m n : Forks) (fork : ForkId) → UpdatesBy derived_cmp (derived_cmp fork) m n None → store_in n ≡ remove (store_in m) fork
+unmade m n fork u =
+    let updates = updated m n fork None u in
+    same_map fork_cmp_total fork_cmp-IsAntisymmetric _ _ (λ q.
+    get_in n q ∙ ap (option_map pages) (updates.0 q) ∙ mapped (eq_by_cmp fork_cmp fork q) None (tree.get fork_cmp m q)
+    ∙ ap (λ x. cond (eq_by_cmp fork_cmp fork q) None x) (sym (get_in m q)) ∙ turned fork q None (get (store_in m) q)
+    ∙ sym (get-remove fork_cmp_total (store_in m) fork q))
+
+-- a fork one of whose pages was set, and a missing one that stays so
+pub set_there : (m n : Forks) (at : BlockId) (page : List ℕ) (found w : Vec (List ℕ)) → Some found ≡ tree.get derived_cmp m at.fork → UpdatesBy derived_cmp (derived_cmp at.fork) m n (Some w) → w.items ≡ slice_set found.items at.block page → store_in n ≡ with_set (store_in m) at page
+set_there m n at page found w e updates put =
+    store-insert m n at.fork w (updated m n at.fork (Some w) updates)
+    ∙ ap (insert (store_in m) at.fork) put
+    ∙ sym (ap (with_set_found (store_in m) at page) (get_found m at.fork (Some found) e))
+
+pub set_missing : (m same : Forks) (at : BlockId) (page : List ℕ) → same ≡ m → None ≡ tree.get derived_cmp m at.fork → store_in same ≡ with_set (store_in m) at page
+set_missing m same at page e none =
+    ap store_in e ∙ sym (ap (with_set_found (store_in m) at page) (get_found m at.fork None none))
+
+-- a fork that was given other pages, and a missing one that stays so
+pub replaced_there : (m n : Forks) (fork : ForkId) (found w : Vec (List ℕ)) → Some found ≡ tree.get derived_cmp m fork → UpdatesBy derived_cmp (derived_cmp fork) m n (Some w) → store_in n ≡ with_pages (store_in m) fork w.items
+replaced_there m n fork found w e updates =
+    store-insert m n fork w (updated m n fork (Some w) updates)
+    ∙ sym (ap (with_pages_found (store_in m) fork w.items) (get_found m fork (Some found) e))
+
+pub replaced_missing : (m same : Forks) (fork : ForkId) (pages : ForkPages) → same ≡ m → None ≡ tree.get derived_cmp m fork → store_in same ≡ with_pages (store_in m) fork pages
+replaced_missing m same fork pages e none =
+    ap store_in e ∙ sym (ap (with_pages_found (store_in m) fork pages) (get_found m fork None none))

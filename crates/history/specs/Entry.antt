@@ -1,24 +1,28 @@
 -- An entry of the history.
 use Rattle.std.specs.Prelude.{ℕ, List, Option, Bool}
 use Rattle.std.specs.Option.{is_some}
+use Rattle.lsn_core.specs.Relation.{Relation}
 use Rattle.lsn_core.specs.declared.ids.ForkId.{ForkId}
-use Rattle.wal_record.specs.declared.record.Kind.{Kind}
+use Rattle.history.specs.declared.op.Item.{Item}
 
--- how an item changes its block: a page is put there
-pub data Edit : Type 0 where
-  Put : List ℕ → Edit
+-- what an entry without effect marks: a checkpoint with its redo point, the start of one, nothing,
+-- the end of a backup with the place of its start, or a truncation of the other forks of a relation
+-- alone, with half its flags
+pub data Marking : Type 0 where
+  Shutdown : ℕ → Marking
+  Online : ℕ → Marking
+  RedoMark : ℕ → Marking
+  NoOp : Marking
+  BackupEnd : ℕ → Marking
+  IdleCut : Relation → ℕ → ℕ → Marking
 
-pub record Item : Type 0 where
-  pub fork : ForkId
-  pub block : ℕ
-  pub edit : Edit
-
--- what an entry does: it creates a fork, it changes blocks in turn, or it marks a place, by its
--- kind, and changes nothing
+-- what an entry does: it creates a fork, it cuts the main fork of a relation to so many blocks, it
+-- changes blocks in turn, or it marks a place and changes nothing
 pub data Act : Type 0 where
   Create : ForkId → Act
+  Truncate : Relation → ℕ → Act
   Change : List Item → Act
-  Mark : Kind → Act
+  Mark : Marking → Act
 
 -- an entry: its act, where it starts and ends, and, where a worker made it, that worker and the
 -- number of its command

@@ -1,13 +1,12 @@
 -- What the crate's private functions do: no public contract cites these.
-use Rattle.std.specs.Prelude.{ℕ, List, map, Option}
+use Rattle.std.specs.Prelude.{ℕ, List, Option, Some, if◌then◌else◌}
+use Rattle.lsn_core.specs.declared.ids.BlockId.{BlockId}
 use Rattle.lsn_core.specs.Store.{Store}
 use Rattle.wal_record.specs.declared.record.BlockRef.{BlockRef}
-use Rattle.history.specs.Apply.{apply_item, apply_items}
-use Rattle.history.specs.Whole.{item_of}
+use Rattle.history.specs.Apply.{apply_item}
+use Rattle.history.specs.Whole.{item_of, is_repeat}
 
--- the store after the blocks of an entry that ends at a place; None where one can't be applied
-abbrev pub apply_block : ℕ → Store → BlockRef → Option Store
-apply_block end store block = apply_item end store (item_of block)
-
-abbrev pub apply_blocks : ℕ → Store → List BlockRef → Option Store
-apply_blocks end store blocks = apply_items end store (map item_of blocks)
+-- what a block reference says behind those of these blocks, applied to a store
+abbrev pub apply_said : ℕ → List BlockId → Store → BlockRef → Option Store
+apply_said end named store block =
+    if is_repeat named (item_of block) then Some store else apply_item end store (item_of block)

@@ -1,29 +1,71 @@
 -- What the entries of a WAL mean: the store that they make from nothing.
-use Rattle.std.specs.Prelude.{ℕ, List, [], ◌∷◌, map, take, Option, Some, None, nat_le}
-use Rattle.std.specs.List.{filter}
+use Rattle.std.specs.Prelude.{ℕ, ◌/◌, ◌%◌, ◌==◌, ◌&&◌, Bool, true, false, List, [], ◌∷◌, ◌++◌, map, take, Option, None, nat_le, if◌then◌else◌}
+use Rattle.std.specs.List.{filter, list_any}
 use Rattle.std.specs.FinMap.{empty}
-use Rattle.byte_words.specs.Numbers.{◌>>=◌}
+use Rattle.lsn_core.specs.declared.ids.BlockId.{BlockId}
 use Rattle.lsn_core.specs.Store.{Store}
 use Rattle.wal_record.specs.declared.record.Record.{Record}
 use Rattle.wal_record.specs.declared.record.Kind.{Kind}
 use Rattle.wal_record.specs.declared.record.Kind.TheVariants as kind
 use Rattle.wal_record.specs.declared.record.BlockRef.{BlockRef}
 use Rattle.wal_record.specs.declared.record.Body.{Body}
-use Rattle.wal_record.specs.declared.record.Body.TheVariants.{Image}
-use Rattle.history.specs.Entry.{Edit, Put, Item, Act, Create, Change, Mark, Entry}
-use Rattle.history.specs.Apply.{apply}
+use Rattle.wal_record.specs.declared.record.Body.TheVariants.{Image, Delta}
+use Rattle.history.specs.declared.op.Edit.{Edit}
+use Rattle.history.specs.declared.op.Edit.TheVariants.{Put, Patch}
+use Rattle.history.specs.declared.op.Item.{Item}
+use Rattle.history.specs.Entry.{Shutdown, Online, RedoMark, NoOp, BackupEnd, IdleCut, Act, Create, Truncate, Change, Mark, Entry}
+use Rattle.history.specs.Apply.{is_same_block, apply_all}
 
 abbrev pub edit_of : Body → Edit
 edit_of (Image page) = Put page
+edit_of (Delta frags) = Patch frags
 
 abbrev pub item_of : BlockRef → Item
-item_of block = record { fork = block.at.fork; block = block.at.block; edit = edit_of block.body }
+item_of block = record { at = block.at; edit = edit_of block.body }
 
--- a checkpoint at shutdown is a mark
+-- a block is among others
+abbrev pub is_named : BlockId → List BlockId → Bool
+is_named at named = list_any (is_same_block at) named
+
+abbrev pub is_patch : Edit → Bool
+is_patch (Put page) = false
+is_patch (Patch frags) = true
+
+-- a patch of a block that was named before
+abbrev pub is_repeat : List BlockId → Item → Bool
+is_repeat named item = is_patch item.edit && is_named item.at named
+
+-- what block references say behind those of these blocks: a delta of a block that was named before
+-- says nothing
+abbrev pub said_behind : List BlockId → List BlockRef → List Item
+said_behind named [] = []
+said_behind named (block ∷ blocks) =
+    if is_repeat named (item_of block)
+    then said_behind (named ++ (block.at ∷ [])) blocks
+    else item_of block ∷ said_behind (named ++ (block.at ∷ [])) blocks
+
+abbrev pub said : List BlockRef → List Item
+said blocks = said_behind [] blocks
+
+-- a truncation's flags name the main fork
+abbrev pub cuts_main : ℕ → Bool
+cuts_main flags = flags % 2 == 1
+
+-- the act that a kind of entry is, by what its block references say
+abbrev pub act_with : (List BlockRef → List Item) → Kind → Act
+act_with told (kind.Shutdown redo) = Mark (Shutdown redo.0)
+act_with told (kind.Online redo) = Mark (Online redo.0)
+act_with told (kind.RedoMark n) = Mark (RedoMark n)
+act_with told kind.NoOp = Mark NoOp
+act_with told (kind.BackupEnd start) = Mark (BackupEnd start.0)
+act_with told (kind.Images blocks) = Change (told blocks)
+act_with told (kind.Generic blocks) = Change (told blocks)
+act_with told (kind.Create fork) = Create fork
+act_with told (kind.Truncate rel count flags) =
+    if cuts_main flags then Truncate rel count else Mark (IdleCut rel count (flags / 2))
+
 abbrev pub act_of : Kind → Act
-act_of (kind.Shutdown redo) = Mark (kind.Shutdown redo)
-act_of (kind.Create fork) = Create fork
-act_of (kind.Generic blocks) = Change (map item_of blocks)
+act_of = act_with said
 
 -- what a record says
 abbrev pub says : Record → Act
@@ -32,11 +74,6 @@ says r = act_of r.kind
 -- the entry that a record of an earlier WAL is: no worker is known
 abbrev pub entry_of : Record → Entry
 entry_of r = record { act = says r; start = r.start.0; end = r.end.0; worker = None; seq = None }
-
--- entries applied in turn; None from the first one on that can't be
-abbrev pub apply_all : Store → List Entry → Option Store
-apply_all store [] = Some store
-apply_all store (entry ∷ entries) = apply store entry >>= λ next. apply_all next entries
 
 -- the store after the first entries of a history, so many
 abbrev pub state : List Entry → ℕ → Option Store

@@ -1,77 +1,210 @@
 //! An entry of the WAL applied to a store.
 
-ghost use Rattle.std.specs.Prelude.{◌≡◌, ◌<◌, Some, OnOk, OnErr};
-ghost use Rattle.wal_record.specs.declared.record.Kind.TheVariants.{Generic};
-ghost use Rattle.wal_record.specs.Spelling.{IsWritable};
-ghost use Rattle.lsn_core.specs.Sizes.{most_blocks};
-ghost use Rattle.history.specs.Apply.{apply, edited};
-ghost use Rattle.history.specs.Whole.{entry_of, edit_of};
-ghost use Rattle.history.specs.Inside.{apply_blocks, apply_block};
+ghost use Rattle.std.specs.Prelude.{◌≡◌, ◌<◌, ◌≤◌, List, map, take, Some, None, Err, OnOk, OnErr, IfOk, length, if◌then◌else◌};
+ghost use Rattle.std.specs.List.{All};
+ghost use Rattle.lsn_core.specs.declared.ids.BlockId.{BlockId};
+ghost use Rattle.history.specs.declared.applying.ApplyFault.TheVariants.{BadDelta};
+ghost use Rattle.history.specs.Apply.{is_same_fork, is_same_block, apply, apply_items, apply_item, edited};
+ghost use Rattle.history.specs.Applied.{IsApplicable, IsApplicableBlock, IsApplicableBody};
+ghost use Rattle.history.specs.Whole.{entry_of, edit_of, item_of, is_named, is_patch, said, cuts_main};
+ghost use Rattle.history.specs.Inside.{apply_said};
+ghost use Rattle.history.specs.Undo.{undone_steps, undone};
 
+use crate::op::main_fork;
 use crate::page_map::PageMap;
-use lsn_core::{Lsn, NoMemory};
-use pg_page::Page;
+use crate::undo::{Step, Undo};
+use lsn_core::{BlockId, ForkId, Lsn, NoMemory};
+use pg_page::patch;
 use wal_record::{BlockRef, Body, Kind, Record};
 
 /// Why an entry was not applied.
 #[derive(Clone, Copy, Debug, PartialEq, Eq)]
 pub enum ApplyFault {
+    /// A delta would give a page with a bad header.
+    BadDelta,
     /// Memory ran out.
     NoMemory,
 }
 
 impl From<NoMemory> for ApplyFault {
+    ghost use Rattle.history.specs.declared.applying.ApplyFault.TheVariants.{NoMemory};
+
+    ghost from_gives = { λ _ e. e ≡ NoMemory };
+
     fn from(_: NoMemory) -> Self {
         ApplyFault::NoMemory
     }
 }
 
-/// Applies to the store what an entry of the WAL says. After a fault the store is as before.
+/// Applies to the store what an entry of the WAL says. `BadDelta` exactly where that can't be done
+/// (profile). After a fault the store is as before.
 pub fn apply(store: &mut PageMap, rec: &Record) -> Result<(), ApplyFault>
-    requires { IsWritable rec.now.kind }
+    requires { IsApplicable rec.now.kind }
     ensures applied { OnOk result (apply store.old (entry_of rec.now) ≡ Some store.new) }
+    ensures bad { result ≡ Err BadDelta → apply store.old (entry_of rec.now) ≡ None }
     ensures same { OnErr result (store.new ≡ store.old) }
 {
-    match &rec.kind {
-        Kind::Shutdown(_) => Ok(()),
-        Kind::Create(fork) => {
-            store.create(fork)?;
-            Ok(())
+    if let Kind::Truncate(rel, count, flags) = &rec.kind {
+        if cuts_main(*flags) {
+            store.cut(&main_fork(*rel), *count as usize);
         }
-        Kind::Generic(blocks) => apply_blocks(store, blocks.as_slice(), rec.end),
+        return Ok(());
     }
-}
-
-/// Applies the blocks of an entry, which has one where it can be written.
-fn apply_blocks(store: &mut PageMap, blocks: &[BlockRef], end: Lsn) -> Result<(), ApplyFault>
-    requires { IsWritable (Generic blocks.now) }
-    ensures applied { OnOk result (apply_blocks end.0 store.old blocks.now ≡ Some store.new) }
-    ensures same { OnErr result (store.new ≡ store.old) }
-{
-    match blocks.first() {
-        Some(block) => apply_block(store, block, end),
-        None => Ok(()),
-    }
-}
-
-/// Puts at a block the page that an entry leaves there.
-fn apply_block(store: &mut PageMap, block: &BlockRef, end: Lsn) -> Result<(), ApplyFault>
-    requires { block.now.at.block < most_blocks }
-    ensures applied { OnOk result (apply_block end.0 store.old block.now ≡ Some store.new) }
-    ensures same { OnErr result (store.new ≡ store.old) }
-{
-    let page = page_after(&block.body, end);
-    store.put(&block.at, page.bytes())?;
+    apply_undoably(store, rec)?;
     Ok(())
 }
 
-/// The page that an entry leaves at a block: its hole is zeros, and its LSN is the entry's end.
-fn page_after(body: &Body, end: Lsn) -> Page
-    ensures { edited end.0 (edit_of body.now) ≡ Some result }
+/// The same, and what undoes it. A truncation takes memory for the blocks that are left.
+pub fn apply_undoably(store: &mut PageMap, rec: &Record) -> Result<Undo, ApplyFault>
+    requires { IsApplicable rec.now.kind }
+    ensures applied { OnOk result (apply store.old (entry_of rec.now) ≡ Some store.new) }
+    ensures undoes { IfOk result (λ undo. undone undo store.new ≡ store.old) }
+    ensures bad { result ≡ Err BadDelta → apply store.old (entry_of rec.now) ≡ None }
+    ensures same { OnErr result (store.new ≡ store.old) }
 {
-    let Body::Image(image) = body;
-    let mut page = *image;
-    page.zero_hole();
-    page.set_lsn(end.0);
-    page
+    match &rec.kind {
+        Kind::Create(fork) => Ok(store.create_undoably(fork)?),
+        Kind::Truncate(rel, count, flags) => {
+            if cuts_main(*flags) {
+                return Ok(store.cut_undoably(&main_fork(*rel), *count as usize)?);
+            }
+            Ok(Undo::nothing())
+        }
+        Kind::Images(blocks) => apply_blocks(store, blocks.as_slice(), rec.end),
+        Kind::Generic(blocks) => apply_blocks(store, blocks.as_slice(), rec.end),
+        Kind::Shutdown(_) => Ok(Undo::nothing()),
+        Kind::Online(_) => Ok(Undo::nothing()),
+        Kind::RedoMark(_) => Ok(Undo::nothing()),
+        Kind::NoOp => Ok(Undo::nothing()),
+        Kind::BackupEnd(_) => Ok(Undo::nothing()),
+    }
+}
+
+/// Whether a truncation's flags name the main fork.
+fn cuts_main(flags: u32) -> bool
+    ensures { result ≡ cuts_main flags }
+{
+    flags % 2 == 1
+}
+
+/// Applies what the block references of an entry say, in turn. Where one can't be applied, those
+/// before it are undone.
+fn apply_blocks(store: &mut PageMap, blocks: &[BlockRef], end: Lsn) -> Result<Undo, ApplyFault>
+    requires { All IsApplicableBlock blocks.now }
+    ensures applied { OnOk result (apply_items end.0 store.old (said blocks.now) ≡ Some store.new) }
+    ensures undoes { IfOk result (λ undo. undone undo store.new ≡ store.old) }
+    ensures bad { result ≡ Err BadDelta → apply_items end.0 store.old (said blocks.now) ≡ None }
+    ensures same { OnErr result (store.new ≡ store.old) }
+{
+    let mut done = Vec::new(store.alloc());
+    for at in 0..blocks.len() {
+        if let Err(fault) = apply_next(store, &blocks[..at], &blocks[at], end, &mut done) {
+            store.undo_steps(done);
+            return Err(fault);
+        }
+    }
+    Ok(Undo::steps(done))
+}
+
+/// Applies what a block reference says behind others, and notes what undoes it.
+fn apply_next(
+    store: &mut PageMap,
+    before: &[BlockRef],
+    block: &BlockRef,
+    end: Lsn,
+    done: &mut Vec<Step>,
+) -> Result<(), ApplyFault>
+    requires { IsApplicableBlock block.now }
+    ensures applied { OnOk result
+        (apply_said end.0 (map (λ b. b.at) before.now) store.old block.now ≡ Some store.new) }
+    ensures bad { result ≡ Err BadDelta
+        → apply_said end.0 (map (λ b. b.at) before.now) store.old block.now ≡ None }
+    ensures back { undone_steps done.new.items store.new
+        ≡ undone_steps done.old.items store.old }
+{
+    if is_delta(&block.body) && is_named(&block.at, before) {
+        return Ok(());
+    }
+    apply_block(store, block, end, done)
+}
+
+/// Whether the page as a whole isn't told.
+fn is_delta(body: &Body) -> bool
+    ensures { result ≡ is_patch (edit_of body.now) }
+{
+    match body {
+        Body::Image(_) => false,
+        Body::Delta(_) => true,
+    }
+}
+
+/// Whether one of the references is of the block.
+fn is_named(at: &BlockId, blocks: &[BlockRef]) -> bool
+    ensures { result ≡ is_named at.now (map (λ b. b.at) blocks.now) }
+{
+    for block in blocks {
+        if is_same(at, &block.at) {
+            return true;
+        }
+    }
+    false
+}
+
+/// Whether two names are of one block.
+fn is_same(one: &BlockId, other: &BlockId) -> bool
+    ensures { result ≡ is_same_block one.now other.now }
+{
+    is_same_fork(&one.fork, &other.fork) && one.block == other.block
+}
+
+/// Whether two names are of one fork, by the order in which the store has them.
+fn is_same_fork(one: &ForkId, other: &ForkId) -> bool
+    ensures { result ≡ is_same_fork one.now other.now }
+{
+    one.cmp(other).is_eq()
+}
+
+/// Changes a block as an entry does, and notes what undoes it.
+fn apply_block(
+    store: &mut PageMap,
+    block: &BlockRef,
+    end: Lsn,
+    done: &mut Vec<Step>,
+) -> Result<(), ApplyFault>
+    requires { IsApplicableBlock block.now }
+    ensures applied { OnOk result
+        (apply_item end.0 store.old (item_of block.now) ≡ Some store.new) }
+    ensures bad { result ≡ Err BadDelta → apply_item end.0 store.old (item_of block.now) ≡ None }
+    ensures back { undone_steps done.new.items store.new
+        ≡ undone_steps done.old.items store.old }
+{
+    let old = store.page_at(&block.at);
+    let Some(page) = page_after(&old, &block.body, end) else {
+        return Err(ApplyFault::BadDelta);
+    };
+    store.put_noting(&block.at, &page, done)?;
+    Ok(())
+}
+
+/// The page that an entry leaves of the one before it.
+fn page_after(old: &[u8; 8192], body: &Body, end: Lsn) -> Option<[u8; 8192]>
+    requires { IsApplicableBody body.now }
+    ensures { result ≡ edited end.0 old.now (edit_of body.now) }
+{
+    match body {
+        Body::Image(image) => {
+            let mut page = *image;
+            page.zero_hole();
+            page.set_lsn(end.0);
+            Some(*page.bytes())
+        }
+        Body::Delta(frags) => {
+            let mut page = *old;
+            if patch(&mut page, frags.as_slice(), end.0) {
+                Some(page)
+            } else {
+                None
+            }
+        }
+    }
 }

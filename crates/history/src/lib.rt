@@ -1,19 +1,28 @@
 //! What the entries of a WAL mean: the acts that they are, and what an act does to a store.
 //!
 //! The meaning stands in `specs/`: an entry of a history (`Entry.antt`), one applied to a store
-//! (`Apply.antt`), the store that a history or a whole WAL makes from nothing (`Whole.antt`), and
-//! the records that a history is written as (`Written.antt`). `apply` does to a `PageMap`, a store
-//! in memory, what a record says, or leaves it as it was. `Op` is a command, and gives the kind of
-//! entry that it is written as.
+//! (`Apply.antt`), the store that a history or a whole WAL makes from nothing (`Whole.antt`),
+//! replay over newer pages (`Redo.antt`), and the records that a history is written as
+//! (`Written.antt`), where a patch is an image or a delta. `apply` does to a `PageMap`, a store in
+//! memory, what a record says, or leaves it as it was. `Op` is a command, and gives the kind of
+//! entry that it is written as. Laws of their own (`Laws.antt`) say that the records say what the
+//! history does, and that replay may pass over deltas of newer pages.
 //!
-//! Left to others: how a record is spelled (`wal_record`), a page's header and hole (`pg_page`),
-//! what a store is and its files (`lsn_core`), and when a command is refused (`shared_store`).
+//! Left to others: how a record is spelled (`wal_record`), a page's header, hole and fragments
+//! (`pg_page`), a store's files (`lsn_core`), and when a command is refused (`shared_store`).
 #![tactic(auto)]
 
 mod applying;
+mod laws;
 mod op;
 mod page_map;
+mod undo;
 
-pub use applying::{ApplyFault, apply};
-pub use op::Op;
+pub use applying::{ApplyFault, apply, apply_undoably};
+pub use laws::{
+    commands_are_said, entries_may_be_applied, histories_are_written_on, tests_change_nothing,
+    written_is_applied,
+};
+pub use op::{Edit, Item, Items, Op};
 pub use page_map::PageMap;
+pub use undo::Undo;

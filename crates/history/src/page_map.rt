@@ -5,7 +5,8 @@ ghost use Rattle.std.specs.Prelude.{length, slice_get, OnOk, OnErr, IfOk};
 ghost use Rattle.std.specs.FinMap.{empty, keys, len};
 ghost use Rattle.std.specs.Option.{option_map};
 ghost use Rattle.lsn_core.specs.Sizes.{most_blocks};
-ghost use Rattle.lsn_core.specs.Blocks.{block_of, block_count, with_block, page_put, with_fork};
+ghost use Rattle.lsn_core.specs.Blocks.{block_of, block_count, with_block, page_put, with_fork, with_cut};
+ghost use Rattle.history.specs.Apply.{page_at};
 ghost use Rattle.history.specs.Pages.{store_in, page_count};
 
 use lsn_core::{BlockId, ForkId, NoMemory};
@@ -17,7 +18,7 @@ use std::marker::Model;
 /// A store of pages in memory: the pages of each fork. Contracts see the store.
 #[derive(Drop)]
 pub struct PageMap {
-    forks: BTreeMap<ForkId, Vec<[u8; 8192]>>,
+    pub(crate) forks: BTreeMap<ForkId, Vec<[u8; 8192]>>,
     alloc: Global,
 }
 
@@ -100,6 +101,28 @@ impl PageMap {
         create_in(&mut self.forks, fork, self.alloc)
     }
 
+    /// Leaves a fork's first pages alone, so many; a missing fork stays missing.
+    pub(crate) fn cut(&mut self, fork: &ForkId, count: usize)
+        ensures { self.new ≡ with_cut self.old fork.now count }
+    {
+        cut_in(&mut self.forks, fork, count);
+    }
+
+    /// Where the store takes its memory.
+    pub(crate) fn alloc(&self) -> Global {
+        self.alloc
+    }
+
+    /// The bytes of a block, or of a zero page where there is none.
+    pub(crate) fn page_at(&self, at: &BlockId) -> [u8; 8192]
+        ensures { result ≡ page_at self.now at.now }
+    {
+        match self.block(at) {
+            Some(page) => *page,
+            None => zero_page(),
+        }
+    }
+
     /// Puts a page at a block; a missing fork and missing pages before it are made.
     pub(crate) fn put(&mut self, at: &BlockId, page: &[u8; 8192]) -> Result<(), NoMemory>
         requires { at.now.block < most_blocks }
@@ -111,7 +134,7 @@ impl PageMap {
 }
 
 /// The page at a block. None exactly where there is no such block.
-fn page_at(pages: &[[u8; 8192]], block: u32) -> Option<&[u8; 8192]>
+pub(crate) fn page_at(pages: &[[u8; 8192]], block: u32) -> Option<&[u8; 8192]>
     ensures { option_map (λ page. page.now) result ≡ slice_get pages.now block }
 {
     pages.get(block as usize)
@@ -131,6 +154,15 @@ fn create_in(
     }
     forks.insert(*fork, Vec::new(alloc))?;
     Ok(())
+}
+
+/// Leaves the first pages of a fork in a map alone, so many.
+pub(crate) fn cut_in(forks: &mut BTreeMap<ForkId, Vec<[u8; 8192]>>, fork: &ForkId, count: usize)
+    ensures { store_in forks.new ≡ with_cut (store_in forks.old) fork.now count }
+{
+    if let Some(pages) = forks.get_mut(fork) {
+        pages.truncate(count);
+    }
 }
 
 /// Puts a page at a block of a fork in a map. After a fault it is as before.
