@@ -1,2 +1,4 @@
+pub mod Applicable
 pub mod SoFar
+pub mod Stepping
 pub mod OneWal

@@ -1,16 +1,17 @@
--- That the answers on a WAL shut each other out.
-use Rattle.std.specs.Prelude.{◌≡◌, ℕ, Some, Result, IfErr}
+-- That the answers on a WAL shut each other out, and that what lies behind a target doesn't matter.
+use Rattle.std.specs.Prelude.{◌≡◌, ℕ, Option, Some, Result, IfErr}
 use Rattle.lsn_core.specs.Files.{Files}
+use Rattle.lsn_core.specs.declared.lsn.Lsn.{Lsn}
 use Rattle.lsn_core.specs.Segment.{StoreSettings}
-use Rattle.wal_reader.specs.declared.fault.WalFault.{WalFault}
-use Rattle.wal_reader.specs.Causes.{IsOfFiles}
+use Rattle.recovery.specs.declared.fault.RecoveryFault.{RecoveryFault}
 use Rattle.recovery.specs.declared.replaying.ReadWal.{ReadWal}
-use Rattle.recovery.specs.WholeWal.{WalAnswer}
+use Rattle.recovery.specs.Causes.{IsOfFiles, WalAnswer}
 
 -- over an area that tells its files there is one such answer: so each refusal comes exactly where
 -- its case holds
 abbrev pub HasOneWal : Type 0
 HasOneWal =
-    (files : Files) (before now start end : ℕ) (a b : Result (StoreSettings × ReadWal) WalFault)
-    → WalAnswer (Some files) before now a → WalAnswer (Some files) start end b
+    (upto : Option Lsn) (files : Files) (before now start end : ℕ)
+    (a b : Result (StoreSettings × ReadWal) RecoveryFault)
+    → WalAnswer upto (Some files) before now a → WalAnswer upto (Some files) start end b
     → IfErr a IsOfFiles → IfErr b IsOfFiles → a ≡ b

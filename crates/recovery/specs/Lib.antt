@@ -1,2 +1,4 @@
-pub mod WholeWal
+pub mod Replay
+pub mod Causes
+pub mod Inside
 pub mod Laws

@@ -1,15 +1,21 @@
-//! Recovery: the whole WAL read from its beginning, and applied to an empty store in memory.
+//! Recovery: the WAL read from its beginning, up to a target or to its end, and applied to an empty
+//! store in memory.
 //!
-//! `specs/WholeWal.antt` says what a WAL that was read whole is: the entries of the archive, the
-//! tip behind them, and the store that they make from nothing; and where it can't be read. That
-//! each area has one such answer at most, by its bytes, is the law `wal_has_one_answer`.
+//! `specs/Replay.antt` says what such a reading is: the entries that are read, the tip behind them,
+//! the store that those make from nothing which end at the target or before it, and where the
+//! archive is damaged, ends too early, or has an entry that can't be applied. `specs/Causes.antt`
+//! has the cause of each fault. That each area has one such answer at most, by its bytes, is the
+//! law `wal_has_one_answer`.
 //!
-//! Left to others: which entries the WAL has and where it is damaged (`wal_reader`), what an entry
-//! does to a store (`history`), and where the pages are written. Nothing here changes an area.
+//! Left to others: which entries the WAL has and where it is damaged (`wal_archive`, `wal_reader`),
+//! what an entry does to a store (`history`), and where the pages are written. Nothing here changes
+//! an area.
 #![tactic(auto)]
 
+mod fault;
 mod laws;
 mod replaying;
 
+pub use fault::RecoveryFault;
 pub use laws::wal_has_one_answer;
-pub use replaying::{ReadWal, read_wal, replay};
+pub use replaying::{ReadWal, read_wal, replay, settings_of};
