@@ -1,6 +1,7 @@
 pub mod Histories
-mod Runs
+pub mod Nexts
+pub mod Runs
 pub mod ReadAgain
-mod Pieces
-mod SoFar
+pub mod Pieces
+pub mod SoFar
 pub mod OneAnswer

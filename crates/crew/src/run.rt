@@ -5,16 +5,16 @@ ghost use Rattle.std.specs.Prelude.{[], length, IfOk, OnErr};
 ghost use Rattle.std.specs.Vec.{vec_len, vec_capacity};
 ghost use Rattle.pg_page.specs.Header.{made_page};
 ghost use Rattle.shared_store.specs.State.{state_of};
-ghost use Rattle.crew.specs.Run.{op_of, stops_with, RunsLines, IsReadAgain};
+ghost use Rattle.crew.specs.Run.{item_with, op_of, stops_with, RunsLines, IsReadAgain};
 ghost use Rattle.crew.specs.Inside.{CommandAnswer, LineAnswer};
 
 use crate::script::{Command, Line};
 use crate::shape::PageShape;
-use history::Op;
-use lsn_core::{NoMemory, Place};
+use history::{Edit, Item, Items, Op};
+use lsn_core::{BlockId, NoMemory, Place};
 use pg_page::{Page, make_page};
 use shared_store::{InsertFault, Store};
-use std::alloc::Global;
+use std::alloc::{AllocError, Global};
 use std::marker::Model;
 use vault::Vault;
 
@@ -85,13 +85,23 @@ fn page_of(shape: PageShape) -> Page
 }
 
 /// What a command asks of the store.
-fn op_of(command: &Command) -> Op
-    ensures { result ≡ op_of command.now }
+fn op_of(alloc: Global, command: &Command) -> Result<Op, NoMemory>
+    ensures { IfOk result (λ op. op ≡ op_of command.now) }
 {
     match command {
-        Command::Create(fork) => Op::Create(*fork),
-        Command::Change(at, shape) => Op::Change(*at, page_of(*shape)),
+        Command::Create(fork) => Ok(Op::Create(*fork)),
+        Command::Change(at, shape) => Ok(Op::Change(items_of(alloc, *at, *shape)?)),
     }
+}
+
+/// A page that is made so, put at a block.
+fn items_of(alloc: Global, at: BlockId, shape: PageShape) -> Result<Items, AllocError>
+    ensures { IfOk result (λ items. items ≡ item_with at shape ∷ []) }
+{
+    let edit = Edit::Put(page_of(shape));
+    let mut items = Vec::new(alloc);
+    items.push(Item { at, edit })?;
+    Ok(Items::from_vec(items))
 }
 
 /// Inserts a command into the store, and gives the answer to it.
@@ -99,7 +109,9 @@ fn answer_to<V: Vault>(alloc: Global, store: &mut Store<V>, command: &Command) -
     ensures answer { CommandAnswer command.now (state_of store.old) (state_of store.new) result }
     ensures area { store.new.wal.area ≡ store.old.wal.area }
 {
-    let op = op_of(command);
+    let Ok(op) = op_of(alloc, command) else {
+        return Answer::Refused(InsertFault::NoMemory);
+    };
     match store.insert(alloc, &op) {
         Ok(receipt) => Answer::Accepted(receipt.place),
         Err(fault) => Answer::Refused(fault),

@@ -1,1 +1,3 @@
-mod Entries
+pub mod Entries
+pub mod Saying
+pub mod Inserted

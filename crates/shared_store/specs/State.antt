@@ -16,5 +16,5 @@ abbrev pub state_of : {V : Type 0} → OpenStore V → State
 state_of it = record { log = it.wal.tail; pages = it.pages }
 
 -- the record that a command is written as next
-abbrev pub op_record : Log → Op → Record
-op_record log command = record_of log.mib log.tip (act_of_op command)
+abbrev pub op_record : State → Op → Record
+op_record s command = record_of s.log.mib s.pages s.log.tip (act_of_op command)

@@ -7,31 +7,30 @@ ghost use Rattle.shared_store.specs.Inside.{OpenAnswer};
 
 use crate::store::Store;
 use lsn_core::Settings;
-use recovery::{ReadWal, replay};
+use recovery::{ReadWal, RecoveryFault, replay, settings_of};
 use std::alloc::Global;
 use vault::Vault;
-use wal_reader::{WalFault, read_settings};
 use wal_writer::WalState;
 
 /// Why a store was not begun, with the area.
 #[derive(Drop)]
 pub struct BeginFault<V: Vault> {
     pub area: V,
-    pub why: WalFault,
+    pub why: RecoveryFault,
 }
 
 /// The settings of a WAL that has an entry, and all that it makes. What was found is made durable
 /// before it is read, so that new entries follow none that a stop could take away.
-fn open<V: Vault>(alloc: Global, area: &mut V) -> Result<(Settings, ReadWal), WalFault>
+fn open<V: Vault>(alloc: Global, area: &mut V) -> Result<(Settings, ReadWal), RecoveryFault>
     ensures answer { OpenAnswer (V.files area.old) (V.faults area.old) (V.faults area.new) result }
     ensures same { V.files area.new ≡ V.files area.old }
     ensures later { V.faults area.old ≤ V.faults area.new }
 {
-    let settings = read_settings(alloc, area)?;
+    let settings = settings_of(alloc, area)?;
     area.sync()?;
-    let read = replay(alloc, area, &settings)?;
+    let read = replay(alloc, area, &settings, None)?;
     if read.tip.count == 0 {
-        return Err(WalFault::NotInit);
+        return Err(RecoveryFault::NotInit);
     }
     Ok((settings, read))
 }

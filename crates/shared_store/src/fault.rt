@@ -23,6 +23,6 @@ pub enum InsertFault {
     ForkFull(u64),
     /// Memory ran out.
     NoMemory,
-    /// The entry would end past the first page of the WAL.
+    /// The entry would end past segment 1,048,576.
     WalFull(u64),
 }

@@ -1,7 +1,7 @@
 //! The store of a cluster: pages in memory, and the WAL that each change is written to first.
 //!
-//! `Store::begin` reads a WAL whole; `insert` judges a command against the pages, appends its entry
-//! and changes the pages, or refuses it and changes nothing; `flush_wal` makes the entries durable.
+//! `Store::begin` reads a WAL whole; `insert` judges a command against the pages, changes those
+//! and appends its entry, or refuses it and changes nothing; `flush_wal` makes entries durable.
 //! So the pages are at all times what the entries make. Which refusal comes when is one table,
 //! `specs/Refusals.antt`; contracts see a store as a `State` (`specs/State.antt`).
 //!

@@ -2,19 +2,24 @@
 
 ghost use Rattle.std.specs.Prelude.{◌≡◌, IsOk, IfOk, OnOk, OnErr};
 ghost use Rattle.lsn_core.specs.Causes.{HasCause};
-ghost use Rattle.wal_writer.specs.Log.{IsLog};
-ghost use Rattle.history.specs.Op.{IsTidy};
+ghost use Rattle.wal_writer.specs.Log.{IsLog, IsReady};
+ghost use Rattle.history.specs.Applied.{IsApplicable};
+ghost use Rattle.history.specs.Op.{act_of_op, IsTidy, IsFit};
 ghost use Rattle.shared_store.specs.State.{state_of};
 ghost use Rattle.shared_store.specs.Insert.{InsertAnswer};
-ghost use Rattle.shared_store.specs.Flush.{IsAllFlushed, WritesAll, all_flushed, WritesPart};
+ghost use Rattle.shared_store.specs.Refusals.{IsSimple};
+ghost use Rattle.shared_store.specs.Flush.{IsAllFlushed, WritesAll, all_touched};
+ghost use Rattle.shared_store.specs.Flush.{WritesPart, WritesWalAlone};
+ghost use Rattle.shared_store.specs.Inside.{IsAdded};
 
 use crate::fault::{InsertFault, Receipt};
 use crate::judge::judge;
-use history::{Op, PageMap, apply};
-use lsn_core::{AreaFault, Lsn, Place};
+use history::{Op, PageMap, apply_undoably};
+use lsn_core::{AreaFault, Lsn, NoMemory, Place};
 use std::alloc::Global;
 use vault::Vault;
-use wal_writer::{AppendFault, Flushed, WalState};
+use wal_record::Record;
+use wal_writer::{AppendFault, Flushed, Prepared, WalState};
 
 /// A store that writes its WAL: the WAL, and the pages that its entries make.
 #[derive(Drop)]
@@ -32,9 +37,11 @@ impl<V: Vault> Store<V> {
         Store { wal, pages }
     }
 
-    /// Inserts a command: judges it against the store, appends its entry to the WAL, and changes
-    /// the pages. The entry isn't durable before a flush. A refusal changes nothing.
+    /// Inserts a command, which so far creates a fork or puts one page: judges it against the store,
+    /// changes the pages, and appends its entry to the WAL. The entry isn't durable before a flush.
+    /// A refusal changes nothing.
     pub fn insert(&mut self, alloc: Global, op: &Op) -> Result<Receipt, InsertFault>
+        requires { IsSimple op.now }
         ensures answer { InsertAnswer op.now (state_of self.old) (state_of self.new) result }
         ensures area { self.new.wal.area ≡ self.old.wal.area }
     {
@@ -45,33 +52,50 @@ impl<V: Vault> Store<V> {
         self.write(alloc, op)
     }
 
-    /// Appends the entry of a command that may be done to the WAL, and applies it to the pages.
-    /// Where memory runs out in between, the WAL goes back.
+    /// Writes a command that may be done: prepares its entry, and applies and adds that.
     fn write(&mut self, alloc: Global, op: &Op) -> Result<Receipt, InsertFault>
-        requires { IsTidy self.old.pages op.now }
+        requires simple { IsSimple op.now }
+        requires tidy { IsTidy self.old.pages (act_of_op op.now) }
+        requires fit { IsFit self.old.pages op.now }
         ensures answer { InsertAnswer op.now (state_of self.old) (state_of self.new) result }
         ensures area { self.new.wal.area ≡ self.old.wal.area }
     {
-        let Ok(kind) = op.kind(alloc) else {
+        let tip = self.wal.tip();
+        let Ok(kind) = op.kind(alloc, &self.pages, tip.redo) else {
             return Err(InsertFault::NoMemory);
         };
-        let tip = self.wal.tip();
-        let record = match self.wal.append(alloc, kind) {
-            Ok(record) => record,
+        let entry = match self.wal.prepare(alloc, kind) {
+            Ok(entry) => entry,
             Err(AppendFault::WalFull) => return Err(InsertFault::WalFull(tip.count)),
             Err(AppendFault::NoMemory) => return Err(InsertFault::NoMemory),
         };
-        if apply(&mut self.pages, &record).is_err() {
-            self.wal.rewind(tip);
+        let place = place_of(entry.record());
+        let Ok(()) = self.add(entry) else {
             return Err(InsertFault::NoMemory);
+        };
+        let number = tip.count;
+        Ok(Receipt { number, place })
+    }
+
+    /// Applies an entry to the pages and adds it to the WAL. Where memory runs out in between, the
+    /// pages go back.
+    fn add(&mut self, entry: Prepared) -> Result<(), NoMemory>
+        requires ready { IsReady self.old.wal.tail entry }
+        requires applicable { IsApplicable entry.entry.kind }
+        ensures added { OnOk result (IsAdded entry.entry (state_of self.old) (state_of self.new)) }
+        ensures same { OnErr result (state_of self.new ≡ state_of self.old) }
+        ensures area { self.new.wal.area ≡ self.old.wal.area }
+    {
+        let Ok(undo) = apply_undoably(&mut self.pages, entry.record()) else {
+            return Err(NoMemory);
+        };
+        match self.wal.add(entry) {
+            Ok(_) => Ok(()),
+            Err(fault) => {
+                self.pages.revert(undo);
+                Err(fault)
+            }
         }
-        Ok(Receipt {
-            number: tip.count,
-            place: Place {
-                start: record.start,
-                end: record.end,
-            },
-        })
     }
 
     /// Writes what isn't flushed yet into the area, and syncs it. After a fault the flushed
@@ -80,10 +104,10 @@ impl<V: Vault> Store<V> {
         ensures idle { IsAllFlushed self.old.wal.tail → self.new.wal ≡ self.old.wal }
         ensures succeeds { IsAllFlushed self.old.wal.tail → IsOk result }
         ensures written { OnOk result (WritesAll V.Vault self.old self.new) }
-        ensures flushed { OnOk result (self.new.wal.tail ≡ all_flushed self.old.wal.tail) }
         ensures mark { IfOk result (λ mark. mark.to.0 ≡ self.new.wal.tail.flushed) }
-        ensures stands { OnErr result (self.new.wal.tail ≡ self.old.wal.tail) }
-        ensures left { OnErr result (WritesPart V.Vault self.old self.new) }
+        ensures stands { OnErr result (self.new.wal.tail ≡ all_touched self.old.wal.tail) }
+        ensures left { WritesPart V.Vault self.old self.new }
+        ensures frame { WritesWalAlone V.Vault self.old self.new }
         ensures cause { HasCause (V.faults self.old.wal.area) (V.faults self.new.wal.area) result }
         ensures pages { self.new.pages ≡ self.old.pages }
     {
@@ -104,5 +128,16 @@ impl<V: Vault> Store<V> {
         ensures { result ≡ self.wal.area }
     {
         self.wal.detach()
+    }
+}
+
+/// Where an entry stands.
+fn place_of(entry: &Record) -> Place
+    ensures start { result.start ≡ entry.now.start }
+    ensures end { result.end ≡ entry.now.end }
+{
+    Place {
+        start: entry.start,
+        end: entry.end,
     }
 }
