@@ -10,12 +10,12 @@ use vault_os::{OsClock, OsSink, OsSite, OsSource};
 
 const USAGE: &str = "usage: pgbackup init [--segment-mib M] [--relseg N] [--system-id S]
        pgbackup run
-       pgbackup replay OUT
+       pgbackup replay [--target LSN] OUT
   init makes a new store below the working directory: its settings, and a WAL of one entry in wal;
     M is a power of two from 1 to 1024 (16), N is 1 to 131072 (131072), S is below 2^64
   run reads a script from standard input, runs its lines on the store and writes their WAL
-  replay reads the WAL, and writes the relation files that its entries make to o/OUT; OUT is 1 to
-    32 of a to z, 0 to 9 and _";
+  replay reads the WAL, whole or up to LSN (as 0/1000108), and writes the relation files that its
+    entries make to o/OUT; OUT is 1 to 32 of a to z, 0 to 9 and _";
 
 /// The words of the command line. A word that isn't UTF-8 leaves none, which no command takes.
 fn words_of(rt: &HostRuntime) -> Result<Vec<Text>, NoMemory> {

@@ -11,4 +11,4 @@ pub mod RunDone
 pub mod Reading
 pub mod OptionWords
 pub mod AnswerLines
-pub mod WholeRead
+pub mod LsnWords

@@ -1,32 +1,44 @@
 -- A script that is run on what an area holds has one outcome.
-use Rattle.std.proofs.Common.{◌-◌, IfOk, take, option_map, ◌≡◌, ℕ, ◌+◌, ◌<◌, ◌≤◌, ◌⊎◌, inl, inr, true, false, List, [], ◌∷◌, ◌++◌, map, length, Option, Some, None, Result, Ok, Err, IsSome, refl, sym, ap, subst, ◌∙◌, arith}
+use Rattle.std.proofs.Common.{take, ◌≡◌, ℕ, ◌+◌, ◌<◌, ◌≤◌, ◌⊎◌, inl, inr, true, false, List, [], ◌∷◌, ◌++◌, map, length, Option, Some, None, Result, Ok, Err, IsSome, refl, sym, ap, subst, ◌∙◌, arith}
 use Rattle.std.specs.Prelude.{codes}
 use Rattle.std.specs.FinMap.{get, empty}
+use Rattle.std.proofs.lemmas.List.Elements.{All-head}
+use Rattle.byte_words.specs.Numbers.{◌>>=◌}
+use Rattle.byte_words.proofs.Fields.{bind_some}
 use Rattle.lsn_core.specs.Files.{Files}
 use Rattle.lsn_core.specs.Store.{Store, ForkPages}
 use Rattle.lsn_core.specs.declared.lsn.Lsn.{Lsn}
 use Rattle.lsn_core.specs.declared.lsn.Place.{Place}
-use Rattle.lsn_core.specs.Segment.{StoreSettings}
+use Rattle.lsn_core.specs.Segment.{IsSegmentMib, StoreSettings}
 use Rattle.lsn_core.specs.Tip.{Tip}
 use Rattle.lsn_core.specs.declared.fault.AreaFault.{AreaFault}
 use Rattle.vault.specs.Site.{AreaState}
 use Rattle.wal_record.specs.declared.record.Record.{Record}
-use Rattle.wal_record.specs.Tips.{first_tip, wal_limit}
-use Rattle.wal_reader.specs.declared.fault.WalFault.{WalFault}
-use Rattle.wal_reader.specs.declared.fault.WalFault.TheVariants as wal
-use Rattle.wal_reader.specs.Archive.{IsArchive, IsDamaged}
-use Rattle.wal_reader.specs.Causes.{IsOfFiles}
-use Rattle.wal_reader.specs.Settings.{first_segment, GivesSettings, IsDamagedText, IsSettingsOf}
-use Rattle.wal_reader.proofs.Once.{one_reading, ends_or_is_damaged}
+use Rattle.wal_record.specs.Tips.{first_tip, tip_after, wal_limit}
+use Rattle.wal_reader.specs.Cursor.{IsReached as IsReachedTip}
+use Rattle.wal_reader.specs.Settings.{GivesSettings, IsSettingsOf}
+use Rattle.wal_reader.specs.Wal.{ReadsOn, IsWal}
+use Rattle.wal_reader.proofs.OneReading.{one_reading}
+use Rattle.wal_reader.proofs.OneSettings.{one_settings}
+use Rattle.wal_reader.proofs.Passing.{stands_given, wal_reached}
+use Rattle.wal_reader.proofs.Reached.{first_reached}
 use Rattle.history.specs.declared.op.Op.{Op}
 use Rattle.history.specs.declared.op.Op.TheVariants as op
+use Rattle.history.specs.declared.op.Edit.{Edit}
+use Rattle.history.specs.declared.op.Edit.TheVariants.{Put, Patch}
 use Rattle.history.specs.Entry.{Entry}
-use Rattle.history.specs.Whole.{entry_of, apply_all}
+use Rattle.history.specs.Apply.{apply, apply_all}
+use Rattle.history.specs.Whole.{entry_of}
 use Rattle.history.specs.Written.{record_of, tip_of}
-use Rattle.history.specs.Op.{act_of_op, IsTidy}
+use Rattle.history.specs.Op.{act_of_op, IsReached, IsTidy, IsFitItem, IsFit}
+use Rattle.recovery.specs.declared.fault.RecoveryFault.{RecoveryFault}
+use Rattle.recovery.specs.declared.fault.RecoveryFault.TheVariants as wal
 use Rattle.recovery.specs.declared.replaying.ReadWal.{ReadWal}
-use Rattle.recovery.specs.WholeWal.{HasSettings, WalCause}
-use Rattle.recovery.proofs.OneWal.{one_wal, one_settings}
+use Rattle.recovery.specs.Causes.{IsOfFiles, HasSettings, WalCause}
+use Rattle.recovery.specs.Replay.{AllEndBy, ending_by, last_end, IsReadWal}
+use Rattle.recovery.proofs.SoFar.{all_kept}
+use Rattle.recovery.proofs.OneWal.{same_lsn, one_wal}
+use Rattle.shared_store.proofs.Entries.{wal_read}
 use Rattle.shared_store.specs.Begin.{BeginCause, HasNoEntry}
 use Rattle.shared_store.specs.Refusals.{LacksFork, HasFork, IsPastEnd, IsForkFull, Refuses}
 use Rattle.shared_store.specs.declared.fault.InsertFault.{InsertFault}
@@ -40,7 +52,7 @@ use Rattle.crew.specs.declared.why.ScriptFault.{ScriptFault}
 use Rattle.crew.specs.declared.why.ScriptFault.TheVariants as script_fault
 use Rattle.crew.specs.Script.{IsScript, IsRefusedAt}
 use Rattle.crew.proofs.OneAnswer.{one_answer}
-use Rattle.crew.specs.Run.{op_of, next_of, Progress, progress, IsAccepted, IsRefused, stops, StepAnswer, Answered}
+use Rattle.crew.specs.Run.{op_of, next_of, Progress, progress, progress_by, IsAccepted, IsRefused, stops, StepAnswer, Answered}
 use Rattle.pgbackup_cli.specs.declared.run.RunReport.{RunReport}
 use Rattle.pgbackup_cli.specs.declared.run.RunFault.{RunFault}
 use Rattle.pgbackup_cli.specs.declared.run.RunFault.TheVariants as run
@@ -65,47 +77,70 @@ some_is o x y e f = cc
 
 lacks_or_has : (store : Store) (command : Op) → LacksFork store command → HasFork store command → ⊥
 lacks_or_has store (op.Create fork) first second = absurd first
-lacks_or_has store (op.Change at page) first second = absurd second
+lacks_or_has store (op.Truncate rel count) first second = absurd first
+lacks_or_has store (op.Change items) first second = absurd second
 
 lacks_or_past : (store : Store) (command : Op) → LacksFork store command → IsPastEnd store command → ⊥
 lacks_or_past store (op.Create fork) first second = absurd first
-lacks_or_past store (op.Change at page) first second = none_is (get store at.fork) second.0 first second.1.0
+lacks_or_past store (op.Truncate rel count) first second = absurd first
+lacks_or_past store (op.Change []) first second = absurd first
+lacks_or_past store (op.Change (item ∷ items)) first second = none_is (get store item.at.fork) second.0 first second.1.0
 
 lacks_or_full : (store : Store) (command : Op) → LacksFork store command → IsForkFull store command → ⊥
 lacks_or_full store (op.Create fork) first second = absurd first
-lacks_or_full store (op.Change at page) first second = none_is (get store at.fork) second.0 first second.1.0
+lacks_or_full store (op.Truncate rel count) first second = absurd first
+lacks_or_full store (op.Change []) first second = absurd first
+lacks_or_full store (op.Change (item ∷ items)) first second = none_is (get store item.at.fork) second.0 first second.1.0
 
-lacks_or_tidy : (store : Store) (command : Op) → LacksFork store command → IsTidy store command → ⊥
+lacks_or_tidy : (store : Store) (command : Op) → LacksFork store command → IsTidy store (act_of_op command) → ⊥
 lacks_or_tidy store (op.Create fork) first second = absurd first
-lacks_or_tidy store (op.Change at page) first second = none_is (get store at.fork) second.pages first second.there
+lacks_or_tidy store (op.Truncate rel count) first second = absurd first
+lacks_or_tidy store (op.Change []) first second = absurd first
+lacks_or_tidy store (op.Change (item ∷ items)) first second = none_is (get store item.at.fork) second.0.pages first second.0.there
 
 has_or_past : (store : Store) (command : Op) → HasFork store command → IsPastEnd store command → ⊥
 has_or_past store (op.Create fork) first second = absurd second
-has_or_past store (op.Change at page) first second = absurd first
+has_or_past store (op.Truncate rel count) first second = absurd first
+has_or_past store (op.Change items) first second = absurd first
 
 has_or_full : (store : Store) (command : Op) → HasFork store command → IsForkFull store command → ⊥
 has_or_full store (op.Create fork) first second = absurd second
-has_or_full store (op.Change at page) first second = absurd first
+has_or_full store (op.Truncate rel count) first second = absurd first
+has_or_full store (op.Change items) first second = absurd first
 
-has_or_tidy : (store : Store) (command : Op) → HasFork store command → IsTidy store command → ⊥
+has_or_tidy : (store : Store) (command : Op) → HasFork store command → IsTidy store (act_of_op command) → ⊥
 has_or_tidy store (op.Create fork) first second = none_some (get store fork) second first
-has_or_tidy store (op.Change at page) first second = absurd first
+has_or_tidy store (op.Truncate rel count) first second = absurd first
+has_or_tidy store (op.Change items) first second = absurd first
 
 past_or_full : (store : Store) (command : Op) → IsPastEnd store command → IsForkFull store command → ⊥
 past_or_full store (op.Create fork) first second = absurd first
-past_or_full store (op.Change at page) first second =
-    let same = ap (λ (p : ForkPages). length p) (some_is (get store at.fork) first.0 second.0 first.1.0 second.1.0) in
+past_or_full store (op.Truncate rel count) first second = absurd first
+past_or_full store (op.Change []) first second = absurd first
+past_or_full store (op.Change (item ∷ items)) first second =
+    let same = ap (λ (p : ForkPages). length p) (some_is (get store item.at.fork) first.0 second.0 first.1.0 second.1.0) in
     absurd (omega (arith, same, first.1.1, second.1.1.0))
 
-past_or_tidy : (store : Store) (command : Op) → IsPastEnd store command → IsTidy store command → ⊥
-past_or_tidy store (op.Create fork) first second = absurd first
-past_or_tidy store (op.Change at page) first second =
-    let same = ap (λ (p : ForkPages). length p) (some_is (get store at.fork) first.0 second.pages first.1.0 second.there) in
-    absurd (omega (arith, same, first.1.1, second.reached))
+-- what an edit reaches lies at the end of its fork at most
+reaches : (pages : ForkPages) (block : ℕ) (edit : Edit) → IsReached pages block edit → block ≤ length pages
+reaches pages block (Put page) reached = reached
+reaches pages block (Patch frags) reached = omega (arith, reached)
 
-full_or_tidy : (store : Store) (command : Op) → IsForkFull store command → IsTidy store command → ⊥
-full_or_tidy store (op.Create fork) first second = absurd first
-full_or_tidy store (op.Change at page) first second = absurd (omega (arith, first.1.1.1, second.number))
+past_or_tidy : (store : Store) (command : Op) → IsPastEnd store command → IsTidy store (act_of_op command) → ⊥
+past_or_tidy store (op.Create fork) first second = absurd first
+past_or_tidy store (op.Truncate rel count) first second = absurd first
+past_or_tidy store (op.Change []) first second = absurd first
+past_or_tidy store (op.Change (item ∷ items)) first second =
+    let same = ap (λ (p : ForkPages). length p) (some_is (get store item.at.fork) first.0 second.0.pages first.1.0 second.0.there) in
+    absurd (omega (arith, same, first.1.1, reaches second.0.pages item.at.block item.edit second.0.reached))
+
+full_or_fit : (store : Store) (command : Op) → IsForkFull store command → IsFit store command → ⊥
+full_or_fit store (op.Create fork) first second = absurd first
+full_or_fit store (op.Truncate rel count) first second = absurd first
+full_or_fit store (op.Change []) first second = absurd first
+full_or_fit store (op.Change (item ∷ items)) first second =
+    let own : IsFitItem store item = All-head (IsFitItem store) item items second.each in
+    absurd (omega (arith, first.1.1.1, own.number))
 
 -- the refusals, by their numbers
 no_fork : ℕ → InsertFault
@@ -148,12 +183,12 @@ one_why mib store tip command (ForkFull n) (NoFork m) first second going also = 
 one_why mib store tip command (ForkFull n) (ForkExists m) first second going also = absurd (has_or_full store command second.1 first.1)
 one_why mib store tip command (ForkFull n) (PastEnd m) first second going also = absurd (past_or_full store command second.1 first.1)
 one_why mib store tip command (ForkFull n) (ForkFull m) first second going also = ap fork_full (first.0 ∙ sym second.0)
-one_why mib store tip command (ForkFull n) (WalFull m) first second going also = absurd (full_or_tidy store command first.1 second.1.0)
+one_why mib store tip command (ForkFull n) (WalFull m) first second going also = absurd (full_or_fit store command first.1 second.1.1.0)
 one_why mib store tip command (ForkFull n) NoMemory first second going also = absurd cc
 one_why mib store tip command (WalFull n) (NoFork m) first second going also = absurd (lacks_or_tidy store command second.1 first.1.0)
 one_why mib store tip command (WalFull n) (ForkExists m) first second going also = absurd (has_or_tidy store command second.1 first.1.0)
 one_why mib store tip command (WalFull n) (PastEnd m) first second going also = absurd (past_or_tidy store command second.1 first.1.0)
-one_why mib store tip command (WalFull n) (ForkFull m) first second going also = absurd (full_or_tidy store command second.1 first.1.0)
+one_why mib store tip command (WalFull n) (ForkFull m) first second going also = absurd (full_or_fit store command second.1 first.1.1.0)
 one_why mib store tip command (WalFull n) (WalFull m) first second going also = ap wal_full (first.0 ∙ sym second.0)
 one_why mib store tip command (WalFull n) NoMemory first second going also = absurd cc
 one_why mib store tip command NoMemory g first second going also = absurd cc
@@ -161,13 +196,13 @@ one_why mib store tip command NoMemory g first second going also = absurd cc
 -- ---- one line
 
 -- a command that may be done, and whose entry has room, is refused for want of memory alone
-not_both : (mib : ℕ) (store : Store) (tip : Tip) (command : Op) (f : InsertFault) → IsTidy store command → (record_of mib tip (act_of_op command)).end.0 ≤ wal_limit mib → Refuses mib store tip command f → stops f ≡ false → ⊥
-not_both mib store tip command (NoFork n) tidy room why going = lacks_or_tidy store command why.1 tidy
-not_both mib store tip command (ForkExists n) tidy room why going = has_or_tidy store command why.1 tidy
-not_both mib store tip command (PastEnd n) tidy room why going = past_or_tidy store command why.1 tidy
-not_both mib store tip command (ForkFull n) tidy room why going = full_or_tidy store command why.1 tidy
-not_both mib store tip command (WalFull n) tidy room why going = absurd (omega (arith, room, why.1.1))
-not_both mib store tip command NoMemory tidy room why going = absurd cc
+not_both : (mib : ℕ) (store : Store) (tip : Tip) (command : Op) (f : InsertFault) → IsTidy store (act_of_op command) → IsFit store command → (record_of mib store tip (act_of_op command)).end.0 ≤ wal_limit mib → Refuses mib store tip command f → stops f ≡ false → ⊥
+not_both mib store tip command (NoFork n) tidy fit room why going = lacks_or_tidy store command why.1 tidy
+not_both mib store tip command (ForkExists n) tidy fit room why going = has_or_tidy store command why.1 tidy
+not_both mib store tip command (PastEnd n) tidy fit room why going = past_or_tidy store command why.1 tidy
+not_both mib store tip command (ForkFull n) tidy fit room why going = full_or_fit store command why.1 fit
+not_both mib store tip command (WalFull n) tidy fit room why going = absurd (omega (arith, room, why.1.1.1))
+not_both mib store tip command NoMemory tidy fit room why going = absurd cc
 
 goes_on : (now next : Progress) (f : InsertFault) → next ≡ progress now.history now.accepted (stops f) → next.stopped ≡ false → stops f ≡ false
 goes_on now next f is going = sym (ap (λ (p : Progress). p.stopped) is) ∙ going
@@ -186,7 +221,7 @@ refused_once mib now command f g next other first second going also =
 accepted_or_refused : (mib : ℕ) (now : Progress) (command : Op) (place : Place) (f : InsertFault) (next other : Progress) → IsAccepted mib now command place next → IsRefused mib now command f other
     → other.stopped ≡ false → ⊥
 accepted_or_refused mib now command place f next other first second going =
-    not_both mib first.store (tip_of mib now.history) command f first.tidy first.within (refused_there mib now command f other first.store first.state second) (goes_on now other f second.next_is going)
+    not_both mib first.store (tip_of mib now.history) command f first.tidy first.fit first.within (refused_there mib now command f other first.store first.state second) (goes_on now other f second.next_is going)
 
 place_at : ℕ → ℕ → Place
 place_at start end = record { start = record { 0 = start }; end = record { 0 = end } }
@@ -210,7 +245,11 @@ same_refused mib now command f g next other first second going also =
 same_accepted : (mib : ℕ) (now : Progress) (command : Op) (p q : Place) (next other : Progress) → IsAccepted mib now command p next → IsAccepted mib now command q other
     → (accepted_with p ≡ accepted_with q) × (next ≡ other)
 same_accepted mib now command p q next other first second =
-    (ap accepted_with (same_place p q (first.start ∙ sym second.start) (first.end ∙ sym second.end)), first.next_is ∙ sym second.next_is)
+    let same : first.store ≡ second.store = some_is (apply_all empty now.history) first.store second.store first.state second.state in
+    let record_is : next_of mib now.history first.store command ≡ next_of mib now.history second.store command = ap (λ (s : Store). next_of mib now.history s command) same in (
+      ap accepted_with (same_place p q (first.start ∙ (ap (λ (r : Record). r.start) record_is ∙ sym second.start)) (first.end ∙ (ap (λ (r : Record). r.end) record_is ∙ sym second.end))),
+      first.next_is ∙ (ap (λ (s : Store). progress_by mib now s command) same ∙ sym second.next_is),
+    )
 
 -- a line that isn't run is one of a run that is stopped
 stays_stopped : (now next : Progress) → now.stopped ≡ true → next ≡ now → next.stopped ≡ false → ⊥
@@ -257,13 +296,6 @@ answered_once mib now (line ∷ lines) (a ∷ xs) (b ∷ ys) last other first se
 
 -- ---- where the WAL ends
 
-lsn_at : ℕ → Lsn
-lsn_at at = record { 0 = at }
-
-same_lsn : (a b : Lsn) → a.0 ≡ b.0 → a ≡ b
-unfolding lsn_at
-same_lsn a b e = ap lsn_at e
-
 ended_at : Lsn → Result Lsn AreaFault
 ended_at end = Ok end
 
@@ -271,15 +303,15 @@ ended_at end = Ok end
 abbrev pub IsEnded : Result Lsn AreaFault → Type 0
 IsEnded ending = is_decided (ending_status ending) ≡ true
 
-is_going : (mib : ℕ) (entries : List Record) (last : Progress) (w x : AreaState) (ending : Result Lsn AreaFault) → IsEnding mib entries last w x ending → IsEnded ending → last.stopped ≡ false
-is_going mib entries last w x (Ok end) is own = is.0
-is_going mib entries last w x (Err fault) is own = absurd (undecided fault own)
+is_going : (s : StoreSettings) (entries : List Record) (last : Progress) (w x : AreaState) (ending : Result Lsn AreaFault) → IsEnding s entries last w x ending → IsEnded ending → last.stopped ≡ false
+is_going s entries last w x (Ok end) is own = is.0
+is_going s entries last w x (Err fault) is own = absurd (undecided fault own)
 
-ends_once : (mib : ℕ) (entries : List Record) (last : Progress) (w x y : AreaState) (a b : Result Lsn AreaFault) → IsEnding mib entries last w x a → IsEnding mib entries last w y b → IsEnded a → IsEnded b → a ≡ b
+ends_once : (s : StoreSettings) (entries : List Record) (last : Progress) (w x y : AreaState) (a b : Result Lsn AreaFault) → IsEnding s entries last w x a → IsEnding s entries last w y b → IsEnded a → IsEnded b → a ≡ b
 unfolding ended_at
-ends_once mib entries last w x y (Ok a) (Ok b) first second own other = ap ended_at (same_lsn a b (first.1 ∙ sym second.1))
-ends_once mib entries last w x y (Ok a) (Err g) first second own other = absurd (undecided g other)
-ends_once mib entries last w x y (Err f) b first second own other = absurd (undecided f own)
+ends_once s entries last w x y (Ok a) (Ok b) first second own other = ap ended_at (same_lsn a b (first.1 ∙ sym second.1))
+ends_once s entries last w x y (Ok a) (Err g) first second own other = absurd (undecided g other)
+ends_once s entries last w x y (Err f) b first second own other = absurd (undecided f own)
 
 -- ---- what was done
 
@@ -291,106 +323,154 @@ given_at : (w : AreaState) (files : Files) (s : StoreSettings) → w.files ≡ S
 given_at w files s told has = at_told w.files files (λ m. IsSettingsOf m s) told has.given
 
 -- from one beginning, the two lists of answers
-done_from : (mib : ℕ) (entries : List Record) (w x y : AreaState) (a b : RunReport) (last other : Progress) → a.opened ≡ b.opened
-    → Answered mib (progress (map entry_of entries) 0 false) (lines_in a.script) a.answers last → Answered mib (progress (map entry_of entries) 0 false) (lines_in a.script) b.answers other
-    → IsEnding mib entries last w x a.ending → IsEnding mib entries other w y b.ending → IsEnded a.ending → IsEnded b.ending → IsSameReport a b
-done_from mib entries w x y a b last other open_same first second end end_other own own_other =
-    let once = answered_once mib (progress (map entry_of entries) 0 false) (lines_in a.script) a.answers b.answers last other first second
-    (is_going mib entries last w x a.ending end own) (is_going mib entries other w y b.ending end_other own_other) in
-    let there : IsEnding mib entries last w y b.ending = subst (λ (p : Progress). IsEnding mib entries p w y b.ending) (sym once.1) end_other in
-    (open_same, once.0, ends_once mib entries last w x y a.ending b.ending end there own own_other)
+done_from : (s : StoreSettings) (entries : List Record) (w x y : AreaState) (a b : RunReport) (last other : Progress) → a.opened ≡ b.opened
+    → Answered s.segment (progress (map entry_of entries) 0 false) (lines_in a.script) a.answers last → Answered s.segment (progress (map entry_of entries) 0 false) (lines_in a.script) b.answers other
+    → IsEnding s entries last w x a.ending → IsEnding s entries other w y b.ending → IsEnded a.ending → IsEnded b.ending → IsSameReport a b
+done_from s entries w x y a b last other open_same first second end end_other own own_other =
+    let once = answered_once s.segment (progress (map entry_of entries) 0 false) (lines_in a.script) a.answers b.answers last other first second
+    (is_going s entries last w x a.ending end own) (is_going s entries other w y b.ending end_other own_other) in
+    let there : IsEnding s entries last w y b.ending = subst (λ (p : Progress). IsEnding s entries p w y b.ending) (sym once.1) end_other in
+    (open_same, once.0, ends_once s entries last w x y a.ending b.ending end there own own_other)
 
 done_once : (w x y : AreaState) (files : Files) (a b : RunReport) → w.files ≡ Some files → RunDone w x a → RunDone w y b
     → a.script ≡ b.script → IsEnded a.ending → IsEnded b.ending → IsSameReport a b
 done_once w x y files a b told first second script own other =
-    let mib : ℕ = first.settings.segment in
-    let same : second.settings ≡ first.settings = one_settings files second.settings first.settings (given_at w files second.settings told second.given) (given_at w files first.settings told first.given) in
-    let size : second.settings.segment ≡ mib = ap (λ (s : StoreSettings). s.segment) same in
-    let here : HasFound mib first.entries files = at_told w.files files (HasFound mib first.entries) told first.archive in
-    let there : HasFound mib second.entries files = subst (λ (n : ℕ). HasFound n second.entries files) size (at_told w.files files (HasFound second.settings.segment second.entries) told second.archive) in
-    let one = one_reading mib files first.entries second.entries (found_tip mib first.entries) (found_tip mib second.entries) here there in
+    let s : StoreSettings = first.settings in
+    let same : second.settings ≡ s = one_settings files second.settings s (given_at w files second.settings told second.given) (given_at w files s told first.given) in
+    let here : HasFound s first.entries files = at_told w.files files (HasFound s first.entries) told first.archive in
+    let there : HasFound s second.entries files = subst (λ (t : StoreSettings). HasFound t second.entries files) same (at_told w.files files (HasFound second.settings second.entries) told second.archive) in
+    let one = one_reading s files first.entries second.entries (found_tip s first.entries) (found_tip s second.entries) here there in
     let back : second.entries ≡ first.entries = sym one.0 in
-    let opened : a.opened.0 ≡ b.opened.0 = first.opened ∙ ap (λ (t : Tip). t.end) one.1 ∙ ap (λ (n : ℕ). (found_tip n second.entries).end) (sym size) ∙ sym second.opened in
-    let answered : Answered mib (progress (map entry_of first.entries) 0 false) (lines_in a.script) b.answers second.last =
-    subst (λ (ts : List Task). Answered mib (progress (map entry_of first.entries) 0 false) (lines_in ts) b.answers second.last) (sym script)
-    (subst (λ (rs : List Record). Answered mib (progress (map entry_of rs) 0 false) (lines_in b.script) b.answers second.last) back
-    (subst (λ (n : ℕ). Answered n (progress (map entry_of second.entries) 0 false) (lines_in b.script) b.answers second.last) size second.answered)) in
-    let ending : IsEnding mib first.entries second.last w y b.ending =
-    subst (λ (rs : List Record). IsEnding mib rs second.last w y b.ending) back
-    (subst (λ (n : ℕ). IsEnding n second.entries second.last w y b.ending) size second.ending) in
-    done_from mib first.entries w x y a b first.last second.last (same_lsn a.opened b.opened opened) first.answered answered first.ending ending own other
+    let opened : a.opened.0 ≡ b.opened.0 = first.opened ∙ ap (λ (t : Tip). t.end) one.1 ∙ ap (λ (t : StoreSettings). (found_tip t second.entries).end) (sym same) ∙ sym second.opened in
+    let answered : Answered s.segment (progress (map entry_of first.entries) 0 false) (lines_in a.script) b.answers second.last =
+    subst (λ (ts : List Task). Answered s.segment (progress (map entry_of first.entries) 0 false) (lines_in ts) b.answers second.last) (sym script)
+    (subst (λ (rs : List Record). Answered s.segment (progress (map entry_of rs) 0 false) (lines_in b.script) b.answers second.last) back
+    (subst (λ (t : StoreSettings). Answered t.segment (progress (map entry_of second.entries) 0 false) (lines_in b.script) b.answers second.last) same second.answered)) in
+    let ending : IsEnding s first.entries second.last w y b.ending =
+    subst (λ (rs : List Record). IsEnding s rs second.last w y b.ending) back
+    (subst (λ (t : StoreSettings). IsEnding t second.entries second.last w y b.ending) same second.ending) in
+    done_from s first.entries w x y a b first.last second.last (same_lsn a.opened b.opened opened) first.answered answered first.ending ending own other
 
 -- ---- why none was
 
-given_or_damaged : (o : Option (List ℕ)) (mib relseg : ℕ) → GivesSettings o mib relseg → IsDamagedText o → ⊥
-given_or_damaged None mib relseg given damaged = damaged
-given_or_damaged (Some bytes) mib relseg given damaged = damaged mib relseg given
+-- an archive whose entries make a store is a WAL that is read so
+read_with : ℕ → Tip → Store → ReadWal
+read_with end tip store = record { end = record { 0 = end }; tip = tip; store = store }
 
--- settings and an archive that ends leave no cause why the WAL can't be read
-read_or_refused : (files : Files) (s : StoreSettings) (rs : List Record) (end : Tip) (before now : ℕ) (f : WalFault) → HasSettings (Some files) s → IsArchive s.segment files rs end → WalCause (Some files) before now f → IsOfFiles f → ⊥
-read_or_refused files s rs end before now (wal.Damaged place why) given archive cause own =
-    let same : cause.0 ≡ s = one_settings files cause.0 s cause.1.0.given given.given in
-    ends_or_is_damaged s.segment files rs end place.0 archive (subst (λ (t : StoreSettings). IsDamaged t.segment files place.0) same cause.1.1)
-read_or_refused files s rs end before now wal.SettingsDamaged given archive cause own = given_or_damaged (get files (codes "settings")) s.segment s.relseg given.given.given cause.1
-read_or_refused files s rs end before now wal.NotInit given archive cause own = none_some (get files first_segment) cause given.given.there
-read_or_refused files s rs end before now wal.Failed given archive cause own = own.0 refl
-read_or_refused files s rs end before now wal.NoMemory given archive cause own = own.1 refl
+below_on : (s : StoreSettings) (files : Files) (tip : Tip) (rs : List Record) (last : Tip) → 1 ≤ s.segment → IsReachedTip s.segment tip → ReadsOn s files tip rs last → (tip.end ≤ last.end) × AllEndBy rs last.end
+below_on s files tip [] last some is walk = (omega (arith, ap (λ (t : Tip). t.end) walk), tt)
+below_on s files tip (r ∷ rs) last some is walk =
+    let g = stands_given s files tip r some is walk.0 in
+    let more = below_on s files (tip_after tip r) rs last some g.reached walk.1 in
+    (omega (arith, g.later, more.0), (more.0, more.1))
 
-empty_or_refused : (files : Files) (before now : ℕ) (f : WalFault) → HasNoEntry (Some files) → WalCause (Some files) before now f → IsOfFiles f → ⊥
-empty_or_refused files before now f empty cause own = read_or_refused files empty.settings [] (first_tip empty.settings.segment) before now f empty.given empty.archive cause own
+is_read : (s : StoreSettings) (files : Files) (rs : List Record) (store : Store) → IsSegmentMib s.segment → HasFound s rs files → apply_all empty (map entry_of rs) ≡ Some store
+    → IsReadWal s (Some files) None (read_with (found_tip s rs).end (found_tip s rs) store)
+unfolding read_with
+is_read s files rs store size wal applied =
+    let tip : Tip = found_tip s rs in
+    let below : AllEndBy rs tip.end = (below_on s files (first_tip s.segment) rs tip size.least (first_reached s.segment size) wal.walk).1 in
+    let all : ending_by tip.end rs ≡ rs = all_kept rs tip.end below in
+    record {
+      entries = rs;
+      archive = wal_read s files rs tip wal;
+      tip = refl;
+      ends = below;
+      reached = omega arith;
+      store = ap (λ (es : List Record). apply_all empty (map entry_of es)) all ∙ applied;
+      end = ap (last_end s.segment) (sym all);
+      within = (wal_reached s files rs tip size wal).within;
+    }
+
+-- a beginning of entries that can be applied can be
+begins : (store : Store) (es fs : List Entry) (last : Store) → apply_all store (es ++ fs) ≡ Some last → (mid : Store) × (apply_all store es ≡ Some mid)
+begins store [] fs last applied = (store, refl)
+begins store (e ∷ es) fs last applied =
+    let b = bind_some (apply store e) (λ next. apply_all next (es ++ fs)) last applied in
+    let more = begins b.0 es fs last b.2 in
+    (more.0, ap (λ (o : Option Store). o >>= λ next. apply_all next es) b.1 ∙ more.1)
+
+segment_is : (o : Option (List ℕ)) (mib relseg : ℕ) → GivesSettings o mib relseg → IsSegmentMib mib
+segment_is None mib relseg given = subst IsSegmentMib (sym given.0) (record { least = omega arith; most = omega arith; divides = refl })
+segment_is (Some bytes) mib relseg given = given.segment
+
+wal_refused : RecoveryFault → Result (StoreSettings × ReadWal) RecoveryFault
+wal_refused fault = Err fault
+
+wal_as : StoreSettings → ReadWal → Result (StoreSettings × ReadWal) RecoveryFault
+wal_as s read = Ok (s, read)
+
+as_or_refused : (s : StoreSettings) (read : ReadWal) (f : RecoveryFault) → wal_as s read ≡ wal_refused f → ⊥
+unfolding wal_as wal_refused
+as_or_refused s read f e = absurd cc
+
+-- so it leaves no cause why it can't be read
+read_or_refused : (files : Files) (s : StoreSettings) (rs : List Record) (store : Store) (before now : ℕ) (f : RecoveryFault) → HasSettings (Some files) s → HasFound s rs files → apply_all empty (map entry_of rs) ≡ Some store → WalCause None (Some files) before now f → IsOfFiles f → ⊥
+unfolding wal_as wal_refused
+read_or_refused files s rs store before now f given wal applied cause own =
+    let size : IsSegmentMib s.segment = segment_is (get files (codes "settings")) s.segment s.relseg given.given.given in
+    let read : ReadWal = read_with (found_tip s rs).end (found_tip s rs) store in
+    as_or_refused s read f
+    (one_wal None files before now before now (Ok (s, read)) (Err f) (given, is_read s files rs store size wal applied) cause tt own)
+
+empty_or_refused : (files : Files) (before now : ℕ) (f : RecoveryFault) → HasNoEntry (Some files) → WalCause None (Some files) before now f → IsOfFiles f → ⊥
+empty_or_refused files before now f none cause own = read_or_refused files none.settings [] empty before now f none.given none.archive refl cause own
 
 -- the WAL can't be read, or has no entry
-cause_is : (files : Option Files) (before now : ℕ) (f : WalFault) → BeginCause files before now f → WalCause files before now f ⊎ (HasNoEntry files × (f ≡ wal.NotInit))
-cause_is files before now (wal.Damaged place why) cause = inl cause
+abbrev pub Because : Files → ℕ → ℕ → RecoveryFault → Type 0
+Because files before now f = WalCause None (Some files) before now f ⊎ (HasNoEntry (Some files) × (f ≡ wal.NotInit))
+
+cause_is : (files : Files) (before now : ℕ) (f : RecoveryFault) → BeginCause (Some files) before now f → Because files before now f
+cause_is files before now (wal.Damaged mib damage) cause = inl cause
+cause_is files before now (wal.Short end target) cause = inl cause
+cause_is files before now (wal.BadDelta place) cause = inl cause
 cause_is files before now wal.SettingsDamaged cause = inl cause
+cause_is files before now (wal.Timeline name) cause = inl cause
 cause_is files before now wal.NotInit (inl cause) = inl cause
-cause_is files before now wal.NotInit (inr empty) = inr (empty, refl)
+cause_is files before now wal.NotInit (inr none) = inr (none, refl)
 cause_is files before now wal.Failed cause = inl cause
 cause_is files before now wal.NoMemory cause = inl cause
 
-wal_refused : WalFault → Result (StoreSettings × ReadWal) WalFault
-wal_refused fault = Err fault
-
-fault_is : (f g : WalFault) → wal_refused f ≡ wal_refused g → f ≡ g
+fault_is : (f g : RecoveryFault) → wal_refused f ≡ wal_refused g → f ≡ g
 unfolding wal_refused
 fault_is f g e = cc
 
-same_cause : (files : Files) (before now start end : ℕ) (f g : WalFault) → WalCause (Some files) before now f → WalCause (Some files) start end g → IsOfFiles f → IsOfFiles g → f ≡ g
+same_cause : (files : Files) (before now start end : ℕ) (f g : RecoveryFault) → WalCause None (Some files) before now f → WalCause None (Some files) start end g → IsOfFiles f → IsOfFiles g → f ≡ g
 unfolding wal_refused
-same_cause files before now start end f g first second own other = fault_is f g (one_wal files before now start end (Err f) (Err g) first second own other)
+same_cause files before now start end f g first second own other = fault_is f g (one_wal None files before now start end (Err f) (Err g) first second own other)
 
-refused_by_one : (files : Files) (before now start end : ℕ) (f g : WalFault) → WalCause (Some files) before now f ⊎ (HasNoEntry (Some files) × (f ≡ wal.NotInit)) → WalCause (Some files) start end g ⊎ (HasNoEntry (Some files) × (g ≡ wal.NotInit))
-    → IsOfFiles f → IsOfFiles g → f ≡ g
+refused_by_one : (files : Files) (before now start end : ℕ) (f g : RecoveryFault) → Because files before now f → Because files start end g → IsOfFiles f → IsOfFiles g → f ≡ g
 refused_by_one files before now start end f g (inl first) (inl second) own other = same_cause files before now start end f g first second own other
 refused_by_one files before now start end f g (inl first) (inr second) own other = absurd (empty_or_refused files before now f second.0 first own)
 refused_by_one files before now start end f g (inr first) (inl second) own other = absurd (empty_or_refused files start end g first.0 second other)
 refused_by_one files before now start end f g (inr first) (inr second) own other = first.1 ∙ sym second.1
 
-cause_at : (w x : AreaState) (files : Files) (f : WalFault) → w.files ≡ Some files → BeginCause w.files w.faults x.faults f → WalCause (Some files) w.faults x.faults f ⊎ (HasNoEntry (Some files) × (f ≡ wal.NotInit))
-cause_at w x files f told cause = cause_is (Some files) w.faults x.faults f (subst (λ (o : Option Files). BeginCause o w.faults x.faults f) told cause)
+cause_at : (w x : AreaState) (files : Files) (f : RecoveryFault) → w.files ≡ Some files → BeginCause w.files w.faults x.faults f → Because files w.faults x.faults f
+cause_at w x files f told cause = cause_is files w.faults x.faults f (subst (λ (o : Option Files). BeginCause o w.faults x.faults f) told cause)
 
-same_refusal : (w x y : AreaState) (files : Files) (f g : WalFault) → w.files ≡ Some files → BeginCause w.files w.faults x.faults f → BeginCause w.files w.faults y.faults g → IsOfFiles f → IsOfFiles g → f ≡ g
+same_refusal : (w x y : AreaState) (files : Files) (f g : RecoveryFault) → w.files ≡ Some files → BeginCause w.files w.faults x.faults f → BeginCause w.files w.faults y.faults g → IsOfFiles f → IsOfFiles g → f ≡ g
 same_refusal w x y files f g told first second own other = refused_by_one files w.faults x.faults w.faults y.faults f g (cause_at w x files f told first) (cause_at w y files g told second) own other
 
 -- ---- done or refused
 
 -- an archive that has an entry is another than the empty one
-some_or_empty : (files : Files) (s : StoreSettings) (rs : List Record) (end : Tip) → HasSettings (Some files) s → IsArchive s.segment files rs end → 0 < length rs → HasNoEntry (Some files) → ⊥
-some_or_empty files s rs end given archive some empty =
-    let same : empty.settings ≡ s = one_settings files empty.settings s empty.given.given given.given in
-    let none : IsArchive s.segment files [] (first_tip s.segment) = subst (λ (t : StoreSettings). IsArchive t.segment files [] (first_tip t.segment)) same empty.archive in
-    let one = one_reading s.segment files rs [] end (first_tip s.segment) archive none in
+some_or_empty : (files : Files) (s : StoreSettings) (rs : List Record) → HasSettings (Some files) s → HasFound s rs files → 0 < length rs → HasNoEntry (Some files) → ⊥
+some_or_empty files s rs given wal some none =
+    let same : none.settings ≡ s = one_settings files none.settings s none.given.given given.given in
+    let bare : IsWal s files [] (first_tip s.segment) = subst (λ (t : StoreSettings). IsWal t files [] (first_tip t.segment)) same none.archive in
+    let one = one_reading s files rs [] (found_tip s rs) (first_tip s.segment) wal bare in
     absurd (omega (arith, some, ap (λ (xs : List Record). length xs) one.0))
 
-begun_or_refused : (files : Files) (s : StoreSettings) (rs : List Record) (end : Tip) (before now : ℕ) (f : WalFault) → HasSettings (Some files) s → IsArchive s.segment files rs end → 0 < length rs
-    → WalCause (Some files) before now f ⊎ (HasNoEntry (Some files) × (f ≡ wal.NotInit)) → IsOfFiles f → ⊥
-begun_or_refused files s rs end before now f given archive some (inl cause) own = read_or_refused files s rs end before now f given archive cause own
-begun_or_refused files s rs end before now f given archive some (inr empty) own = some_or_empty files s rs end given archive some empty.0
-
-done_or_refused : (w x y : AreaState) (files : Files) (a : RunReport) (f : WalFault) → w.files ≡ Some files → RunDone w x a → BeginCause w.files w.faults y.faults f → IsOfFiles f → ⊥
+done_or_refused : (w x y : AreaState) (files : Files) (a : RunReport) (f : RecoveryFault) → w.files ≡ Some files → RunDone w x a → BeginCause w.files w.faults y.faults f → IsOfFiles f → ⊥
 done_or_refused w x y files a f told done cause own =
-    begun_or_refused files done.settings done.entries (found_tip done.settings.segment done.entries) w.faults y.faults f (subst (λ (o : Option Files). HasSettings o done.settings) told done.given)
-    (at_told w.files files (HasFound done.settings.segment done.entries) told done.archive) done.some (cause_at w y files f told cause) own
+    let s : StoreSettings = done.settings in
+    let given : HasSettings (Some files) s = subst (λ (o : Option Files). HasSettings o s) told done.given in
+    let here : HasFound s done.entries files = at_told w.files files (HasFound s done.entries) told done.archive in
+    let made = begins empty (map entry_of done.entries) done.added done.store (ap (λ (es : List Entry). apply_all empty es) (sym done.grown) ∙ done.state) in
+    elim (cause_at w y files f told cause) [
+      | inl why ↦ read_or_refused files s done.entries made.0 w.faults y.faults f given here made.1 why own
+      | inr none ↦ some_or_empty files s done.entries given here done.some none.0
+    ]
 
 -- ---- the script
 
@@ -438,7 +518,7 @@ same_line left now other whole n m why also told first second =
 
 -- ---- the whole
 
-refused_for : WalFault → Result RunReport RunFault
+refused_for : RecoveryFault → Result RunReport RunFault
 refused_for fault = Err (run.Wal fault)
 
 report_of : Lsn → List Task → List Answer → Result Lsn AreaFault → RunReport

@@ -10,4 +10,4 @@ pub whatever_is_printed : (words : Option Asked) (old new : Outside) (printed af
 whatever_is_printed None old new printed after prints now came does = does
 whatever_is_printed (Some (Init options)) old new printed after prints now came does = does
 whatever_is_printed (Some Run) old new printed after prints now came does = does
-whatever_is_printed (Some (Replay name)) old new printed after prints now came does = does
+whatever_is_printed (Some (Replay upto name)) old new printed after prints now came does = does

@@ -5,9 +5,9 @@ use Rattle.std.specs.FinMap.{empty}
 use Rattle.lsn_core.specs.declared.fault.AreaFault.{AreaFault}
 use Rattle.lsn_core.specs.declared.fault.AreaFault.TheVariants.{Failed, NoMemory}
 use Rattle.vault.specs.Site.{AreaState}
-use Rattle.wal_reader.specs.declared.fault.WalFault.{WalFault}
-use Rattle.wal_reader.specs.declared.fault.WalFault.TheVariants as wal
-use Rattle.wal_reader.specs.Causes.{IsOfFiles}
+use Rattle.recovery.specs.declared.fault.RecoveryFault.{RecoveryFault}
+use Rattle.recovery.specs.declared.fault.RecoveryFault.TheVariants as wal
+use Rattle.recovery.specs.Causes.{IsOfFiles}
 use Rattle.pgbackup_cli.specs.Areas.{IsClear, IsFull}
 use Rattle.pgbackup_cli.specs.Faults.{area_status, wal_status}
 use Rattle.pgbackup_cli.specs.Laws.{is_decided}
@@ -33,9 +33,12 @@ undecided Failed e = absurd cc
 undecided NoMemory e = absurd cc
 
 -- a fault of the WAL is where its files decide it
-pub of_files : (fault : WalFault) → is_decided (wal_status fault) ≡ true → IsOfFiles fault
-of_files (wal.Damaged place why) e = (λ f. absurd cc, λ f. absurd cc)
+pub of_files : (fault : RecoveryFault) → is_decided (wal_status fault) ≡ true → IsOfFiles fault
+of_files (wal.Damaged mib damage) e = (λ f. absurd cc, λ f. absurd cc)
+of_files (wal.Short end target) e = (λ f. absurd cc, λ f. absurd cc)
+of_files (wal.BadDelta place) e = (λ f. absurd cc, λ f. absurd cc)
 of_files wal.SettingsDamaged e = (λ f. absurd cc, λ f. absurd cc)
+of_files (wal.Timeline name) e = (λ f. absurd cc, λ f. absurd cc)
 of_files wal.NotInit e = (λ f. absurd cc, λ f. absurd cc)
 of_files wal.Failed e = absurd cc
 of_files wal.NoMemory e = absurd cc

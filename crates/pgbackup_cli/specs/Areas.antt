@@ -1,10 +1,14 @@
 -- The areas of a store by their names, whether one holds a file, and why one failed.
-use Rattle.std.specs.Prelude.{◌≡◌, ◌≢◌, List, ◌++◌, ℕ, IfSome, codes}
+use Rattle.std.specs.Prelude.{◌≡◌, ◌≢◌, List, ◌++◌, ℕ, Option, IfSome, codes}
 use Rattle.std.specs.FinMap.{empty}
 use Rattle.lsn_core.specs.Causes.{Rose}
 use Rattle.lsn_core.specs.declared.fault.AreaFault.{AreaFault}
 use Rattle.lsn_core.specs.declared.fault.AreaFault.TheVariants.{Failed, NoMemory}
+use Rattle.lsn_core.specs.Files.{Files}
+use Rattle.vault.specs.Area.{Related}
+use Rattle.vault.specs.Frame.{AgreeBut}
 use Rattle.vault.specs.Site.{AreaState}
+use Rattle.wal_writer.specs.Stops.{Leaves, IsSegmentFile}
 
 -- the area of the WAL
 abbrev pub wal_name : List ℕ
@@ -36,3 +40,10 @@ AreaCause before now NoMemory = Unit {0}
 -- the same of an area
 abbrev pub AreaFails : AreaState → AreaState → AreaFault → Type 0
 AreaFails old new why = AreaCause old.faults new.faults why
+
+-- so many bytes of the WAL were to be written from a place on, and may be there in part: what was
+-- held before the place is held still, behind those bytes nothing changed, and no file changed but
+-- those of segments that reach behind the place
+abbrev pub IsWalTorn : ℕ → ℕ → ℕ → Option Files → Option Files → Type 0
+IsWalTorn mib at count old new =
+    Leaves mib at count old new × Related (AgreeBut (IsSegmentFile mib at)) old new

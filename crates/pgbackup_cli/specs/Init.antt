@@ -5,17 +5,19 @@ use Rattle.std.specs.FinMap.{empty, insert}
 use Rattle.lsn_core.specs.Files.{Files}
 use Rattle.lsn_core.specs.Names.{lsn_bytes, segment_name_bytes}
 use Rattle.lsn_core.specs.declared.lsn.Lsn.{Lsn}
-use Rattle.lsn_core.specs.Segment.{StoreSettings}
+use Rattle.lsn_core.specs.Segment.{StoreSettings, segment_bytes}
+use Rattle.lsn_core.specs.Tip.{Tip}
 use Rattle.vault.specs.Area.{IsTorn, Related}
 use Rattle.vault.specs.Site.{AreaState}
 use Rattle.vault.specs.Lending.{Names}
+use Rattle.wal_pages.specs.Places.{start_after}
+use Rattle.wal_pages.specs.Spread.{spread}
 use Rattle.wal_record.specs.declared.record.Record.{Record}
 use Rattle.wal_record.specs.declared.record.Kind.TheVariants.{Shutdown}
-use Rattle.lsn_core.specs.Tip.{Tip}
-use Rattle.wal_record.specs.Places.{first_start, record_behind, written_entry, page_head}
-use Rattle.wal_record.specs.Tips.{first_tip, tip_after}
-use Rattle.wal_reader.specs.Archive.{IsArchive}
+use Rattle.wal_record.specs.Spelling.{sealed}
+use Rattle.wal_record.specs.Tips.{first_tip, tip_after, record_at_tip}
 use Rattle.wal_reader.specs.Settings.{settings_text, IsSettingsOf}
+use Rattle.wal_reader.specs.Wal.{IsWal}
 use Rattle.pgbackup_cli.specs.declared.answer.Status.{Status}
 use Rattle.pgbackup_cli.specs.declared.answer.Status.TheVariants as status
 use Rattle.pgbackup_cli.specs.declared.options.InitOptions.{InitOptions}
@@ -49,9 +51,13 @@ segment_name s = segment_name_bytes 1 s.segment
 abbrev pub settings_file : StoreSettings → List ℕ
 settings_file s = settings_text s.segment s.relseg
 
+-- where the first entry of a WAL starts: behind the head of the first page of segment 1
+abbrev pub first_start : ℕ → Lsn
+first_start mib = record { 0 = start_after mib (segment_bytes mib) }
+
 -- the first entry of a WAL: a shutdown checkpoint whose redo point is its own start
 abbrev pub first_entry : ℕ → Record
-first_entry mib = record_behind (first_start mib) 0 (Shutdown (record { 0 = first_start mib }))
+first_entry mib = record_at_tip mib (first_tip mib) (Shutdown (first_start mib))
 
 -- where a WAL of that entry alone ends
 abbrev pub new_tip : ℕ → Tip
@@ -59,7 +65,8 @@ new_tip mib = tip_after (first_tip mib) (first_entry mib)
 
 -- the bytes of segment 1 with that entry alone
 abbrev pub segment_file : StoreSettings → List ℕ
-segment_file s = page_head s.segment s.system ++ written_entry (first_entry s.segment)
+segment_file s =
+    spread s.segment s.system (segment_bytes s.segment) (sealed (first_entry s.segment))
 
 -- the files once `settings` is written, and once segment 1 is too
 abbrev pub begun_wal : StoreSettings → Files
@@ -68,10 +75,14 @@ begun_wal s = insert empty settings_name (settings_file s)
 abbrev pub new_wal : StoreSettings → Files
 new_wal s = insert (begun_wal s) (segment_name s) (segment_file s)
 
+-- a WAL of these files is the first entry alone
+abbrev pub HasFirstAlone : StoreSettings → Files → Type 0
+HasFirstAlone s files = IsWal s files (first_entry s.segment ∷ []) (new_tip s.segment)
+
 -- the WAL is a new one: it holds just these files, which read as these settings and an archive of
 -- the first entry alone
 pub record IsNewWal (s : StoreSettings) (files : Option Files) : Type 0 where
-  pub archive : IfSome files (λ m. IsArchive s.segment m (first_entry s.segment ∷ []) (new_tip s.segment))
+  pub archive : IfSome files (HasFirstAlone s)
   pub settings : IfSome files (λ m. IsSettingsOf m s)
 
 -- ---- what `init` comes to

@@ -5,6 +5,7 @@ use Rattle.std.specs.Option.{option_map}
 use Rattle.std.specs.FinMap.{empty, insert}
 use Rattle.std.specs.Global.{Vec}
 use Rattle.lsn_core.specs.Files.{Files}
+use Rattle.lsn_core.specs.Names.{segment_name_bytes}
 use Rattle.lsn_core.specs.Store.{Store, files_of}
 use Rattle.lsn_core.specs.declared.lsn.Lsn.{Lsn}
 use Rattle.lsn_core.specs.Segment.{StoreSettings, IsSegmentMib, IsRelseg}
@@ -19,25 +20,23 @@ use Rattle.vault.specs.Stream.{Tells}
 use Rattle.vault.specs.declared.lending.TakeFault.{TakeFault}
 use Rattle.vault.specs.Area.{after_write}
 use Rattle.vault.specs.Site.{AreaState, state_in}
-use Rattle.wal_record.specs.declared.record.Record.{Record}
-use Rattle.wal_record.specs.declared.record.Kind.TheVariants.{Shutdown}
-use Rattle.wal_reader.specs.declared.fault.WalFault.{WalFault}
+use Rattle.recovery.specs.declared.fault.RecoveryFault.{RecoveryFault}
 use Rattle.wal_writer.specs.declared.state.WalState.{WalState}
-use Rattle.wal_writer.specs.Log.{Log, next_record, appended}
-use Rattle.wal_writer.specs.Answers.{after_flush, IsLeft}
+use Rattle.wal_writer.specs.Log.{Log, Ready}
 use Rattle.pgbackup_cli.specs.declared.init.InitFault.{InitFault}
 use Rattle.crew.specs.declared.script.Task.{Task}
+use Rattle.crew.specs.Run.{all_written}
 use Rattle.pgbackup_cli.specs.declared.run.RunReport.{RunReport}
 use Rattle.pgbackup_cli.specs.declared.run.RunFault.{RunFault}
 use Rattle.pgbackup_cli.specs.declared.words.Command.{Command}
 use Rattle.pgbackup_cli.specs.declared.words.Command.TheVariants as command
-use Rattle.pgbackup_cli.specs.Areas.{AreaFails}
+use Rattle.pgbackup_cli.specs.Areas.{AreaFails, IsWalTorn}
 use Rattle.pgbackup_cli.specs.Options.{IsInRange}
 use Rattle.pgbackup_cli.specs.Words.{Asked, Init, Run, Replay}
 use Rattle.pgbackup_cli.specs.Outside.{Outside}
 use Rattle.pgbackup_cli.specs.Input.{IsInput}
-use Rattle.pgbackup_cli.specs.Init.{InitResult, InitAreas, InitAnswer, IsTornIn, new_wal, settings_name, settings_file, segment_name, segment_file}
-use Rattle.pgbackup_cli.specs.Run.{RunResult, HasScript, IsWrittenAt, IsTornAt, RunDone, IsUnread, RunAnswer}
+use Rattle.pgbackup_cli.specs.Init.{InitResult, InitAreas, InitAnswer, IsTornIn, new_wal, first_entry, settings_name, settings_file, segment_name, segment_file}
+use Rattle.pgbackup_cli.specs.Run.{RunResult, HasScript, RunDone, IsUnread, RunAnswer}
 use Rattle.pgbackup_cli.specs.Replay.{ReplayResult, ReplayAreas, ReplayAnswer}
 
 -- texts behind each other
@@ -52,12 +51,12 @@ joined (text ∷ (next ∷ texts)) = text ++ joined (next ∷ texts)
 abbrev pub asks : Command → Asked
 asks (command.Init options) = Init options
 asks command.Run = Run
-asks (command.Replay name) = Replay name.now
+asks (command.Replay upto name) = Replay upto name.now
 
 abbrev pub HasRange : Command → Type 0
 HasRange (command.Init options) = IsInRange options
 HasRange command.Run = Unit {0}
-HasRange (command.Replay name) = Unit {0}
+HasRange (command.Replay upto name) = Unit {0}
 
 -- ---- the outside, as far as a call sees it
 
@@ -88,7 +87,8 @@ of_all sites sources clocks site input clock =
     record (of_site_input sites sources site input) { moment = clocks.moment clock }
 
 -- a sink was told a text
-abbrev pub TellsIn : {O : Type 0} → Sinks O → List ℕ → O → O → Result (Unit {0}) AreaFault → Type 0
+abbrev pub TellsIn :
+    {O : Type 0} → Sinks O → List ℕ → O → O → Result (Unit {0}) AreaFault → Type 0
 TellsIn sinks text old new told =
     Tells text (sinks.bytes old) (sinks.bytes new) (sinks.faults old) (sinks.faults new) told
 
@@ -136,7 +136,8 @@ abbrev pub init_areas_in : {V : Type 0} → Vaults V → V → V → InitAreas
 init_areas_in vaults wal sums = record { wal = state_in vaults wal; sums = state_in vaults sums }
 
 -- why `init` with these settings comes to its answer over these two areas
-abbrev pub AnswersInit : {V : Type 0} → Vaults V → StoreSettings → V → V → V → V → InitResult → Type 0
+abbrev pub AnswersInit :
+    {V : Type 0} → Vaults V → StoreSettings → V → V → V → V → InitResult → Type 0
 AnswersInit vaults s wal sums wal_now sums_now r =
     InitAnswer s Never (init_areas_in vaults wal sums) (init_areas_in vaults wal_now sums_now) r
 
@@ -162,30 +163,18 @@ IsSettingsTorn s old new = IsTornIn settings_name (settings_file s) old new
 abbrev pub IsSegmentTorn : StoreSettings → Option Files → Option Files → Type 0
 IsSegmentTorn s old new = IsTornIn (segment_name s) (segment_file s) old new
 
--- a WAL with a shutdown checkpoint behind its entries
-abbrev pub checkpoint_in : Log → Lsn → Record
-checkpoint_in log redo = next_record log (Shutdown redo)
+-- the first entry of a WAL with these settings was prepared
+pub record IsFirstEntry (s : StoreSettings) (ready : Ready) : Type 0 where
+  pub entry : ready.entry ≡ first_entry s.segment
+  pub bytes : ready.bytes ≡ segment_file s
 
-abbrev pub checkpointed : Log → Lsn → Log
-checkpointed log redo = appended log (checkpoint_in log redo)
+-- bytes stand at the start of the file of segment 1
+abbrev pub with_first : ℕ → List ℕ → Option Files → Option Files
+with_first mib bytes files = option_map (after_write (segment_name_bytes 1 mib) 0 bytes) files
 
--- the files once that is flushed, and where that failed
-abbrev pub with_checkpoint : Log → Lsn → Option Files → Option Files
-with_checkpoint log redo files =
-    option_map (after_flush (checkpointed log redo) (checkpoint_in log redo).end.0) files
-
-abbrev pub IsCheckpointTorn : Log → Lsn → Option Files → Option Files → Type 0
-IsCheckpointTorn log redo old new =
-    IsLeft (checkpointed log redo) (checkpoint_in log redo).end.0 old new
-
--- what writing it left of a WAL's area
-abbrev pub IsCheckpointed : {V : Type 0} → Vaults V → Lsn → WalState V → WalState V → Type 0
-IsCheckpointed vaults redo old new =
-    vaults.files new.area ≡ with_checkpoint old.tail redo (vaults.files old.area)
-
-abbrev pub IsCheckpointLeft : {V : Type 0} → Vaults V → Lsn → WalState V → WalState V → Type 0
-IsCheckpointLeft vaults redo old new =
-    IsCheckpointTorn old.tail redo (vaults.files old.area) (vaults.files new.area)
+-- a write of them failed
+abbrev pub IsFirstTorn : ℕ → List ℕ → Option Files → Option Files → Type 0
+IsFirstTorn mib bytes old new = IsTornIn (segment_name_bytes 1 mib) bytes old new
 
 -- ---- `run`
 
@@ -193,12 +182,14 @@ IsCheckpointLeft vaults redo old new =
 abbrev pub Ending : Type 0
 Ending = Result Lsn AreaFault
 
+-- all that waits of a WAL is written
+abbrev pub IsAllWritten : Log → Option Files → Option Files → Type 0
+IsAllWritten log old new = new ≡ option_map (all_written log) old
+
 -- what the last flush of a run answers, where the run stopped or didn't
 abbrev pub FlushAnswer : Bool → Log → AreaState → AreaState → Ending → Type 0
 FlushAnswer stopped log old new (Ok end) =
-    (stopped ≡ false)
-    × (end.0 ≡ log.tip.end)
-    × IsWrittenAt log.mib log.flushed log.pending old.files new.files
+    (stopped ≡ false) × (end.0 ≡ log.tip.end) × IsAllWritten log old.files new.files
 FlushAnswer stopped log old new (Err why) =
     ((stopped ≡ false) ⊎ (why ≡ NoMemory)) × AreaFails old new why
 
@@ -209,7 +200,7 @@ EndsRun vaults stopped old new r =
 -- it wrote no more than what waited
 abbrev pub IsFlushLeft : {V : Type 0} → Vaults V → WalState V → WalState V → Type 0
 IsFlushLeft vaults old new =
-    IsTornAt old.tail.mib old.tail.flushed old.tail.pending
+    IsWalTorn old.tail.mib old.tail.flushed (length old.tail.pending)
     (vaults.files old.area) (vaults.files new.area)
 
 -- there is no script, whatever the site is
@@ -227,11 +218,11 @@ RunsScript sites script old new r =
     (with_input (of_site sites new) rest now) r
 
 -- what the run of a script comes to, over the area of the WAL
-abbrev pub ScriptAnswer : AreaState → AreaState → Result RunReport WalFault → Type 0
+abbrev pub ScriptAnswer : AreaState → AreaState → Result RunReport RecoveryFault → Type 0
 ScriptAnswer old new (Ok report) = RunDone old new report
 ScriptAnswer old new (Err why) = IsUnread old new why
 
-abbrev pub AnswersScript : {V : Type 0} → Vaults V → V → V → Result RunReport WalFault → Type 0
+abbrev pub AnswersScript : {V : Type 0} → Vaults V → V → V → Result RunReport RecoveryFault → Type 0
 AnswersScript vaults wal now r = ScriptAnswer (state_in vaults wal) (state_in vaults now) r
 
 -- ---- `replay`
@@ -240,9 +231,11 @@ abbrev pub replay_areas_in : {V : Type 0} → Vaults V → V → V → ReplayAre
 replay_areas_in vaults wal out = record { wal = state_in vaults wal; out = state_in vaults out }
 
 -- why `replay` comes to its answer over the area of the WAL and that of the output
-abbrev pub AnswersReplay : {V : Type 0} → Vaults V → V → V → V → V → ReplayResult → Type 0
-AnswersReplay vaults wal out wal_now out_now r =
-    ReplayAnswer Never (replay_areas_in vaults wal out) (replay_areas_in vaults wal_now out_now) r
+abbrev pub AnswersReplay :
+    {V : Type 0} → Vaults V → Option Lsn → V → V → V → V → ReplayResult → Type 0
+AnswersReplay vaults upto wal out wal_now out_now r =
+    ReplayAnswer upto Never
+    (replay_areas_in vaults wal out) (replay_areas_in vaults wal_now out_now) r
 
 -- an area that held no file has those of a store
 abbrev pub IsWrittenOut : {V : Type 0} → Vaults V → StoreSettings → Store → V → V → Type 0

@@ -1,5 +1,6 @@
 -- That a command comes to one answer.
-use Rattle.std.specs.Prelude.{◌≡◌, ℕ, List, Bool, true, false}
+use Rattle.std.specs.Prelude.{◌≡◌, ℕ, Option, List, Bool, true, false}
+use Rattle.lsn_core.specs.declared.lsn.Lsn.{Lsn}
 use Rattle.pgbackup_cli.specs.declared.answer.Status.{Status}
 use Rattle.pgbackup_cli.specs.declared.answer.Status.TheVariants as status
 use Rattle.pgbackup_cli.specs.Outside.{Outside, AllTold}
@@ -30,4 +31,5 @@ abbrev pub HasOneRun : Type 0
 HasOneRun = HasOne RunDoes run_status
 
 abbrev pub HasOneReplay : Type 0
-HasOneReplay = (name : List ℕ) → HasOne (ReplayDoes name) replay_status
+HasOneReplay =
+    (upto : Option Lsn) (name : List ℕ) → HasOne (ReplayDoes upto name) replay_status

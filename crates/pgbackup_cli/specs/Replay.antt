@@ -1,18 +1,20 @@
 -- `replay`: what replaying a WAL into an output does, prints and ends with.
-use Rattle.std.specs.Prelude.{◌≡◌, ◌≢◌, ℕ, List, [], ◌∷◌, ◌++◌, IfSome, Some, Result, Ok, Err, codes}
+use Rattle.std.specs.Prelude.{◌≡◌, ◌≢◌, ℕ, Option, List, [], ◌∷◌, ◌++◌, IfSome, Some, Result, Ok, Err, codes}
 use Rattle.std.specs.Option.{option_map}
 use Rattle.std.specs.FinMap.{empty, len}
 use Rattle.std.specs.Fmt.{decimal}
 use Rattle.lsn_core.specs.Names.{lsn_bytes}
-use Rattle.lsn_core.specs.Store.{Store, files_of}
-use Rattle.wal_record.specs.declared.record.Record.{Record}
+use Rattle.lsn_core.specs.Store.{files_of}
+use Rattle.lsn_core.specs.declared.lsn.Lsn.{Lsn}
 use Rattle.lsn_core.specs.Segment.{StoreSettings}
 use Rattle.vault.specs.Site.{AreaState}
 use Rattle.vault.specs.Lending.{Names}
-use Rattle.wal_reader.specs.declared.fault.WalFault.{WalFault}
+use Rattle.wal_record.specs.declared.record.Record.{Record}
+use Rattle.recovery.specs.declared.fault.RecoveryFault.{RecoveryFault}
 use Rattle.history.specs.Pages.{page_count}
 use Rattle.history.specs.Whole.{whole}
-use Rattle.recovery.specs.WholeWal.{HasSettings, IsReadWal, WalCause}
+use Rattle.recovery.specs.Replay.{IsReadWal, replayed_to, ending_by, last_end}
+use Rattle.recovery.specs.Causes.{HasSettings, WalCause}
 use Rattle.recovery.specs.declared.replaying.ReadWal.{ReadWal}
 use Rattle.pgbackup_cli.specs.declared.answer.Status.{Status}
 use Rattle.pgbackup_cli.specs.declared.answer.Status.TheVariants as status
@@ -39,20 +41,24 @@ replay_areas out o = record { wal = o.areas wal_name; out = o.areas out }
 abbrev pub replay_asks : List ℕ → Names
 replay_asks out = wal_name ∷ (out ∷ [])
 
--- a store is what the whole WAL makes from nothing, up to a place, where the WAL is told
-abbrev pub IsWhole : AreaState → List Record → ℕ → Store → Type 0
-IsWhole wal entries place store = IfSome wal.files (λ m. whole entries place ≡ Some store)
+-- where the last of some entries ends that ends at a place or before it; where there is none, where
+-- the WAL begins
+abbrev pub end_by : ℕ → ℕ → List Record → ℕ
+end_by mib place entries = last_end mib (ending_by place entries)
 
--- a replay that was done: the output's files are those of the store that the whole WAL makes
-pub record ReplayDone (old new : ReplayAreas) (report : ReplayReport) : Type 0 where
+-- a replay up to a target, or to the WAL's end, that was done: the output's files are those of the
+-- store that the WAL makes up to there
+pub record ReplayDone
+    (upto : Option Lsn) (old new : ReplayAreas) (report : ReplayReport)
+    : Type 0 where
   pub clear : IsClear old.out
   pub settings : StoreSettings
   pub given : HasSettings old.wal.files settings
   pub read : ReadWal
-  pub read_is : IsReadWal settings.segment old.wal.files read
-  pub made : IsWhole old.wal read_is.entries report.end.0 read.store
+  pub read_is : IsReadWal settings old.wal.files upto read
+  pub made : whole read_is.entries (replayed_to upto read.tip) ≡ Some read.store
   pub written : new.out.files ≡ option_map (λ m. files_of settings.relseg read.store) old.out.files
-  pub end : report.end.0 ≡ read.tip.end
+  pub end : report.end.0 ≡ end_by settings.segment (replayed_to upto read.tip) read_is.entries
   pub forks : report.forks ≡ len read.store
   pub pages : report.pages ≡ page_count read.store
 
@@ -60,32 +66,33 @@ pub record ReplayDone (old new : ReplayAreas) (report : ReplayReport) : Type 0 w
 abbrev pub KeepsFull : AreaState → AreaState → Type 0
 KeepsFull old new = IfSome old.files (λ m. m ≢ empty → Keeps old new)
 
--- the WAL can't be read
-abbrev pub IsUnreadable : AreaState → AreaState → WalFault → Type 0
-IsUnreadable old new why = WalCause old.files old.faults new.faults why
+-- the WAL can't be replayed
+abbrev pub IsUnreadable : Option Lsn → AreaState → AreaState → RecoveryFault → Type 0
+IsUnreadable upto old new why = WalCause upto old.files old.faults new.faults why
 
 -- why `replay` comes to its answer, where an area that isn't handed out means this. A full output
 -- and a WAL that can't be read leave the output as it was; of one that was empty a failed device or
 -- want of memory says nothing
-abbrev pub ReplayAnswer : Untakens → ReplayAreas → ReplayAreas → ReplayResult → Type 0
-ReplayAnswer Untaken old new (Ok report) = ReplayDone old new report
-ReplayAnswer Untaken old new (Err (replay.Site fault)) = Untaken fault
-ReplayAnswer Untaken old new (Err replay.NotEmpty) = IsFull old.out × Keeps old.out new.out
-ReplayAnswer Untaken old new (Err (replay.Wal why)) =
-    IsClear old.out × Keeps old.out new.out × IsUnreadable old.wal new.wal why
-ReplayAnswer Untaken old new (Err (replay.Out why)) =
+abbrev pub ReplayAnswer :
+    Option Lsn → Untakens → ReplayAreas → ReplayAreas → ReplayResult → Type 0
+ReplayAnswer upto Untaken old new (Ok report) = ReplayDone upto old new report
+ReplayAnswer upto Untaken old new (Err (replay.Site fault)) = Untaken fault
+ReplayAnswer upto Untaken old new (Err replay.NotEmpty) = IsFull old.out × Keeps old.out new.out
+ReplayAnswer upto Untaken old new (Err (replay.Wal why)) =
+    IsClear old.out × Keeps old.out new.out × IsUnreadable upto old.wal new.wal why
+ReplayAnswer upto Untaken old new (Err (replay.Out why)) =
     AreaFails old.out new.out why × KeepsFull old.out new.out
 
 -- the same of the whole outside, to this area
-abbrev pub ReplayRan : List ℕ → Outside → Outside → ReplayResult → Type 0
-ReplayRan out old new r =
-    ReplayAnswer (IsUntaken (replay_asks out) old new)
+abbrev pub ReplayRan : Option Lsn → List ℕ → Outside → Outside → ReplayResult → Type 0
+ReplayRan upto out old new r =
+    ReplayAnswer upto (IsUntaken (replay_asks out) old new)
     (replay_areas out old) (replay_areas out new) r
 
--- `replay` to an output of this name
-abbrev pub ReplayDoes : List ℕ → Outside → Outside → ReplayResult → Type 0
-ReplayDoes name old new r =
-    Works (output_name name ∷ []) old new × ReplayRan (output_name name) old new r
+-- `replay` up to a target, where one is given, to an output of this name
+abbrev pub ReplayDoes : Option Lsn → List ℕ → Outside → Outside → ReplayResult → Type 0
+ReplayDoes upto name old new r =
+    Works (output_name name ∷ []) old new × ReplayRan upto (output_name name) old new r
 
 -- ---- what it prints, where this is the output's area, and its status
 

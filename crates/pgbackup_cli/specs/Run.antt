@@ -1,29 +1,29 @@
 -- `run`: what running a script does, prints and ends with.
-use Rattle.std.specs.Prelude.{◌≡◌, ℕ, ◌+◌, ◌-◌, ◌<◌, ◌≤◌, ◌⊎◌, false, List, [], ◌∷◌, ◌++◌, map, length, Option, Some, Result, Ok, Err, IfSome, IfOk, codes}
+use Rattle.std.specs.Prelude.{◌≡◌, ℕ, ◌+◌, ◌<◌, ◌≤◌, ◌⊎◌, false, List, [], ◌∷◌, ◌++◌, map, length, Option, Some, Result, Ok, Err, IfSome, IfOk, codes}
 use Rattle.std.specs.Option.{option_map}
 use Rattle.std.specs.FinMap.{empty}
 use Rattle.std.specs.Fmt.{decimal}
 use Rattle.lsn_core.specs.Files.{Files}
 use Rattle.lsn_core.specs.Store.{Store}
-use Rattle.lsn_core.specs.Names.{segment_name_bytes}
 use Rattle.lsn_core.specs.declared.lsn.Lsn.{Lsn}
 use Rattle.lsn_core.specs.Segment.{StoreSettings}
 use Rattle.lsn_core.specs.Tip.{Tip}
 use Rattle.lsn_core.specs.declared.fault.AreaFault.{AreaFault}
 use Rattle.lsn_core.specs.declared.fault.AreaFault.TheVariants.{NoMemory}
-use Rattle.vault.specs.Area.{after_write, IsTorn, Related}
 use Rattle.vault.specs.Site.{AreaState}
 use Rattle.vault.specs.Lending.{Names}
 use Rattle.wal_record.specs.declared.record.Record.{Record}
-use Rattle.wal_record.specs.Places.{origin}
 use Rattle.wal_record.specs.Tips.{first_tip, tip_behind}
-use Rattle.wal_reader.specs.Archive.{IsArchive}
-use Rattle.wal_reader.specs.declared.fault.WalFault.{WalFault}
-use Rattle.wal_reader.specs.Appended.{written_entries}
+use Rattle.wal_archive.specs.Archive.{archive_of}
+use Rattle.wal_archive.specs.Laws.{HasNoGap, entries_written}
+use Rattle.wal_archive.specs.Writing.{laid_out}
+use Rattle.wal_reader.specs.Wal.{IsWal}
 use Rattle.history.specs.Entry.{Entry}
-use Rattle.history.specs.Whole.{entry_of, apply_all}
+use Rattle.history.specs.Apply.{apply_all}
+use Rattle.history.specs.Whole.{entry_of}
 use Rattle.history.specs.Written.{wal_of, tip_of}
-use Rattle.recovery.specs.WholeWal.{HasSettings}
+use Rattle.recovery.specs.Causes.{HasSettings}
+use Rattle.recovery.specs.declared.fault.RecoveryFault.{RecoveryFault}
 use Rattle.shared_store.specs.Begin.{BeginCause}
 use Rattle.crew.specs.declared.script.Task.{Task}
 use Rattle.crew.specs.declared.script.Line.{Line}
@@ -36,7 +36,7 @@ use Rattle.pgbackup_cli.specs.declared.answer.Status.TheVariants as status
 use Rattle.pgbackup_cli.specs.declared.run.RunReport.{RunReport}
 use Rattle.pgbackup_cli.specs.declared.run.RunFault.{RunFault}
 use Rattle.pgbackup_cli.specs.declared.run.RunFault.TheVariants as run
-use Rattle.pgbackup_cli.specs.Areas.{wal_name, Keeps, AreaCause}
+use Rattle.pgbackup_cli.specs.Areas.{wal_name, Keeps, AreaCause, IsWalTorn}
 use Rattle.pgbackup_cli.specs.Outside.{Outside, Works, LeavesSite, IsUntaken}
 use Rattle.pgbackup_cli.specs.Input.{script_limit, IsInput, TakesAtMost}
 use Rattle.pgbackup_cli.specs.Faults.{refused_line, area_text, take_text, wal_text, memory_text, area_status, wal_status}
@@ -66,68 +66,69 @@ abbrev pub lines_in : List Task → List Line
 lines_in [] = []
 lines_in (task ∷ tasks) = task.lines
 
--- segment 1 has these bytes from a place on, which may be none, and no other file changed
-abbrev pub IsWrittenAt : ℕ → ℕ → List ℕ → Option Files → Option Files → Type 0
-IsWrittenAt mib place bytes old new =
-    (new ≡ option_map (after_write (segment_name_bytes 1 mib) (place - origin mib) bytes) old)
-    ⊎ ((bytes ≡ []) × (new ≡ old))
+-- where a WAL of these entries ends
+abbrev pub found_tip : StoreSettings → List Record → Tip
+found_tip s entries = tip_behind (first_tip s.segment) entries
 
--- no more than these bytes was written there: only they and what lies past the old end of the file
--- may have changed
-abbrev pub IsTornAt : ℕ → ℕ → List ℕ → Option Files → Option Files → Type 0
-IsTornAt mib place bytes old new =
-    Related (IsTorn (segment_name_bytes 1 mib) (place - origin mib) (length bytes)) old new
+-- a WAL of these files has just these entries
+abbrev pub HasFound : StoreSettings → List Record → Files → Type 0
+HasFound s entries files = IsWal s files entries (found_tip s entries)
 
--- the entries that the WAL had, and behind them those that a history is written as
-abbrev pub all_entries : ℕ → List Record → List Entry → List Record
-all_entries mib entries history = entries ++ wal_of mib history
+-- the entries that a WAL had, and behind them those that a history is written as
+abbrev pub all_entries : StoreSettings → List Record → List Entry → List Record
+all_entries s entries history = entries ++ wal_of s.segment history
 
--- a WAL of these files has all of them, and ends where the history does
-abbrev pub HoldsAll : ℕ → List Record → List Entry → Files → Type 0
-HoldsAll mib entries history files =
-    IsArchive mib files (all_entries mib entries history) (tip_of mib history)
+-- a WAL of these files has all of them, and ends where the history does, unless it goes on there
+-- over a missing file
+abbrev pub HoldsAll : StoreSettings → List Record → List Entry → Files → Type 0
+HoldsAll s entries history files =
+    HasNoGap s.segment (archive_of s.segment files) (tip_of s.segment history).end
+    → IsWal s files (all_entries s entries history) (tip_of s.segment history)
 
 -- how a run ended: no line was left out, and the WAL has all entries of the history up to its end,
 -- which is told; or the device failed, or memory ran out
-abbrev pub IsEnding : ℕ → List Record → Progress → AreaState → AreaState → Result Lsn AreaFault → Type 0
-IsEnding mib entries last old new (Ok end) =
+abbrev pub IsEnding :
+    StoreSettings → List Record → Progress → AreaState → AreaState → Result Lsn AreaFault → Type 0
+IsEnding s entries last old new (Ok end) =
     (last.stopped ≡ false)
-    × (end.0 ≡ (tip_of mib last.history).end)
-    × IfSome new.files (HoldsAll mib entries last.history)
-IsEnding mib entries last old new (Err why) =
+    × (end.0 ≡ (tip_of s.segment last.history).end)
+    × IfSome new.files (HoldsAll s entries last.history)
+IsEnding s entries last old new (Err why) =
     ((last.stopped ≡ false) ⊎ (why ≡ NoMemory)) × AreaCause old.faults new.faults why
 
--- the bytes of the entries that a run made, each behind the one before
-abbrev pub run_bytes : ℕ → List Entry → List ℕ
-run_bytes mib history = written_entries (wal_of mib history)
-
--- where a WAL of these entries ends
-abbrev pub found_tip : ℕ → List Record → Tip
-found_tip mib entries = tip_behind (first_tip mib) entries
-
--- a WAL of these files has just these entries
-abbrev pub HasFound : ℕ → List Record → Files → Type 0
-HasFound mib entries files = IsArchive mib files entries (found_tip mib entries)
-
 -- the lines were answered, the first of them behind these entries
-abbrev pub AnswersAll : ℕ → List Record → RunReport → Progress → Type 0
-AnswersAll mib entries report last =
-    Answered mib (progress (map entry_of entries) 0 false) (lines_in report.script) report.answers last
+abbrev pub AnswersAll : StoreSettings → List Record → RunReport → Progress → Type 0
+AnswersAll s entries report last =
+    Answered s.segment (progress (map entry_of entries) 0 false)
+    (lines_in report.script) report.answers last
 
 -- what the records of a WAL make from nothing, those of a run with them, is this store
-abbrev pub IsMadeBy : ℕ → List Record → List Entry → Store → Type 0
-IsMadeBy mib entries history store =
-    apply_all empty (map entry_of (all_entries mib entries history)) ≡ Some store
+abbrev pub IsMadeBy : StoreSettings → List Record → List Entry → Store → Type 0
+IsMadeBy s entries history store =
+    apply_all empty (map entry_of (all_entries s entries history)) ≡ Some store
 
--- the bytes of a run's entries stand where the WAL ended, and no other file changed; or no more
--- than that was written
-abbrev pub WritesRun : ℕ → RunReport → List Entry → AreaState → AreaState → Type 0
-WritesRun mib report history old new =
-    IsWrittenAt mib report.opened.0 (run_bytes mib history) old.files new.files
+-- the files once the entries that a history is written as stand behind those that the WAL had
+abbrev pub with_run : StoreSettings → List Record → List Entry → Files → Files
+with_run s entries history =
+    entries_written s.segment s.system (found_tip s entries) (wal_of s.segment history)
 
-abbrev pub LeavesRun : ℕ → RunReport → List Entry → AreaState → AreaState → Type 0
-LeavesRun mib report history old new =
-    IsTornAt mib report.opened.0 (run_bytes mib history) old.files new.files
+-- the archive's bytes of these entries, from where the WAL ended on
+abbrev pub run_bytes : StoreSettings → List Record → List Entry → List ℕ
+run_bytes s entries history =
+    laid_out s.segment s.system (found_tip s entries).end (wal_of s.segment history)
+
+-- the run's entries stand where the WAL ended, and nothing else changed
+abbrev pub WritesRun :
+    StoreSettings → List Record → List Entry → AreaState → AreaState → Type 0
+WritesRun s entries history old new =
+    new.files ≡ option_map (with_run s entries history) old.files
+
+-- no more than their bytes was written there
+abbrev pub LeavesRun :
+    StoreSettings → List Record → List Entry → AreaState → AreaState → Type 0
+LeavesRun s entries history old new =
+    IsWalTorn s.segment (found_tip s entries).end (length (run_bytes s entries history))
+    old.files new.files
 
 -- a script was run on a WAL that has an entry: each line's answer is the one that the history
 -- gives, and the entries before are a beginning of the history. What the run added is written where
@@ -138,19 +139,19 @@ pub record RunDone (old new : AreaState) (report : RunReport) : Type 0 where
   pub given : HasSettings old.files settings
   pub entries : List Record
   pub some : 0 < length entries
-  pub opened : report.opened.0 ≡ (found_tip settings.segment entries).end
-  pub archive : IfSome old.files (HasFound settings.segment entries)
+  pub opened : report.opened.0 ≡ (found_tip settings entries).end
+  pub archive : IfSome old.files (HasFound settings entries)
   pub last : Progress
-  pub answered : AnswersAll settings.segment entries report last
+  pub answered : AnswersAll settings entries report last
   pub added : List Entry
   pub grown : last.history ≡ map entry_of entries ++ added
   pub of_run : AllOfRun added
   pub store : Store
   pub state : apply_all empty last.history ≡ Some store
-  pub replayed : IfSome old.files (λ m. IsMadeBy settings.segment entries last.history store)
-  pub left : LeavesRun settings.segment report last.history old new
-  pub written : IfOk report.ending (λ end. WritesRun settings.segment report last.history old new)
-  pub ending : IsEnding settings.segment entries last old new report.ending
+  pub replayed : IsMadeBy settings entries last.history store
+  pub left : LeavesRun settings entries last.history old new
+  pub written : IfOk report.ending (λ end. WritesRun settings entries last.history old new)
+  pub ending : IsEnding settings entries last old new report.ending
 
 -- ---- what `run` comes to
 
@@ -159,7 +160,7 @@ abbrev pub run_asks : Names
 run_asks = wal_name ∷ []
 
 -- a WAL that can't be run on is as it was
-pub record IsUnread (old new : AreaState) (why : WalFault) : Type 0 where
+pub record IsUnread (old new : AreaState) (why : RecoveryFault) : Type 0 where
   pub same : Keeps old new
   pub cause : BeginCause old.files old.faults new.faults why
 

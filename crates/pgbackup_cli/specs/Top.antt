@@ -21,12 +21,12 @@ DoesAsked None old new came = (came ≡ answer.Usage) × LeavesSite old new
 DoesAsked (Some (Init options)) old new came =
     (r : InitResult) × (came ≡ answer.Init r) × InitDoes options old new r
 DoesAsked (Some Run) old new came = (r : RunResult) × (came ≡ answer.Run r) × RunDoes old new r
-DoesAsked (Some (Replay name)) old new came =
-    (r : ReplayResult) × (came ≡ answer.Replay r) × ReplayDoes name old new r
+DoesAsked (Some (Replay upto name)) old new came =
+    (r : ReplayResult) × (came ≡ answer.Replay r) × ReplayDoes upto name old new r
 
 -- the area of the output that is asked for
 abbrev pub output_asked : Option Asked → List ℕ
-output_asked (Some (Replay name)) = output_name name
+output_asked (Some (Replay upto name)) = output_name name
 output_asked words = []
 
 -- the lines of an answer

@@ -1,15 +1,20 @@
 -- What the words of the command line ask for (profile).
-use Rattle.std.specs.Prelude.{ℕ, List, [], ◌∷◌, Option, Some, None, codes, bytes_eq, if◌then◌else◌}
+use Rattle.std.specs.Prelude.{ℕ, ◌+◌, ◌*◌, Bool, List, [], ◌∷◌, Option, Some, None, codes, bytes_eq, if◌then◌else◌}
 use Rattle.std.specs.Option.{option_map}
+use Rattle.byte_words.specs.Numbers.{◌>>=◌}
+use Rattle.byte_words.specs.Cuts.{cut_at}
+use Rattle.text_numbers.specs.Numbers.{hex_number_of}
+use Rattle.lsn_core.specs.declared.lsn.Lsn.{Lsn}
 use Rattle.crew.specs.Cuts.{is_name}
 use Rattle.pgbackup_cli.specs.declared.options.InitOptions.{InitOptions}
 use Rattle.pgbackup_cli.specs.Options.{none_given, options_in}
 
--- a new store, a script to be run, or a replay to an output of that name
+-- a new store, a script to be run, or a replay to an output of that name, up to a target where one
+-- is given
 pub data Asked : Type 0 where
   Init : InitOptions → Asked
   Run : Asked
-  Replay : List ℕ → Asked
+  Replay : Option Lsn → List ℕ → Asked
 
 -- what the words behind the command's name ask
 abbrev pub init_asked : List (List ℕ) → Option Asked
@@ -19,10 +24,38 @@ abbrev pub run_asked : List (List ℕ) → Option Asked
 run_asked [] = Some Run
 run_asked (word ∷ words) = None
 
+-- an LSN: 1 to 8 hexadecimal digits on each side of a slash
+abbrev pub lsn_of : ℕ → ℕ → Lsn
+lsn_of high low = record { 0 = high * 4294967296 + low }
+
+abbrev pub lsn_value : List ℕ → Option Lsn
+lsn_value text = do
+  parts ← cut_at 47 text
+  high ← hex_number_of parts.0
+  low ← hex_number_of parts.1
+  Some (lsn_of high low)
+
+abbrev pub replay_to : Option Lsn → List ℕ → Option Asked
+replay_to target name = if is_name name then Some (Replay target name) else None
+
+abbrev pub replay_up_to : List ℕ → List ℕ → Option Asked
+replay_up_to value name = lsn_value value >>= λ target. replay_to (Some target) name
+
+abbrev pub is_target : List ℕ → Bool
+is_target word = bytes_eq word (codes "--target")
+
+-- the option stands before the name or behind it
+abbrev pub replay_with : List ℕ → List ℕ → List ℕ → Option Asked
+replay_with first second third =
+    if is_target first then replay_up_to second third
+    else (if is_target second then replay_up_to third first else None)
+
 abbrev pub replay_asked : List (List ℕ) → Option Asked
 replay_asked [] = None
-replay_asked (name ∷ []) = if is_name name then Some (Replay name) else None
-replay_asked (name ∷ (more ∷ words)) = None
+replay_asked (name ∷ []) = replay_to None name
+replay_asked (first ∷ (second ∷ [])) = None
+replay_asked (first ∷ (second ∷ (third ∷ []))) = replay_with first second third
+replay_asked (first ∷ (second ∷ (third ∷ (more ∷ words)))) = None
 
 -- what the words ask, None where they aren't taken
 abbrev pub asked : List (List ℕ) → Option Asked

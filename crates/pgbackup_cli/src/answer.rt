@@ -61,7 +61,7 @@ fn output_asked(alloc: Global, words: &[Text]) -> Result<Text, NoMemory>
     ensures { IfOk result (λ area. area ≡ output_asked (asked words.now)) }
 {
     match command_of(words) {
-        Some(Command::Replay(name)) => output_name(alloc, name),
+        Some(Command::Replay(_, name)) => output_name(alloc, name),
         Some(Command::Init(_) | Command::Run) | None => Ok(Text::from_vec(Vec::new(alloc))),
     }
 }

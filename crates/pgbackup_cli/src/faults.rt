@@ -1,15 +1,20 @@
 //! The texts and statuses of faults that several commands have.
 
 ghost use Rattle.std.specs.Prelude.{◌≡◌, map, IfOk};
-ghost use Rattle.wal_reader.specs.declared.fault.WalFault.TheVariants as wal;
-ghost use Rattle.pgbackup_cli.specs.Faults.{refused_line, area_text, full_text, take_text, damage_text, wal_text, area_status, wal_status};
+ghost use Rattle.wal_archive.specs.declared.fault.Damage.TheVariants as damage;
+ghost use Rattle.recovery.specs.declared.fault.RecoveryFault.TheVariants as wal;
+ghost use Rattle.pgbackup_cli.specs.Faults.{refused_line, area_text, full_text, take_text, area_status, wal_status};
+ghost use Rattle.pgbackup_cli.specs.Faults.{head_text, broken_text, content_text, placed, damage_text, wal_text};
 ghost use Rattle.pgbackup_cli.specs.Inner.{joined};
 
 use crate::answer::Status;
-use lsn_core::{AreaFault, Lsn, NoMemory, Text, lsn_text};
+use lsn_core::{AreaFault, Lsn, MOST_SEGMENTS, NoMemory, SegSize, Text, lsn_text, segment_name};
+use recovery::RecoveryFault;
 use std::alloc::Global;
 use vault::TakeFault;
-use wal_reader::{Damage, WalFault};
+use wal_archive::{Broken, Damage};
+use wal_pages::HeadFault;
+use wal_record::Why;
 
 /// Texts behind each other.
 pub fn joined(alloc: Global, texts: &[&[u8]]) -> Result<Text, NoMemory>
@@ -53,34 +58,122 @@ pub fn take_text(alloc: Global, fault: &TakeFault) -> Result<Text, NoMemory>
     area_text(alloc, fault.area.as_bytes(), fault.why)
 }
 
-fn damage_text(damage: Damage) -> &'static [u8]
-    ensures { result.now ≡ damage_text damage }
+fn head_text(why: HeadFault) -> &'static [u8]
+    ensures { result.now ≡ head_text why }
 {
-    match damage {
-        Damage::Form => b" Form",
+    match why {
+        HeadFault::PageMagic => b"PageMagic",
+        HeadFault::PageInfo => b"PageInfo",
+        HeadFault::PageTimeline => b"PageTimeline",
+        HeadFault::PageAddr => b"PageAddr",
+        HeadFault::SysId => b"SysId",
+        HeadFault::PageSizes => b"PageSizes",
+        HeadFault::RemLen => b"RemLen",
     }
 }
 
-fn damaged_text(alloc: Global, place: Lsn, damage: Damage) -> Result<Text, NoMemory>
-    ensures { IfOk result (λ text. text ≡ wal_text (wal.Damaged place damage)) }
+fn broken_text(why: Broken) -> &'static [u8]
+    ensures { result.now ≡ broken_text why }
 {
-    let place = lsn_text(alloc, place)?;
-    joined(
-        alloc,
-        &[b"11 WalDamaged ", place.as_bytes(), damage_text(damage)],
-    )
+    match why {
+        Broken::Head(why) => head_text(why),
+        Broken::Length => b"Length",
+        Broken::Prev => b"Prev",
+        Broken::Crc => b"Crc",
+        Broken::Header => b"Header",
+        Broken::Torn => b"Torn",
+        Broken::SegSize => b"SegSize",
+        Broken::Place => b"Place",
+    }
 }
 
-/// The WAL can't be read.
-pub fn wal_text(alloc: Global, fault: WalFault) -> Result<Text, NoMemory>
+fn content_text(why: Why) -> &'static [u8]
+    ensures { result.now ≡ content_text why }
+{
+    match why {
+        Why::Compressed => b"Compressed",
+        Why::NotApplied => b"NotApplied",
+        Why::Tablespace => b"Tablespace",
+        Why::Fork => b"Fork",
+        Why::Relation => b"Relation",
+        Why::BlockRange => b"BlockRange",
+        Why::ImagePage => b"ImagePage",
+        Why::Fragments => b"Fragments",
+        Why::Shape => b"Shape",
+        Why::First => b"First",
+    }
+}
+
+/// A name and a place, and what stands behind these.
+fn placed(alloc: Global, name: &[u8], place: Lsn, text: &[u8]) -> Result<Text, NoMemory>
+    ensures { IfOk result (λ line. line ≡ placed name.now place text.now) }
+{
+    let place = lsn_text(alloc, place)?;
+    joined(alloc, &[name, place.as_bytes(), b" ", text])
+}
+
+/// A segment of an archive with segments of that size is missing. No archive has a number past the
+/// last one.
+fn missing_text(alloc: Global, size: SegSize, number: u64) -> Result<Text, NoMemory>
+    ensures { IfOk result (λ text. text ≡ damage_text size (damage.Missing number)) }
+{
+    if number > MOST_SEGMENTS {
+        return Err(NoMemory);
+    }
+    let name = segment_name(alloc, number, size)?;
+    joined(alloc, &[b"10 WalMissing ", name.as_bytes()])
+}
+
+/// An entry is of a kind that isn't read.
+fn unsupported_text(
+    alloc: Global,
+    size: SegSize,
+    place: Lsn,
+    manager: u8,
+    info: u8,
+) -> Result<Text, NoMemory>
+    ensures { IfOk result (λ text.
+        text ≡ damage_text size (damage.Unsupported place manager info)) }
+{
+    let kind = format!(in alloc; "{manager} {info}")?;
+    placed(alloc, b"12 WalUnsupported ", place, kind.as_bytes())
+}
+
+/// An archive with segments of that size is damaged.
+fn damage_text(alloc: Global, size: SegSize, damage: Damage) -> Result<Text, NoMemory>
+    ensures { IfOk result (λ text. text ≡ damage_text size damage) }
+{
+    match damage {
+        Damage::Missing(number) => missing_text(alloc, size, number),
+        Damage::Broken(place, why) => placed(alloc, b"11 WalDamaged ", place, broken_text(why)),
+        Damage::Unsupported(place, manager, info) => {
+            unsupported_text(alloc, size, place, manager, info)
+        }
+        Damage::Content(place, why) => placed(alloc, b"14 WalContent ", place, content_text(why)),
+    }
+}
+
+/// The WAL ends before the target.
+fn short_text(alloc: Global, end: Lsn, target: Lsn) -> Result<Text, NoMemory>
+    ensures { IfOk result (λ text. text ≡ wal_text (wal.Short end target)) }
+{
+    let target = lsn_text(alloc, target)?;
+    placed(alloc, b"13 WalShort ", end, target.as_bytes())
+}
+
+/// The WAL can't be replayed.
+pub fn wal_text(alloc: Global, fault: RecoveryFault) -> Result<Text, NoMemory>
     ensures { IfOk result (λ text. text ≡ wal_text fault) }
 {
     match fault {
-        WalFault::Damaged(place, damage) => damaged_text(alloc, place, damage),
-        WalFault::SettingsDamaged => joined(alloc, &[b"15 SettingsDamaged"]),
-        WalFault::NotInit => joined(alloc, &[b"43 NotInit"]),
-        WalFault::Failed => area_text(alloc, b"wal", AreaFault::Failed),
-        WalFault::NoMemory => area_text(alloc, b"wal", AreaFault::NoMemory),
+        RecoveryFault::Damaged(size, damage) => damage_text(alloc, size, damage),
+        RecoveryFault::Short(end, target) => short_text(alloc, end, target),
+        RecoveryFault::BadDelta(place) => placed(alloc, b"14 WalContent ", place, b"BadDelta"),
+        RecoveryFault::SettingsDamaged => joined(alloc, &[b"15 SettingsDamaged"]),
+        RecoveryFault::Timeline(name) => joined(alloc, &[b"16 WalTimeline ", name.as_bytes()]),
+        RecoveryFault::NotInit => joined(alloc, &[b"43 NotInit"]),
+        RecoveryFault::Failed => area_text(alloc, b"wal", AreaFault::Failed),
+        RecoveryFault::NoMemory => area_text(alloc, b"wal", AreaFault::NoMemory),
     }
 }
 
@@ -94,13 +187,18 @@ pub fn area_status(fault: AreaFault) -> Status
     }
 }
 
-/// The status of a WAL that can't be read.
-pub fn wal_status(fault: WalFault) -> Status
+/// The status of a WAL that can't be replayed.
+pub fn wal_status(fault: RecoveryFault) -> Status
     ensures { result ≡ wal_status fault }
 {
     match fault {
-        WalFault::Damaged(_, _) | WalFault::SettingsDamaged | WalFault::NotInit => Status::Refused,
-        WalFault::Failed => Status::Device,
-        WalFault::NoMemory => Status::Memory,
+        RecoveryFault::Damaged(_, _) => Status::Refused,
+        RecoveryFault::Short(_, _) => Status::Refused,
+        RecoveryFault::BadDelta(_) => Status::Refused,
+        RecoveryFault::SettingsDamaged => Status::Refused,
+        RecoveryFault::Timeline(_) => Status::Refused,
+        RecoveryFault::NotInit => Status::Refused,
+        RecoveryFault::Failed => Status::Device,
+        RecoveryFault::NoMemory => Status::Memory,
     }
 }

@@ -14,8 +14,8 @@ use vault::Source;
 /// How many bytes of the input are looked at: one more than a script may have (profile).
 const LIMIT: usize = SCRIPT_LIMIT + 1;
 
-/// How many bytes one read asks for at most.
-const PIECE: usize = 65_536;
+/// How many bytes one read asks for at most: a longest script comes in 64 pieces.
+const PIECE: usize = SCRIPT_LIMIT / 64;
 
 /// Reads behind the bytes that were read, at most so many, and says whether the input has ended.
 fn read_more<I: Source>(
@@ -36,7 +36,7 @@ fn read_more<I: Source>(
 }
 
 /// The input to its end; or, where that is longer than a script may be, one byte more than that.
-/// What is behind these bytes is left. It holds what it read, and one piece of 64 KiB.
+/// What is behind these bytes is left. It holds what it read, and one piece.
 pub fn read_input<I: Source>(alloc: Global, input: &mut I) -> Result<Vec<u8>, AreaFault>
     ensures input { IfOk result (λ bytes. IsInputOf I.Source input.old input.new bytes.items) }
     ensures taken { TakesAtMost (script_limit + 1) (I.left input.old) (I.left input.new) }

@@ -4,17 +4,20 @@ ghost use Rattle.std.specs.Prelude.{◌≡◌, [], IfOk, IfSome, OnOk, OnErr};
 ghost use Rattle.std.specs.FinMap.{empty};
 ghost use Rattle.lsn_core.specs.Causes.{HasCause};
 ghost use Rattle.vault.specs.Area.{bytes_of};
-ghost use Rattle.wal_record.specs.Places.{first_start};
 ghost use Rattle.wal_record.specs.Tips.{first_tip};
-ghost use Rattle.pgbackup_cli.specs.Init.{segment_name, first_entry, HoldsPart};
-ghost use Rattle.pgbackup_cli.specs.Inner.{HasRanges, with_settings, with_segment, with_both, checkpoint_in, IsSettingsTorn, IsSegmentTorn, IsCheckpointed, IsCheckpointLeft};
+ghost use Rattle.wal_writer.specs.Log.{log_at};
+ghost use Rattle.pgbackup_cli.specs.Init.{segment_name, first_start, first_entry, HoldsPart};
+ghost use Rattle.pgbackup_cli.specs.Inner.{HasRanges, with_settings, with_segment, with_both};
+ghost use Rattle.pgbackup_cli.specs.Inner.{IsSettingsTorn, IsSegmentTorn};
+ghost use Rattle.pgbackup_cli.specs.Inner.{IsFirstEntry, with_first, IsFirstTorn};
 
-use lsn_core::{AreaFault, LONG_HEAD, Lsn, SegSize, Settings, WalTip};
+use lsn_core::{AreaFault, Lsn, NoMemory, SegSize, Settings, segment_name};
 use std::alloc::Global;
 use vault::Vault;
+use wal_pages::Layout;
 use wal_reader::settings_text;
-use wal_record::Kind;
-use wal_writer::WalState;
+use wal_record::{Kind, first_tip};
+use wal_writer::{Prepared, WalState};
 
 /// Syncs the area, and writes the file `settings`.
 fn write_settings<V: Vault>(
@@ -33,45 +36,47 @@ fn write_settings<V: Vault>(
 }
 
 /// Where the first entry of a WAL starts, behind the head of the first page.
-fn first_start(segment: SegSize) -> Lsn
-    ensures { result.0 ≡ first_start segment }
+fn first_start(settings: &Settings) -> Lsn
+    ensures { result ≡ first_start settings.now.segment }
 {
-    Lsn(segment.bytes() + LONG_HEAD)
+    Layout::new(settings).start_after(Lsn(settings.segment().bytes()))
 }
 
-/// Where a WAL without an entry ends.
-fn first_tip(segment: SegSize) -> WalTip
-    ensures { result ≡ first_tip segment }
+/// The first entry of a WAL with its bytes, for one with these settings that has no entry: a
+/// shutdown checkpoint whose redo point is its own start.
+fn first_entry<V: Vault>(
+    alloc: Global,
+    wal: &WalState<V>,
+    settings: &Settings,
+) -> Result<Prepared, NoMemory>
+    requires { wal.now.tail ≡ log_at settings.now (first_tip settings.now.segment) }
+    ensures { IfOk result (IsFirstEntry settings.now) }
 {
-    WalTip {
-        end: Lsn(segment.bytes()),
-        prev: Lsn(0),
-        redo: Lsn(0),
-        count: 0,
+    match wal.prepare(alloc, Kind::Shutdown(first_start(settings))) {
+        Ok(entry) => Ok(entry),
+        Err(_) => Err(NoMemory),
     }
 }
 
-/// Appends a shutdown checkpoint, and flushes it. The answer is where it ends.
-fn write_checkpoint<V: Vault>(
+/// Writes bytes at the start of the file of segment 1, and syncs the area.
+fn write_first<V: Vault>(
     alloc: Global,
-    wal: &mut WalState<V>,
-    redo: Lsn,
-) -> Result<Lsn, AreaFault>
-    ensures end { IfOk result (λ end. end.0 ≡ (checkpoint_in wal.old.tail redo).end.0) }
-    ensures written { OnOk result (IsCheckpointed V.Vault redo wal.old wal.new) }
-    ensures left { OnErr result (IsCheckpointLeft V.Vault redo wal.old wal.new) }
-    ensures cause { HasCause (V.faults wal.old.area) (V.faults wal.new.area) result }
+    area: &mut V,
+    size: SegSize,
+    bytes: &[u8],
+) -> Result<(), AreaFault>
+    ensures written { OnOk result
+        (V.files area.new ≡ with_first size bytes.now (V.files area.old)) }
+    ensures left { OnErr result (IsFirstTorn size bytes.now (V.files area.old) (V.files area.new)) }
+    ensures cause { HasCause (V.faults area.old) (V.faults area.new) result }
 {
-    let Ok(_) = wal.append(alloc, Kind::Shutdown(redo)) else {
-        return Err(AreaFault::NoMemory);
-    };
-    let end = wal.end();
-    wal.flush_to(alloc, end)?;
-    Ok(end)
+    let name = segment_name(alloc, 1, size)?;
+    area.write_at(name.as_bytes(), 0, bytes)?;
+    area.sync()
 }
 
-/// Writes the first entry of a WAL, where the file of segment 1 isn't there or is empty: a shutdown
-/// checkpoint whose redo point is its own start.
+/// Writes the first entry of a WAL, where the file of segment 1 isn't there or is empty. The answer
+/// is where that entry ends.
 fn start_wal<V: Vault>(alloc: Global, area: V, settings: Settings) -> (V, Result<Lsn, AreaFault>)
     requires { IfSome (V.files area) (λ m. bytes_of m (segment_name settings) ≡ []) }
     ensures end { IfOk result.1 (λ end. end.0 ≡ (first_entry settings.segment).end.0) }
@@ -79,11 +84,17 @@ fn start_wal<V: Vault>(alloc: Global, area: V, settings: Settings) -> (V, Result
     ensures left { OnErr result.1 (IsSegmentTorn settings (V.files area) (V.files result.0)) }
     ensures cause { HasCause (V.faults area) (V.faults result.0) result.1 }
 {
-    let redo = first_start(settings.segment());
-    let tip = first_tip(settings.segment());
-    let mut wal = WalState::attach(alloc, area, settings, tip);
-    let answer = write_checkpoint(alloc, &mut wal, redo);
-    (wal.detach(), answer)
+    let wal = WalState::attach(alloc, area, settings, first_tip(settings.segment()));
+    let prepared = first_entry(alloc, &wal, &settings);
+    let mut area = wal.detach();
+    let Ok(entry) = prepared else {
+        return (area, Err(AreaFault::NoMemory));
+    };
+    let end = entry.record().end;
+    match write_first(alloc, &mut area, settings.segment(), entry.bytes()) {
+        Ok(()) => (area, Ok(end)),
+        Err(fault) => (area, Err(fault)),
+    }
 }
 
 /// Writes the settings and the first entry of a WAL into an area that holds no file. The answer is

@@ -22,13 +22,13 @@ use crate::faults::{
 use crate::names::{names_of, output_name};
 use history::PageMap;
 use lsn_core::{AreaFault, Lsn, NoMemory, Settings, Text, lsn_text};
-use recovery::read_wal;
+use recovery::{RecoveryFault, read_wal};
 use rel_files::write_store;
 use std::alloc::Global;
 use vault::{Site, TakeFault, Vault, give_two, take_all, two_of};
-use wal_reader::WalFault;
 
-/// What a replay came to: where the last entry ends, and how many forks and pages there are.
+/// What a replay came to: where the last entry ends that ends at the target or before it (where
+/// there is none, where the WAL begins), and how many forks and pages there are.
 #[derive(Clone, Copy, Debug, PartialEq, Eq)]
 pub struct ReplayReport {
     pub end: Lsn,
@@ -43,8 +43,8 @@ pub enum ReplayFault {
     Site(TakeFault),
     /// The output's area holds a file.
     NotEmpty,
-    /// The WAL can't be read.
-    Wal(WalFault),
+    /// The WAL can't be replayed.
+    Wal(RecoveryFault),
     /// The output's area failed, or memory ran out.
     Out(AreaFault),
 }
@@ -57,10 +57,10 @@ impl From<TakeFault> for ReplayFault {
     }
 }
 
-impl From<WalFault> for ReplayFault {
+impl From<RecoveryFault> for ReplayFault {
     ghost from_gives = { λ fault e. e ≡ replay.Wal fault };
 
-    fn from(fault: WalFault) -> Self {
+    fn from(fault: RecoveryFault) -> Self {
         ReplayFault::Wal(fault)
     }
 }
@@ -106,14 +106,15 @@ fn write_out<V: Vault>(
     out.sync()
 }
 
-/// Reads the WAL whole, and then writes the files of the store that it makes into the output's
-/// area, which has to be empty.
+/// Reads the WAL up to the target, and then writes the files of the store that it makes into the
+/// output's area, which has to be empty.
 fn replay_areas<V: Vault>(
     alloc: Global,
     wal: &mut V,
     out: &mut V,
+    upto: Option<Lsn>,
 ) -> Result<ReplayReport, ReplayFault>
-    ensures answer { AnswersReplay V.Vault wal.old out.old wal.new out.new result }
+    ensures answer { AnswersReplay V.Vault upto wal.old out.old wal.new out.new result }
     ensures wal { V.files wal.new ≡ V.files wal.old }
     ensures wal_later { V.faults wal.old ≤ V.faults wal.new }
     ensures out_later { V.faults out.old ≤ V.faults out.new }
@@ -121,42 +122,51 @@ fn replay_areas<V: Vault>(
     if !is_clear(alloc, out)? {
         return Err(ReplayFault::NotEmpty);
     }
-    let (settings, read) = read_wal(alloc, wal)?;
+    let (settings, read) = read_wal(alloc, wal, upto)?;
     let pages = page_count(&read.store)?;
     write_out(alloc, out, &read.store, &settings)?;
     Ok(ReplayReport {
-        end: read.tip.end,
+        end: read.end,
         forks: read.store.fork_count(),
         pages,
     })
 }
 
 /// Replays the WAL of a site into the area of this name, which isn't that of the WAL.
-fn replay_in<S: Site>(alloc: Global, out: &[u8], site: &mut S) -> Result<ReplayReport, ReplayFault>
+fn replay_in<S: Site>(
+    alloc: Global,
+    upto: Option<Lsn>,
+    out: &[u8],
+    site: &mut S,
+) -> Result<ReplayReport, ReplayFault>
     requires other { out.now ≢ wal_name }
     requires home { AllHome (S.areas site.old) }
     ensures site { Works (out.now ∷ []) (of_site S.Site site.old) (of_site S.Site site.new) }
-    ensures answer { ReplayRan out.now (of_site S.Site site.old) (of_site S.Site site.new) result }
+    ensures answer { ReplayRan upto out.now
+        (of_site S.Site site.old) (of_site S.Site site.new) result }
 {
     let names = names_of(alloc, &[b"wal", out])?;
     let (mut wal, mut out) = two_of(take_all(alloc, site, names)?);
-    let answer = replay_areas(alloc, &mut wal.area, &mut out.area);
+    let answer = replay_areas(alloc, &mut wal.area, &mut out.area, upto);
     give_two(site, wal, out);
     answer
 }
 
-/// `replay`: replays the WAL of a site to an output of this name.
+/// `replay`: replays the WAL of a site up to the target, or to its end where none is given, to an
+/// output of this name.
 pub fn replay<S: Site>(
     alloc: Global,
+    upto: Option<Lsn>,
     name: &[u8],
     site: &mut S,
 ) -> Result<ReplayReport, ReplayFault>
     requires { AllHome (S.areas site.old) }
-    ensures does { ReplayDoes name.now (of_site S.Site site.old) (of_site S.Site site.new) result }
+    ensures does { ReplayDoes upto name.now
+        (of_site S.Site site.old) (of_site S.Site site.new) result }
     ensures home { AllHome (S.areas site.new) }
 {
     let out = output_name(alloc, name)?;
-    replay_in(alloc, out.as_bytes(), site)
+    replay_in(alloc, upto, out.as_bytes(), site)
 }
 
 fn replay_fault_text(alloc: Global, out: &[u8], fault: &ReplayFault) -> Result<Text, NoMemory>

@@ -3,11 +3,12 @@
 ghost use Rattle.std.specs.Prelude.{◌≡◌, ◌+◌, ◌≤◌, IfOk, IfErr};
 ghost use Rattle.std.specs.List.{list_any};
 ghost use Rattle.vault.specs.Site.{AllHome, state_in};
+ghost use Rattle.wal_writer.specs.Log.{IsLog};
 ghost use Rattle.crew.specs.Run.{stops_with};
 ghost use Rattle.pgbackup_cli.specs.declared.run.RunFault.TheVariants as run;
 ghost use Rattle.pgbackup_cli.specs.Outside.{Works};
 ghost use Rattle.pgbackup_cli.specs.Input.{script_limit, TakesAtMost};
-ghost use Rattle.pgbackup_cli.specs.Run.{HasScript, lines_in, IsTornAt, run_asks, RunDoes, script_text, run_fault_text, run_text, ending_status, run_status};
+ghost use Rattle.pgbackup_cli.specs.Run.{HasScript, lines_in, run_asks, RunDoes, script_text, run_fault_text, run_text, ending_status, run_status};
 ghost use Rattle.pgbackup_cli.specs.Inner.{of_site, of_site_input, EndsRun, IsFlushLeft, RefusesScript, RunsScript, AnswersScript};
 
 use crate::answer::Status;
@@ -18,10 +19,10 @@ use crate::input::read_input;
 use crate::report::report_text;
 use crew::{Answer, Answers, Line, Script, ScriptFault, Why, read_script, run_lines, why_text};
 use lsn_core::{AreaFault, Lsn, NoMemory, Text};
-use shared_store::{InsertFault, Store};
+use recovery::RecoveryFault;
+use shared_store::Store;
 use std::alloc::Global;
 use vault::{Held, Site, Source, TakeFault, Vault, give_one, take_one};
-use wal_reader::WalFault;
 
 /// What the run of a script came to: where the WAL ended before, the script and the answers to its
 /// lines, and where the WAL ends now or why it isn't known to be written.
@@ -42,8 +43,8 @@ pub enum RunFault {
     Script(u32, Why),
     /// The site didn't hand out the area of the WAL.
     Site(TakeFault),
-    /// The WAL can't be read, or has no entry, or memory ran out.
-    Wal(WalFault),
+    /// The WAL can't be replayed, or has no entry, or memory ran out.
+    Wal(RecoveryFault),
     /// Memory ran out before the WAL was asked for.
     NoMemory,
 }
@@ -74,22 +75,11 @@ fn lines_of(script: &Script) -> &[Line]
     }
 }
 
-/// Whether a run is stopped behind an answer.
-fn stops(answer: &Answer) -> bool
-    ensures { result ≡ stops_with answer.now }
-{
-    match answer {
-        Answer::Accepted(_) => false,
-        Answer::Refused(InsertFault::NoMemory) | Answer::NotRun => true,
-        Answer::Refused(_) => false,
-    }
-}
-
 /// Whether a run stopped for want of memory.
 fn is_stopped(answers: &[Answer]) -> bool
     ensures { result ≡ list_any stops_with answers.now }
 {
-    answers.iter().any(|answer| stops(answer))
+    answers.iter().any(|answer| answer.stops())
 }
 
 /// Flushes all that a run appended. The answer is where the WAL ends; want of memory where the run
@@ -97,6 +87,7 @@ fn is_stopped(answers: &[Answer]) -> bool
 fn end_run<V: Vault>(alloc: Global, store: &mut Store<V>, stopped: bool) -> Result<Lsn, AreaFault>
     ensures answer { EndsRun V.Vault stopped store.old.wal store.new.wal result }
     ensures left { IsFlushLeft V.Vault store.old.wal store.new.wal }
+    ensures known { IsLog store.old.wal.tail }
     ensures later { V.faults store.old.wal.area ≤ V.faults store.new.wal.area }
 {
     let end = store.end();
@@ -112,7 +103,7 @@ fn end_run<V: Vault>(alloc: Global, store: &mut Store<V>, stopped: bool) -> Resu
 
 /// Runs a script on the WAL of an area: reads it whole, runs the lines, and flushes what they
 /// appended. Nothing is written before all lines are answered.
-fn run_wal<V: Vault>(alloc: Global, wal: V, script: Script) -> (V, Result<RunReport, WalFault>)
+fn run_wal<V: Vault>(alloc: Global, wal: V, script: Script) -> (V, Result<RunReport, RecoveryFault>)
     ensures answer { AnswersScript V.Vault wal result.0 result.1 }
     ensures script { IfOk result.1 (λ report. report.script ≡ script) }
     ensures later { V.faults wal ≤ V.faults result.0 }
@@ -123,7 +114,7 @@ fn run_wal<V: Vault>(alloc: Global, wal: V, script: Script) -> (V, Result<RunRep
     };
     let opened = store.end();
     let Ok(answers) = run_lines(alloc, &mut store, lines_of(&script)) else {
-        return (store.close(), Err(WalFault::NoMemory));
+        return (store.close(), Err(RecoveryFault::NoMemory));
     };
     let ending = end_run(alloc, &mut store, is_stopped(answers.as_slice()));
     let report = RunReport {

@@ -37,7 +37,7 @@ fn work<S: Site, I: Source, C: Clock>(
         None => Answer::Usage,
         Some(Command::Init(options)) => Answer::Init(init(alloc, options, site, clock)),
         Some(Command::Run) => Answer::Run(run(alloc, site, input)),
-        Some(Command::Replay(name)) => Answer::Replay(replay(alloc, name, site)),
+        Some(Command::Replay(upto, name)) => Answer::Replay(replay(alloc, upto, name, site)),
     }
 }
 

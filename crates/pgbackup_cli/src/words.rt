@@ -2,12 +2,12 @@
 
 ghost use Rattle.std.specs.Prelude.{◌≡◌, IfSome};
 ghost use Rattle.std.specs.Option.{option_map};
-ghost use Rattle.pgbackup_cli.specs.Words.{init_asked, run_asked, replay_asked, asked};
+ghost use Rattle.pgbackup_cli.specs.Words.{init_asked, run_asked, lsn_value, replay_to, replay_up_to, is_target, replay_with, replay_asked, asked};
 ghost use Rattle.pgbackup_cli.specs.Inner.{asks, HasRange};
 
 use crate::options::{InitOptions, options_of};
 use crew::is_name;
-use lsn_core::Text;
+use lsn_core::{Lsn, Text, lsn_read};
 
 /// What the words ask for.
 #[derive(Clone, Copy)]
@@ -16,8 +16,9 @@ pub enum Command<'a> {
     Init(InitOptions),
     /// The script of the input, run on the store.
     Run,
-    /// The WAL replayed from its beginning, to an output of this name.
-    Replay(&'a [u8]),
+    /// The WAL replayed from its beginning up to the target, where one is given, to an output of
+    /// this name.
+    Replay(Option<Lsn>, &'a [u8]),
 }
 
 fn init_of(words: &[Text]) -> Option<Command<'_>>
@@ -38,12 +39,60 @@ fn run_of(words: &[Text]) -> Option<Command<'_>>
     }
 }
 
+/// The LSN that a value writes.
+fn lsn_in(value: &[u8]) -> Option<Lsn>
+    ensures { result ≡ lsn_value value.now }
+{
+    lsn_read(value)
+}
+
+fn replay_to(target: Option<Lsn>, name: &[u8]) -> Option<Command<'_>>
+    ensures asked { option_map asks result ≡ replay_to target name.now }
+    ensures range { IfSome result HasRange }
+{
+    if is_name(name) {
+        return Some(Command::Replay(target, name));
+    }
+    None
+}
+
+fn replay_up_to<'a>(value: &[u8], name: &'a [u8]) -> Option<Command<'a>>
+    ensures asked { option_map asks result ≡ replay_up_to value.now name.now }
+    ensures range { IfSome result HasRange }
+{
+    let target = lsn_in(value)?;
+    replay_to(Some(target), name)
+}
+
+fn is_target(word: &[u8]) -> bool
+    ensures { result ≡ is_target word.now }
+{
+    word == b"--target".as_slice()
+}
+
+/// The option stands before the name or behind it.
+fn replay_with<'a>(first: &'a [u8], second: &'a [u8], third: &'a [u8]) -> Option<Command<'a>>
+    ensures asked { option_map asks result ≡ replay_with first.now second.now third.now }
+    ensures range { IfSome result HasRange }
+{
+    if is_target(first) {
+        return replay_up_to(second, third);
+    }
+    if is_target(second) {
+        return replay_up_to(third, first);
+    }
+    None
+}
+
 fn replay_of(words: &[Text]) -> Option<Command<'_>>
     ensures asked { option_map asks result ≡ replay_asked words.now }
     ensures range { IfSome result HasRange }
 {
     match words {
-        [name] if is_name(name.as_bytes()) => Some(Command::Replay(name.as_bytes())),
+        [name] => replay_to(None, name.as_bytes()),
+        [first, second, third] => {
+            replay_with(first.as_bytes(), second.as_bytes(), third.as_bytes())
+        }
         _ => None,
     }
 }

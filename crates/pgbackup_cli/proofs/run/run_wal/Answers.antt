@@ -14,5 +14,6 @@ returns-clause-answer g c =
     (rw c.lines_of.ensures at c.in-Ok-run_lines.ensures.run)
     (ap (λ v. g.V.Vault.files v) c.run_lines.ensures.area ∙ c.in-Ok.ensures.same)
     (rw c.run_lines.ensures.area c.in-Ok.ensures.later)
+    c.end_run-ending.ensures.known
     (rw (c.close-2.ensures, ← c.as_slice.ensures, ← c.is_stopped.ensures) c.end_run-ending.ensures.answer)
     (rw c.close-2.ensures c.end_run-ending.ensures.left)
