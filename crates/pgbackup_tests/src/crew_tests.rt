@@ -43,38 +43,69 @@ fn only_line(script: &Script) -> Option<(&[u8], Line)> {
     Some((task.name.as_bytes(), *line))
 }
 
+/// What stands on the line of the one worker `a_1`.
+fn command_in(alloc: Global, line: &str) -> Result<Option<Command>, Fail> {
+    let text = format!(in alloc; "# head\n  worker \t a_1\t \n\n{line}\n#{line}")?;
+    let script = script_of(alloc, text.as_bytes())?;
+    let Some((name, found)) = only_line(&script) else {
+        return Ok(None);
+    };
+    if name != b"a_1".as_slice() || found.number != 4 {
+        return Ok(None);
+    }
+    Ok(Some(found.command))
+}
+
+/// Lines, and the fork that each creates.
+static CREATIONS: [(&str, ForkKind, u32, u32); 5] = [
+    ("create 1/2", ForkKind::Main, 1, 2),
+    ("\tcreate \t 1/2 ", ForkKind::Main, 1, 2),
+    ("create 0000000001/0000000002", ForkKind::Main, 1, 2),
+    ("create 1/2_init", ForkKind::Init, 1, 2),
+    (
+        "create 4294967295/4294967295",
+        ForkKind::Main,
+        4_294_967_295,
+        4_294_967_295,
+    ),
+];
+
 #[test]
-fn commands_are_taken(rt: HostRuntime) -> Result<(), Fail> {
-    let main = fork(ForkKind::Main, 1, 2).ok_or("fork")?;
-    let init = fork(ForkKind::Init, 1, 2).ok_or("fork")?;
-    let last = fork(ForkKind::Main, 4_294_967_295, 4_294_967_295).ok_or("fork")?;
-    for (line, command) in [
-        ("create 1/2", Command::Create(main)),
-        ("\tcreate \t 1/2 ", Command::Create(main)),
-        ("create 0000000001/0000000002", Command::Create(main)),
-        ("create 1/2_init", Command::Create(init)),
-        ("create 4294967295/4294967295", Command::Create(last)),
-        (
-            "change 1/2@0=24,8192,7",
-            change(main, 0, 24, 8192, 7).ok_or("page")?,
-        ),
-        (
-            "change 1/2_init@4294967295=24,24,255",
-            change(init, 4_294_967_295, 24, 24, 255).ok_or("page")?,
-        ),
-        (
-            "change 1/2@00=0000000024,0008192,00",
-            change(main, 0, 24, 8192, 0).ok_or("page")?,
-        ),
-    ] {
-        let text = format!(in rt.alloc(); "# head\n  worker \t a_1\t \n\n{line}\n#{line}")?;
-        let script = script_of(rt.alloc(), text.as_bytes())?;
-        let found = only_line(&script);
-        assert_eq!(rt;
-            found,
-            Some((b"a_1".as_slice(), Line { number: 4, command })),
-            "{line}"
-        );
+fn creations_are_taken(rt: HostRuntime) -> Result<(), Fail> {
+    for (line, kind, db, rel) in CREATIONS {
+        let wanted = Command::Create(fork(kind, db, rel).ok_or("fork")?);
+        assert_eq!(rt; command_in(rt.alloc(), line)?, Some(wanted), "{line}");
+    }
+    Ok(())
+}
+
+/// Lines, and the fork of the relation 1/2, the block and the page that each changes.
+static CHANGES: [(&str, ForkKind, u32, u16, u16, u8); 3] = [
+    ("change 1/2@0=24,8192,7", ForkKind::Main, 0, 24, 8192, 7),
+    (
+        "change 1/2_init@4294967295=24,24,255",
+        ForkKind::Init,
+        4_294_967_295,
+        24,
+        24,
+        255,
+    ),
+    (
+        "change 1/2@00=0000000024,0008192,00",
+        ForkKind::Main,
+        0,
+        24,
+        8192,
+        0,
+    ),
+];
+
+#[test]
+fn changes_are_taken(rt: HostRuntime) -> Result<(), Fail> {
+    for (line, kind, block, lower, upper, fill) in CHANGES {
+        let fork = fork(kind, 1, 2).ok_or("fork")?;
+        let wanted = change(fork, block, lower, upper, fill).ok_or("page")?;
+        assert_eq!(rt; command_in(rt.alloc(), line)?, Some(wanted), "{line}");
     }
     Ok(())
 }

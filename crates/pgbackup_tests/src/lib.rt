@@ -7,6 +7,10 @@
 #![tactic(auto)]
 
 #[cfg(test)]
+mod archive_tests;
+#[cfg(test)]
+mod areas;
+#[cfg(test)]
 mod byte_words_tests;
 #[cfg(test)]
 mod calls;
@@ -31,6 +35,8 @@ mod store_tests;
 #[cfg(test)]
 mod text_numbers_tests;
 #[cfg(test)]
+mod timeline_tests;
+#[cfg(test)]
 mod vault_lending_tests;
 #[cfg(test)]
 mod vault_long_tests;
@@ -44,6 +50,8 @@ mod vault_os_tests;
 mod vault_streams_tests;
 #[cfg(test)]
 mod wal_crc_tests;
+#[cfg(test)]
+mod wal_pages_tests;
 #[cfg(test)]
 mod wal_reader_tests;
 #[cfg(test)]

@@ -40,6 +40,11 @@ fn places_are_written_and_read(rt: HostRuntime) -> Result<(), Fail> {
         );
         assert_eq!(rt; lsn_read(text.as_bytes()), Some(Lsn(at)), "{text}");
     }
+    Ok(())
+}
+
+#[test]
+fn other_places_are_read_or_refused(rt: HostRuntime) -> Result<(), Fail> {
     for (text, at) in READ_PLACES {
         assert_eq!(rt; lsn_read(text.as_bytes()), at.map(Lsn), "{text}");
     }
@@ -87,6 +92,11 @@ fn segments_are_written_and_read(rt: HostRuntime) -> Result<(), Fail> {
             "{name}"
         );
     }
+    Ok(())
+}
+
+#[test]
+fn other_segments_are_read_or_refused(rt: HostRuntime) -> Result<(), Fail> {
     let size = SegSize::new(16).ok_or("16 MiB is a segment size")?;
     for (name, read) in SEGMENT_NAMES {
         assert_eq!(rt; segment_read(name.as_bytes(), size), read, "{name}");
@@ -213,6 +223,11 @@ fn settings_have_their_ranges(rt: HostRuntime) -> Result<(), Fail> {
             assert_eq!(rt; settings.system(), 7);
         }
     }
+    Ok(())
+}
+
+#[test]
+fn segments_have_their_sizes(rt: HostRuntime) {
     for (mib, good) in [
         (0, false),
         (1, true),
@@ -223,7 +238,6 @@ fn settings_have_their_ranges(rt: HostRuntime) -> Result<(), Fail> {
     ] {
         assert_eq!(rt; SegSize::new(mib).is_some(), good, "{mib}");
     }
-    Ok(())
 }
 
 #[test]

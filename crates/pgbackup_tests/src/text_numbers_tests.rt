@@ -60,6 +60,11 @@ fn hexadecimal_texts_have_their_numbers(rt: HostRuntime) -> Result<(), Fail> {
     ] {
         assert_eq!(rt; hex_digits_in(text.as_bytes()), number, "{text}");
     }
+    Ok(())
+}
+
+#[test]
+fn eight_digits_have_their_number(rt: HostRuntime) -> Result<(), Fail> {
     for (text, number, rest) in [
         ("0000000100000000", Some(1), "00000000"),
         ("FFFFFFFF", Some(0xFFFF_FFFF), ""),

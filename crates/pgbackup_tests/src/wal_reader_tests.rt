@@ -1,15 +1,20 @@
 use crate::samples::{ARCHIVE, BEFORE_PADDING, SEGMENT, archive_with, main_fork};
-use lsn_core::{AreaFault, BlockId, ForkId, ForkKind, Lsn, Rel, SegSize};
+use lsn_core::{AreaFault, BlockId, ForkId, ForkKind, Lsn, Rel, SegSize, Settings};
 use std::alloc::Global;
 use std::test::Fail;
 use vault::{MemVault, Vault};
-use wal_reader::{WalCursor, WalFault, read_settings, settings_text};
+use wal_pages::HeadFault;
+use wal_reader::{Broken, Damage, FileName, WalCursor, WalFault, read_settings, settings_text};
 use wal_record::{Kind, Record};
 
 /// How many answers of a cursor come before its last one, each of them an entry or a failure that
-/// leaves it as it was; and where there is damage then, which is asked for twice.
-fn read_through(alloc: Global, area: &mut MemVault) -> Result<(u32, Option<u64>), WalFault> {
-    let mut cursor = WalCursor::first(&read_settings(alloc, area)?);
+/// leaves it as it was; and where and why there is damage then, which is asked for twice.
+fn read_through(
+    alloc: Global,
+    area: &mut MemVault,
+    cursor: WalCursor,
+) -> Result<(u32, Option<Damage>), WalFault> {
+    let mut cursor = cursor;
     for answers in 0..5u32 {
         let before = cursor.tip();
         match cursor.next(alloc, area) {
@@ -18,13 +23,19 @@ fn read_through(alloc: Global, area: &mut MemVault) -> Result<(u32, Option<u64>)
             Err(WalFault::Failed) if cursor.tip() == before => {}
             Err(fault) => {
                 return match cursor.next(alloc, area) {
-                    Err(WalFault::Damaged(place, _)) => Ok((answers, Some(place.0))),
+                    Err(WalFault::Damaged(damage)) => Ok((answers, Some(damage))),
                     _ => Err(fault),
                 };
             }
         }
     }
     Err(WalFault::Failed)
+}
+
+/// The same of the archive of an area, from its beginning on.
+fn read_whole(alloc: Global, area: &mut MemVault) -> Result<(u32, Option<Damage>), WalFault> {
+    let cursor = WalCursor::first(&read_settings(alloc, area)?);
+    read_through(alloc, area, cursor)
 }
 
 /// Where an entry starts and ends, and where the one before it starts.
@@ -77,69 +88,162 @@ fn three_entries_are_read_up_to_the_end(rt: HostRuntime) -> Result<(), Fail> {
     Ok(())
 }
 
-/// How many entries are read and where damage is found, if so many bytes of the archive are there
+/// How many entries are read and which damage is found, if so many bytes of the archive are there
 /// and then these are written at a place.
-static ARCHIVES: [(&str, u64, u64, &[u8], u32, Option<u64>); 26] = [
-    ("zeros alone", 0, 9000, b"\0", 0, None),
-    ("zeros behind the head", 40, 9000, b"\0", 0, None),
-    ("zeros behind the entries", 0x101, 20000, b"\0", 3, None),
+static ARCHIVES: [(&str, u64, u64, &[u8], u32, Option<Damage>); 28] = [
+    ("zeros alone", 0x0, 0x2328, b"\0", 0, None),
+    ("zeros behind the head", 0x28, 0x2328, b"\0", 0, None),
+    ("zeros behind the entries", 0x101, 0x4e20, b"\0", 3, None),
     ("padding of an entry", 0x101, 0x101, b"\x01", 3, None),
     (
         "a byte behind the segment",
         0x101,
-        0x100_0000,
+        0x1000000,
         b"\x01",
         3,
         None,
     ),
-    ("a removable page", 0x101, 2, b"\x06", 3, None),
-    ("padding of the head", 0x101, 20, b"\x01", 3, None),
-    ("another system", 0x101, 24, b"\x08", 3, None),
-    ("another sum", 0x101, 0x74, b"\0", 3, None),
-    ("no byte", 0, 0, b"", 0, None),
-    ("a head that is cut", 39, 0, b"", 0, Some(0x100_0000)),
-    ("a head alone", 40, 0, b"", 0, None),
-    ("one entry", 0x60, 0, b"", 1, None),
+    ("a removable page", 0x101, 0x2, b"\x06", 3, None),
+    ("padding of the head", 0x101, 0x14, b"\x01", 3, None),
+    ("another system", 0x101, 0x18, b"\x08", 3, None),
+    (
+        "another sum",
+        0x101,
+        0x74,
+        b"\0",
+        1,
+        Some(Damage::Broken(Lsn(0x1000060), Broken::Crc)),
+    ),
+    ("no byte", 0x0, 0x0, b"", 0, None),
+    (
+        "a head that is cut",
+        0x27,
+        0x0,
+        b"",
+        0,
+        Some(Damage::Broken(Lsn(0x1000000), Broken::Torn)),
+    ),
+    ("a head alone", 0x28, 0x0, b"", 0, None),
+    ("one entry", 0x60, 0x0, b"", 1, None),
     (
         "an entry cut in its length",
         0x93,
-        0,
+        0x0,
         b"",
         2,
-        Some(0x100_0090),
+        Some(Damage::Broken(Lsn(0x1000090), Broken::Torn)),
     ),
     (
         "an entry cut at its end",
         0x100,
-        0,
+        0x0,
         b"",
         2,
-        Some(0x100_0090),
+        Some(Damage::Broken(Lsn(0x1000090), Broken::Torn)),
     ),
-    ("magic", 0x101, 0, b"\x17", 0, Some(0x100_0000)),
-    ("an entry goes on", 0x101, 2, b"\x03", 0, Some(0x100_0000)),
-    ("timeline", 0x101, 4, b"\x02", 0, Some(0x100_0000)),
-    ("address", 0x101, 9, b"\x01", 0, Some(0x100_0000)),
-    ("bytes remain", 0x101, 16, b"\x01", 0, Some(0x100_0000)),
-    ("segment size", 0x101, 35, b"\x02", 0, Some(0x100_0000)),
-    ("page size", 0x101, 37, b"\x40", 0, Some(0x100_0000)),
-    ("redo point", 0x101, 0x42, b"\x30", 0, Some(0x100_0028)),
-    ("previous entry", 0x101, 0x68, b"\x60", 1, Some(0x100_0060)),
+    (
+        "magic",
+        0x101,
+        0x0,
+        b"\x17",
+        0,
+        Some(Damage::Broken(Lsn(0x1000000), Broken::Head(HeadFault::PageMagic))),
+    ),
+    (
+        "an entry goes on",
+        0x101,
+        0x2,
+        b"\x03",
+        0,
+        Some(Damage::Broken(Lsn(0x1000000), Broken::Head(HeadFault::PageInfo))),
+    ),
+    (
+        "timeline",
+        0x101,
+        0x4,
+        b"\x02",
+        0,
+        Some(Damage::Broken(Lsn(0x1000000), Broken::Head(HeadFault::PageTimeline))),
+    ),
+    (
+        "address",
+        0x101,
+        0x9,
+        b"\x01",
+        0,
+        Some(Damage::Broken(Lsn(0x1000000), Broken::Head(HeadFault::PageAddr))),
+    ),
+    (
+        "bytes remain",
+        0x101,
+        0x10,
+        b"\x01",
+        0,
+        Some(Damage::Broken(Lsn(0x1000000), Broken::Head(HeadFault::RemLen))),
+    ),
+    (
+        "segment size",
+        0x101,
+        0x23,
+        b"\x02",
+        0,
+        Some(Damage::Broken(Lsn(0x1000000), Broken::Head(HeadFault::PageSizes))),
+    ),
+    (
+        "page size",
+        0x101,
+        0x25,
+        b"@",
+        0,
+        Some(Damage::Broken(Lsn(0x1000000), Broken::Head(HeadFault::PageSizes))),
+    ),
+    (
+        "redo point",
+        0x101,
+        0x42,
+        b"0",
+        0,
+        Some(Damage::Broken(Lsn(0x1000028), Broken::Crc)),
+    ),
+    (
+        "previous entry",
+        0x101,
+        0x68,
+        b"`",
+        1,
+        Some(Damage::Broken(Lsn(0x1000060), Broken::Prev)),
+    ),
+    (
+        "another manager",
+        0x101,
+        0x71,
+        b"\x0a",
+        1,
+        Some(Damage::Broken(Lsn(0x1000060), Broken::Crc)),
+    ),
     (
         "a byte behind the padding",
         0x101,
         0x108,
         b"\x01",
         3,
-        Some(0x100_0108),
+        Some(Damage::Broken(Lsn(0x1000108), Broken::Torn)),
     ),
     (
         "a byte on a later page",
         0x101,
-        20000,
+        0x4e20,
         b"\x01",
         3,
-        Some(0x100_0108),
+        Some(Damage::Broken(Lsn(0x1000108), Broken::Length)),
+    ),
+    (
+        "a head on a later page",
+        0x101,
+        0x2000,
+        b"\x16\xd1",
+        3,
+        Some(Damage::Broken(Lsn(0x1000108), Broken::Length)),
     ),
 ];
 
@@ -148,34 +252,65 @@ fn archives_end_or_are_damaged(rt: HostRuntime) -> Result<(), Fail> {
     let alloc = rt.alloc();
     for (case, size, at, bytes, entries, damage) in ARCHIVES {
         let mut area = archive_with(alloc, size, at, bytes, 0)?;
-        let read = read_through(alloc, &mut area)?;
+        let read = read_whole(alloc, &mut area)?;
+        assert_eq!(rt; read, (entries, damage), "{case}");
+    }
+    Ok(())
+}
+
+/// How many entries a cursor gives that is set at a place of the archive, and which damage it finds.
+static PLACES: [(&str, u64, u32, Option<Damage>); 11] = [
+    ("an entry", 0x1000028, 3, None),
+    ("the second entry", 0x1000060, 2, None),
+    ("the last entry", 0x1000090, 1, None),
+    ("the archive's end", 0x1000108, 0, None),
+    ("behind the end", 0x1002018, 0, None),
+    (
+        "no multiple of 8",
+        0x1000061,
+        0,
+        Some(Damage::Broken(Lsn(0x1000061), Broken::Place)),
+    ),
+    (
+        "a page's head",
+        0x1000020,
+        0,
+        Some(Damage::Broken(Lsn(0x1000020), Broken::Place)),
+    ),
+    (
+        "the start of the segment",
+        0x1000000,
+        0,
+        Some(Damage::Broken(Lsn(0x1000000), Broken::Place)),
+    ),
+    (
+        "the middle of an entry",
+        0x1000068,
+        0,
+        Some(Damage::Broken(Lsn(0x1000068), Broken::Length)),
+    ),
+    ("another segment", 0x2000028, 0, None),
+    ("below the archive", 0x28, 0, Some(Damage::Missing(0))),
+];
+
+#[test]
+fn a_cursor_is_set_at_a_place(rt: HostRuntime) -> Result<(), Fail> {
+    let alloc = rt.alloc();
+    let mut area = archive_with(alloc, BEFORE_PADDING, 0, b"", 0)?;
+    let settings = read_settings(alloc, &mut area)?;
+    for (case, place, entries, damage) in PLACES {
+        let cursor = WalCursor::at(&settings, Lsn(place));
+        let read = read_through(alloc, &mut area, cursor)?;
         assert_eq!(rt; read, (entries, damage), "{case}");
     }
     Ok(())
 }
 
 #[test]
-fn an_entry_ends_on_the_first_page(rt: HostRuntime) -> Result<(), Fail> {
-    let alloc = rt.alloc();
-    for (total, hole, entries, damage) in [
-        (b"\x70\x1f", [0x3f, 0x1f, 0x18, 0xd9], 3, None),
-        (b"\x71\x1f", [0x40, 0x1f, 0x18, 0xd8], 2, Some(0x100_0090)),
-    ] {
-        let [low, high, offset, upper] = hole;
-        let mut area = archive_with(alloc, BEFORE_PADDING, 0x90, total, 0)?;
-        area.write_at(SEGMENT, 0xac, &[low, high, offset])?;
-        area.write_at(SEGMENT, 0xcd, &[offset, 0, upper, 0])?;
-        area.write_at(SEGMENT, 9000, b"\0")?;
-        assert_eq!(rt; read_through(alloc, &mut area)?, (entries, damage));
-    }
-    Ok(())
-}
-
-#[test]
 fn a_cursor_goes_on_after_a_failure(rt: HostRuntime) -> Result<(), Fail> {
-    for call in 1..=12 {
+    for call in 1..=9 {
         let mut area = archive_with(rt.alloc(), BEFORE_PADDING, 0, b"", call)?;
-        let read = read_through(rt.alloc(), &mut area);
+        let read = read_whole(rt.alloc(), &mut area);
         let wanted = if call <= 3 {
             Err(WalFault::Failed)
         } else {
@@ -269,18 +404,55 @@ fn a_wal_has_segments_of_one_mebibyte(rt: HostRuntime) -> Result<(), Fail> {
     assert_eq!(rt; settings.system(), 7);
     let cursor = WalCursor::first(&settings);
     assert_eq!(rt; cursor.tip().end, Lsn(0x10_0000));
-    assert_eq!(rt; read_through(alloc, &mut area)?, (0, None));
+    assert_eq!(rt; read_whole(alloc, &mut area)?, (0, None));
+    Ok(())
+}
+
+/// The settings of an area with this file alone, of these bytes.
+fn settings_with(alloc: Global, name: &[u8], bytes: &[u8]) -> Result<Settings, WalFault> {
+    let mut area = MemVault::new(alloc, &[])?;
+    area.write_at(name, 0, bytes)?;
+    read_settings(alloc, &mut area)
+}
+
+/// Names that are no WAL.
+static NONE: [&[u8]; 4] = [
+    b"settings",
+    b"00000001000000000000000",
+    b"00000001000000000000000g",
+    b"00000001000000000000000a",
+];
+
+/// Names of a WAL, and its system identifier: with a segment of the archive, and without one.
+static SYSTEMS: [(&[u8], u64); 3] = [
+    (b"000000010000000000000002", 7),
+    (b"000000010000000000000000", 0),
+    (b"0000000100000000000001FF", 0),
+];
+
+#[test]
+fn names_tell_whether_there_is_a_wal(rt: HostRuntime) -> Result<(), Fail> {
+    for name in NONE {
+        let found = settings_with(rt.alloc(), name, &ARCHIVE[..40]).err();
+        assert_eq!(rt; found, Some(WalFault::NotInit), "{name:?}");
+    }
     Ok(())
 }
 
 #[test]
-fn there_is_no_wal(rt: HostRuntime) -> Result<(), Fail> {
-    let alloc = rt.alloc();
-    let mut area = MemVault::new(alloc, &[])?;
-    area.write_at(b"000000010000000000000002", 0, &ARCHIVE[..40])?;
-    assert_eq!(rt;
-        read_settings(alloc, &mut area).err(),
-        Some(WalFault::NotInit)
-    );
+fn a_segment_gives_the_system_identifier(rt: HostRuntime) -> Result<(), Fail> {
+    for (name, system) in SYSTEMS {
+        let settings = settings_with(rt.alloc(), name, &ARCHIVE[..40])?;
+        assert_eq!(rt; settings.system(), system, "{name:?}");
+    }
+    Ok(())
+}
+
+#[test]
+fn another_timeline_is_refused(rt: HostRuntime) -> Result<(), Fail> {
+    let name = b"000000020000000000000001";
+    let found = settings_with(rt.alloc(), name, &ARCHIVE[..40]).err();
+    let other = FileName::new(name).ok_or("24 bytes")?;
+    assert_eq!(rt; found, Some(WalFault::Timeline(other)));
     Ok(())
 }

@@ -1,175 +1,717 @@
-use crate::samples::{ARCHIVE, NEW_WAL, main_fork};
-use lsn_core::{BlockId, ForkKind, Lsn, Place};
+//! Entries of all kinds, which an independent implementation of the formats wrote, read and written;
+//! and what is refused, with its why.
+
+ghost use Rattle.std.specs.Prelude.{◌≡◌};
+
+use crate::samples::main_fork;
+use lsn_core::{ForkId, Lsn, Place, Rel};
 use std::alloc::Global;
 use std::process::Abort;
 use std::test::Fail;
-use wal_record::{Blocks, Body, Kind, Record, RecordFault, decode_record, encode_record};
+use wal_crc::Crc;
+use wal_record::{BlockRef, Body, Kind, Record, RecordFault, Why, decode_record, encode_record};
 
+/// Where the entries below are read. The entry before starts at 0/100028.
 const PLACE: Place = Place {
-    start: Lsn(0x1000090),
-    end: Lsn(0x1000108),
+    start: Lsn(0x100060),
+    end: Lsn(0x100090),
 };
 
-/// A checkpoint at 0/1000028, the first entry of its archive.
-fn checkpoint() -> &'static [u8] {
-    &ARCHIVE[0x28..0x5a]
-}
+const BEFORE: Option<Lsn> = Some(Lsn(0x100028));
 
-/// The creation of fork 5/16384 at 0/1000060.
-fn creation() -> &'static [u8] {
-    &ARCHIVE[0x60..0x8a]
-}
-
-/// An image of its block 0 at 0/1000090.
-fn image() -> &'static [u8] {
-    &ARCHIVE[0x90..0x101]
-}
-
-#[test]
-fn a_checkpoint_and_a_creation_are_read(rt: HostRuntime) -> Result<(), Fail> {
-    let first = decode_record(rt.alloc(), checkpoint(), PLACE, Some(Lsn(0)))?;
-    assert_eq!(rt;
-        (first.start, first.end, first.prev, first.xid),
-        (PLACE.start, PLACE.end, Lsn(0), 0)
-    );
-    assert!(rt; matches!(first.kind, Kind::Shutdown(Lsn(0x1000028))));
-    let created = decode_record(rt.alloc(), creation(), PLACE, Some(Lsn(0x1000028)))?;
-    let Kind::Create(fork) = &created.kind else {
-        return Err("no creation")?;
-    };
-    assert_eq!(rt;
-        (fork.rel.db(), fork.rel.rel(), fork.kind),
-        (5, 16384, ForkKind::Main)
-    );
-    Ok(())
-}
-
-#[test]
-fn an_image_is_read(rt: HostRuntime) -> Result<(), Fail> {
-    let changed = decode_record(rt.alloc(), image(), PLACE, None)?;
-    let Kind::Generic(blocks) = &changed.kind else {
-        return Err("no blocks")?;
-    };
-    let [block] = blocks.as_slice() else {
-        return Err("not one block")?;
-    };
-    let fork = main_fork(16384).ok_or("no relation")?;
-    assert_eq!(rt; block.at, BlockId { fork, block: 0 });
-    let Body::Image(page) = block.body;
-    assert_eq!(rt; page.hole(), Some((32, 8160)));
-    assert_eq!(rt; page.bytes()[..32], ARCHIVE[0xc1..0xe1]);
-    assert_eq!(rt; (page.bytes()[32], page.bytes()[8159]), (0, 0));
-    assert_eq!(rt; page.bytes()[8160..], ARCHIVE[0xe1..0x101]);
-    Ok(())
-}
-
-/// Bytes at places of the creation that make another form of it.
-static CREATIONS: [(usize, u8, &str); 10] = [
-    (0, 43, "another total length"),
-    (16, 0x10, "no info bit"),
-    (17, 10, "another manager"),
-    (18, 1, "byte 18"),
-    (19, 1, "byte 19"),
-    (25, 17, "another length of main data"),
-    (26, 0x80, "another tablespace"),
-    (30, 0, "database 0"),
-    (35, 0, "relation 0"),
-    (38, 1, "fork 1"),
+/// The creation of the main fork of 5/16384.
+const CREATION: &[u8] = &[
+    0x2a, 0x00, 0x00, 0x00, 0x00, 0x00, 0x00, 0x00, 0x28, 0x00, 0x10, 0x00, 0x00, 0x00, 0x00, 0x00,
+    0x11, 0x02, 0x00, 0x00, 0x81, 0xad, 0xc8, 0x74, 0xff, 0x10, 0x7f, 0x06, 0x00, 0x00, 0x05, 0x00,
+    0x00, 0x00, 0x00, 0x40, 0x00, 0x00, 0x00, 0x00, 0x00, 0x00,
 ];
 
-/// The same of the image.
-static IMAGES: [(usize, u8, &str); 11] = [
-    (24, 1, "block id 1"),
-    (25, 0x11, "fork 1"),
-    (25, 0x90, "flag 0x80 on the first block"),
-    (26, 1, "a length of data"),
-    (28, 0x41, "another length"),
-    (30, 0x21, "another offset"),
-    (32, 1, "not to be applied"),
-    (32, 2, "said to have no hole"),
-    (46, 0x80, "block 32768"),
-    (61, 0x21, "the page's hole begins elsewhere"),
-    (68, 0x03, "another page version"),
+/// An image of its block 0, a page without content.
+const IMAGE: &[u8] = &[
+    0x49, 0x00, 0x00, 0x00, 0x00, 0x00, 0x00, 0x00, 0x28, 0x00, 0x10, 0x00, 0x00, 0x00, 0x00, 0x00,
+    0x00, 0x14, 0x00, 0x00, 0x1c, 0x57, 0x33, 0x5b, 0x00, 0x10, 0x00, 0x00, 0x18, 0x00, 0x18, 0x00,
+    0x03, 0x7f, 0x06, 0x00, 0x00, 0x05, 0x00, 0x00, 0x00, 0x00, 0x40, 0x00, 0x00, 0x00, 0x00, 0x00,
+    0x00, 0x00, 0x00, 0x00, 0x00, 0x00, 0x00, 0x00, 0x00, 0x00, 0x00, 0x00, 0x00, 0x18, 0x00, 0x00,
+    0x20, 0x00, 0x20, 0x04, 0x20, 0x00, 0x00, 0x00, 0x00,
 ];
 
-/// The same of the checkpoint.
-static CHECKPOINTS: [(usize, u8, &str); 3] = [
-    (34, 2, "another timeline"),
-    (42, 0, "another byte behind the timelines"),
-    (49, 1, "another last byte"),
+/// A delta of block 0: `a` at 24, `bc` at 26.
+const DELTA: &[u8] = &[
+    0x37, 0x00, 0x00, 0x00, 0x00, 0x00, 0x00, 0x00, 0x28, 0x00, 0x10, 0x00, 0x00, 0x00, 0x00, 0x00,
+    0x00, 0x14, 0x00, 0x00, 0x3e, 0x8a, 0xdf, 0x14, 0x00, 0x20, 0x0b, 0x00, 0x7f, 0x06, 0x00, 0x00,
+    0x05, 0x00, 0x00, 0x00, 0x00, 0x40, 0x00, 0x00, 0x00, 0x00, 0x00, 0x00, 0x18, 0x00, 0x01, 0x00,
+    0x61, 0x1a, 0x00, 0x02, 0x00, 0x62, 0x63,
 ];
 
-/// What a byte at a place makes of an entry.
-fn fault(alloc: Global, entry: &[u8], at: usize, byte: u8) -> Result<Option<RecordFault>, Fail> {
+/// A delta of block 0, and behind it an image of block 1.
+const BOTH: &[u8] = &[
+    0x56, 0x00, 0x00, 0x00, 0x00, 0x00, 0x00, 0x00, 0x28, 0x00, 0x10, 0x00, 0x00, 0x00, 0x00, 0x00,
+    0x00, 0x14, 0x00, 0x00, 0xba, 0xdc, 0x29, 0x8c, 0x00, 0x20, 0x05, 0x00, 0x7f, 0x06, 0x00, 0x00,
+    0x05, 0x00, 0x00, 0x00, 0x00, 0x40, 0x00, 0x00, 0x00, 0x00, 0x00, 0x00, 0x01, 0x90, 0x00, 0x00,
+    0x18, 0x00, 0x18, 0x00, 0x03, 0x01, 0x00, 0x00, 0x00, 0x18, 0x00, 0x01, 0x00, 0x61, 0x00, 0x00,
+    0x00, 0x00, 0x00, 0x00, 0x00, 0x00, 0x00, 0x00, 0x00, 0x00, 0x18, 0x00, 0x00, 0x20, 0x00, 0x20,
+    0x04, 0x20, 0x00, 0x00, 0x00, 0x00,
+];
+
+/// The truncation of 5/16384 to 3 blocks.
+const TRUNCATION: &[u8] = &[
+    0x2e, 0x00, 0x00, 0x00, 0x00, 0x00, 0x00, 0x00, 0x28, 0x00, 0x10, 0x00, 0x00, 0x00, 0x00, 0x00,
+    0x21, 0x02, 0x00, 0x00, 0xfe, 0x15, 0x00, 0x9b, 0xff, 0x14, 0x03, 0x00, 0x00, 0x00, 0x7f, 0x06,
+    0x00, 0x00, 0x05, 0x00, 0x00, 0x00, 0x00, 0x40, 0x00, 0x00, 0x07, 0x00, 0x00, 0x00,
+];
+
+/// An online checkpoint.
+const CHECKPOINT: &[u8] = &[
+    0x32, 0x00, 0x00, 0x00, 0x00, 0x00, 0x00, 0x00, 0x28, 0x00, 0x10, 0x00, 0x00, 0x00, 0x00, 0x00,
+    0x10, 0x00, 0x00, 0x00, 0x43, 0x03, 0xc6, 0x30, 0xff, 0x18, 0x60, 0x00, 0x10, 0x00, 0x00, 0x00,
+    0x00, 0x00, 0x01, 0x00, 0x00, 0x00, 0x01, 0x00, 0x00, 0x00, 0x01, 0x00, 0x00, 0x00, 0x00, 0x00,
+    0x00, 0x00,
+];
+
+/// A redo mark.
+const REDO: &[u8] = &[
+    0x1e, 0x00, 0x00, 0x00, 0x00, 0x00, 0x00, 0x00, 0x28, 0x00, 0x10, 0x00, 0x00, 0x00, 0x00, 0x00,
+    0xe0, 0x00, 0x00, 0x00, 0xae, 0x26, 0xab, 0xba, 0xff, 0x04, 0x01, 0x00, 0x00, 0x00,
+];
+
+/// The end of a backup that started at 0/100060.
+const BACKUP_END: &[u8] = &[
+    0x22, 0x00, 0x00, 0x00, 0x00, 0x00, 0x00, 0x00, 0x28, 0x00, 0x10, 0x00, 0x00, 0x00, 0x00, 0x00,
+    0x50, 0x00, 0x00, 0x00, 0xca, 0x5b, 0x7d, 0xc9, 0xff, 0x08, 0x60, 0x00, 0x10, 0x00, 0x00, 0x00,
+    0x00, 0x00,
+];
+
+/// A no-op with three bytes.
+const NO_OP: &[u8] = &[
+    0x1d, 0x00, 0x00, 0x00, 0x00, 0x00, 0x00, 0x00, 0x28, 0x00, 0x10, 0x00, 0x00, 0x00, 0x00, 0x00,
+    0x20, 0x00, 0x00, 0x00, 0xf9, 0xdc, 0x74, 0xd9, 0xff, 0x03, 0x78, 0x79, 0x7a,
+];
+
+/// A case: its words, an entry, bytes at places of it that are changed, and what is said of it.
+type Case = (
+    &'static str,
+    &'static [u8],
+    &'static [(usize, u8)],
+    Option<RecordFault>,
+);
+
+/// Cases in which the sum is made again. The last ones show which of two whys comes first.
+static CHANGED: [Case; 68] = [
+    (
+        "a total below 24",
+        CREATION,
+        &[(0, 0x17)],
+        Some(RecordFault::Length),
+    ),
+    (
+        "a total above 4,194,304",
+        CREATION,
+        &[(0, 0x01), (2, 0x40)],
+        Some(RecordFault::Length),
+    ),
+    (
+        "another entry before",
+        CREATION,
+        &[(8, 0x29)],
+        Some(RecordFault::Prev),
+    ),
+    (
+        "manager 10",
+        CREATION,
+        &[(17, 0x0a)],
+        Some(RecordFault::Unsupported(10, 0x11)),
+    ),
+    (
+        "no kind of its manager",
+        CREATION,
+        &[(16, 0x30)],
+        Some(RecordFault::Unsupported(2, 0x30)),
+    ),
+    ("other low bits of the info", CREATION, &[(16, 0x1f)], None),
+    ("bytes 18 and 19", CREATION, &[(18, 0x01), (19, 0x02)], None),
+    ("a transaction", CREATION, &[(4, 0x09)], None),
+    (
+        "more main data than there is",
+        CREATION,
+        &[(25, 0x11)],
+        Some(RecordFault::Header),
+    ),
+    ("id 33", IMAGE, &[(24, 0x21)], Some(RecordFault::Header)),
+    ("id 32", IMAGE, &[(24, 0x20)], None),
+    ("fork 4", IMAGE, &[(25, 0x14)], Some(RecordFault::Header)),
+    (
+        "the relation of no block before",
+        IMAGE,
+        &[(25, 0x90)],
+        Some(RecordFault::Header),
+    ),
+    (
+        "data without its flag",
+        IMAGE,
+        &[(26, 0x01)],
+        Some(RecordFault::Header),
+    ),
+    (
+        "no data with its flag",
+        DELTA,
+        &[(26, 0x00)],
+        Some(RecordFault::Header),
+    ),
+    (
+        "a hole at 0",
+        IMAGE,
+        &[(30, 0x00)],
+        Some(RecordFault::Header),
+    ),
+    (
+        "a hole past the page",
+        IMAGE,
+        &[(30, 0x19)],
+        Some(RecordFault::Header),
+    ),
+    (
+        "no hole, and not a whole page",
+        IMAGE,
+        &[(32, 0x02)],
+        Some(RecordFault::Header),
+    ),
+    (
+        "ids that don't rise",
+        BOTH,
+        &[(44, 0x00)],
+        Some(RecordFault::Header),
+    ),
+    ("ids that rise by two", BOTH, &[(44, 0x02)], None),
+    (
+        "compressed",
+        IMAGE,
+        &[(32, 0x06)],
+        Some(RecordFault::Content(Why::Compressed)),
+    ),
+    (
+        "not to be applied",
+        IMAGE,
+        &[(32, 0x01)],
+        Some(RecordFault::Content(Why::NotApplied)),
+    ),
+    ("flag 0x40", IMAGE, &[(25, 0x50)], None),
+    (
+        "another tablespace",
+        IMAGE,
+        &[(33, 0x80)],
+        Some(RecordFault::Content(Why::Tablespace)),
+    ),
+    (
+        "fork 1",
+        IMAGE,
+        &[(25, 0x11)],
+        Some(RecordFault::Content(Why::Fork)),
+    ),
+    (
+        "fork 2 of a delta",
+        DELTA,
+        &[(25, 0x22)],
+        Some(RecordFault::Content(Why::Fork)),
+    ),
+    (
+        "database 0",
+        IMAGE,
+        &[(37, 0x00)],
+        Some(RecordFault::Content(Why::Relation)),
+    ),
+    (
+        "relation 0",
+        IMAGE,
+        &[(42, 0x00)],
+        Some(RecordFault::Content(Why::Relation)),
+    ),
+    (
+        "block 32,768",
+        IMAGE,
+        &[(46, 0x80)],
+        Some(RecordFault::Content(Why::BlockRange)),
+    ),
+    (
+        "another page version",
+        IMAGE,
+        &[(67, 0x05)],
+        Some(RecordFault::Content(Why::ImagePage)),
+    ),
+    (
+        "a fragment longer than the data",
+        DELTA,
+        &[(46, 0x09)],
+        Some(RecordFault::Content(Why::Fragments)),
+    ),
+    (
+        "a fragment past the page",
+        DELTA,
+        &[(45, 0x20)],
+        Some(RecordFault::Content(Why::Fragments)),
+    ),
+    (
+        "a fragment of no bytes",
+        DELTA,
+        &[(46, 0x00)],
+        Some(RecordFault::Content(Why::Fragments)),
+    ),
+    (
+        "a delta of full-page images",
+        DELTA,
+        &[(16, 0xb0), (17, 0x00)],
+        Some(RecordFault::Content(Why::Shape)),
+    ),
+    (
+        "a block of a no-op",
+        IMAGE,
+        &[(16, 0x20), (17, 0x00)],
+        Some(RecordFault::Content(Why::Shape)),
+    ),
+    (
+        "a redo mark of 8 bytes",
+        BACKUP_END,
+        &[(16, 0xe0)],
+        Some(RecordFault::Content(Why::Shape)),
+    ),
+    (
+        "a backup end of 4 bytes",
+        REDO,
+        &[(16, 0x50)],
+        Some(RecordFault::Content(Why::Shape)),
+    ),
+    (
+        "a checkpoint of 16 bytes",
+        CREATION,
+        &[(16, 0x00), (17, 0x00)],
+        Some(RecordFault::Content(Why::Shape)),
+    ),
+    (
+        "a generic entry without blocks",
+        CREATION,
+        &[(16, 0x00), (17, 0x14)],
+        Some(RecordFault::Content(Why::Shape)),
+    ),
+    (
+        "another timeline",
+        CHECKPOINT,
+        &[(34, 0x02)],
+        Some(RecordFault::Content(Why::Shape)),
+    ),
+    (
+        "another timeline before",
+        CHECKPOINT,
+        &[(38, 0x02)],
+        Some(RecordFault::Content(Why::Shape)),
+    ),
+    (
+        "another byte behind the timelines",
+        CHECKPOINT,
+        &[(42, 0x00)],
+        Some(RecordFault::Content(Why::Shape)),
+    ),
+    (
+        "another last byte",
+        CHECKPOINT,
+        &[(49, 0x01)],
+        Some(RecordFault::Content(Why::Shape)),
+    ),
+    (
+        "2^32 - 1 blocks",
+        TRUNCATION,
+        &[(26, 0xff), (27, 0xff), (28, 0xff), (29, 0xff)],
+        Some(RecordFault::Content(Why::Shape)),
+    ),
+    (
+        "flags outside 7",
+        TRUNCATION,
+        &[(42, 0x08)],
+        Some(RecordFault::Content(Why::Shape)),
+    ),
+    (
+        "flags of the visibility map alone",
+        TRUNCATION,
+        &[(42, 0x02)],
+        None,
+    ),
+    (
+        "a truncation in another tablespace",
+        TRUNCATION,
+        &[(30, 0x80)],
+        Some(RecordFault::Content(Why::Tablespace)),
+    ),
+    (
+        "a truncation of relation 0",
+        TRUNCATION,
+        &[(39, 0x00)],
+        Some(RecordFault::Content(Why::Relation)),
+    ),
+    (
+        "a creation in another tablespace",
+        CREATION,
+        &[(26, 0x80)],
+        Some(RecordFault::Content(Why::Tablespace)),
+    ),
+    (
+        "a creation of database 0",
+        CREATION,
+        &[(30, 0x00)],
+        Some(RecordFault::Content(Why::Relation)),
+    ),
+    (
+        "a creation of fork 2",
+        CREATION,
+        &[(38, 0x02)],
+        Some(RecordFault::Content(Why::Fork)),
+    ),
+    (
+        "a creation of fork 4",
+        CREATION,
+        &[(38, 0x04)],
+        Some(RecordFault::Content(Why::Fork)),
+    ),
+    ("a creation of fork 3", CREATION, &[(38, 0x03)], None),
+    (
+        "the total before the link",
+        CREATION,
+        &[(0, 0x17), (8, 0x29)],
+        Some(RecordFault::Length),
+    ),
+    (
+        "the kind before the announcements",
+        CREATION,
+        &[(17, 0x0a), (25, 0x11)],
+        Some(RecordFault::Unsupported(10, 0x11)),
+    ),
+    (
+        "the announcements before the content",
+        IMAGE,
+        &[(24, 0x21), (32, 0x06)],
+        Some(RecordFault::Header),
+    ),
+    (
+        "compressed before not applied",
+        IMAGE,
+        &[(32, 0x04)],
+        Some(RecordFault::Content(Why::Compressed)),
+    ),
+    (
+        "not applied before the tablespace",
+        IMAGE,
+        &[(32, 0x01), (33, 0x80)],
+        Some(RecordFault::Content(Why::NotApplied)),
+    ),
+    (
+        "the tablespace before the fork",
+        IMAGE,
+        &[(33, 0x80), (25, 0x11)],
+        Some(RecordFault::Content(Why::Tablespace)),
+    ),
+    (
+        "the fork before the relation",
+        IMAGE,
+        &[(25, 0x11), (37, 0x00)],
+        Some(RecordFault::Content(Why::Fork)),
+    ),
+    (
+        "the relation before the block",
+        IMAGE,
+        &[(37, 0x00), (46, 0x80)],
+        Some(RecordFault::Content(Why::Relation)),
+    ),
+    (
+        "the block before the page",
+        IMAGE,
+        &[(46, 0x80), (67, 0x05)],
+        Some(RecordFault::Content(Why::BlockRange)),
+    ),
+    (
+        "the page before the shape",
+        IMAGE,
+        &[(67, 0x05), (16, 0x20), (17, 0x00)],
+        Some(RecordFault::Content(Why::ImagePage)),
+    ),
+    (
+        "the first block's shape before the second's fork",
+        BOTH,
+        &[(16, 0xb0), (17, 0x00), (45, 0x91)],
+        Some(RecordFault::Content(Why::Shape)),
+    ),
+    (
+        "the second block's fork",
+        BOTH,
+        &[(45, 0x91)],
+        Some(RecordFault::Content(Why::Fork)),
+    ),
+    (
+        "a creation's tablespace before its fork",
+        CREATION,
+        &[(26, 0x80), (38, 0x01)],
+        Some(RecordFault::Content(Why::Tablespace)),
+    ),
+    (
+        "a creation's fork before its relation",
+        CREATION,
+        &[(38, 0x01), (30, 0x00)],
+        Some(RecordFault::Content(Why::Fork)),
+    ),
+    (
+        "a truncation's relation before its flags",
+        TRUNCATION,
+        &[(39, 0x00), (42, 0x08)],
+        Some(RecordFault::Content(Why::Relation)),
+    ),
+];
+
+/// Cases in which the sum stays as it was.
+static UNSEALED: [Case; 4] = [
+    (
+        "a byte of the sum",
+        CREATION,
+        &[(20, 0)],
+        Some(RecordFault::Crc),
+    ),
+    (
+        "a byte behind the header",
+        CREATION,
+        &[(26, 1)],
+        Some(RecordFault::Crc),
+    ),
+    (
+        "the link before the sum",
+        CREATION,
+        &[(8, 0x29), (26, 1)],
+        Some(RecordFault::Prev),
+    ),
+    (
+        "the sum before the kind",
+        CREATION,
+        &[(17, 10)],
+        Some(RecordFault::Crc),
+    ),
+];
+
+/// An archive's first entries, their sum made again.
+static FIRST: [Case; 4] = [
+    (
+        "a creation",
+        CREATION,
+        &[(8, 0), (10, 0)],
+        Some(RecordFault::Content(Why::First)),
+    ),
+    (
+        "an online checkpoint",
+        CHECKPOINT,
+        &[(8, 0), (10, 0)],
+        Some(RecordFault::Content(Why::First)),
+    ),
+    (
+        "another redo point",
+        CHECKPOINT,
+        &[(8, 0), (10, 0), (16, 0), (26, 0x61)],
+        Some(RecordFault::Content(Why::First)),
+    ),
+    (
+        "its own redo point",
+        CHECKPOINT,
+        &[(8, 0), (10, 0), (16, 0)],
+        None,
+    ),
+];
+
+/// Makes the sum of an entry again.
+fn seal(bytes: &mut [u8]) {
+    let mut crc = Crc::new();
+    let Some((front, rest)) = bytes.split_at_checked(24) else {
+        return;
+    };
+    crc.add(rest);
+    crc.add(&front[..20]);
+    bytes[20..24].copy_from_slice(&crc.value().to_le_bytes());
+}
+
+/// An entry with some of its bytes changed.
+fn changed(alloc: Global, entry: &[u8], changes: &[(usize, u8)]) -> Result<Vec<u8>, Fail> {
     let mut bytes = Vec::from_slice(alloc, entry)?;
-    if let Some(old) = bytes.get_mut(at) {
-        *old = byte;
+    for (at, byte) in changes {
+        if let Some(old) = bytes.get_mut(*at) {
+            *old = *byte;
+        }
     }
-    Ok(decode_record(alloc, &bytes, PLACE, None).err())
+    Ok(bytes)
 }
 
-/// Each of these bytes makes a form that is refused.
-fn are_refused(
+/// Reads the entries of some cases, each with its sum made again or not.
+fn are_judged(
     rt: &impl Abort,
     alloc: Global,
-    entry: &[u8],
-    forms: &[(usize, u8, &str)],
+    cases: &[Case],
+    sealed: bool,
+    prev: Option<Lsn>,
 ) -> Result<(), Fail> {
-    for (at, byte, words) in forms {
-        let found = fault(alloc, entry, *at, *byte)?;
-        assert_eq!(rt; found, Some(RecordFault::Form), "{words}");
+    for (words, entry, changes, fault) in cases {
+        let mut bytes = changed(alloc, entry, changes)?;
+        if sealed {
+            seal(&mut bytes);
+        }
+        let found = decode_record(alloc, &bytes, PLACE, prev).err();
+        assert_eq!(rt; found, *fault, "{words}");
     }
     Ok(())
 }
 
 #[test]
-fn other_forms_are_refused(rt: HostRuntime) -> Result<(), Fail> {
+fn each_why_comes_in_its_order(rt: HostRuntime) -> Result<(), Fail> {
+    are_judged(&rt, rt.alloc(), &CHANGED, true, BEFORE)
+}
+
+#[test]
+fn the_sum_is_tested(rt: HostRuntime) -> Result<(), Fail> {
+    are_judged(&rt, rt.alloc(), &UNSEALED, false, BEFORE)
+}
+
+#[test]
+fn the_first_entry_is_its_own_checkpoint(rt: HostRuntime) -> Result<(), Fail> {
+    are_judged(&rt, rt.alloc(), &FIRST, true, Some(Lsn(0)))
+}
+
+/// An entry of this kind behind the one at 0/100028.
+fn entry(kind: Kind) -> Record
+    ensures { result.kind ≡ kind }
+{
+    Record {
+        start: PLACE.start,
+        end: PLACE.end,
+        prev: Lsn(0x100028),
+        xid: 0,
+        kind,
+    }
+}
+
+#[test]
+fn checkpoints_and_marks_are_written(rt: HostRuntime) -> Result<(), Fail> {
     let alloc = rt.alloc();
-    are_refused(&rt, alloc, creation(), &CREATIONS)?;
-    are_refused(&rt, alloc, image(), &IMAGES)?;
-    are_refused(&rt, alloc, checkpoint(), &CHECKPOINTS)?;
-    assert_eq!(rt; fault(alloc, image(), 20, 0)?, None);
+    let online = encode_record(alloc, &entry(Kind::Online(PLACE.start)))?;
+    assert_eq!(rt; online.as_slice(), CHECKPOINT);
+    let mark = encode_record(alloc, &entry(Kind::RedoMark(1)))?;
+    assert_eq!(rt; mark.as_slice(), REDO);
+    let end = encode_record(alloc, &entry(Kind::BackupEnd(PLACE.start)))?;
+    assert_eq!(rt; end.as_slice(), BACKUP_END);
     Ok(())
 }
 
 #[test]
-fn length_and_previous_link_are_exact(rt: HostRuntime) {
-    for (bytes, prev, words) in [
-        (&ARCHIVE[0x28..0x5b], None, "a byte more"),
-        (&ARCHIVE[0x90..0x100], None, "a byte less"),
-        (creation(), Some(Lsn(0)), "another entry before"),
-        (b"".as_slice(), None, "no byte"),
-    ] {
-        let found = decode_record(rt.alloc(), bytes, PLACE, prev).err();
-        assert_eq!(rt; found, Some(RecordFault::Form), "{words}");
+fn creations_and_truncations_are_written(rt: HostRuntime) -> Result<(), Fail> {
+    let alloc = rt.alloc();
+    let fork = main_fork(16384).ok_or("no relation")?;
+    let rel = fork.rel;
+    let creation = entry(Kind::Create(fork));
+    let created = encode_record(alloc, &creation)?;
+    assert_eq!(rt; created.as_slice(), CREATION);
+    let truncation = entry(Kind::Truncate(rel, 3, 7));
+    let cut = encode_record(alloc, &truncation)?;
+    assert_eq!(rt; cut.as_slice(), TRUNCATION);
+    Ok(())
+}
+
+/// The fork that is created.
+fn creates(kind: &Kind) -> Option<ForkId> {
+    match kind {
+        Kind::Create(fork) => Some(*fork),
+        _ => None,
     }
-    assert_eq!(rt; Blocks::from_vec(Vec::new(rt.alloc())).as_slice().len(), 0);
+}
+
+/// The relation that is cut, its number of blocks and the flags.
+fn cuts(kind: &Kind) -> Option<(Rel, u32, u32)> {
+    match kind {
+        Kind::Truncate(rel, count, flags) => Some((*rel, *count, *flags)),
+        _ => None,
+    }
+}
+
+/// What a mark is, and its place or number.
+fn tells(kind: &Kind) -> Option<(&'static str, u64)> {
+    match kind {
+        Kind::Online(redo) => Some(("online", redo.0)),
+        Kind::BackupEnd(start) => Some(("backup end", start.0)),
+        Kind::RedoMark(number) => Some(("redo mark", u64::from(*number))),
+        Kind::NoOp => Some(("no-op", 0)),
+        _ => None,
+    }
+}
+
+/// What an entry says.
+fn kind_of(alloc: Global, entry: &[u8]) -> Result<Kind, Fail> {
+    Ok(decode_record(alloc, entry, PLACE, BEFORE)?.kind)
+}
+
+/// Entries that are marks.
+static MARKS: [(&[u8], &str, u64); 4] = [
+    (CHECKPOINT, "online", 0x100060),
+    (BACKUP_END, "backup end", 0x100060),
+    (REDO, "redo mark", 1),
+    (NO_OP, "no-op", 0),
+];
+
+#[test]
+fn marks_are_read(rt: HostRuntime) -> Result<(), Fail> {
+    for (entry, word, number) in MARKS {
+        let kind = kind_of(rt.alloc(), entry)?;
+        assert_eq!(rt; tells(&kind), Some((word, number)), "{word}");
+    }
+    Ok(())
 }
 
 #[test]
-fn entries_are_written_with_their_sums(rt: HostRuntime) -> Result<(), Fail> {
-    let alloc = rt.alloc();
-    let first = Record {
-        start: Lsn(0x100028),
-        end: Lsn(0x100060),
-        prev: Lsn(0),
-        xid: 0,
-        kind: Kind::Shutdown(Lsn(0x100028)),
-    };
-    let created = Record {
-        start: Lsn(0x1000060),
-        end: Lsn(0x1000090),
-        prev: Lsn(0x1000028),
-        xid: 0,
-        kind: Kind::Create(main_fork(16384).ok_or("no relation")?),
-    };
-    let changed = decode_record(alloc, image(), PLACE, None)?;
-    for (record, bytes) in [
-        (&first, &NEW_WAL[40..90]),
-        (&created, creation()),
-        (&changed, image()),
-    ] {
-        assert_eq!(rt; encode_record(alloc, record)?.as_slice(), bytes);
+fn creations_and_truncations_are_read(rt: HostRuntime) -> Result<(), Fail> {
+    let fork = main_fork(16384).ok_or("no relation")?;
+    let rel = fork.rel;
+    let created = kind_of(rt.alloc(), CREATION)?;
+    assert_eq!(rt; creates(&created), Some(fork));
+    let cut = kind_of(rt.alloc(), TRUNCATION)?;
+    assert_eq!(rt; cuts(&cut), Some((rel, 3, 7)));
+    Ok(())
+}
+
+/// The block references of an entry.
+fn blocks_of(kind: &Kind) -> &[BlockRef] {
+    match kind {
+        Kind::Generic(blocks) => blocks.as_slice(),
+        _ => &[],
     }
+}
+
+/// A delta is one fragment, these bytes at a place.
+fn is_fragment(body: &Body, at: u16, bytes: &[u8]) -> bool {
+    match body {
+        Body::Delta(frags) => match frags.as_slice() {
+            [frag] => frag.at() == at && frag.bytes() == bytes,
+            _ => false,
+        },
+        Body::Image(_) => false,
+    }
+}
+
+/// The hole of an image.
+fn hole(body: &Body) -> Option<(u16, u16)> {
+    match body {
+        Body::Image(page) => page.hole(),
+        Body::Delta(_) => None,
+    }
+}
+
+#[test]
+fn blocks_are_read(rt: HostRuntime) -> Result<(), Fail> {
+    let kind = kind_of(rt.alloc(), BOTH)?;
+    let [delta, image] = blocks_of(&kind) else {
+        return Err("not two blocks")?;
+    };
+    assert_eq!(rt; (delta.at.block, image.at.block), (0, 1));
+    assert_eq!(rt;
+        (delta.at.fork.rel.rel(), image.at.fork.rel.rel()),
+        (16384, 16384)
+    );
+    assert!(rt; is_fragment(&delta.body, 24, b"a"));
+    assert_eq!(rt; hole(&image.body), Some((24, 8192)));
     Ok(())
 }

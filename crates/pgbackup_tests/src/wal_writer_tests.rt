@@ -51,21 +51,23 @@ fn first_entry_is_flushed_behind_its_page_head(rt: HostRuntime) -> Result<(), Fa
     Ok(())
 }
 
+/// The end of a WAL with room for one checkpoint more before the end of its last segment.
+const LAST: WalTip = WalTip {
+    end: Lsn(0x100_000f_ffc8),
+    prev: Lsn(0x100_000f_ff90),
+    redo: Lsn(0x100028),
+    count: 3,
+};
+
 #[test]
-fn entries_end_with_the_first_page(rt: HostRuntime) -> Result<(), Fail> {
+fn entries_end_with_the_last_segment(rt: HostRuntime) -> Result<(), Fail> {
     let alloc = rt.alloc();
-    let tip = WalTip {
-        end: Lsn(0x101fc8),
-        prev: Lsn(0x101f90),
-        redo: Lsn(0x100028),
-        count: 3,
-    };
     let area = MemVault::new(alloc, &[])?;
-    let mut wal = WalState::attach(alloc, area, settings()?, tip);
-    let last = wal.append(alloc, Kind::Shutdown(Lsn(0x101fc8)))?;
-    assert_eq!(rt; (last.end, last.prev), (Lsn(0x102000), Lsn(0x101f90)));
+    let mut wal = WalState::attach(alloc, area, settings()?, LAST);
+    let last = wal.append(alloc, Kind::Online(LAST.end))?;
+    assert_eq!(rt; (last.end, last.prev), (Lsn(0x100_0010_0000), LAST.prev));
     assert_eq!(rt;
-        wal.append(alloc, Kind::Shutdown(last.end)).err(),
+        wal.append(alloc, Kind::NoOp).err(),
         Some(AppendFault::WalFull)
     );
     assert_eq!(rt; wal.end(), last.end);
@@ -73,18 +75,16 @@ fn entries_end_with_the_first_page(rt: HostRuntime) -> Result<(), Fail> {
 }
 
 #[test]
-fn what_was_appended_last_is_taken_back(rt: HostRuntime) -> Result<(), Fail> {
+fn what_is_prepared_may_be_left(rt: HostRuntime) -> Result<(), Fail> {
     let alloc = rt.alloc();
     let area = MemVault::new(alloc, &[])?;
     let mut wal = WalState::attach(alloc, area, settings()?, START);
-    let tip = wal.tip();
-    assert_eq!(rt; tip, START);
-    let refused = wal.append(alloc, Kind::Shutdown(Lsn(1)))?;
-    assert_eq!(rt; wal.tip().prev, refused.start);
-    wal.rewind(tip);
+    let left = wal.prepare(alloc, Kind::NoOp)?;
+    assert_eq!(rt; left.record().start, Lsn(0x100028));
     assert_eq!(rt; wal.tip(), START);
-    let first = wal.append(alloc, Kind::Shutdown(Lsn(0x100028)))?;
-    assert_eq!(rt; wal.flush_to(alloc, first.end)?.to(), first.end);
+    let first = wal.prepare(alloc, Kind::Shutdown(Lsn(0x100028)))?;
+    assert_eq!(rt; wal.add(first)?.end, Lsn(0x100060));
+    assert_eq!(rt; wal.flush_to(alloc, Lsn(0x100060))?.to(), Lsn(0x100060));
     let mut area = wal.detach();
     let bytes = read_whole(alloc, &mut area, SEGMENT)?;
     assert_eq!(rt; bytes.as_slice(), NEW_WAL.as_slice());
