@@ -23,11 +23,12 @@ edits:
 conformance: build
 	python3 conformance/replay.py bin/pgbackup
 	python3 conformance/run.py bin/pgbackup
+	python3 conformance/archives.py bin/pgbackup 500
 	python3 conformance/faults.py bin/pgbackup
 	cd crates/lsn_core_c && rt lib > /dev/null
 	python3 conformance/paths.py crates/lsn_core_c/out/liblsn_core_c.a
 
-bench:
+bench: build
 	$(MAKE) -s -C bench
 
 install: build

@@ -2,7 +2,7 @@
 
     python3 conformance/replay.py PROGRAM [RUNS [SEED]]
 
-Each run makes a WAL of creations and full-page images that fits on the first page, with the
+Each run makes a small WAL of creations and full-page images, on its first page, with the
 independent implementation, replays it with both, and compares the line, the status and the files.
 Then one bit of the WAL is turned: the program has to answer with one line and status 0 or 1.
 Not part of the gate. Skipped where the independent implementation (PGBACKUP_ORACLE) isn't there.

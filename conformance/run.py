@@ -5,7 +5,7 @@
 Each run makes a store with random options, runs one to three scripts of one worker on it, and
 replays its WAL, with both, each in a folder of its own. After each call the lines, the status and
 the bytes of `wal` and `o` are compared. Some scripts have one broken line, some stores can't be made.
-The scripts stay on the first page of the WAL, where a change fills it at most to its last byte.
+Entries go on over pages; now and then one ends just at a page's end, or a few bytes before it.
 Not part of the gate. Skipped where the independent implementation (PGBACKUP_ORACLE) isn't there.
 """
 import copy
@@ -74,10 +74,16 @@ change 1/2@-1=24,8192,0
 
 
 class Store:
-    """What the scripts so far made: the blocks of each fork, and the room on the first page."""
+    """What the scripts so far made: the blocks of each fork, and the room on the WAL's last page."""
 
     def __init__(self):
         self.blocks, self.room = {}, ROOM
+
+    def take(self, size):
+        """An entry takes so much room, of further pages too where it has to."""
+        self.room -= size
+        while self.room <= 0:
+            self.room += 8192 - 24
 
 
 def digits(rnd, number):
@@ -106,23 +112,23 @@ def any_shape(rnd):
     return lower, rnd.randrange(lower, 8193)
 
 
-def small_shape(rnd, room):
-    """The bounds of a page whose image fits, or None; at times one that fills the room."""
-    if rnd.random() < 0.05 and 73 <= room <= 8100:
+def a_shape(rnd, room):
+    """The bounds of a page, mostly of a small image; at times one that fills the room."""
+    kind = rnd.random()
+    if kind < 0.1:
+        return any_shape(rnd)
+    if kind < 0.2 and 80 <= room <= 8100:
         image = room - 49 - rnd.randrange(min(8, room - 72))
         lower = rnd.randrange(24, image + 1)
         return lower, lower + 8192 - image
-    lower, upper = rnd.choice([24, rnd.randrange(24, 300)]), rnd.choice([8192, rnd.randrange(7892, 8193)])
-    return (lower, upper) if entry_size(lower, upper) <= room else None
+    return rnd.choice([24, rnd.randrange(24, 300)]), rnd.choice([8192, rnd.randrange(7892, 8193)])
 
 
 def a_creation(rnd, store):
     fork = a_fork(rnd)
     if fork not in store.blocks:
-        if store.room < 48:
-            return None
         store.blocks[fork] = 0
-        store.room -= 48
+        store.take(48)
     return "create " + fork_word(rnd, fork)
 
 
@@ -139,12 +145,10 @@ def a_change(rnd, store):
     length = store.blocks[fork]
     if kind < 0.2:
         return change(rnd, fork, length + rnd.choice([1, 2, rnd.randrange(1, TOP - length + 1)]), any_shape(rnd))
-    shape = small_shape(rnd, store.room)
-    if shape is None:
-        return None
+    shape = a_shape(rnd, store.room)
     block = rnd.choice([length, rnd.randrange(length + 1)])
     store.blocks[fork] = max(length, block + 1)
-    store.room -= entry_size(*shape)
+    store.take(entry_size(*shape))
     return change(rnd, fork, block, shape)
 
 

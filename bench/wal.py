@@ -1,0 +1,113 @@
+"""Measures what `run` writes and `replay` reads, beside the system's own tools.
+
+    python3 bench/wal.py PROGRAM ARCHIVE [ROUNDS]
+
+PROGRAM is pgbackup, ARCHIVE the tool of archive.c. Prints the best time of each round, in which the
+ways take turns, their ratios, and the peak memory of the program.
+"""
+import os
+import shutil
+import subprocess
+import sys
+import tempfile
+import time
+
+MIB = 1 << 20
+PAGES = 32449
+
+
+def timed(words, stdin=None):
+    """(seconds, MiB of peak memory, standard output) of a program that has to end well."""
+    with tempfile.TemporaryFile() as out:
+        begin = time.monotonic()
+        process = subprocess.Popen(words, stdin=stdin, stdout=out)
+        _, status, used = os.wait4(process.pid, 0)
+        took = time.monotonic() - begin
+        process.returncode = os.waitstatus_to_exitcode(status)
+        out.seek(0)
+        text = out.read().decode()
+    if process.returncode:
+        sys.exit("%s: status %d: %s" % (words, process.returncode, text[-200:]))
+    return took, used.ru_maxrss / 1024, text
+
+
+def size(folder):
+    return sum(os.path.getsize(os.path.join(folder, name)) for name in os.listdir(folder))
+
+
+def segments():
+    return sorted("wal/" + name for name in os.listdir("wal") if name != "settings")
+
+
+class Best:
+    """The best time of each way, and the greatest memory."""
+
+    def __init__(self):
+        self.seconds, self.memory = {}, {}
+
+    def take(self, way, words, stdin=None):
+        took, memory, text = timed(words, stdin)
+        self.seconds[way] = min(took, self.seconds.get(way, took))
+        self.memory[way] = max(memory, self.memory.get(way, 0))
+        return text
+
+
+def images(program, archive, rounds):
+    """About 256 MiB of full-page images: written by `run`, read by `replay`."""
+    best = Best()
+    with open("script", "w") as script:
+        script.write("worker w\ncreate 5/16384\n")
+        script.writelines("change 5/16384@%d=8192,8192,%d\n" % (block, block % 251) for block in range(PAGES))
+    for _ in range(rounds):
+        shutil.rmtree("wal", ignore_errors=True)
+        timed([program, "init", "--system-id", "1"])
+        with open("script", "rb") as script:
+            best.take("run", [program, "run"], script)
+        mib = size("wal") / MIB
+        best.take("dd", ["dd", "if=/dev/zero", "of=zeros", "bs=1M", "count=%d" % round(mib), "conv=fsync", "status=none"])
+    for _ in range(rounds):
+        shutil.rmtree("o", ignore_errors=True)
+        shutil.rmtree("copy", ignore_errors=True)
+        best.take("replay", [program, "replay", "p"])
+        best.take("sum", [archive, "sum"] + segments())
+        best.take("cp", ["cp", "-r", "o/p", "copy"])
+    run, dd, replay, both = (best.seconds["run"], best.seconds["dd"], best.seconds["replay"],
+                             best.seconds["sum"] + best.seconds["cp"])
+    print("%d page images, %.0f MiB of WAL" % (PAGES, mib))
+    print("run     %.2f s, %.0f MB/s, %.0f MiB of memory" % (run, mib * MIB / run / 1e6, best.memory["run"]))
+    print("dd      %.2f s with one fsync: run takes %.2f of it" % (dd, run / dd))
+    print("replay  %.2f s, %.0f MiB of memory" % (replay, best.memory["replay"]))
+    print("sum     %.2f s, cp %.2f s: replay takes %.2f of both" % (best.seconds["sum"], best.seconds["cp"], replay / both))
+
+
+def short(program, archive, rounds):
+    """About 64 MiB of short entries, read by `replay`."""
+    best = Best()
+    shutil.rmtree("wal")
+    os.mkdir("wal")
+    entries = int(timed([archive, "make", "wal", "64"])[2])
+    for _ in range(rounds):
+        shutil.rmtree("o", ignore_errors=True)
+        best.take("replay", [program, "replay", "p"])
+    took = best.seconds["replay"]
+    print("%d short entries, %.0f MiB of WAL" % (entries, size("wal") / MIB))
+    print("replay  %.2f s, %.0f entries/s, %.0f MiB of memory" % (took, entries / took, best.memory["replay"]))
+
+
+def main():
+    program, archive = (os.path.abspath(path) for path in sys.argv[1:3])
+    rounds = int(sys.argv[3]) if len(sys.argv) > 3 else 3
+    folder = tempfile.mkdtemp(dir=os.path.dirname(archive))
+    os.chdir(folder)
+    try:
+        for name in ("wal", "sums", "o"):
+            os.mkdir(name)
+        images(program, archive, rounds)
+        short(program, archive, rounds)
+    finally:
+        os.chdir("/")
+        shutil.rmtree(folder)
+
+
+if __name__ == "__main__":
+    main()
