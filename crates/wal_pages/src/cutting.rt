@@ -53,7 +53,7 @@ fn push_long(
 /// The head of a page on which so many bytes of an entry are still to come.
 #[tactic(auto, unfolding(crate::specs::Heads::head_bytes))]
 fn page_head(alloc: Global, of: &Settings, page: u64, rest: u32) -> Result<Vec<u8>, AllocError>
-    ensures { IfOk result (λ bytes. bytes.items ≡ page_head of.now.segment of.now.system page rest) }
+    ensures { IfOk result (λ head. head.items ≡ page_head of.now.segment of.now.system page rest) }
 {
     let first = is_first_page(of.segment(), page);
     let mut bytes = Vec::new(alloc);
@@ -82,13 +82,13 @@ fn still_to_come(size: SegSize, first: u64, total: u32, page: u64) -> u32
 }
 
 /// Puts the first bytes of a text, so many, behind others, and zeros where there are fewer.
-fn push_filled(out: &mut Vec<u8>, bytes: &[u8], count: usize) -> Result<(), AllocError>
-    requires { count ≤ 8192 }
-    ensures { OnOk result (out.new.items ≡ out.old.items ++ zero_filled (take count bytes.now) count) }
+fn push_filled(out: &mut Vec<u8>, text: &[u8], size: usize) -> Result<(), AllocError>
+    requires { size ≤ page_size }
+    ensures { OnOk result (out.new.items ≡ out.old.items ++ zero_filled (take size text.now) size) }
 {
-    let own = bytes.len().min(count);
-    out.extend_from_slice(&bytes[..own])?;
-    out.resize(out.len() + (count - own), 0)
+    let own = text.len().min(size);
+    out.extend_from_slice(&text[..own])?;
+    out.resize(out.len() + (size - own), 0)
 }
 
 /// Puts the entry's bytes of a page behind its head, from a place to another, behind others.

@@ -1,6 +1,5 @@
 -- How long what is written is.
 use Rattle.std.proofs.Common.{◌≡◌, ℕ, ◌+◌, ◌*◌, ◌≤◌, List, [], ◌∷◌, ◌++◌, length, Option, Some, None, refl, arith}
-use Rattle.std.specs.Int.{w32, to_le_bytes}
 use Rattle.std.specs.List.{All}
 use Rattle.std.proofs.lemmas.List.{length-append}
 use Rattle.std.proofs.lemmas.List.Elements.{All-head, All-tail}
@@ -8,16 +7,12 @@ use Rattle.lsn_core.specs.Relation.{Relation}
 use Rattle.pg_page.specs.Header.{IsGood, hole_of}
 use Rattle.pg_page.specs.Image.{image_of}
 use Rattle.pg_page.proofs.ImageLaws.{length-image_of-Some, length-image_of-None}
-use Rattle.wal_record.specs.declared.announce.ImageHead.{ImageHead}
-use Rattle.wal_record.specs.declared.announce.RelName.{RelName}
-use Rattle.wal_record.specs.declared.announce.BlockHead.{BlockHead}
-use Rattle.wal_record.specs.declared.announce.MainHead.TheVariants.{Absent}
+use Rattle.wal_heads.proofs.Lengths.{heads_most}
 use Rattle.wal_record.specs.declared.record.BlockRef.{BlockRef}
 use Rattle.wal_record.specs.declared.record.Body.{Body}
 use Rattle.wal_record.specs.declared.record.Body.TheVariants.{Image, Delta}
 use Rattle.wal_record.specs.declared.record.Kind.{Kind}
 use Rattle.wal_record.specs.declared.record.Kind.TheVariants.{Shutdown, Online, RedoMark, NoOp, BackupEnd, Images, Generic, Create, Truncate}
-use Rattle.wal_record.specs.Heads.{hole_bytes, image_bytes, rel_bytes, block_bytes, heads_bytes}
 use Rattle.wal_record.specs.Spelling.{heads_of, bodies_bytes, body_bytes, body_of, IsWritableBody, IsWritableBlock, IsBlockList, IsWritable}
 use Rattle.wal_record.proofs.Deltas.{frags_most}
 
@@ -37,27 +32,6 @@ bodies_most [] w = omega arith
 bodies_most (b ∷ bs) w =
     let own : IsWritableBlock b = All-head IsWritableBlock b bs w in
     omega (arith, body_bytes_most b.body own.body, bodies_most bs (All-tail IsWritableBlock b bs w), length-append (body_bytes b.body) (bodies_bytes bs))
-
-hole_most : (o : Option ℕ) (rest : List ℕ) → length (hole_bytes o rest) ≤ 2 + length rest
-hole_most None rest = omega arith
-hole_most (Some n) rest = omega arith
-
-image_head_most : (o : Option ImageHead) (rest : List ℕ) → length (image_bytes o rest) ≤ 7 + length rest
-image_head_most None rest = omega arith
-image_head_most (Some h) rest = omega (arith, hole_most h.hole rest)
-
-name_most : (o : Option RelName) (rest : List ℕ) → length (rel_bytes o rest) ≤ 12 + length rest
-name_most None rest = omega arith
-name_most (Some r) rest = omega arith
-
-head_most : (h : BlockHead) (rest : List ℕ) → length (block_bytes h rest) ≤ 27 + length rest
-head_most h rest =
-    let more : List ℕ = to_le_bytes w32 h.block ++ rest in
-    omega (arith, image_head_most h.image (rel_bytes h.rel more), name_most h.rel more)
-
-pub heads_most : (hs : List BlockHead) (rest : List ℕ) → length (heads_bytes hs Absent rest) ≤ length hs * 27 + length rest
-heads_most [] rest = omega arith
-heads_most (h ∷ hs) rest = omega (arith, head_most h (heads_bytes hs Absent rest), heads_most hs rest)
 
 pub length-heads_of : (id : ℕ) (last : Option Relation) (blocks : List BlockRef) → length (heads_of id last blocks) ≡ length blocks
 length-heads_of id last [] = refl

@@ -1,8 +1,4 @@
 pub mod Rows
-pub mod Steps
-pub mod Heads
-pub mod HeadsTaken
-pub mod HeadsAgain
 pub mod EntryTaken
 pub mod EntryAgain
 pub mod Tips

@@ -6,9 +6,11 @@ use Rattle.byte_words.specs.Numbers.{◌>>=◌}
 use Rattle.byte_words.proofs.Fields.{wide32, wide64, step_again}
 use Rattle.lsn_core.specs.Relation.{Relation}
 use Rattle.lsn_core.specs.declared.lsn.Lsn.{Lsn}
-use Rattle.wal_record.specs.Parts.{checkpoint_at, mark_at, start_at, named_at, creation_at, truncation_at}
+use Rattle.wal_heads.specs.Announcements.{named_at}
+use Rattle.wal_heads.proofs.HeadsAgain.{named_again}
+use Rattle.wal_record.specs.Parts.{checkpoint_at, mark_at, start_at, creation_at, truncation_at}
 use Rattle.wal_record.specs.Spelling.{full_name, checkpoint_bytes, relation_bytes, truncation_bytes, IsRelation}
-use Rattle.wal_record.proofs.Steps.{takes_again, passes}
+use Rattle.wal_heads.proofs.Steps.{takes_again, passes}
 
 checkpoint_followed : (redo : Lsn) (end : List ℕ) → redo.0 < 2 ^ 64 → length end ≡ 0 → checkpoint_at (to_le_bytes w64 redo.0 ++ (to_le_bytes w32 1 ++ (to_le_bytes w32 1 ++ (to_le_bytes w64 1 ++ end)))) ≡ Some redo
 unfolding checkpoint_at
@@ -38,19 +40,15 @@ start_followed start end lt nil = step_again w64 (2 ^ 64) wide64 _ start.0 end _
 pub start_again : (start : Lsn) → start.0 < 2 ^ 64 → start_at (to_le_bytes w64 start.0) ≡ Some start
 start_again start lt = start_followed start [] lt refl
 
-named_again : (rel : Relation) (more : List ℕ) → IsRelation rel → named_at (relation_bytes rel more) ≡ Some (full_name rel, more)
-unfolding named_at
-named_again rel more is =
-    let r2 : List ℕ = to_le_bytes w32 rel.rel ++ more in
-    let r1 : List ℕ = to_le_bytes w32 rel.db ++ r2 in
-    step_again w32 (2 ^ 32) wide32 _ 1663 r1 _ _ refl (omega arith) (
-    step_again w32 (2 ^ 32) wide32 r1 rel.db r2 _ _ refl is.fits.0 (
-    step_again w32 (2 ^ 32) wide32 r2 rel.rel more _ _ refl is.fits.1 refl))
+full_name_again : (rel : Relation) (more : List ℕ) → IsRelation rel → named_at (relation_bytes rel more) ≡ Some (full_name rel, more)
+full_name_again rel more is =
+    named_again (full_name rel) more
+    (record { space = omega arith; db = is.fits.0; rel = is.fits.1 })
 
 creation_followed : (rel : Relation) (n : ℕ) (end : List ℕ) → IsRelation rel → n < 2 ^ 32 → length end ≡ 0 → creation_at (relation_bytes rel (to_le_bytes w32 n ++ end)) ≡ Some (full_name rel, n)
 unfolding creation_at
 creation_followed rel n end is lt nil =
-    takes_again (named_at (relation_bytes rel (to_le_bytes w32 n ++ end))) _ (full_name rel, to_le_bytes w32 n ++ end) _ (named_again rel (to_le_bytes w32 n ++ end) is) (
+    takes_again (named_at (relation_bytes rel (to_le_bytes w32 n ++ end))) _ (full_name rel, to_le_bytes w32 n ++ end) _ (full_name_again rel (to_le_bytes w32 n ++ end) is) (
     step_again w32 (2 ^ 32) wide32 (to_le_bytes w32 n ++ end) n end _ _ refl lt (passes _ _ _ _ (eq-eqb (length end) 0 nil) refl))
 
 pub creation_again : (rel : Relation) (n : ℕ) → IsRelation rel → n < 2 ^ 32 → creation_at (relation_bytes rel (to_le_bytes w32 n)) ≡ Some (full_name rel, n)

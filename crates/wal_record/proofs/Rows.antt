@@ -1,25 +1,23 @@
 -- Worked examples of the written form, and of what is refused.
-use Rattle.std.proofs.Common.{◌≡◌, ℕ, List, [], ◌∷◌, length, replicate, map, take, drop, Option, Some, None, Ok, Err, refl}
+use Rattle.std.proofs.Common.{◌≡◌, ℕ, List, [], ◌∷◌, length, replicate, take, drop, Some, None, Ok, Err, refl}
 use Rattle.lsn_core.specs.Relation.{Relation}
 use Rattle.lsn_core.specs.declared.ids.ForkKind.TheVariants.{Main, Init}
 use Rattle.pg_page.specs.Header.{made_page, made_fields}
 use Rattle.pg_page.specs.Image.{without_hole}
-use Rattle.wal_record.specs.declared.announce.MainHead.TheVariants.{Absent, Short}
+use Rattle.wal_heads.specs.declared.announce.MainHead.TheVariants.{Absent, Short}
 use Rattle.wal_record.specs.declared.record.Record.{Record}
 use Rattle.wal_record.specs.declared.record.Kind.{Kind}
 use Rattle.wal_record.specs.declared.record.Kind.TheVariants.{Shutdown, RedoMark, NoOp, BackupEnd, Generic, Create, Truncate}
 use Rattle.wal_record.specs.declared.record.BlockRef.{BlockRef}
 use Rattle.wal_record.specs.declared.record.Body.{Body}
 use Rattle.wal_record.specs.declared.record.Body.TheVariants.{Image, Delta}
-use Rattle.wal_record.specs.Heads.{has_bit}
-use Rattle.wal_record.specs.Header.{form_of}
-use Rattle.wal_record.specs.Announcements.{Heads, image_at, name_at, block_head_at, next_block_at, step_at, heads_at}
-use Rattle.wal_record.specs.Parts.{frag_at, frags_at, delta_at, named_at, creation_at}
+use Rattle.wal_heads.specs.Announcements.{named_at}
+use Rattle.wal_record.specs.Parts.{frag_at, frags_at, delta_at, creation_at}
 use Rattle.wal_record.specs.Content.{id_said, delta_said, block_said, blocks_said, creation_said, blocks_alone, kind_said, said}
-use Rattle.wal_record.specs.declared.announce.BlockHead.{BlockHead}
-use Rattle.wal_record.specs.declared.announce.RelName.{RelName}
+use Rattle.wal_heads.specs.declared.announce.BlockHead.{BlockHead}
+use Rattle.wal_heads.specs.declared.announce.RelName.{RelName}
 use Rattle.wal_record.specs.declared.record.Why.TheVariants as whys
-use Rattle.wal_record.specs.declared.header.Form.TheVariants as forms
+use Rattle.wal_heads.specs.declared.header.Form.TheVariants as forms
 use Rattle.wal_record.specs.Spelling.{spelling, total_of, body_of}
 
 -- the first entry of an archive that begins at 0/100000: 50 bytes
@@ -93,59 +91,6 @@ delta_total = refl
 two_heads : body_of two_blocks ≡ 0x00 ∷ 0x20 ∷ 0x06 ∷ 0x00 ∷ 0x7f ∷ 0x06 ∷ 0x00 ∷ 0x00 ∷ 0x05 ∷ 0x00 ∷ 0x00 ∷ 0x00 ∷ 0x00 ∷ 0x40 ∷ 0x00 ∷ 0x00 ∷ 0x07 ∷ 0x00 ∷ 0x00 ∷ 0x00 ∷
     0x01 ∷ 0xa0 ∷ 0x06 ∷ 0x00 ∷ 0x08 ∷ 0x00 ∷ 0x00 ∷ 0x00 ∷ 0x18 ∷ 0x00 ∷ 0x02 ∷ 0x00 ∷ 0xab ∷ 0xcd ∷ 0x18 ∷ 0x00 ∷ 0x02 ∷ 0x00 ∷ 0xab ∷ 0xcd ∷ []
 two_heads = refl
-
--- a block's announcement by hand: its id, its flags and the length of its data; then its relation and its number
-abbrev head : ℕ → ℕ → ℕ → List ℕ → List ℕ
-head id flags size rest = id ∷ flags ∷ size ∷ 0x00 ∷ 0x7f ∷ 0x06 ∷ 0x00 ∷ 0x00 ∷ 0x05 ∷ 0x00 ∷ 0x00 ∷ 0x00 ∷ 0x00 ∷ 0x40 ∷ 0x00 ∷ 0x00 ∷ 0x07 ∷ 0x00 ∷ 0x00 ∷ 0x00 ∷ rest
-
--- what is announced is all that is there
-one_read : heads_at 34 0 0 (head 0 0x20 1 (0xab ∷ [])) ≡ Some (record { id = 0; flags = 0x20; data_len = 1; image = None; rel = Some (record { space = 1663; db = 5; rel = 16384 }); block = 7 } ∷ [], Absent, 0xab ∷ [])
-unfolding heads_at step_at next_block_at block_head_at image_at name_at has_bit
-one_read = refl
-
-abbrev take_ids : Option Heads → List ℕ
-take_ids None = []
-take_ids (Some x) = map (λ h. h.id) x.0
-
-id_32_read : take_ids (heads_at 34 0 0 (head 32 0x20 1 (0xab ∷ []))) ≡ 32 ∷ []
-unfolding heads_at step_at next_block_at block_head_at image_at name_at has_bit
-id_32_read = refl
-
-id_33 : heads_at 34 0 0 (head 33 0x20 1 (0xab ∷ [])) ≡ None
-unfolding heads_at step_at next_block_at block_head_at image_at name_at has_bit
-id_33 = refl
-
-byte_too_many : heads_at 34 0 0 (head 0 0x20 1 (0xab ∷ 0xcd ∷ [])) ≡ None
-unfolding heads_at step_at next_block_at block_head_at image_at name_at has_bit
-byte_too_many = refl
-
-byte_too_few : heads_at 34 0 0 (head 0 0x20 1 []) ≡ None
-unfolding heads_at step_at next_block_at block_head_at image_at name_at has_bit
-byte_too_few = refl
-
-data_unflagged : heads_at 34 0 0 (head 0 0x00 1 (0xab ∷ [])) ≡ None
-unfolding heads_at step_at next_block_at block_head_at image_at name_at has_bit
-data_unflagged = refl
-
-fork_4 : heads_at 34 0 0 (head 0 0x24 1 (0xab ∷ [])) ≡ None
-unfolding heads_at step_at next_block_at block_head_at image_at name_at has_bit
-fork_4 = refl
-
-ids_again : heads_at 34 0 0 (head 3 0x20 1 (head 3 0x20 1 (0xab ∷ 0xcd ∷ []))) ≡ None
-unfolding heads_at step_at next_block_at block_head_at image_at name_at has_bit
-ids_again = refl
-
--- an announcement of no main data is read
-no_main : heads_at 34 0 0 (0xff ∷ 0x00 ∷ []) ≡ Some ([], Short 0, [])
-unfolding heads_at step_at
-no_main = refl
-
--- the low bits of the info byte don't tell the kind
-low_bits : form_of 2 0x21 ≡ form_of 2 0x20
-low_bits = refl
-
-unknown : form_of 0 0x30 ≡ None
-unknown = refl
 
 -- a block's announcement with data of six bytes, by its flags, the name of its relation and its number
 abbrev told : ℕ → RelName → ℕ → BlockHead

@@ -5,10 +5,10 @@ use Rattle.byte_words.specs.Numbers.{u32_in}
 use Rattle.byte_words.proofs.Fields.{wide32, number_again, number_is}
 use Rattle.lsn_core.specs.declared.lsn.Lsn.{Lsn}
 use Rattle.wal_crc.specs.Crc.{crc32c}
-use Rattle.wal_record.specs.declared.header.Header.{Header}
+use Rattle.wal_heads.specs.declared.header.Header.{Header}
 use Rattle.wal_record.specs.declared.record.Record.{Record}
-use Rattle.wal_record.specs.Header.{entry_sum, is_linked}
-use Rattle.wal_record.specs.Announcements.{Heads}
+use Rattle.wal_heads.specs.Header.{entry_sum, is_linked}
+use Rattle.wal_heads.specs.Announcements.{Heads}
 use Rattle.wal_record.specs.Decoding.{may_come}
 use Rattle.wal_record.specs.Entry.{header_front, own_place, IsEntry}
 use Rattle.wal_record.specs.Spelling.{manager_of, info_of, main_of, blocks_of, heads_of, main_head_of, bodies_bytes, body_of, total_of, front_of, spelling, sealed, IsWritable}

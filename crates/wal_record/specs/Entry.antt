@@ -3,12 +3,12 @@ use Rattle.std.specs.Prelude.{◌≡◌, ℕ, ◌<◌, ◌≤◌, ◌^◌, true,
 use Rattle.std.specs.Int.{w8, w16, w32, w64, to_le_bytes}
 use Rattle.lsn_core.specs.declared.lsn.Lsn.{Lsn}
 use Rattle.lsn_core.specs.declared.lsn.Place.{Place}
-use Rattle.wal_record.specs.declared.header.Header.{Header}
-use Rattle.wal_record.specs.declared.header.Form.{Form}
+use Rattle.wal_heads.specs.declared.header.Header.{Header}
+use Rattle.wal_heads.specs.declared.header.Form.{Form}
 use Rattle.wal_record.specs.declared.record.Record.{Record}
-use Rattle.wal_record.specs.Header.{entry_sum, is_linked, form_of}
-use Rattle.wal_record.specs.Heads.{heads_bytes, AreHeads}
-use Rattle.wal_record.specs.Announcements.{Heads}
+use Rattle.wal_heads.specs.Header.{most_total, entry_sum, is_linked, form_of}
+use Rattle.wal_heads.specs.Heads.{heads_bytes, AreHeads}
+use Rattle.wal_heads.specs.Announcements.{Heads}
 use Rattle.wal_record.specs.Content.{said}
 use Rattle.wal_record.specs.Decoding.{may_come}
 
@@ -41,7 +41,7 @@ pub record IsEntry (bytes : List ℕ) (place : Place) (prev : Option Lsn) (r : R
   pub spare_fits : spare < 2 ^ 16
   pub spelled : bytes ≡ header_front (length bytes) header spare
       ++ (to_le_bytes w32 header.crc ++ tree_bytes heads)
-  pub most : length bytes ≤ 4194304
+  pub most : length bytes ≤ most_total
   pub linked : is_linked prev header.prev ≡ true
   pub summed : header.crc ≡ entry_sum (header_front (length bytes) header spare) (tree_bytes heads)
   pub known : form_of header.manager header.info ≡ Some form

@@ -1,7 +1,4 @@
 pub mod Outcome
-pub mod Header
-pub mod Heads
-pub mod Announcements
 pub mod Spelling
 pub mod Parts
 pub mod Content

@@ -6,7 +6,8 @@ use Rattle.byte_words.specs.Numbers.{◌>>=◌, number_at}
 use Rattle.lsn_core.specs.declared.lsn.Lsn.{Lsn}
 use Rattle.pg_page.specs.Frags.{Fragment, bad_frag, is_good}
 use Rattle.pg_page.specs.Image.{restored}
-use Rattle.wal_record.specs.declared.announce.RelName.{RelName}
+use Rattle.wal_heads.specs.declared.announce.RelName.{RelName}
+use Rattle.wal_heads.specs.Announcements.{named_at}
 
 -- what stands at the end of the bytes, so much
 abbrev pub last_of : ℕ → List ℕ → List ℕ
@@ -69,14 +70,6 @@ unfoldable pub start_at : List ℕ → Option Lsn
 start_at main =
     number_at w64 main >>= λ start.
     if length start.1 == 0 then Some (record { 0 = start.0 }) else None
-
--- the name of a relation, and the bytes after it
-unfoldable pub named_at : List ℕ → Option (RelName × List ℕ)
-named_at bytes =
-    number_at w32 bytes >>= λ space.
-    number_at w32 space.1 >>= λ db.
-    number_at w32 db.1 >>= λ rel.
-    Some (record { space = space.0; db = db.0; rel = rel.0 }, rel.1)
 
 -- a relation and a number
 unfoldable pub creation_at : List ℕ → Option (RelName × ℕ)

@@ -4,11 +4,6 @@ ghost use Rattle.std.specs.Prelude.{◌≡◌};
 ghost use Rattle.wal_record.specs.Outcome.{Gives, refused};
 ghost use Rattle.wal_record.specs.Content.{fork_numbered, relation_of, is_packed, is_applied, id_said, has_blocks, has_deltas, image_said, delta_said, body_by, block_said, own_name, blocks_said, no_name, creation_said, truncation_said, blocks_alone, kind_said, said};
 
-use crate::announce::{
-    BlockHead, Heads, ImageHead, MainHead, RelName, block_size, has_bit, image_size, is_compressed,
-    main_size,
-};
-use crate::header::Form;
 use crate::parts::{
     behind, checkpoint_of, creation_of, delta_of, front_of, last_of, mark_of, page_of, start_of,
     truncation_of,
@@ -16,6 +11,10 @@ use crate::parts::{
 use crate::record::{BlockRef, Blocks, Body, Kind, RecordFault, Why};
 use lsn_core::{BlockId, ForkId, ForkKind, MOST_BLOCKS, Rel};
 use std::alloc::Global;
+use wal_heads::{
+    BlockHead, Form, Heads, ImageHead, MainHead, RelName, block_size, has_bit, image_size,
+    is_compressed, main_size,
+};
 
 /// What the announcements and the bytes behind them say of an entry of this form.
 #[tactic(auto, unfolding(crate::specs::Content::said))]

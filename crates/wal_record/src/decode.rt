@@ -5,12 +5,11 @@ ghost use Rattle.wal_record.specs.Outcome.{Gives};
 ghost use Rattle.wal_record.specs.Sound.{IsSound};
 ghost use Rattle.wal_record.specs.Decoding.{kind_at, is_own_redo, may_come, record_in, record_at};
 
-use crate::announce::heads_of;
 use crate::content::said;
-use crate::header::{Header, form_of, is_linked, parts_of, sum_of, summed_front};
 use crate::record::{Kind, Record, RecordFault, Why};
 use lsn_core::{Lsn, Place};
 use std::alloc::Global;
+use wal_heads::{Header, form_of, heads_of, is_linked, parts_of, sum_of, summed_front};
 
 /// The entry at the front of the bytes, at its place, behind one that starts at `prev`; None asks
 /// for no link, and a `prev` of 0 for the archive's first entry.
@@ -81,7 +80,7 @@ fn kind_of(alloc: Global, manager: u8, info: u8, body: &[u8]) -> Result<Kind, Re
 }
 
 /// Whether an entry is a shutdown checkpoint whose redo point is its own start.
-fn is_own_redo(start: Lsn, kind: &Kind) -> bool
+pub fn is_own_redo(start: Lsn, kind: &Kind) -> bool
     ensures { result ≡ is_own_redo start kind.now }
 {
     match kind {

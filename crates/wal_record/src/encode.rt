@@ -1,15 +1,15 @@
 //! Writing an entry.
 
 ghost use Rattle.std.specs.Prelude.{◌≡◌, ◌+◌, ◌<◌, ◌≤◌, ◌++◌, length, IfOk};
-ghost use Rattle.wal_record.specs.Heads.{main_bytes};
+ghost use Rattle.wal_heads.specs.Heads.{main_bytes};
 ghost use Rattle.wal_record.specs.Spelling.{manager_of, info_of, checkpoint_bytes, creation_bytes, truncation_bytes, main_head_of, body_of, total_of, front_of, sealed, IsWritable};
 
 use crate::blocks::blocks_alone;
-use crate::header::sum_of;
 use crate::names::{fork_number, relation};
 use crate::record::{Kind, Record};
 use lsn_core::{ForkId, Lsn, NoMemory, Rel};
 use std::alloc::{AllocError, Global};
+use wal_heads::{LEAST_TOTAL, sum_of};
 
 /// The written form of an entry with its sum, without padding. The entry's kind is one that can be
 /// written; it then has from 24 to 4,194,304 bytes.
@@ -32,7 +32,7 @@ fn front_of(alloc: Global, rec: &Record, size: usize) -> Result<Vec<u8>, AllocEr
     requires most { size ≤ 4_194_280 }
     ensures { IfOk result (λ bytes. bytes.items ≡ front_of rec.now) }
 {
-    let total = 24 + size as u32;
+    let total = LEAST_TOTAL + size as u32;
     let mut bytes = Vec::new(alloc);
     bytes.extend_from_slice(&total.to_le_bytes())?;
     bytes.extend_from_slice(&rec.xid.to_le_bytes())?;

@@ -4,27 +4,13 @@ ghost use Rattle.std.specs.Prelude.{◌≡◌, ◌<◌, ◌≤◌, ◌^◌, ◌+
 ghost use Rattle.byte_words.specs.Numbers.{IsBytes, u32_in};
 ghost use Rattle.lsn_core.specs.declared.lsn.Lsn.{Lsn};
 ghost use Rattle.lsn_core.specs.declared.lsn.Place.{Place};
-ghost use Rattle.wal_record.specs.declared.announce.BlockHead.{BlockHead};
-ghost use Rattle.wal_record.specs.declared.announce.MainHead.{MainHead};
 ghost use Rattle.wal_record.specs.declared.record.Kind.{Kind};
 ghost use Rattle.wal_record.specs.declared.record.Record.{Record};
-ghost use Rattle.wal_record.specs.Header.{is_linked};
-ghost use Rattle.wal_record.specs.Heads.{heads_bytes, AreHeads};
-ghost use Rattle.wal_record.specs.Announcements.{Heads, heads_at};
+ghost use Rattle.wal_heads.specs.Header.{least_total, most_total, is_linked};
 ghost use Rattle.wal_record.specs.Spelling.{sealed, IsWritable};
 ghost use Rattle.wal_record.specs.Decoding.{may_come, record_at};
 ghost use Rattle.wal_record.specs.Sound.{IsSound};
 ghost use Rattle.wal_record.specs.Entry.{own_place, IsEntry};
-
-/// What is read as announcements is of their grammar, and what is of the grammar is read.
-pub fn announcements_are_read()
-    ensures of_grammar { (bytes : List ℕ) (x : Heads) → IsBytes bytes
-        → heads_at 34 0 0 bytes ≡ Some x
-        → (bytes ≡ heads_bytes x.0 x.1 x.2) × AreHeads 0 0 x.0 x.1 x.2 }
-    ensures read { (hs : List BlockHead) (main : MainHead) (parts : List ℕ)
-        → AreHeads 0 0 hs main parts
-        → heads_at 34 0 0 (heads_bytes hs main parts) ≡ Some (hs, main, parts) }
-{}
 
 /// What is read as an entry is of the grammar of entries, and what is of the grammar is read,
 /// whatever stands behind it. An entry has the place that was told, and none begins another one.
@@ -55,7 +41,7 @@ pub fn written_is_read()
         → record_at (own_place r) prev (sealed r ++ behind) ≡ Ok r }
     ensures total { (r : Record) → IsWritable r.kind
         → (u32_in (sealed r) 0 ≡ length (sealed r))
-        × ((24 ≤ length (sealed r)) × (length (sealed r) ≤ 4194304)) }
+        × ((least_total ≤ length (sealed r)) × (length (sealed r) ≤ most_total)) }
 {}
 
 /// What is read is sound, and so is what can be written.

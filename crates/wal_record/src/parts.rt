@@ -2,13 +2,13 @@
 
 ghost use Rattle.std.specs.Prelude.{◌≡◌, length, take, drop, IfOk};
 ghost use Rattle.std.specs.Option.{option_map};
-ghost use Rattle.wal_record.specs.Parts.{last_of, good_page, page_at, frag_at, frags_at, delta_at, checkpoint_at, mark_at, start_at, named_at, creation_at, truncation_at};
+ghost use Rattle.wal_record.specs.Parts.{last_of, good_page, page_at, frag_at, frags_at, delta_at, checkpoint_at, mark_at, start_at, creation_at, truncation_at};
 
-use crate::announce::RelName;
 use byte_words::{u16_at, u32_at, u64_at};
 use lsn_core::Lsn;
 use pg_page::{Frag, Frags, Page, check_frags, restored_page};
 use std::alloc::{AllocError, Global};
+use wal_heads::{RelName, named_of};
 
 /// What stands at the end of the bytes, so much.
 pub fn last_of(size: usize, bytes: &[u8]) -> &[u8]
@@ -134,17 +134,6 @@ pub fn start_of(main: &[u8]) -> Option<Lsn>
     } else {
         None
     }
-}
-
-/// The name of a relation, and the bytes after it.
-#[tactic(auto, unfolding(crate::specs::Parts::named_at))]
-fn named_of(bytes: &[u8]) -> Option<(RelName, &[u8])>
-    ensures { option_map (λ x. (x.0, x.1.now)) result ≡ named_at bytes.now }
-{
-    let (space, rest) = u32_at(bytes)?;
-    let (db, rest) = u32_at(rest)?;
-    let (rel, rest) = u32_at(rest)?;
-    Some((RelName { space, db, rel }, rest))
 }
 
 /// The relation and the fork's number of a creation's main data.

@@ -26,7 +26,7 @@ pub enum Kind {
     Shutdown(Lsn),
     /// A checkpoint of a running store, with its redo point.
     Online(Lsn),
-    /// The start of a checkpoint, which is its redo point. The number is written as 1.
+    /// The start of a checkpoint, which is its redo point, with its number.
     RedoMark(u32),
     /// Nothing.
     NoOp,
@@ -101,7 +101,7 @@ pub enum Body {
 /// Why bytes are no entry. The first one that holds, in this order.
 #[derive(Clone, Copy, Debug, PartialEq, Eq)]
 pub enum RecordFault {
-    /// The total length is below 24 or above 4,194,304.
+    /// The total length is below 24 or above 4,194,304, or there are fewer bytes.
     Length,
     /// The link isn't to the start of the entry before.
     Prev,

@@ -1,6 +1,6 @@
 use Rattle.std.proofs.Common.{◌≡◌, [], ◌++◌, drop}
-use Rattle.wal_record.specs.declared.announce.MainHead.TheVariants.{Absent}
-use Rattle.wal_record.specs.Heads.{heads_bytes}
+use Rattle.wal_heads.specs.declared.announce.MainHead.TheVariants.{Absent}
+use Rattle.wal_heads.specs.Heads.{heads_bytes}
 use Rattle.wal_record.specs.Spelling.{heads_of, all_heads}
 use Rattle.wal_record.proofs.blocks.heads_of.Given as goal
 

@@ -2,14 +2,14 @@
 use Rattle.std.specs.Prelude.{ℕ, zero, suc, ◌+◌, Bool, true, false, List, [], ◌∷◌, length, Option, Some, None, not, nat_le, ◌==◌, ◌&&◌, if◌then◌else◌}
 use Rattle.std.specs.Int.{w8, w16, w32}
 use Rattle.byte_words.specs.Numbers.{◌>>=◌, number_at}
-use Rattle.wal_record.specs.declared.announce.ImageHead.{ImageHead}
-use Rattle.wal_record.specs.declared.announce.RelName.{RelName}
-use Rattle.wal_record.specs.declared.announce.BlockHead.{BlockHead}
-use Rattle.wal_record.specs.declared.announce.MainHead.{MainHead}
-use Rattle.wal_record.specs.declared.announce.MainHead.TheVariants.{Absent, Short, Long}
-use Rattle.wal_record.specs.declared.announce.Announcement.{Announcement}
-use Rattle.wal_record.specs.declared.announce.Announcement.TheVariants.{Block, Last}
-use Rattle.wal_record.specs.Heads.{has_bit, is_compressed, block_good, block_size, main_size}
+use Rattle.wal_heads.specs.declared.announce.ImageHead.{ImageHead}
+use Rattle.wal_heads.specs.declared.announce.RelName.{RelName}
+use Rattle.wal_heads.specs.declared.announce.BlockHead.{BlockHead}
+use Rattle.wal_heads.specs.declared.announce.MainHead.{MainHead}
+use Rattle.wal_heads.specs.declared.announce.MainHead.TheVariants.{Absent, Short, Long}
+use Rattle.wal_heads.specs.declared.announce.Announcement.{Announcement}
+use Rattle.wal_heads.specs.declared.announce.Announcement.TheVariants.{Block, Last}
+use Rattle.wal_heads.specs.Heads.{has_bit, is_compressed, block_good, block_size, main_size}
 
 -- parts that are there where the flags before them say so
 unfoldable pub hole_at : Bool → List ℕ → Option (Option ℕ × List ℕ)
@@ -25,13 +25,17 @@ image_at true bytes = do
   hole ← hole_at (has_bit info.0 1 && is_compressed info.0) info.1
   Some (Some (record { len = len.0; offset = offset.0; info = info.0; hole = hole.0 }), hole.1)
 
-unfoldable pub name_at : Bool → List ℕ → Option (Option RelName × List ℕ)
-name_at false bytes = Some (None, bytes)
-name_at true bytes = do
+-- a relation's name, and the bytes after it
+unfoldable pub named_at : List ℕ → Option (RelName × List ℕ)
+named_at bytes = do
   space ← number_at w32 bytes
   db ← number_at w32 space.1
   rel ← number_at w32 db.1
-  Some (Some (record { space = space.0; db = db.0; rel = rel.0 }), rel.1)
+  Some (record { space = space.0; db = db.0; rel = rel.0 }, rel.1)
+
+unfoldable pub name_at : Bool → List ℕ → Option (Option RelName × List ℕ)
+name_at false bytes = Some (None, bytes)
+name_at true bytes = named_at bytes >>= λ name. Some (Some name.0, name.1)
 
 abbrev pub block_head : ℕ → ℕ → ℕ → Option ImageHead → Option RelName → ℕ → BlockHead
 block_head id flags data_len image rel block = record {

@@ -1,6 +1,6 @@
-use Rattle.wal_record.proofs.HeadsTaken.{heads_takes}
-use Rattle.wal_record.proofs.HeadsAgain.{heads_again}
-use Rattle.wal_record.proofs.laws.announcements_are_read.Goals as goal
+use Rattle.wal_heads.proofs.HeadsTaken.{heads_takes}
+use Rattle.wal_heads.proofs.HeadsAgain.{heads_again}
+use Rattle.wal_heads.proofs.laws.announcements_are_read.Goals as goal
 
 pub returns-clause-of_grammar : goal.returns-clause-of_grammar
 returns-clause-of_grammar c bytes x fits e = let t = heads_takes 34 0 0 bytes x fits e in (t.spelled, t.are)

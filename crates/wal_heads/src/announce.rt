@@ -2,8 +2,8 @@
 
 ghost use Rattle.std.specs.Prelude.{◌≡◌, ◌+◌, ◌<◌, ◌≤◌, ◌^◌, IfOk};
 ghost use Rattle.std.specs.Option.{option_map};
-ghost use Rattle.wal_record.specs.Heads.{has_bit, is_compressed, block_good, data_good, image_good, image_may, image_size, block_size, main_size};
-ghost use Rattle.wal_record.specs.Announcements.{hole_at, image_at, name_at, block_head_at, next_block_at, last_at, short_at, long_at, step_at, heads_at};
+ghost use Rattle.wal_heads.specs.Heads.{has_bit, is_compressed, block_good, data_good, image_good, image_may, image_size, block_size, main_size};
+ghost use Rattle.wal_heads.specs.Announcements.{hole_at, image_at, named_at, name_at, block_head_at, next_block_at, last_at, short_at, long_at, step_at, heads_at};
 
 use byte_words::{u8_at, u16_at, u32_at};
 use std::alloc::{AllocError, Global};
@@ -140,6 +140,17 @@ fn image_of(told: bool, bytes: &[u8]) -> Option<(Option<ImageHead>, &[u8])>
     Some((Some(image), rest))
 }
 
+/// A relation's name, and the bytes after it.
+#[tactic(auto, unfolding(crate::specs::Announcements::named_at))]
+pub fn named_of(bytes: &[u8]) -> Option<(RelName, &[u8])>
+    ensures { option_map (λ x. (x.0, x.1.now)) result ≡ named_at bytes.now }
+{
+    let (space, rest) = u32_at(bytes)?;
+    let (db, rest) = u32_at(rest)?;
+    let (rel, rest) = u32_at(rest)?;
+    Some((RelName { space, db, rel }, rest))
+}
+
 /// A relation where it is told, and the bytes after it.
 #[tactic(auto, unfolding(crate::specs::Announcements::name_at))]
 fn name_of(told: bool, bytes: &[u8]) -> Option<(Option<RelName>, &[u8])>
@@ -148,10 +159,8 @@ fn name_of(told: bool, bytes: &[u8]) -> Option<(Option<RelName>, &[u8])>
     if !told {
         return Some((None, bytes));
     }
-    let (space, rest) = u32_at(bytes)?;
-    let (db, rest) = u32_at(rest)?;
-    let (rel, rest) = u32_at(rest)?;
-    Some((Some(RelName { space, db, rel }), rest))
+    let (name, rest) = named_of(bytes)?;
+    Some((Some(name), rest))
 }
 
 /// A block's announcement, and the bytes after it.

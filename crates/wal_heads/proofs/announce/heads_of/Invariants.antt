@@ -1,7 +1,7 @@
 use Rattle.std.proofs.Common.{◌≡◌, ◌-◌, ◌*◌, ◌≤◌}
-use Rattle.wal_record.specs.Announcements.{heads_at}
-use Rattle.wal_record.proofs.Heads.{with_front}
-use Rattle.wal_record.proofs.announce.heads_of.Given as goal
+use Rattle.wal_heads.specs.Announcements.{heads_at}
+use Rattle.wal_heads.proofs.OneByOne.{with_front}
+use Rattle.wal_heads.proofs.announce.heads_of.Given as goal
 
 -- what is read so far, in front of what the rest gives, is what the whole gives
 abbrev pub invariant-loop : goal.invariant-loop

@@ -6,16 +6,16 @@ use Rattle.std.specs.Int.{w8, w16, w32, to_le_bytes}
 use Rattle.std.proofs.lemmas.Bool.{and_parts, eq-eqb, ne_eqb, le-leb, leb-true, lt-leb}
 use Rattle.std.proofs.lemmas.List.{length-append}
 use Rattle.byte_words.proofs.Fields.{wide8, wide16, wide32, step_again}
-use Rattle.wal_record.specs.declared.announce.ImageHead.{ImageHead}
-use Rattle.wal_record.specs.declared.announce.RelName.{RelName}
-use Rattle.wal_record.specs.declared.announce.BlockHead.{BlockHead}
-use Rattle.wal_record.specs.declared.announce.MainHead.{MainHead}
-use Rattle.wal_record.specs.declared.announce.MainHead.TheVariants.{Absent, Short, Long}
-use Rattle.wal_record.specs.declared.announce.Announcement.{Announcement}
-use Rattle.wal_record.specs.declared.announce.Announcement.TheVariants.{Block, Last}
-use Rattle.wal_record.specs.Heads.{hole_bytes, image_bytes, rel_bytes, block_bytes, main_bytes, heads_bytes, block_good, block_size, main_size, ImageFits, NameFits, BlockFits, MainFits, AreHeads}
-use Rattle.wal_record.specs.Announcements.{hole_at, image_at, name_at, block_head_at, next_block_at, last_at, short_at, long_at, step_at, with_head, heads_at}
-use Rattle.wal_record.proofs.Steps.{passes, passes_over, takes_again}
+use Rattle.wal_heads.specs.declared.announce.ImageHead.{ImageHead}
+use Rattle.wal_heads.specs.declared.announce.RelName.{RelName}
+use Rattle.wal_heads.specs.declared.announce.BlockHead.{BlockHead}
+use Rattle.wal_heads.specs.declared.announce.MainHead.{MainHead}
+use Rattle.wal_heads.specs.declared.announce.MainHead.TheVariants.{Absent, Short, Long}
+use Rattle.wal_heads.specs.declared.announce.Announcement.{Announcement}
+use Rattle.wal_heads.specs.declared.announce.Announcement.TheVariants.{Block, Last}
+use Rattle.wal_heads.specs.Heads.{hole_bytes, image_bytes, rel_bytes, block_bytes, main_bytes, heads_bytes, block_good, block_size, main_size, ImageFits, NameFits, BlockFits, MainFits, AreHeads}
+use Rattle.wal_heads.specs.Announcements.{hole_at, image_at, named_at, name_at, block_head_at, next_block_at, last_at, short_at, long_at, step_at, with_head, heads_at}
+use Rattle.wal_heads.proofs.Steps.{passes, passes_over, takes_again}
 
 hole_again : (told : Bool) (hole : Option ℕ) (more : List ℕ) → is_some hole ≡ told → IfSome hole (λ n. n < 2 ^ 16) → hole_at told (hole_bytes hole more) ≡ Some (hole, more)
 unfolding hole_at
@@ -38,17 +38,21 @@ image_again true (Some h) more told good =
     step_again w8 (2 ^ 8) wide8 r2 h.info r3 _ _ refl good.info (
     takes_again _ _ (h.hole, more) _ (hole_again _ h.hole more good.hole_told good.hole) refl)))
 
-name_again : (told : Bool) (name : Option RelName) (more : List ℕ) → is_some name ≡ told → IfSome name NameFits → name_at told (rel_bytes name more) ≡ Some (name, more)
-unfolding name_at
-name_again false None more told good = refl
-name_again true None more told good = absurd cc
-name_again false (Some r) more told good = absurd cc
-name_again true (Some r) more told good =
+pub named_again : (r : RelName) (more : List ℕ) → NameFits r → named_at (rel_bytes (Some r) more) ≡ Some (r, more)
+unfolding named_at
+named_again r more good =
     let r2 : List ℕ = to_le_bytes w32 r.rel ++ more in
     let r1 : List ℕ = to_le_bytes w32 r.db ++ r2 in
     step_again w32 (2 ^ 32) wide32 _ r.space r1 _ _ refl good.space (
     step_again w32 (2 ^ 32) wide32 r1 r.db r2 _ _ refl good.db (
     step_again w32 (2 ^ 32) wide32 r2 r.rel more _ _ refl good.rel refl))
+
+name_again : (told : Bool) (name : Option RelName) (more : List ℕ) → is_some name ≡ told → IfSome name NameFits → name_at told (rel_bytes name more) ≡ Some (name, more)
+unfolding name_at
+name_again false None more told good = refl
+name_again true None more told good = absurd cc
+name_again false (Some r) more told good = absurd cc
+name_again true (Some r) more told good = takes_again _ _ (r, more) _ (named_again r more good) refl
 
 block_again : (h : BlockHead) (more : List ℕ) → BlockFits h → block_head_at (block_bytes h more) ≡ Some (h, more)
 unfolding block_head_at

@@ -1,6 +1,6 @@
 use Rattle.std.proofs.Common.{◌+◌, ◌-◌, arith}
-use Rattle.wal_record.proofs.Heads.{ended, finished, went_on, none_left}
-use Rattle.wal_record.proofs.announce.heads_of.Goals as goal
+use Rattle.wal_heads.proofs.OneByOne.{ended, finished, went_on, none_left}
+use Rattle.wal_heads.proofs.announce.heads_of.Goals as goal
 
 pub returns-in-None : goal.returns-in-None
 returns-in-None c =

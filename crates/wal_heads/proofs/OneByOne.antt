@@ -1,11 +1,11 @@
 -- Announcements read one by one.
 use Rattle.std.proofs.Common.{◌≡◌, ℕ, suc, ◌+◌, List, [], ◌∷◌, ◌++◌, Option, Some, None, refl, sym, ap, append-nil, append_assoc}
-use Rattle.wal_record.specs.declared.announce.BlockHead.{BlockHead}
-use Rattle.wal_record.specs.declared.announce.MainHead.{MainHead}
-use Rattle.wal_record.specs.declared.announce.Announcement.{Announcement}
-use Rattle.wal_record.specs.declared.announce.Announcement.TheVariants.{Block, Last}
-use Rattle.wal_record.specs.Heads.{block_size}
-use Rattle.wal_record.specs.Announcements.{Heads, step_at, with_head, heads_at}
+use Rattle.wal_heads.specs.declared.announce.BlockHead.{BlockHead}
+use Rattle.wal_heads.specs.declared.announce.MainHead.{MainHead}
+use Rattle.wal_heads.specs.declared.announce.Announcement.{Announcement}
+use Rattle.wal_heads.specs.declared.announce.Announcement.TheVariants.{Block, Last}
+use Rattle.wal_heads.specs.Heads.{block_size}
+use Rattle.wal_heads.specs.Announcements.{Heads, step_at, with_head, heads_at}
 
 -- blocks in front of all that is read behind them
 abbrev pub with_front : List BlockHead → Option Heads → Option Heads

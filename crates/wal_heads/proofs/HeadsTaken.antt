@@ -6,16 +6,16 @@ use Rattle.std.specs.Int.{w8, w16, w32, to_le_bytes}
 use Rattle.std.proofs.lemmas.Bool.{eqb-true}
 use Rattle.byte_words.specs.Numbers.{IsBytes, ◌>>=◌, number_at}
 use Rattle.byte_words.proofs.Fields.{wide8, wide16, wide32, step, put_front}
-use Rattle.wal_record.specs.declared.announce.ImageHead.{ImageHead}
-use Rattle.wal_record.specs.declared.announce.RelName.{RelName}
-use Rattle.wal_record.specs.declared.announce.BlockHead.{BlockHead}
-use Rattle.wal_record.specs.declared.announce.MainHead.{MainHead}
-use Rattle.wal_record.specs.declared.announce.MainHead.TheVariants.{Absent, Short, Long}
-use Rattle.wal_record.specs.declared.announce.Announcement.{Announcement}
-use Rattle.wal_record.specs.declared.announce.Announcement.TheVariants.{Block, Last}
-use Rattle.wal_record.specs.Heads.{hole_bytes, image_bytes, rel_bytes, block_bytes, main_bytes, heads_bytes, has_bit, is_compressed, block_good, block_size, main_size, ImageFits, NameFits, BlockFits, MainFits, AreHeads}
-use Rattle.wal_record.specs.Announcements.{hole_at, image_at, name_at, block_head, block_head_at, next_block_at, last_at, short_at, long_at, step_at, Heads, with_head, goes_on, heads_at}
-use Rattle.wal_record.proofs.Steps.{passed, either, took}
+use Rattle.wal_heads.specs.declared.announce.ImageHead.{ImageHead}
+use Rattle.wal_heads.specs.declared.announce.RelName.{RelName}
+use Rattle.wal_heads.specs.declared.announce.BlockHead.{BlockHead}
+use Rattle.wal_heads.specs.declared.announce.MainHead.{MainHead}
+use Rattle.wal_heads.specs.declared.announce.MainHead.TheVariants.{Absent, Short, Long}
+use Rattle.wal_heads.specs.declared.announce.Announcement.{Announcement}
+use Rattle.wal_heads.specs.declared.announce.Announcement.TheVariants.{Block, Last}
+use Rattle.wal_heads.specs.Heads.{hole_bytes, image_bytes, rel_bytes, block_bytes, main_bytes, heads_bytes, has_bit, is_compressed, block_good, block_size, main_size, ImageFits, NameFits, BlockFits, MainFits, AreHeads}
+use Rattle.wal_heads.specs.Announcements.{hole_at, image_at, named_at, name_at, block_head, block_head_at, next_block_at, last_at, short_at, long_at, step_at, Heads, with_head, goes_on, heads_at}
+use Rattle.wal_heads.proofs.Steps.{passed, either, took}
 
 -- a part that is there exactly where it is told
 pub record HoleTaken (told : Bool) (bytes : List ℕ) (x : Option ℕ × List ℕ) : Type 0 where
@@ -61,6 +61,25 @@ image_takes true bytes x fits e =
       fits = t4.fits;
     })))))
 
+pub record NamedTaken (bytes : List ℕ) (x : RelName × List ℕ) : Type 0 where
+  pub spelled : bytes ≡ rel_bytes (Some x.0) x.1
+  pub good : NameFits x.0
+  pub fits : IsBytes x.1
+
+named_takes : (bytes : List ℕ) (x : RelName × List ℕ) → IsBytes bytes → named_at bytes ≡ Some x → NamedTaken bytes x
+unfolding named_at
+named_takes bytes x fits e =
+    let P : Type 0 = NamedTaken bytes x in
+    step w32 (2 ^ 32) wide32 bytes _ x P fits e (λ space r1 e1 f1 g1 b1.
+    step w32 (2 ^ 32) wide32 r1 _ x P f1 g1 (λ db r2 e2 f2 g2 b2.
+    step w32 (2 ^ 32) wide32 r2 _ x P f2 g2 (λ rel r3 e3 f3 g3 b3.
+    let same : (record { space = space; db = db; rel = rel }, r3) ≡ x = cc in
+    subst (NamedTaken bytes) same (record {
+      spelled = put_front w32 space space bytes r1 _ refl e1 (put_front w32 db db r1 r2 _ refl e2 e3);
+      good = record { space = b1; db = b2; rel = b3 };
+      fits = f3;
+    }))))
+
 pub record NameTaken (told : Bool) (bytes : List ℕ) (x : Option RelName × List ℕ) : Type 0 where
   pub spelled : bytes ≡ rel_bytes x.0 x.1
   pub told_so : is_some x.0 ≡ told
@@ -73,17 +92,10 @@ name_takes false bytes x fits e =
     let same : (None, bytes) ≡ x = cc in
     subst (NameTaken false bytes) same (record { spelled = refl; told_so = refl; good = tt; fits = fits })
 name_takes true bytes x fits e =
-    let P : Type 0 = NameTaken true bytes x in
-    step w32 (2 ^ 32) wide32 bytes _ x P fits e (λ space r1 e1 f1 g1 b1.
-    step w32 (2 ^ 32) wide32 r1 _ x P f1 g1 (λ db r2 e2 f2 g2 b2.
-    step w32 (2 ^ 32) wide32 r2 _ x P f2 g2 (λ rel r3 e3 f3 g3 b3.
-    let same : (Some (record { space = space; db = db; rel = rel }), r3) ≡ x = cc in
-    subst (NameTaken true bytes) same (record {
-      spelled = put_front w32 space space bytes r1 _ refl e1 (put_front w32 db db r1 r2 _ refl e2 e3);
-      told_so = refl;
-      good = record { space = b1; db = b2; rel = b3 };
-      fits = f3;
-    }))))
+    took _ _ x (NameTaken true bytes x) e (λ name e1 g1.
+    let t = named_takes bytes name fits e1 in
+    let same : (Some name.0, name.1) ≡ x = cc in
+    subst (NameTaken true bytes) same (record { spelled = t.spelled; told_so = refl; good = t.good; fits = t.fits }))
 
 -- a block's announcement
 pub record BlockTaken (bytes : List ℕ) (x : BlockHead × List ℕ) : Type 0 where

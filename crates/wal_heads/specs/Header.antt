@@ -4,15 +4,23 @@ use Rattle.std.specs.Int.{w8, w16, w32, w64}
 use Rattle.byte_words.specs.Numbers.{◌>>=◌, number_at}
 use Rattle.lsn_core.specs.declared.lsn.Lsn.{Lsn}
 use Rattle.wal_crc.specs.Crc.{crc32c}
-use Rattle.wal_record.specs.declared.header.Header.{Header}
-use Rattle.wal_record.specs.declared.header.Form.{Form}
-use Rattle.wal_record.specs.declared.header.Form.TheVariants.{Shutdown, Online, RedoMark, NoOp, BackupEnd, Images, Generic, Create, Truncate}
+use Rattle.wal_heads.specs.declared.header.Header.{Header}
+use Rattle.wal_heads.specs.declared.header.Form.{Form}
+use Rattle.wal_heads.specs.declared.header.Form.TheVariants.{Shutdown, Online, RedoMark, NoOp, BackupEnd, Images, Generic, Create, Truncate}
 
--- the bytes of the entry at the front: its total length is from 24 to 4,194,304 (profile)
+-- the least total length of an entry, which is its header's, and the greatest one (profile)
+abbrev pub least_total : ℕ
+least_total = 24
+
+abbrev pub most_total : ℕ
+most_total = 4194304
+
+-- the bytes of the entry at the front, as many as its total length tells
 unfoldable pub entry_at : List ℕ → Option (List ℕ)
 entry_at bytes =
     number_at w32 bytes >>= λ total.
-    if nat_lt total.0 24 || (nat_lt 4194304 total.0 || nat_lt (length bytes) total.0) then None
+    if nat_lt total.0 least_total
+    || (nat_lt most_total total.0 || nat_lt (length bytes) total.0) then None
     else Some (take total.0 bytes)
 
 -- the header's fields behind its total length, and the bytes behind the header; bytes 18 and 19

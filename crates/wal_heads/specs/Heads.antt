@@ -2,11 +2,11 @@
 use Rattle.std.specs.Prelude.{◌≡◌, ℕ, ◌+◌, ◌<◌, ◌^◌, ◌/◌, ◌%◌, Bool, true, List, [], ◌∷◌, ◌++◌, length, Option, Some, None, IfSome, not, nat_lt, nat_le, ◌==◌, ◌&&◌, ◌||◌, if◌then◌else◌}
 use Rattle.std.specs.Option.{is_some}
 use Rattle.std.specs.Int.{w8, w16, w32, to_le_bytes}
-use Rattle.wal_record.specs.declared.announce.ImageHead.{ImageHead}
-use Rattle.wal_record.specs.declared.announce.RelName.{RelName}
-use Rattle.wal_record.specs.declared.announce.BlockHead.{BlockHead}
-use Rattle.wal_record.specs.declared.announce.MainHead.{MainHead}
-use Rattle.wal_record.specs.declared.announce.MainHead.TheVariants.{Absent, Short, Long}
+use Rattle.wal_heads.specs.declared.announce.ImageHead.{ImageHead}
+use Rattle.wal_heads.specs.declared.announce.RelName.{RelName}
+use Rattle.wal_heads.specs.declared.announce.BlockHead.{BlockHead}
+use Rattle.wal_heads.specs.declared.announce.MainHead.{MainHead}
+use Rattle.wal_heads.specs.declared.announce.MainHead.TheVariants.{Absent, Short, Long}
 
 abbrev pub hole_bytes : Option ℕ → List ℕ → List ℕ
 hole_bytes None rest = rest

@@ -3,17 +3,17 @@
 ghost use Rattle.std.specs.Prelude.{◌≡◌, ◌++◌, take};
 ghost use Rattle.std.specs.Option.{option_map};
 ghost use Rattle.wal_crc.specs.Crc.{crc32c};
-ghost use Rattle.wal_record.specs.Header.{entry_at, header_at, parts_at, entry_sum, is_linked, form_of};
+ghost use Rattle.wal_heads.specs.Header.{entry_at, header_at, parts_at, entry_sum, is_linked, form_of};
 
 use byte_words::{u8_at, u16_at, u32_at, u64_at};
 use lsn_core::Lsn;
 use wal_crc::Crc;
 
 /// The least total length of an entry, which is its header's.
-const LEAST_TOTAL: u32 = 24;
+pub const LEAST_TOTAL: u32 = 24;
 
 /// The greatest total length of an entry (profile).
-const MOST_TOTAL: u32 = 4_194_304;
+pub const MOST_TOTAL: u32 = 4_194_304;
 
 /// The header's fields behind its total length: the transaction, the start of the entry before, the
 /// info byte, the resource manager, and the sum.
