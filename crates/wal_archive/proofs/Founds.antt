@@ -15,7 +15,7 @@ use Rattle.wal_archive.specs.Archive.{Archive, archive_of, IsArchive, held_in, e
 use Rattle.wal_archive.specs.declared.fault.Damage.{Damage}
 use Rattle.wal_archive.specs.declared.fault.Broken.TheVariants.{Place}
 use Rattle.wal_archive.specs.Rules.{◌>>=◌, broken_at, is_ok, head_at, first_head, entry_at, ends_at, next_bytes, set_heads, set_bytes}
-use Rattle.wal_archive.specs.Reading.{IsFront, ReadsFront, zeros_from, ends_with_head, ended, entry_behind, entry_set, shows_more, front_place}
+use Rattle.wal_archive.specs.Reading.{IsFront, ReadsFront, zeros_from, ends_with_head, ended, entry_behind, shows_more, front_place}
 use Rattle.wal_archive.proofs.RunLaws.{all_told}
 use Rattle.wal_archive.proofs.Files.{files_archive, greatest_one, end_at_pos, held_short}
 
@@ -293,6 +293,10 @@ next_is a mib system e =
             (entry_at a mib system (start_after mib e))))
       ]
     ]
+
+-- the own bytes of the entry that starts where a cursor is set, where the archive goes on there
+abbrev entry_set : Archive → ℕ → ℕ → ℕ → Result (List ℕ) Damage
+entry_set a mib system from = set_heads a mib system from >>= λ h. entry_at a mib system from
 
 pub set_is : (a : Archive) (mib system from : ℕ) → may_start mib from ≡ true
     → set_bytes a mib system from ≡

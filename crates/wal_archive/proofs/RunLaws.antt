@@ -19,7 +19,7 @@ use Rattle.wal_pages.specs.Heads.{head_fault}
 use Rattle.wal_archive.specs.declared.fault.Broken.TheVariants.{Head}
 use Rattle.wal_archive.specs.declared.fault.ReadFault.{ReadFault}
 use Rattle.wal_archive.specs.declared.fault.ReadFault.TheVariants.{Bad, Failed, NoMemory}
-use Rattle.wal_archive.specs.Reading.{Takes, SaysHead}
+use Rattle.wal_archive.specs.Reading.{Says}
 use Rattle.byte_words.specs.Told.{when_told, when_both_told}
 use Rattle.wal_archive.proofs.Files.{nth_held}
 use Rattle.wal_archive.proofs.Runs.{bytes_held}
@@ -218,8 +218,10 @@ head_why o mib system begin page size bytes why len fails told =
 
 pub head_err : (o : Option Files) (before now mib system begin page : ℕ) (size : Option ℕ)
     (bytes : List ℕ) (fault : ReadFault) → length bytes ≡ head_size mib page
-    → Takes mib o before now begin page bytes (Err fault)
-    → SaysHead mib system o before now begin page size (Err fault)
+    → Says (λ a. bytes_at a mib begin page (length bytes)) (λ (done : Unit {0}). bytes) mib o before
+    now (Err fault)
+    → Says (λ a. head_at a mib system begin page size) (λ (done : Unit {0}). 0) mib o before now
+    (Err fault)
 head_err o before now mib system begin page size bytes (Bad d) len told =
     when_told o (λ m. bytes_at (archive_of mib m) mib begin page (length bytes) ≡ Err d)
     (λ m. head_at (archive_of mib m) mib system begin page size ≡ Err d)

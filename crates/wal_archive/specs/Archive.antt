@@ -69,7 +69,7 @@ archive_of mib files = record {
   mark = mark_of mib files;
 }
 
--- what the parts of an archive say of one another, which fixes both ends
+-- what the bytes of an archive, its files and its two ends say of one another
 pub record IsArchive (mib : ℕ) (a : Archive) : Type 0 where
   pub held : (x b : ℕ) → a.byte x ≡ Some b → x < a.top
   pub top_held : 0 < a.top → (b : ℕ) × (a.byte (a.top - 1) ≡ Some b)

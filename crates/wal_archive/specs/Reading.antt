@@ -5,13 +5,15 @@ use Rattle.std.specs.Option.{option_map}
 use Rattle.byte_words.specs.Numbers.{u32_in}
 use Rattle.lsn_core.specs.Files.{Files}
 use Rattle.lsn_core.specs.Segment.{segment_bytes}
+use Rattle.lsn_core.specs.Sizes.{page_size}
 use Rattle.wal_pages.specs.Places.{head_size, IsBehindHead, start_after}
 use Rattle.lsn_core.specs.Causes.{Rose}
 use Rattle.lsn_core.specs.declared.fault.AreaFault.{AreaFault}
 use Rattle.lsn_core.specs.declared.fault.AreaFault.TheVariants as area
+use Rattle.wal_heads.specs.Header.{least_total, most_total}
 use Rattle.vault.specs.declared.area.Vault.{Ghosts}
 use Rattle.wal_archive.specs.Archive.{Archive, archive_of}
-use Rattle.wal_archive.specs.Rules.{◌>>=◌, missing, is_ok, not_held, bytes_at, head_at, first_head, entry_bytes, entry_at, next_bytes, set_heads, set_bytes}
+use Rattle.wal_archive.specs.Rules.{◌>>=◌, missing, is_ok, not_held, bytes_at, head_at, left_on_page, first_head, entry_bytes, entry_at, next_bytes, set_heads, set_bytes}
 use Rattle.wal_archive.specs.declared.fault.Damage.{Damage}
 use Rattle.wal_archive.specs.declared.fault.ReadFault.{ReadFault}
 use Rattle.wal_archive.specs.declared.fault.ReadFault.TheVariants.{Bad, Failed, NoMemory}
@@ -48,80 +50,51 @@ Says rule shown mib files before now (Err (Bad d)) =
 Says rule shown mib files before now (Err Failed) = Rose before now
 Says rule shown mib files before now (Err NoMemory) = Unit {0}
 
--- bytes read into a buffer are those that stand there
-abbrev pub Takes : ℕ → Option Files → ℕ → ℕ → ℕ → ℕ → List ℕ
-    → Result (Unit {0}) ReadFault → Type 0
-Takes mib files before now begin x bytes result =
-    Says (λ a. bytes_at a mib begin x (length bytes)) (λ done. bytes) mib files before now result
-
--- a page's head passes, or is damaged
-abbrev pub SaysHead : ℕ → ℕ → Option Files → ℕ → ℕ → ℕ → ℕ → Option ℕ
-    → Result (Unit {0}) ReadFault → Type 0
-SaysHead mib system files before now begin page size result =
-    Says (λ a. head_at a mib system begin page size) (λ done. 0) mib files before now result
-
--- an entry's own bytes from a place on
-abbrev pub SaysEntry : ℕ → ℕ → Option Files → ℕ → ℕ → ℕ → ℕ → ℕ
-    → Result (Vec ℕ) ReadFault → Type 0
-SaysEntry mib system files before now begin x count result =
-    Says (λ a. entry_bytes a mib system begin count x count) (λ bytes. bytes.items)
-    mib files before now result
-
--- the own bytes of the entry that starts at a place
-abbrev pub SaysEntryAt : ℕ → ℕ → Option Files → ℕ → ℕ → ℕ → Result (Vec ℕ) ReadFault → Type 0
-SaysEntryAt mib system files before now start result =
-    Says (λ a. entry_at a mib system start) (λ bytes. bytes.items) mib files before now result
-
-abbrev pub items_of : Option (Vec ℕ) → Option (List ℕ)
-items_of found = option_map (λ bytes. bytes.items) found
-
--- what stands behind an end
-abbrev pub SaysNext : ℕ → ℕ → Option Files → ℕ → ℕ → ℕ
-    → Result (Option (Vec ℕ)) ReadFault → Type 0
-SaysNext mib system files before now end result =
-    Says (λ a. next_bytes a mib system end) items_of mib files before now result
-
--- what stands where a cursor is set
-abbrev pub SaysSet : ℕ → ℕ → Option Files → ℕ → ℕ → ℕ
-    → Result (Option (Vec ℕ)) ReadFault → Type 0
-SaysSet mib system files before now from result =
-    Says (λ a. set_bytes a mib system from) items_of mib files before now result
-
--- the same answers of a call on an area, by what it tells
+-- the same of a call on an area, by what it tells
 abbrev pub Tells : {V A T : Type 0} → Ghosts V → (Archive → Result A Damage) → (T → A)
     → ℕ → V → V → Result T ReadFault → Type 0
 Tells g rule shown mib old now result =
     Says rule shown mib (g.files old) (g.faults old) (g.faults now) result
 
+-- bytes read into a buffer are those that stand there
 abbrev pub TakesFrom : {V : Type 0} → Ghosts V → ℕ → V → V → ℕ → ℕ → List ℕ
     → Result (Unit {0}) ReadFault → Type 0
 TakesFrom g mib old now begin x bytes result =
-    Takes mib (g.files old) (g.faults old) (g.faults now) begin x bytes result
+    Tells g (λ a. bytes_at a mib begin x (length bytes)) (λ done. bytes) mib old now result
 
+-- a page's head passes, or is damaged
 abbrev pub TellsHead : {V : Type 0} → Ghosts V → ℕ → ℕ → V → V → ℕ → ℕ → Option ℕ
     → Result (Unit {0}) ReadFault → Type 0
 TellsHead g mib system old now begin page size result =
-    SaysHead mib system (g.files old) (g.faults old) (g.faults now) begin page size result
+    Tells g (λ a. head_at a mib system begin page size) (λ done. 0) mib old now result
 
+-- an entry's own bytes from a place on
 abbrev pub TellsEntry : {V : Type 0} → Ghosts V → ℕ → ℕ → V → V → ℕ → ℕ → ℕ
     → Result (Vec ℕ) ReadFault → Type 0
 TellsEntry g mib system old now begin x count result =
-    SaysEntry mib system (g.files old) (g.faults old) (g.faults now) begin x count result
+    Tells g (λ a. entry_bytes a mib system begin count x count) (λ bytes. bytes.items) mib old now
+    result
 
+-- the own bytes of the entry that starts at a place
 abbrev pub TellsEntryAt : {V : Type 0} → Ghosts V → ℕ → ℕ → V → V → ℕ
     → Result (Vec ℕ) ReadFault → Type 0
 TellsEntryAt g mib system old now start result =
-    SaysEntryAt mib system (g.files old) (g.faults old) (g.faults now) start result
+    Tells g (λ a. entry_at a mib system start) (λ bytes. bytes.items) mib old now result
 
+abbrev pub items_of : Option (Vec ℕ) → Option (List ℕ)
+items_of found = option_map (λ bytes. bytes.items) found
+
+-- what stands behind an end
 abbrev pub TellsNext : {V : Type 0} → Ghosts V → ℕ → ℕ → V → V → ℕ
     → Result (Option (Vec ℕ)) ReadFault → Type 0
 TellsNext g mib system old now end result =
-    SaysNext mib system (g.files old) (g.faults old) (g.faults now) end result
+    Tells g (λ a. next_bytes a mib system end) items_of mib old now result
 
+-- what stands where a cursor is set
 abbrev pub TellsSet : {V : Type 0} → Ghosts V → ℕ → ℕ → V → V → ℕ
     → Result (Option (Vec ℕ)) ReadFault → Type 0
 TellsSet g mib system old now from result =
-    SaysSet mib system (g.files old) (g.faults old) (g.faults now) from result
+    Tells g (λ a. set_bytes a mib system from) items_of mib old now result
 
 -- bytes that were read into a buffer
 abbrev pub ReadsRun : ℕ → Option Files → ℕ → List ℕ → ℕ → Type 0
@@ -140,10 +113,14 @@ abbrev pub ReadsBytes : ℕ → Option Files → ℕ → List ℕ → Type 0
 ReadsBytes mib files x bytes =
     IfSome files (λ m. bytes_at (archive_of mib m) mib x x (length bytes) ≡ Ok bytes)
 
--- the bytes of an entry behind a page's head, so many or all
+-- how many bytes of an entry a page has behind its head, where so many are still to come
+abbrev pub piece_size : ℕ → ℕ → ℕ → ℕ
+piece_size mib page left = min left (page_size - head_size mib page)
+
+-- these bytes of an entry, behind a page's head
 abbrev pub held_piece : Archive → ℕ → ℕ → ℕ → ℕ → Result (List ℕ) Damage
 held_piece a mib begin page left =
-    bytes_at a mib begin (page + head_size mib page) (min left (8192 - head_size mib page))
+    bytes_at a mib begin (page + head_size mib page) (piece_size mib page left)
 
 -- the same, where the head passes with so many still to come
 abbrev pub page_piece : Archive → ℕ → ℕ → ℕ → ℕ → ℕ → Result (List ℕ) Damage
@@ -160,7 +137,7 @@ zeros_from a mib e =
 -- whether e begins a page whose head passes, and all that is held behind that is zero
 abbrev pub ends_with_head : Archive → ℕ → ℕ → ℕ → Bool
 ends_with_head a mib system e =
-    (e % 8192 == 0)
+    (e % page_size == 0)
     && (is_ok (head_at a mib system e e (Some 0)) && nat_le a.mark (e + head_size mib e))
 
 -- whether the archive ends at e
@@ -172,17 +149,13 @@ abbrev pub entry_behind : Archive → ℕ → ℕ → ℕ → Result (List ℕ) 
 entry_behind a mib system e =
     first_head a mib system e >>= λ h. entry_at a mib system (start_after mib e)
 
--- the own bytes of the entry that starts where a cursor is set, where the archive goes on there
-abbrev pub entry_set : Archive → ℕ → ℕ → ℕ → Result (List ℕ) Damage
-entry_set a mib system from = set_heads a mib system from >>= λ h. entry_at a mib system from
-
 -- the bytes from an index on begin with a number other than zero
 abbrev pub shows_more : List ℕ → ℕ → Bool
 shows_more bytes at = nat_le (at + 4) (length bytes) && not (u32_in bytes at == 0)
 
 -- where the page of an end is read from: from the end on, or from the start behind it
 abbrev pub front_place : ℕ → ℕ → ℕ
-front_place end start = if end % 8192 == 0 then end else start
+front_place end start = if end % page_size == 0 then end else start
 
 -- an entry may start at a place: it is a multiple of 8 behind its page's head, and so far an
 -- archive may reach
@@ -194,8 +167,8 @@ pub record MayStart (mib from : ℕ) : Type 0 where
 -- as many bytes as they tell, and not more than an entry has
 pub record IsEntrySized (bytes : List ℕ) : Type 0 where
   pub total : u32_in bytes 0 ≡ length bytes
-  pub least : 24 ≤ length bytes
-  pub most : length bytes ≤ 4194304
+  pub least : least_total ≤ length bytes
+  pub most : length bytes ≤ most_total
 
 -- the same answers of a call on an area, of the steps of the rules
 abbrev pub TellsZero : {V : Type 0} → Ghosts V → ℕ → V → V → ℕ → Result Bool ReadFault → Type 0
@@ -231,7 +204,7 @@ TellsSetHeads g mib system old now from result =
 -- what is held of the page of an end, from where it is read on
 abbrev pub ReadsEnd : ℕ → Option Files → ℕ → ℕ → List ℕ → Type 0
 ReadsEnd mib files end start bytes =
-    ReadsFront mib files (front_place end start) (8192 - front_place end start % 8192) bytes
+    ReadsFront mib files (front_place end start) (left_on_page (front_place end start)) bytes
 
 -- the same answers of a call on an area, of an entry over several pages
 abbrev pub TellsHeld : {V : Type 0} → Ghosts V → ℕ → V → V → ℕ → ℕ → ℕ → Result (Vec ℕ) ReadFault

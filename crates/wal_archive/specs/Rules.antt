@@ -3,12 +3,14 @@ use Rattle.std.specs.Prelude.{◌≡◌, ℕ, zero, suc, ◌+◌, ◌-◌, ◌/�
 use Rattle.byte_words.specs.Numbers.{u32_in}
 use Rattle.lsn_core.specs.Files.{Files}
 use Rattle.lsn_core.specs.Segment.{segment_bytes}
+use Rattle.lsn_core.specs.Sizes.{page_size}
 use Rattle.lsn_core.specs.Tip.{Tip}
 use Rattle.lsn_core.specs.declared.lsn.Lsn.{Lsn}
 use Rattle.lsn_core.specs.declared.lsn.Place.{Place}
 use Rattle.wal_pages.specs.Places.{head_size, page_of, start_after, end_of}
 use Rattle.wal_pages.specs.Heads.{head_fault}
 use Rattle.wal_pages.specs.declared.heads.HeadFault.{HeadFault}
+use Rattle.wal_heads.specs.Header.{least_total, most_total}
 use Rattle.wal_record.specs.Tips.{first_tip, tip_after}
 use Rattle.wal_record.specs.declared.record.Record.{Record}
 use Rattle.wal_record.specs.declared.record.RecordFault.{RecordFault}
@@ -65,21 +67,24 @@ head_at a mib system begin page size =
     bytes_at a mib begin page (head_size mib page) >>= λ bytes.
     head_said page (head_fault mib system page size bytes)
 
+-- how many bytes are from a place to the end of its page
+abbrev pub left_on_page : ℕ → ℕ
+left_on_page x = page_size - x % page_size
+
 -- the bytes of an entry from a place on, so many, over no more than so many pages
 unfoldable pub entry_bytes : Archive → ℕ → ℕ → ℕ → ℕ → ℕ → ℕ → Result (List ℕ) Damage
 entry_bytes a mib system begin zero x count = Ok []
 entry_bytes a mib system begin (suc pages) x count =
-    bytes_at a mib begin x (min count (8192 - x % 8192)) >>= λ front.
-    if nat_le count (8192 - x % 8192) then Ok front
-    else (head_at a mib system begin (x + (8192 - x % 8192)) (Some (count - (8192 - x % 8192)))
-    >>= λ h.
+    bytes_at a mib begin x (min count (left_on_page x)) >>= λ front.
+    if nat_le count (left_on_page x) then Ok front
+    else (head_at a mib system begin (x + left_on_page x) (Some (count - left_on_page x)) >>= λ h.
     entry_bytes a mib system begin pages
-    (x + (8192 - x % 8192) + head_size mib (x + (8192 - x % 8192)))
-    (count - (8192 - x % 8192)) >>= λ more. Ok (front ++ more))
+    (x + left_on_page x + head_size mib (x + left_on_page x)) (count - left_on_page x) >>= λ more.
+    Ok (front ++ more))
 
 -- the total lengths that an entry may tell
 abbrev pub is_total : ℕ → Bool
-is_total total = nat_le 24 total && nat_le total 4194304
+is_total total = nat_le least_total total && nat_le total most_total
 
 -- the own bytes of the entry that starts at a place
 unfoldable pub entry_at : Archive → ℕ → ℕ → ℕ → Result (List ℕ) Damage
@@ -98,12 +103,12 @@ is_ok (Err d) = false
 unfoldable pub ends_at : Archive → ℕ → ℕ → ℕ → Bool
 ends_at a mib system e =
     nat_le a.mark e
-    || ((e % 8192 == 0)
+    || ((e % page_size == 0)
     && (is_ok (head_at a mib system e e (Some 0)) && nat_le a.mark (e + head_size mib e)))
 
 -- the head of the page that begins at e, if one does
 abbrev pub first_head : Archive → ℕ → ℕ → ℕ → Result ℕ Damage
-first_head a mib system e = if e % 8192 == 0 then head_at a mib system e e (Some 0) else Ok 0
+first_head a mib system e = if e % page_size == 0 then head_at a mib system e e (Some 0) else Ok 0
 
 -- the own bytes of the entry behind e, and none where the archive ends there
 unfoldable pub next_bytes : Archive → ℕ → ℕ → ℕ → Result (Option (List ℕ)) Damage
@@ -168,7 +173,7 @@ set_heads a mib system from =
 -- there
 unfoldable pub set_bytes : Archive → ℕ → ℕ → ℕ → Result (Option (List ℕ)) Damage
 set_bytes a mib system from =
-    if not ((from % 8 == 0) && nat_le (head_size mib from) (from % 8192))
+    if not ((from % 8 == 0) && nat_le (head_size mib from) (from % page_size))
     then Err (broken_at from broken.Place)
     else (if nat_le a.top from then Ok None
     else (if not (a.has_file (from / segment_bytes mib))

@@ -2,9 +2,11 @@
 -- among them are there.
 use Rattle.std.specs.Prelude.{◌≡◌, ℕ, ◌+◌, ◌%◌, ◌<◌, ◌≤◌, ◌⊎◌, List, length, get_or, Some, None}
 use Rattle.byte_words.specs.Numbers.{u32_in}
+use Rattle.lsn_core.specs.Sizes.{page_size}
 use Rattle.wal_pages.specs.Places.{place, flat_before, head_size, IsBehindHead, stop_of}
 use Rattle.wal_pages.specs.Heads.{head_fault}
 use Rattle.wal_pages.specs.Spread.{still_to_come}
+use Rattle.wal_heads.specs.Header.{least_total, most_total}
 use Rattle.wal_archive.specs.Archive.{Archive}
 
 -- a page's head is held and passes, with so many bytes of an entry still to come
@@ -16,14 +18,14 @@ pub record HasHead (a : Archive) (mib system page size : ℕ) : Type 0 where
 
 -- a place where an entry may end: behind a page's head, or where a page begins
 abbrev pub IsEnd : ℕ → ℕ → Type 0
-IsEnd mib e = (e % 8 ≡ 0) × (IsBehindHead mib e ⊎ (e % 8192 ≡ 0))
+IsEnd mib e = (e % 8 ≡ 0) × (IsBehindHead mib e ⊎ (e % page_size ≡ 0))
 
 -- these are the own bytes of the entry behind e
 pub record Stands (a : Archive) (mib system e : ℕ) (bytes : List ℕ) : Type 0 where
   pub total : u32_in bytes 0 ≡ length bytes
-  pub least : 24 ≤ length bytes
-  pub most : length bytes ≤ 4194304
+  pub least : least_total ≤ length bytes
+  pub most : length bytes ≤ most_total
   pub flat : (i : ℕ) → i < length bytes
       → a.byte (place mib (flat_before mib e + i)) ≡ Some (get_or bytes i 0)
-  pub heads : (p : ℕ) → p % 8192 ≡ 0 → e ≤ p → p < stop_of mib e (length bytes)
+  pub heads : (p : ℕ) → p % page_size ≡ 0 → e ≤ p → p < stop_of mib e (length bytes)
       → HasHead a mib system p (still_to_come mib (flat_before mib e) (length bytes) p)

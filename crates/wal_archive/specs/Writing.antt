@@ -8,6 +8,7 @@ use Rattle.lsn_core.specs.Tip.{Tip}
 use Rattle.vault.specs.Area.{after_write}
 use Rattle.wal_pages.specs.Places.{start_after, end_of}
 use Rattle.wal_pages.specs.Spread.{spread}
+use Rattle.wal_heads.specs.Header.{least_total, most_total}
 use Rattle.wal_record.specs.Spelling.{sealed}
 use Rattle.wal_record.specs.Tips.{tip_after, wal_limit}
 use Rattle.wal_record.specs.declared.record.Record.{Record}
@@ -20,8 +21,8 @@ pub record IsNext (judge : Judge) (mib : ℕ) (tip : Tip) (r : Record) : Type 0 
   pub start : r.start.0 ≡ start_after mib tip.end
   pub end : r.end.0 ≡ end_of mib (start_after mib tip.end) (length (sealed r))
   pub total : u32_in (sealed r) 0 ≡ length (sealed r)
-  pub least : 24 ≤ length (sealed r)
-  pub most : length (sealed r) ≤ 4194304
+  pub least : least_total ≤ length (sealed r)
+  pub most : length (sealed r) ≤ most_total
   pub within : r.end.0 ≤ wal_limit mib
   pub taken : judge (place_behind mib tip.end (sealed r)) (Some (lsn tip.prev)) (sealed r) ≡ Ok r
 

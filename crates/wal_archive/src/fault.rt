@@ -26,7 +26,7 @@ pub enum Broken {
     Torn,
     /// A segment's file ends there, and the archive goes on behind it.
     SegSize,
-    /// No entry may start there, or the archive's first one can't.
+    /// No entry may start there.
     Place,
 }
 

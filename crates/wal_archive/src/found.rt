@@ -1,10 +1,11 @@
 //! What stands behind an end of the archive, and where a cursor is set.
 
 ghost use Rattle.std.specs.Prelude.{◌≡◌, ◌+◌, ◌-◌, ◌%◌, ◌^◌, ◌<◌, ◌≤◌, length, IsTrue, IfOk, IfSome, nat_le, ◌==◌, ◌&&◌};
+ghost use Rattle.lsn_core.specs.Sizes.{page_size};
 ghost use Rattle.wal_pages.specs.Places.{head_size, start_after, IsBehindHead};
 ghost use Rattle.vault.specs.Frame.{OnlyReads};
 ghost use Rattle.wal_archive.specs.Reading.{TellsEnded, TellsBehind, TellsNext, TellsSetHeads, TellsZero, TellsSet, ReadsFront, ReadsEnd, MayStart, IsEntrySized, front_place};
-ghost use Rattle.wal_archive.specs.Rules.{next_bytes, set_bytes, set_heads};
+ghost use Rattle.wal_archive.specs.Rules.{left_on_page, next_bytes, set_bytes, set_heads};
 
 use crate::fault::{Broken, Damage, ReadFault};
 use crate::front::{entry_on, front_of, pass_held_head, shows_more};
@@ -67,7 +68,7 @@ fn entry_behind<V: Vault>(
     requires eight { end % 8 ≡ 0 }
     requires start { start ≡ start_after size end }
     requires front { ReadsEnd size (V.files area.old) end start front.now }
-    requires most { length front.now ≤ 8192 - front_place end start % 8192 }
+    requires most { length front.now ≤ left_on_page (front_place end start) }
     ensures entry { TellsBehind V.Vault size system area.old area.new end result }
     ensures size { IfOk result (λ bytes. IsEntrySized bytes.items) }
     ensures reads { OnlyReads V.Vault area.old area.new }
@@ -172,7 +173,7 @@ fn is_set_end<V: Vault>(
     from: u64,
     front: &[u8],
 ) -> Result<bool, ReadFault>
-    requires front { ReadsFront size (V.files area.old) from (8192 - from % 8192) front.now }
+    requires front { ReadsFront size (V.files area.old) from (left_on_page from) front.now }
     ensures zeros { TellsZero V.Vault size area.old area.new from result }
     ensures reads { OnlyReads V.Vault area.old area.new }
 {
@@ -218,7 +219,7 @@ fn set_from<V: Vault>(
 
 /// Whether an entry may start at a place: a multiple of 8 behind its page's head.
 fn may_start(size: SegSize, from: u64) -> bool
-    ensures may { result ≡ ((from % 8 == 0) && nat_le (head_size size from) (from % 8192)) }
+    ensures may { result ≡ ((from % 8 == 0) && nat_le (head_size size from) (from % page_size)) }
     ensures eight { IsTrue result → from % 8 ≡ 0 }
     ensures behind { IsTrue result → IsBehindHead size from }
 {

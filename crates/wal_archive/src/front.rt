@@ -3,10 +3,12 @@
 ghost use Rattle.std.specs.Prelude.{◌≡◌, ◌+◌, ◌-◌, ◌%◌, ◌^◌, ◌<◌, ◌≤◌, ℕ, length, take, drop, get_or, IsTrue, Some, IfOk, IfSome};
 ghost use Rattle.byte_words.specs.Numbers.{u32_in};
 ghost use Rattle.lsn_core.specs.Causes.{HasCause};
+ghost use Rattle.lsn_core.specs.Sizes.{page_size};
 ghost use Rattle.wal_pages.specs.Places.{head_size, IsBehindHead};
 ghost use Rattle.vault.specs.Frame.{OnlyReads};
+ghost use Rattle.wal_heads.specs.Header.{least_total, most_total};
 ghost use Rattle.wal_archive.specs.Archive.{archive_of};
-ghost use Rattle.wal_archive.specs.Rules.{is_total};
+ghost use Rattle.wal_archive.specs.Rules.{is_total, left_on_page};
 ghost use Rattle.wal_archive.specs.Reading.{ReadsFront, TellsHead, TellsEntryAt, IsEntrySized, shows_more};
 
 use crate::fault::{Broken, Damage, ReadFault};
@@ -17,20 +19,16 @@ use byte_words::{u32_in, zeros};
 use lsn_core::{AreaFault, Lsn, PAGE, SegSize};
 use std::alloc::{AllocError, Global};
 use vault::Vault;
+use wal_heads::{LEAST_TOTAL, MOST_TOTAL};
 use wal_pages::{head_fault, head_size};
-
-/// The least and the most bytes of an entry.
-const LEAST: u32 = 24;
-
-const MOST: u32 = 4_194_304;
 
 /// Whether an entry may have so many bytes.
 fn is_total(total: u32) -> bool
     ensures total { result ≡ is_total total }
-    ensures least { IsTrue result → 24 ≤ total }
-    ensures most { IsTrue result → total ≤ 4194304 }
+    ensures least { IsTrue result → least_total ≤ total }
+    ensures most { IsTrue result → total ≤ most_total }
 {
-    LEAST <= total && total <= MOST
+    LEAST_TOTAL <= total && total <= MOST_TOTAL
 }
 
 /// What is held of a page from a place on.
@@ -41,8 +39,8 @@ pub fn front_of<V: Vault>(
     x: u64,
 ) -> Result<Vec<u8>, AreaFault>
     ensures front { IfOk result (λ bytes.
-        ReadsFront size (V.files area.old) x (8192 - x % 8192) bytes.items) }
-    ensures most { IfOk result (λ bytes. length bytes.items ≤ 8192 - x % 8192) }
+        ReadsFront size (V.files area.old) x (left_on_page x) bytes.items) }
+    ensures most { IfOk result (λ bytes. length bytes.items ≤ left_on_page x) }
     ensures reads { OnlyReads V.Vault area.old area.new }
     ensures cause { HasCause (V.faults area.old) (V.faults area.new) result }
 {
@@ -72,10 +70,10 @@ pub fn pass_held_head<V: Vault>(
     rest: Option<u32>,
     front: &[u8],
 ) -> Result<(), ReadFault>
-    requires page { page % 8192 ≡ 0 }
+    requires page { page % page_size ≡ 0 }
     requires bound { page ≤ 2 ^ 53 }
-    requires front { ReadsFront size (V.files area.old) page 8192 front.now }
-    requires most { length front.now ≤ 8192 }
+    requires front { ReadsFront size (V.files area.old) page page_size front.now }
+    requires most { length front.now ≤ page_size }
     ensures head { TellsHead V.Vault size system area.old area.new begin page rest result }
     ensures held { IfOk result (λ done. head_size size page ≤ length front.now) }
     ensures reads { OnlyReads V.Vault area.old area.new }
@@ -113,11 +111,11 @@ pub fn entry_on<V: Vault>(
 ) -> Result<Vec<u8>, ReadFault>
     requires behind { IsBehindHead size start }
     requires order { x ≤ start }
-    requires page { x % 8192 + (start - x) + 4 ≤ 8192 }
+    requires page { x % page_size + (start - x) + 4 ≤ page_size }
     requires bound { start ≤ 2 ^ 52 }
-    requires front { ReadsFront size (V.files area.old) x (8192 - x % 8192) front.now }
+    requires front { ReadsFront size (V.files area.old) x (left_on_page x) front.now }
     requires held { start - x ≤ length front.now }
-    requires most { length front.now ≤ 8192 - x % 8192 }
+    requires most { length front.now ≤ left_on_page x }
     ensures entry { TellsEntryAt V.Vault size system area.old area.new start
         result }
     ensures size { IfOk result (λ bytes. IsEntrySized bytes.items) }

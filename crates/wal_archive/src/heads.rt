@@ -2,6 +2,7 @@
 
 ghost use Rattle.std.specs.Prelude.{◌≡◌, ◌+◌, ◌-◌, ◌*◌, ◌/◌, ◌%◌, ◌^◌, ◌≤◌, ◌<◌, ℕ, length, IfOk, OnOk, Some};
 ghost use Rattle.wal_pages.specs.Places.{head_size, IsBehindHead};
+ghost use Rattle.lsn_core.specs.Sizes.{page_size};
 ghost use Rattle.vault.specs.Frame.{OnlyReads};
 ghost use Rattle.wal_archive.specs.Reading.{TellsHead};
 
@@ -22,7 +23,7 @@ pub fn pass_head<V: Vault>(
     page: u64,
     rest: Option<u32>,
 ) -> Result<(), ReadFault>
-    requires { page % 8192 ≡ 0 }
+    requires { page % page_size ≡ 0 }
     ensures head { TellsHead V.Vault size system area.old area.new begin page rest result }
     ensures reads { OnlyReads V.Vault area.old area.new }
 {
@@ -51,7 +52,7 @@ fn pass_into<V: Vault>(
     rest: Option<u32>,
     into: &mut [u8],
 ) -> Result<(), ReadFault>
-    requires page { page % 8192 ≡ 0 }
+    requires page { page % page_size ≡ 0 }
     requires room { length into.old ≡ head_size size page }
     requires fits { length into.old ≤ 40 }
     ensures head { TellsHead V.Vault size system area.old area.new begin page rest result }

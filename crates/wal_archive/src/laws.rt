@@ -4,7 +4,7 @@ ghost use Rattle.wal_archive.specs.Laws.{FilesAreAnArchive, EntriesAreFair, Give
 ghost use Rattle.wal_archive.specs.Laws.{HeldIsRead, WrittenIsRead, LeftIsKept, WalIsKept};
 ghost use Rattle.wal_archive.specs.Laws.{LeftEndsBefore};
 
-/// The parts of the archive that files are fit one another, whatever the files.
+/// The bytes, files and ends of the archive that files are fit one another, whatever the files.
 pub fn files_are_an_archive()
     ensures { FilesAreAnArchive }
 {}

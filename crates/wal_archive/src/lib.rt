@@ -33,3 +33,4 @@ pub use laws::{
     what_is_held_is_read, what_stands_is_given, written_is_read,
 };
 pub use run::is_segment;
+pub use segments::segment_in;

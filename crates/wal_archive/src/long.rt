@@ -2,9 +2,12 @@
 
 ghost use Rattle.std.specs.Prelude.{◌≡◌, ◌+◌, ◌-◌, ◌%◌, ◌^◌, ◌<◌, ◌≤◌, min, length, IfOk, IfSome};
 ghost use Rattle.byte_words.specs.Numbers.{u32_in};
+ghost use Rattle.lsn_core.specs.Sizes.{page_size};
 ghost use Rattle.wal_pages.specs.Places.{head_size, IsBehindHead};
 ghost use Rattle.vault.specs.Frame.{OnlyReads};
-ghost use Rattle.wal_archive.specs.Reading.{ReadsFront, ReadsBytes, TellsHeld, TellsPiece, TellsEntry, IsEntrySized};
+ghost use Rattle.wal_heads.specs.Header.{least_total, most_total};
+ghost use Rattle.wal_archive.specs.Rules.{left_on_page};
+ghost use Rattle.wal_archive.specs.Reading.{piece_size, ReadsFront, ReadsBytes, TellsHeld, TellsPiece, TellsEntry, IsEntrySized};
 
 use crate::fault::ReadFault;
 use crate::front::{copied, front_of, pass_held_head};
@@ -25,11 +28,11 @@ fn held_piece<V: Vault>(
     front: &[u8],
 ) -> Result<Vec<u8>, ReadFault>
     requires bound { page ≤ 2 ^ 53 }
-    requires front { ReadsFront size (V.files area.old) page 8192 front.now }
-    requires most { length front.now ≤ 8192 }
+    requires front { ReadsFront size (V.files area.old) page page_size front.now }
+    requires most { length front.now ≤ page_size }
     requires head { head_size size page ≤ length front.now }
     ensures piece { TellsHeld V.Vault size area.old area.new begin page left result }
-    ensures length { IfOk result (λ p. length p.items ≡ min left (8192 - head_size size page)) }
+    ensures length { IfOk result (λ p. length p.items ≡ piece_size size page left) }
     ensures reads { OnlyReads V.Vault area.old area.new }
 {
     let head = head_size(size, page);
@@ -53,10 +56,10 @@ fn page_piece<V: Vault>(
     page: u64,
     left: u32,
 ) -> Result<Vec<u8>, ReadFault>
-    requires page { page % 8192 ≡ 0 }
+    requires page { page % page_size ≡ 0 }
     requires bound { page ≤ 2 ^ 53 }
     ensures piece { TellsPiece V.Vault size system area.old area.new begin page left result }
-    ensures length { IfOk result (λ p. length p.items ≡ min left (8192 - head_size size page)) }
+    ensures length { IfOk result (λ p. length p.items ≡ piece_size size page left) }
     ensures reads { OnlyReads V.Vault area.old area.new }
 {
     let front = front_of(alloc, area, size, page)?;
@@ -78,9 +81,9 @@ pub fn long_entry<V: Vault>(
     first: Vec<u8>,
 ) -> Result<Vec<u8>, ReadFault>
     requires bound { start ≤ 2 ^ 52 }
-    requires least { 24 ≤ total }
-    requires most { total ≤ 4194304 }
-    requires room { length first.items ≡ 8192 - start % 8192 }
+    requires least { least_total ≤ total }
+    requires most { total ≤ most_total }
+    requires room { length first.items ≡ left_on_page start }
     requires more { length first.items < total }
     requires four { 4 ≤ length first.items }
     requires number { u32_in first.items 0 ≡ total }

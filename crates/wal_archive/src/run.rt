@@ -4,6 +4,7 @@ ghost use Rattle.std.specs.Prelude.{◌≡◌, ◌+◌, ◌-◌, ◌*◌, ◌/�
 ghost use Rattle.lsn_core.specs.Causes.{HasCause};
 ghost use Rattle.lsn_core.specs.Segment.{segment_bytes};
 ghost use Rattle.wal_archive.specs.Archive.{archive_of, is_segment};
+ghost use Rattle.lsn_core.specs.Sizes.{page_size, most_segments};
 ghost use Rattle.vault.specs.Frame.{OnlyReads};
 ghost use Rattle.wal_archive.specs.Reading.{ReadsRun};
 
@@ -30,7 +31,7 @@ pub fn offset_of(x: u64, size: SegSize) -> u64
 #[tactic(auto, unfolding(crate::specs::Archive::is_segment))]
 pub fn is_segment(number: u64) -> bool
     ensures test { result ≡ is_segment number }
-    ensures most { IsTrue result → number ≤ 1048576 }
+    ensures most { IsTrue result → number ≤ most_segments }
 {
     1 <= number && number <= MOST_SEGMENTS
 }
@@ -66,7 +67,7 @@ pub fn run_on_page<V: Vault>(
     x: u64,
     into: &mut [u8],
 ) -> Result<u32, AreaFault>
-    requires { x % 8192 + length into.old ≤ 8192 }
+    requires { x % page_size + length into.old ≤ page_size }
     ensures count { IfOk result (λ count. count ≤ length into.old) }
     ensures run { IfOk result (ReadsRun size (V.files area.old) x into.new) }
     ensures length { length into.new ≡ length into.old }

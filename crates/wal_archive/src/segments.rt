@@ -3,6 +3,7 @@
 ghost use Rattle.std.specs.Prelude.{◌≡◌, ◌≤◌, IfOk, IfSome};
 ghost use Rattle.lsn_core.specs.Causes.{HasCause};
 ghost use Rattle.lsn_core.specs.Segment.{segment_bytes};
+ghost use Rattle.lsn_core.specs.Sizes.{most_segments};
 ghost use Rattle.vault.specs.Frame.{OnlyReads};
 ghost use Rattle.wal_archive.specs.Scanning.{TellsSegment, HeldIn, is_in_archive};
 
@@ -22,7 +23,7 @@ fn is_in_archive(timeline: u32, number: u64) -> bool
 /// none.
 pub fn segment_in(name: &[u8], size: SegSize) -> Option<u64>
     ensures segment { TellsSegment size name.now result }
-    ensures most { IfSome result (λ number. number ≤ 1048576) }
+    ensures most { IfSome result (λ number. number ≤ most_segments) }
 {
     // known: so large a segment has a name for each number of the archive
     let _mib = size.mib();
@@ -46,7 +47,7 @@ pub fn held_size<V: Vault>(
 ) -> Result<Option<u64>, AreaFault>
     ensures held { IfOk result (HeldIn size (V.files area.old) number) }
     ensures most { IfOk result (λ held. IfSome held (λ count. count ≤ segment_bytes size)) }
-    ensures number { IfOk result (λ held. IfSome held (λ count. number ≤ 1048576)) }
+    ensures number { IfOk result (λ held. IfSome held (λ count. number ≤ most_segments)) }
     ensures reads { OnlyReads V.Vault area.old area.new }
     ensures cause { HasCause (V.faults area.old) (V.faults area.new) result }
 {

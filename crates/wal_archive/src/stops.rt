@@ -1,6 +1,7 @@
 //! Whether the archive ends at a place.
 
 ghost use Rattle.std.specs.Prelude.{◌≡◌, ◌%◌, ◌^◌, ◌≤◌, false, Some, Ok, IfOk};
+ghost use Rattle.lsn_core.specs.Sizes.{page_size};
 ghost use Rattle.vault.specs.Frame.{OnlyReads};
 ghost use Rattle.wal_archive.specs.Rules.{is_ok, head_at};
 ghost use Rattle.wal_archive.specs.Reading.{TellsZero, TellsPass, TellsHeadEnd, TellsEnded};
@@ -45,7 +46,7 @@ fn passes<V: Vault>(
     system: u64,
     page: u64,
 ) -> Result<bool, ReadFault>
-    requires { page % 8192 ≡ 0 }
+    requires { page % page_size ≡ 0 }
     ensures passes { TellsPass V.Vault size system area.old area.new page result }
     ensures reads { OnlyReads V.Vault area.old area.new }
 {

@@ -4,6 +4,7 @@ ghost use Rattle.std.specs.Prelude.{◌≡◌, ◌+◌, ◌-◌, ◌*◌, ◌/�
 ghost use Rattle.lsn_core.specs.Causes.{HasCause};
 ghost use Rattle.lsn_core.specs.Segment.{segment_bytes};
 ghost use Rattle.wal_pages.specs.Places.{head_size};
+ghost use Rattle.lsn_core.specs.Sizes.{page_size};
 ghost use Rattle.vault.specs.Frame.{OnlyReads};
 ghost use Rattle.wal_archive.specs.Reading.{TakesFrom, IsNotHeld};
 
@@ -46,7 +47,7 @@ pub fn take_bytes<V: Vault>(
     x: u64,
     into: &mut [u8],
 ) -> Result<(), ReadFault>
-    requires { x % 8192 + length into.old ≤ 8192 }
+    requires { x % page_size + length into.old ≤ page_size }
     ensures length { length into.new ≡ length into.old }
     ensures bytes { TakesFrom V.Vault size area.old area.new begin x into.new result }
     ensures reads { OnlyReads V.Vault area.old area.new }

@@ -26,7 +26,7 @@ use Rattle.wal_reader.specs.Causes.{CauseOf, wal_fault_read}
 use Rattle.wal_reader.specs.Wal.{stands_behind, stands_at, tip_at}
 use Rattle.wal_reader.specs.Cursor.{IsReached, IsGiven, step_causes, StepAnswer}
 use Rattle.wal_reader.specs.Inside.{has_room, fault_at, judge_causes, JudgeAnswer, as_first_at, FirstAnswer}
-use Rattle.wal_archive.specs.Reading.{SaysNext, SaysSet, MayStart}
+use Rattle.wal_archive.specs.Reading.{Says, items_of, MayStart}
 use Rattle.wal_reader.proofs.Reached.{IsBase, base, reached, later}
 use Rattle.wal_reader.proofs.Room.{next_room, set_room, start_end}
 use Rattle.wal_archive.proofs.Judged.{record_is_fair}
@@ -67,7 +67,7 @@ goes_on_at judge mib system a from bytes r e j = rw (e, j) refl
 
 -- ---- a fault of the reading
 
-pub behind_fault : (s : StoreSettings) (tip : Tip) (e : ℕ) (files : Option Files) (before now : ℕ) (fault : ReadFault) → e ≡ tip.end → SaysNext s.segment s.system files before now e (Err fault)
+pub behind_fault : (s : StoreSettings) (tip : Tip) (e : ℕ) (files : Option Files) (before now : ℕ) (fault : ReadFault) → e ≡ tip.end → Says (λ a. next_bytes a s.segment s.system e) items_of s.segment files before now (Err fault)
     → CauseOf (step_causes s false tip files) before now (wal_fault_read fault)
 behind_fault s tip e files before now (read.Bad d) at says =
     when_told files (λ m. next_bytes (archive_of s.segment m) s.segment s.system e ≡ Err d) (λ m. stands_behind s m tip ≡ Bad d)
@@ -75,7 +75,7 @@ behind_fault s tip e files before now (read.Bad d) at says =
 behind_fault s tip e files before now read.Failed at says = says
 behind_fault s tip e files before now read.NoMemory at says = tt
 
-pub at_fault : (s : StoreSettings) (from : ℕ) (files : Option Files) (before now : ℕ) (fault : ReadFault) → SaysSet s.segment s.system files before now from (Err fault)
+pub at_fault : (s : StoreSettings) (from : ℕ) (files : Option Files) (before now : ℕ) (fault : ReadFault) → Says (λ a. set_bytes a s.segment s.system from) items_of s.segment files before now (Err fault)
     → CauseOf (step_causes s true (tip_at from) files) before now (wal_fault_read fault)
 at_fault s from files before now (read.Bad d) says =
     when_told files (λ m. set_bytes (archive_of s.segment m) s.segment s.system from ≡ Err d) (λ m. stands_at s m from ≡ Bad d)

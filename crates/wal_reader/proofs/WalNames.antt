@@ -2,16 +2,17 @@
 use Rattle.std.proofs.Common.{◌≡◌, ℕ, ◌+◌, ◌/◌, ◌%◌, ◌^◌, ◌<◌, ◌≤◌, ◌⊎◌, min, Bool, true, false, not, ◌==◌, List, [], ◌++◌, length, get_or, Option, Some, None, IfSome, IfNone, IsSome, IsTrue, refl, sym, subst, ◌∙◌, arith, inl, inr}
 use Rattle.std.proofs.lemmas.Bool.{ne_eqb, eqb-false, cases_lt}
 use Rattle.std.proofs.lemmas.List.{length-append, get_or_default}
-use Rattle.std.proofs.Math.Nat.{le-div_iff_mul-le, div-lt_iff_lt-mul, mod-lt, div-le_self}
+use Rattle.std.proofs.Math.Nat.{div-lt_iff_lt-mul, mod-lt, div-le_self}
 use Rattle.text_numbers.specs.Numbers.{eight_digits}
 use Rattle.text_numbers.proofs.EightDigits.{length-eight_digits}
 use Rattle.lsn_core.specs.Segment.{IsSegmentMib, segment_bytes}
-use Rattle.lsn_core.specs.Names.{per_group, segment_name_bytes, segment_file_bytes, HasSegmentName, NamesNoSegment}
+use Rattle.lsn_core.specs.Names.{per_group, segment_file_bytes, HasSegmentName}
 use Rattle.lsn_core.proofs.SegmentNames.{name_of_first, one_segment}
 use Rattle.wal_reader.specs.Names.{IsOtherTimeline}
 use Rattle.wal_reader.specs.Settings.{IsLeastOf}
-use Rattle.wal_archive.specs.Archive.{is_segment}
+use Rattle.wal_archive.specs.Scanning.{TellsSegment}
 use Rattle.wal_archive.proofs.Files.{segment_range}
+use Rattle.wal_archive.proofs.SegmentNames.{in_archive}
 use Rattle.wal_reader.specs.Inside.{NamesSegment, IsNamedIn, lesser}
 
 true_not : (b : Bool) → b ≡ false → IsTrue (not b)
@@ -29,32 +30,15 @@ other_iff mib timeline number name named has = (
   λ other. true_not (timeline == 1) (ne_eqb timeline 1 (λ e. other.differs (sym (one_segment timeline other.timeline number other.number mib has other.has (sym named ∙ other.named)).0 ∙ e))),
 )
 
--- a segment of the archive has a name
-pub in_archive : (mib seg : ℕ) → IsSegmentMib mib → seg ≤ 1048576 → HasSegmentName 1 seg mib
-in_archive mib seg size most =
-    let many : 4 ≤ per_group mib = (le-div_iff_mul-le {k = segment_bytes mib} (omega (arith, size.least))).1 (omega (arith, size.most)) in
-    record { timeline_fits = omega arith; number_fits = omega (arith, many, most) }
-
--- the name of a segment of the archive is that of no other one
-one_named : (mib timeline number : ℕ) (name : List ℕ) → IsSegmentMib mib → name ≡ segment_file_bytes timeline number mib → HasSegmentName timeline number mib → (seg : ℕ) → NamesSegment mib name seg → (timeline ≡ 1) × (number ≡ seg)
-one_named mib timeline number name size named has seg is =
-    one_segment timeline 1 number seg mib has (in_archive mib seg size (segment_range seg is.segment).1) (sym named ∙ is.named ∙ name_of_first seg mib)
-
-pub segment_found : (mib timeline number : ℕ) (name : List ℕ) → IsSegmentMib mib → name ≡ segment_file_bytes timeline number mib → HasSegmentName timeline number mib → timeline ≡ 1 → is_segment number ≡ true
-    → IsLeastOf (NamesSegment mib name) (Some number)
-segment_found mib timeline number name size named has one inside = (
-  record { segment = inside; named = named ∙ subst (λ (t : ℕ). segment_file_bytes t number mib ≡ segment_name_bytes number mib) (sym one) (sym (name_of_first number mib)) },
-  λ seg is. (let same = (one_named mib timeline number name size named has seg is).1 in omega (arith, same)),
+-- the number that a name tells is its least one, as a name is that of one segment
+pub told_least : (mib : ℕ) (name : List ℕ) (o : Option ℕ) → IsSegmentMib mib → TellsSegment mib name o → IsLeastOf (NamesSegment mib name) o
+told_least mib name None size told = λ seg is. told seg is.segment is.named
+told_least mib name (Some number) size told = (
+  record { segment = told.0; named = told.1 },
+  λ seg is.
+      let same = one_segment 1 1 number seg mib (in_archive mib number size told.0) (in_archive mib seg size is.segment) (sym (name_of_first number mib) ∙ (sym told.1 ∙ is.named) ∙ name_of_first seg mib) in
+      omega (arith, same.1),
 )
-
--- a name of another timeline, or of a number outside the archive
-pub segment_outside : (mib timeline number : ℕ) (name : List ℕ) → IsSegmentMib mib → name ≡ segment_file_bytes timeline number mib → HasSegmentName timeline number mib → (timeline ≡ 1 → is_segment number ≡ true → ⊥) → IsLeastOf (NamesSegment mib name) None
-segment_outside mib timeline number name size named has outside seg is =
-    let same = one_named mib timeline number name size named has seg is in
-    outside same.0 (subst (λ (n : ℕ). is_segment n ≡ true) (sym same.1) is.segment)
-
-pub segment_none : (mib : ℕ) (name : List ℕ) → IsSegmentMib mib → NamesNoSegment name mib → IsLeastOf (NamesSegment mib name) None
-segment_none mib name size none seg is = none 1 seg (in_archive mib seg size (segment_range seg is.segment).1) (is.named ∙ name_of_first seg mib)
 
 -- the lesser of the least numbers that have P and Q is the least that has either
 pub least_of_both : (P Q R : ℕ → Type 0) (a b : Option ℕ) → IsLeastOf P a → IsLeastOf Q b → ((n : ℕ) → P n → R n) → ((n : ℕ) → Q n → R n) → ((n : ℕ) → R n → P n ⊎ Q n) → IsLeastOf R (lesser a b)
@@ -132,6 +116,3 @@ least_all mib k names least all before = subst (λ (n : ℕ). IsLeastOf (IsNamed
 pub named_most : (mib : ℕ) (names : List (List ℕ)) (o : Option ℕ) → IsLeastOf (IsNamedIn mib names) o → IfSome o (λ seg. seg ≤ 1048576)
 named_most mib names None is = tt
 named_most mib names (Some seg) is = (segment_range seg is.0.2.segment).1
-
-pub no_segment : (seg : ℕ) → is_segment seg ≡ false → is_segment seg ≡ true → ⊥
-no_segment seg not inside = (let e : false ≡ true = sym not ∙ inside in absurd cc)

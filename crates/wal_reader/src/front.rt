@@ -3,6 +3,7 @@
 ghost use Rattle.std.specs.Prelude.{◌≡◌, ◌^◌, ◌≤◌, IfOk, length};
 ghost use Rattle.lsn_core.specs.Causes.{HasCause};
 ghost use Rattle.vault.specs.Frame.{OnlyReads};
+ghost use Rattle.lsn_core.specs.Sizes.{page_size};
 ghost use Rattle.wal_reader.specs.Inside.{IsFileFront, IsFrontIfThere, IsFrontRead};
 
 use byte_words::zeros;
@@ -24,7 +25,7 @@ fn read_front<V: Vault>(wal: &mut V, name: &[u8], into: &mut [u8]) -> Result<u32
 /// The first 8192 bytes of a file, or all that it has.
 pub fn front<V: Vault>(alloc: Global, wal: &mut V, name: &[u8]) -> Result<Vec<u8>, AreaFault>
     ensures bytes { IfOk result (λ page. IsFileFront (V.files wal.old) name.now page.items) }
-    ensures size { IfOk result (λ page. length page.items ≤ 8192) }
+    ensures size { IfOk result (λ page. length page.items ≤ page_size) }
     ensures reads { OnlyReads V.Vault wal.old wal.new }
     ensures cause { HasCause (V.faults wal.old) (V.faults wal.new) result }
 {

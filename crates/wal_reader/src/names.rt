@@ -3,13 +3,14 @@
 ghost use Rattle.std.specs.Prelude.{◌≡◌, ◌≤◌, ◌↔◌, IsTrue, IfSome, IfNone, get_or, length};
 ghost use Rattle.std.specs.List.{list_any};
 ghost use Rattle.text_numbers.specs.Numbers.{all_upper_digits};
+ghost use Rattle.lsn_core.specs.Sizes.{most_segments};
 ghost use Rattle.wal_reader.specs.Names.{is_wal_name, IsOtherTimeline, IsFirstOther, HasNoOther};
 ghost use Rattle.wal_reader.specs.Settings.{IsLeastOf};
-ghost use Rattle.wal_reader.specs.Inside.{NamesSegment, IsNamedIn, lesser};
+ghost use Rattle.wal_reader.specs.Inside.{IsNamedIn, lesser};
 
 use crate::file_name::FileName;
 use lsn_core::{SegSize, Text, segment_read};
-use wal_archive::is_segment;
+use wal_archive::segment_in;
 
 /// Whether each byte is a hexadecimal digit in upper case.
 fn is_upper(text: &[u8]) -> bool
@@ -55,23 +56,6 @@ pub fn other_timeline(names: &[Text], size: SegSize) -> Option<FileName>
     None
 }
 
-/// The number of the segment of the archive whose file has this name.
-fn segment_in(name: &[u8], size: SegSize) -> Option<u64>
-    ensures { IsLeastOf (NamesSegment size name.now) result }
-{
-    // known: so large a segment has a name for each number of the archive
-    let _mib = size.mib();
-    match segment_read(name, size) {
-        Some((timeline, number)) => {
-            if timeline == 1 && is_segment(number) {
-                return Some(number);
-            }
-            None
-        }
-        None => None,
-    }
-}
-
 /// The lesser of two numbers of segments, where there are any.
 fn lesser(a: Option<u64>, b: Option<u64>) -> Option<u64>
     ensures { result ≡ lesser a b }
@@ -86,8 +70,10 @@ fn lesser(a: Option<u64>, b: Option<u64>) -> Option<u64>
 /// The least number of a segment of the archive that one of the names is of.
 pub fn least_segment(names: &[Text], size: SegSize) -> Option<u64>
     ensures least { IsLeastOf (IsNamedIn size names.now) result }
-    ensures most { IfSome result (λ seg. seg ≤ 1048576) }
+    ensures most { IfSome result (λ seg. seg ≤ most_segments) }
 {
+    // known: so large a segment has a name for each number of the archive
+    let _mib = size.mib();
     let mut least = None;
     for name in names {
         least = lesser(least, segment_in(name.as_bytes(), size));

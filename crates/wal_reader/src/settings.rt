@@ -4,6 +4,7 @@ ghost use Rattle.std.specs.Prelude.{◌≡◌, ◌^◌, ◌<◌, ◌≤◌, IfOk
 ghost use Rattle.vault.specs.Frame.{OnlyReads};
 ghost use Rattle.lsn_core.specs.Causes.{HasCause};
 ghost use Rattle.lsn_core.specs.Segment.{IsRelseg};
+ghost use Rattle.lsn_core.specs.Sizes.{most_segments};
 ghost use Rattle.wal_reader.specs.Settings.{settings_text, IsSettingsText, IsDamagedText};
 ghost use Rattle.wal_reader.specs.Settings.{system_in, SettingsAnswer};
 ghost use Rattle.wal_reader.specs.Inside.{line_of, HasNoLine, HasNoNumbers};
@@ -125,7 +126,7 @@ fn system_at<V: Vault>(
     size: SegSize,
     segment: Option<u64>,
 ) -> Result<u64, AreaFault>
-    requires { IfSome segment (λ seg. seg ≤ 1048576) }
+    requires { IfSome segment (λ seg. seg ≤ most_segments) }
     ensures system { IfOk result (TellsSystem size (V.files wal.old) segment) }
     ensures reads { OnlyReads V.Vault wal.old wal.new }
     ensures cause { HasCause (V.faults wal.old) (V.faults wal.new) result }

@@ -2,7 +2,7 @@
 
 ghost use Rattle.std.specs.Prelude.{◌≡◌, ◌≤◌, ◌^◌, true, false, length};
 ghost use Rattle.vault.specs.Frame.{OnlyReads};
-ghost use Rattle.wal_record.specs.Decoding.{is_own_redo};
+ghost use Rattle.wal_heads.specs.Header.{most_total};
 ghost use Rattle.wal_reader.specs.Wal.{tip_at};
 ghost use Rattle.wal_reader.specs.Cursor.{IsReached, CanStep};
 ghost use Rattle.wal_reader.specs.Inside.{is_in_room, fault_at, JudgeAnswer};
@@ -14,7 +14,7 @@ use std::alloc::Global;
 use vault::Vault;
 use wal_archive::{Broken, Damage, next_bytes, set_bytes};
 use wal_pages::Layout;
-use wal_record::{Kind, Record, RecordFault, Why, decode_record, wal_limit};
+use wal_record::{Record, RecordFault, Why, decode_record, is_own_redo, wal_limit};
 
 /// What stands behind a tip, or at it where a cursor is set there.
 pub fn step<V: Vault>(
@@ -114,7 +114,7 @@ fn judge(
     bytes: &[u8],
 ) -> Result<Option<Record>, WalFault>
     requires bound { end.0 ≤ 2 ^ 51 }
-    requires size { length bytes.now ≤ 4194304 }
+    requires size { length bytes.now ≤ most_total }
     ensures { JudgeAnswer layout.now.segment end.0 prev bytes.now result }
 {
     let size = layout.settings().segment();
@@ -129,16 +129,6 @@ fn judge(
     match decode_record(alloc, bytes, place, prev) {
         Ok(record) => Ok(Some(record)),
         Err(fault) => Err(fault_at(start, fault)),
-    }
-}
-
-/// Whether an entry is a shutdown checkpoint whose redo point is its own start.
-fn is_own_redo(start: Lsn, kind: &Kind) -> bool
-    ensures { result ≡ is_own_redo start kind.now }
-{
-    match kind {
-        Kind::Shutdown(redo) => redo.0 == start.0,
-        _ => false,
     }
 }
 
