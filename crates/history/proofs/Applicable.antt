@@ -1,11 +1,10 @@
 -- What is read, and what can be written, may be applied.
-use Rattle.std.specs.List.{All}
 use Rattle.std.proofs.lemmas.List.Elements.{All-nil}
 use Rattle.wal_record.specs.declared.record.BlockRef.{BlockRef}
 use Rattle.wal_record.specs.declared.record.Body.{Body}
 use Rattle.wal_record.specs.declared.record.Body.TheVariants.{Image, Delta}
 use Rattle.wal_record.specs.declared.record.Kind.TheVariants.{Shutdown, Online, RedoMark, NoOp, BackupEnd, Images, Generic, Create, Truncate}
-use Rattle.wal_record.specs.Spelling.{IsWritableBody, IsWritableBlock, IsWritable}
+use Rattle.wal_record.specs.Spelling.{IsWritableBody, IsWritableBlock}
 use Rattle.wal_record.specs.Sound.{IsSoundBody, IsSoundBlock}
 use Rattle.history.specs.Applied.{IsApplicableBody, IsApplicableBlock}
 use Rattle.history.specs.Laws.{SoundMayBeApplied, WritableMayBeApplied}

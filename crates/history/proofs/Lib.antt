@@ -1,6 +1,7 @@
 pub mod StoreMap
 pub mod UndoLaws
 pub mod Stores
+pub mod Counts
 pub mod Names
 pub mod Pushes
 pub mod Histories

@@ -1,5 +1,5 @@
 -- A store in memory, and how many pages it has.
-use Rattle.std.specs.Prelude.{ℕ, List, map, length, sum}
+use Rattle.std.specs.Prelude.{◌≡◌, ℕ, List, map, length, sum, Option, IfSome}
 use Rattle.std.specs.Global.{Vec}
 use Rattle.std.specs.BTreeMap.{BTreeMap}
 use Rattle.std.specs.FinMap.{from_entries, entries, code}
@@ -19,3 +19,7 @@ page_count store = sum (map (λ e. length e.1) (entries store))
 -- by this a proof tells stores apart
 abbrev pub store_code : Coded Store
 store_code = code the_row.coded (coded_list (coded_list coded_ℕ))
+
+-- the number of a store's pages, where it is known
+abbrev pub IsTotal : Option ℕ → Store → Type 0
+IsTotal total store = IfSome total (λ n. n ≡ page_count store)

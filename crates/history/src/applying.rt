@@ -143,7 +143,7 @@ fn is_named(at: &BlockId, blocks: &[BlockRef]) -> bool
     ensures { result ≡ is_named at.now (map (λ b. b.at) blocks.now) }
 {
     for block in blocks {
-        if is_same(at, &block.at) {
+        if is_same_block(at, &block.at) {
             return true;
         }
     }
@@ -151,14 +151,14 @@ fn is_named(at: &BlockId, blocks: &[BlockRef]) -> bool
 }
 
 /// Whether two names are of one block.
-fn is_same(one: &BlockId, other: &BlockId) -> bool
+pub fn is_same_block(one: &BlockId, other: &BlockId) -> bool
     ensures { result ≡ is_same_block one.now other.now }
 {
     is_same_fork(&one.fork, &other.fork) && one.block == other.block
 }
 
 /// Whether two names are of one fork, by the order in which the store has them.
-fn is_same_fork(one: &ForkId, other: &ForkId) -> bool
+pub fn is_same_fork(one: &ForkId, other: &ForkId) -> bool
     ensures { result ≡ is_same_fork one.now other.now }
 {
     one.cmp(other).is_eq()

@@ -99,7 +99,7 @@ impl Op {
 }
 
 /// The main fork of a relation.
-pub(crate) fn main_fork(rel: Rel) -> ForkId
+pub fn main_fork(rel: Rel) -> ForkId
     ensures { result ≡ main_fork rel }
 {
     ForkId {

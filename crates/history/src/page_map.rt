@@ -5,9 +5,10 @@ ghost use Rattle.std.specs.Prelude.{length, slice_get, OnOk, OnErr, IfOk};
 ghost use Rattle.std.specs.FinMap.{empty, keys, len};
 ghost use Rattle.std.specs.Option.{option_map};
 ghost use Rattle.lsn_core.specs.Sizes.{most_blocks};
-ghost use Rattle.lsn_core.specs.Blocks.{block_of, block_count, with_block, page_put, with_fork, with_cut};
+ghost use Rattle.lsn_core.specs.Blocks.{block_of, block_count, pages_of, with_block, page_put, with_fork, with_cut};
 ghost use Rattle.history.specs.Apply.{page_at};
 ghost use Rattle.history.specs.Pages.{store_in, page_count};
+ghost use Rattle.history.specs.Inside.{IsRecounted};
 
 use lsn_core::{BlockId, ForkId, NoMemory};
 use pg_page::zero_page;
@@ -15,10 +16,13 @@ use std::alloc::Global;
 use std::collections::BTreeMap;
 use std::marker::Model;
 
-/// A store of pages in memory: the pages of each fork. Contracts see the store.
+/// A store of pages in memory: the pages of each fork, and how many there are. Contracts see the
+/// store.
 #[derive(Drop)]
 pub struct PageMap {
     pub(crate) forks: BTreeMap<ForkId, Vec<[u8; 8192]>>,
+    /// How many pages all forks have together. None once that was past the number's type.
+    pub(crate) total: Option<u64>,
     alloc: Global,
 }
 
@@ -31,8 +35,11 @@ impl Model for PageMap {
     ghost coded = { store_code };
 
     ghost use Rattle.history.specs.Pages.{store_in};
+    ghost use Rattle.history.specs.Pages.{IsTotal};
 
     ghost view = { λ m. store_in m.forks };
+
+    ghost invariant = { λ m. IsTotal m.total (store_in m.forks) };
 }
 
 impl PageMap {
@@ -42,6 +49,7 @@ impl PageMap {
     {
         PageMap {
             forks: BTreeMap::new(alloc),
+            total: Some(0),
             alloc,
         }
     }
@@ -63,6 +71,17 @@ impl PageMap {
     /// How many pages all forks have together. `NoMemory` exactly where that is past the number's
     /// type, which no memory holds.
     pub fn page_count(&self) -> Result<u64, NoMemory>
+        ensures count { IfOk result (λ count. count ≡ page_count self.now) }
+        ensures many { OnErr result (2 ^ 64 ≤ page_count self.now) }
+    {
+        match self.total {
+            Some(total) => Ok(total),
+            None => self.counted(),
+        }
+    }
+
+    /// The same, counted fork by fork.
+    fn counted(&self) -> Result<u64, NoMemory>
         ensures count { IfOk result (λ count. count ≡ page_count self.now) }
         ensures many { OnErr result (2 ^ 64 ≤ page_count self.now) }
     {
@@ -98,14 +117,17 @@ impl PageMap {
         ensures made { OnOk result (self.new ≡ with_fork self.old fork.now) }
         ensures same { OnErr result (self.new ≡ self.old) }
     {
-        create_in(&mut self.forks, fork, self.alloc)
+        create_in(&mut self.forks, fork, self.alloc)?;
+        Ok(())
     }
 
     /// Leaves a fork's first pages alone, so many; a missing fork stays missing.
     pub(crate) fn cut(&mut self, fork: &ForkId, count: usize)
         ensures { self.new ≡ with_cut self.old fork.now count }
     {
+        let before = length_in(&self.forks, fork);
         cut_in(&mut self.forks, fork, count);
+        self.total = recounted(self.total, before, length_in(&self.forks, fork));
     }
 
     /// Where the store takes its memory.
@@ -114,7 +136,7 @@ impl PageMap {
     }
 
     /// The bytes of a block, or of a zero page where there is none.
-    pub(crate) fn page_at(&self, at: &BlockId) -> [u8; 8192]
+    pub fn page_at(&self, at: &BlockId) -> [u8; 8192]
         ensures { result ≡ page_at self.now at.now }
     {
         match self.block(at) {
@@ -129,7 +151,27 @@ impl PageMap {
         ensures put { OnOk result (self.new ≡ page_put at.now page.now self.old) }
         ensures same { OnErr result (self.new ≡ self.old) }
     {
-        put_in(&mut self.forks, at, page, self.alloc)
+        let before = length_in(&self.forks, &at.fork);
+        put_in(&mut self.forks, at, page, self.alloc)?;
+        self.total = recounted(self.total, before, length_in(&self.forks, &at.fork));
+        Ok(())
+    }
+}
+
+/// How many pages all forks have, where they had so many before one fork's number changed.
+pub(crate) fn recounted(total: Option<u64>, before: usize, now: usize) -> Option<u64>
+    ensures { IsRecounted total before now result }
+{
+    total?.checked_sub(before as u64)?.checked_add(now as u64)
+}
+
+/// How many pages a fork of a map has; a missing fork has none.
+pub(crate) fn length_in(forks: &BTreeMap<ForkId, Vec<[u8; 8192]>>, fork: &ForkId) -> usize
+    ensures { result ≡ length (pages_of (store_in forks.now) fork.now) }
+{
+    match forks.get(fork) {
+        Some(pages) => pages.len(),
+        None => 0,
     }
 }
 

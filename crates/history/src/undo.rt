@@ -8,7 +8,7 @@ ghost use Rattle.lsn_core.specs.Blocks.{pages_of, page_put, with_fork, with_cut}
 ghost use Rattle.history.specs.Pages.{store_in};
 ghost use Rattle.history.specs.Undo.{with_set, with_pages, undone_step, undone_steps, undone};
 
-use crate::page_map::{PageMap, cut_in, page_at};
+use crate::page_map::{PageMap, length_in, page_at, recounted};
 use lsn_core::{BlockId, ForkId, NoMemory};
 use std::alloc::{AllocError, Global};
 use std::collections::BTreeMap;
@@ -62,9 +62,9 @@ impl PageMap {
     {
         match undo.way {
             Way::Nothing => (),
-            Way::Fork(fork) => unmake_in(&mut self.forks, &fork),
+            Way::Fork(fork) => self.unmake(&fork),
             Way::Pages(fork, pages) => {
-                let _ = swap_in(&mut self.forks, &fork, pages);
+                let _ = self.swap(&fork, pages);
             }
             Way::Steps(steps) => self.undo_steps(steps),
         }
@@ -93,7 +93,7 @@ impl PageMap {
         ensures same { OnErr result (self.new ≡ self.old) }
     {
         let first = self.first_pages(fork, count)?;
-        let old = swap_in(&mut self.forks, fork, first);
+        let old = self.swap(fork, first);
         Ok(Undo {
             way: Way::Pages(*fork, old),
         })
@@ -143,10 +143,30 @@ impl PageMap {
         ensures { self.new ≡ undone_step step.now self.old }
     {
         match step {
-            Step::Fork(fork) => unmake_in(&mut self.forks, fork),
-            Step::Length(fork, count) => cut_in(&mut self.forks, fork, *count),
+            Step::Fork(fork) => self.unmake(fork),
+            Step::Length(fork, count) => self.cut(fork, *count),
             Step::Page(at, page) => set_in(&mut self.forks, at, page),
         }
+    }
+
+    /// Takes a fork away.
+    fn unmake(&mut self, fork: &ForkId)
+        ensures { self.new ≡ remove self.old fork.now }
+    {
+        let before = length_in(&self.forks, fork);
+        unmake_in(&mut self.forks, fork);
+        self.total = recounted(self.total, before, length_in(&self.forks, fork));
+    }
+
+    /// Gives a fork other pages, where it is there, and answers those that it had.
+    fn swap(&mut self, fork: &ForkId, other: Vec<[u8; 8192]>) -> Vec<[u8; 8192]>
+        ensures put { self.new ≡ with_pages self.old fork.now other.items }
+        ensures back { with_pages self.new fork.now result.items ≡ self.old }
+    {
+        let before = length_in(&self.forks, fork);
+        let old = swap_in(&mut self.forks, fork, other);
+        self.total = recounted(self.total, before, length_in(&self.forks, fork));
+        old
     }
 
     /// What undoes a page that is put at a block.

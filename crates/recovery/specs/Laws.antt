@@ -1,4 +1,4 @@
--- That the answers on a WAL shut each other out, and that what lies behind a target doesn't matter.
+-- That the answers on a WAL shut each other out.
 use Rattle.std.specs.Prelude.{◌≡◌, ℕ, Option, Some, Result, IfErr}
 use Rattle.lsn_core.specs.Files.{Files}
 use Rattle.lsn_core.specs.declared.lsn.Lsn.{Lsn}

@@ -21,7 +21,8 @@ pub enum RecoveryFault {
     SettingsDamaged,
     /// This name is that of a segment file of a timeline other than 1, the first in byte order.
     Timeline(FileName),
-    /// There is no WAL: no name is 24 upper-case hexadecimal digits.
+    /// There is no WAL: no name is 24 upper-case hexadecimal digits; for who needs an entry, also a
+    /// WAL that has none.
     NotInit,
     /// The area of the WAL failed, and its count of faults rose.
     Failed,

@@ -70,28 +70,28 @@ impl Replayed {
     }
 
     /// Applies an entry, unless one before it couldn't be applied.
-    fn add(&mut self, record: &Record) -> Result<(), NoMemory>
-        requires { IsApplicable record.now.kind }
-        ensures { OnOk result (Adds record.now self.old self.new) }
+    fn add(&mut self, entry: &Record) -> Result<(), NoMemory>
+        requires { IsApplicable entry.now.kind }
+        ensures { OnOk result (Adds entry.now self.old self.new) }
     {
         if self.bad.is_none() {
-            match apply(&mut self.store, record) {
+            match apply(&mut self.store, entry) {
                 Ok(()) => {}
-                Err(ApplyFault::BadDelta) => self.bad = Some(record.start),
+                Err(ApplyFault::BadDelta) => self.bad = Some(entry.start),
                 Err(ApplyFault::NoMemory) => return Err(NoMemory),
             }
         }
-        self.end = record.end;
+        self.end = entry.end;
         Ok(())
     }
 
     /// Replays an entry that was read, where it ends at the target or before it.
-    fn take(&mut self, upto: Option<Lsn>, record: &Record) -> Result<(), NoMemory>
-        requires { IsApplicable record.now.kind }
-        ensures { OnOk result (Takes upto record.now self.old self.new) }
+    fn take(&mut self, upto: Option<Lsn>, entry: &Record) -> Result<(), NoMemory>
+        requires { IsApplicable entry.now.kind }
+        ensures { OnOk result (Takes upto entry.now self.old self.new) }
     {
-        if is_taken(upto, record.end) {
-            return self.add(record);
+        if is_taken(upto, entry.end) {
+            return self.add(entry);
         }
         Ok(())
     }

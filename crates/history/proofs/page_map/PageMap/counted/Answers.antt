@@ -2,7 +2,7 @@ use Rattle.std.proofs.Common.{ℕ, List, length, map, sum, zero-add, ap, ◌∙�
 use Rattle.std.specs.Global.{Vec}
 use Rattle.history.specs.Pages.{page_count}
 use Rattle.history.proofs.StoreMap.{page_count_in}
-use Rattle.history.proofs.page_map.PageMap.page_count.Goals as goal
+use Rattle.history.proofs.page_map.PageMap.counted.Goals as goal
 
 pub loop-pages-init : goal.loop-pages-init
 loop-pages-init c =

@@ -1,0 +1,12 @@
+use Rattle.std.proofs.Common.{sym, subst}
+use Rattle.lsn_core.specs.Store.{Store}
+use Rattle.history.specs.Pages.{store_in}
+use Rattle.history.proofs.Counts.{IsMoved, recounted, moved_remove}
+use Rattle.history.proofs.page_map.PageMap.unmake.Goals as goal
+
+pub invariant_of-self : goal.invariant_of-self
+invariant_of-self c =
+    let old = store_in c.self.inside.forks in
+    let new = store_in c.unmake_in.new.forks in
+    recounted c.self.inside.total c.recounted-self-inside.result c.length_in-before.result c.length_in.result old new c.args.fork.now c.self.invariant c.recounted-self-inside.ensures c.length_in-before.ensures c.length_in.ensures
+    (subst (λ (s : Store). IsMoved old s c.args.fork.now) (sym c.unmake_in.ensures) (moved_remove old c.args.fork.now))
