@@ -18,7 +18,7 @@ mod timeline;
 mod tokens;
 
 pub use laws::notes_begin_the_history;
-pub use naming::{Found, Line, Names};
+pub use naming::{Beginning, Names, OfTimeline};
 pub use opening::Opened;
 pub use timeline::Timeline;
 pub use tokens::{Note, Pen};

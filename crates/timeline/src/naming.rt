@@ -5,13 +5,13 @@ use std::marker::Brand;
 
 /// Names one timeline. A function that is generic in it speaks of one and the same timeline in all
 /// its types.
-pub trait Line {
+pub trait OfTimeline {
     ghost use Rattle.atomic_table.specs.Seated.{TableId};
 
     ghost table: { TableId };
 }
 
-impl Line for Brand {
+impl OfTimeline for Brand {
     ghost use Rattle.timeline.specs.Notes.{no_table};
 
     ghost table = { no_table };
@@ -31,13 +31,13 @@ impl<E> Names<E> for Brand {
 }
 
 /// Names the entries that were found, with which a history begins.
-pub trait Found<E> {
+pub trait Beginning<E> {
     ghost use Rattle.std.specs.Prelude.{List};
 
     ghost list: { List E };
 }
 
-impl<E> Found<E> for Brand {
+impl<E> Beginning<E> for Brand {
     ghost use Rattle.std.specs.Prelude.{[]};
 
     ghost list = { [] };

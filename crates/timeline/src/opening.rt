@@ -9,7 +9,7 @@ use std::marker::Model;
 
 /// The memory of a timeline, and an empty history. It has no name yet, so no type can speak of it.
 ///
-/// Make it in one function, and call from there another one that is generic in `Line`, at `Brand`:
+/// Make it in one function, and call from there another one that is generic in `OfTimeline`, at `Brand`:
 /// the proof of that call picks this value as the timeline's name.
 #[derive(Drop)]
 pub struct Opened<E> {

@@ -3,7 +3,7 @@
 ghost use Rattle.std.specs.Prelude.{◌≡◌, ◌+◌, ◌<◌, ◌≤◌, ◌^◌, ◌⊎◌, ◌++◌, length, take, drop};
 ghost use mathlib.Core.List.{IsPrefix};
 
-use crate::naming::{Found, Line, Names};
+use crate::naming::{Beginning, Names, OfTimeline};
 use crate::opening::Opened;
 use crate::seats::{Append, Compare, Copied, Grows, Holds, Look, Settle, View};
 use crate::tokens::{Note, Pen};
@@ -13,17 +13,17 @@ use std::marker::{Brand, PhantomData};
 
 /// The word that all threads share by reference: the length of the history.
 #[derive(Drop)]
-pub struct Timeline<E, J: Line> {
+pub struct Timeline<E, J: OfTimeline> {
     table: Table<u8, View<E>, (), Grows, Global>,
     of: PhantomData<J>,
     ghost word: { table.shared.table_id.words ≡ 1 },
     ghost named: { table.shared.table_id ≡ J.table },
 }
 
-impl<E, J: Line> Timeline<E, J> {
+impl<E, J: OfTimeline> Timeline<E, J> {
     /// The timeline under its name, whose history is the entries that were found, and its pen.
     /// `count` is how many these are.
-    pub fn new<F: Found<E>>(opened: Opened<E>, count: u64) -> (Timeline<E, J>, Pen<E, J>)
+    pub fn new<F: Beginning<E>>(opened: Opened<E>, count: u64) -> (Timeline<E, J>, Pen<E, J>)
         requires name { opened ≡ J.table }
         requires count { length F.list ≡ count }
         requires room { count < 2 ^ 50 }
@@ -45,7 +45,7 @@ impl<E, J: Line> Timeline<E, J> {
     }
 
     /// Appends the found entry of this number.
-    fn append_found<F: Found<E>, N: Names<E>>(&self, pen: &mut Pen<E, J>, number: u64)
+    fn append_found<F: Beginning<E>, N: Names<E>>(&self, pen: &mut Pen<E, J>, number: u64)
         requires named { N.next ≡ take 1 (drop number F.list) }
         requires found { number < length F.list }
         requires before { pen.old ≡ take number F.list }

@@ -3,7 +3,7 @@ use Rattle.timeline.proofs.timeline.Timeline.append_found.Goals as goal
 
 pub returns : goal.returns
 returns g c =
-    let list = g.F.Found.list in
+    let list = g.F.Beginning.list in
     let n = c.args.number in
     c.append.ensures
     ∙ (ap (λ l. l ++ g.N.Names.next) c.requires.before
