@@ -1,3 +1,6 @@
 pub mod Entries
-pub mod Saying
+pub mod Items
+pub mod Judged
+pub mod Judging
+pub mod Walk
 pub mod Inserted

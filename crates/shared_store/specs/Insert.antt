@@ -1,26 +1,21 @@
 -- What the insertion of a command into a store answers.
-use Rattle.std.specs.Prelude.{◌≡◌, ◌≤◌, Some, Result, Ok, Err}
+use Rattle.std.specs.Prelude.{◌≡◌, Some, None, Result, Ok, Err}
 use Rattle.wal_record.specs.Spelling.{IsWritable}
-use Rattle.wal_record.specs.Tips.{wal_limit}
-use Rattle.wal_writer.specs.Log.{IsLog, appended}
+use Rattle.wal_writer.specs.Log.{appended}
 use Rattle.history.specs.declared.op.Op.{Op}
 use Rattle.history.specs.Apply.{apply}
 use Rattle.history.specs.Whole.{entry_of}
-use Rattle.history.specs.Op.{act_of_op, apply_op, IsTidy, IsFit}
+use Rattle.history.specs.Op.{apply_op}
 use Rattle.shared_store.specs.declared.fault.Receipt.{Receipt}
 use Rattle.shared_store.specs.declared.fault.InsertFault.{InsertFault}
 use Rattle.shared_store.specs.State.{State, op_record}
-use Rattle.shared_store.specs.Refusals.{IsSimple, Refuses}
+use Rattle.shared_store.specs.Refusals.{judged_at, IsRefused}
 
--- the command was done on a store where it may be: its entry is the next one of the WAL and of the
--- history, and what it is written as does to the pages what the command does
+-- the command was done where nothing refuses it: its entry is the next one of the WAL and of the
+-- history, and the pages are what the command makes. That its entry makes the same of them follows
 pub record IsInserted (command : Op) (old new : State) (receipt : Receipt) : Type 0 where
-  pub simple : IsSimple command
-  pub known : IsLog old.log
-  pub tidy : IsTidy old.pages (act_of_op command)
-  pub fit : IsFit old.pages command
+  pub taken : judged_at old.log.mib old.pages old.log.tip command ≡ None
   pub writable : IsWritable (op_record old command).kind
-  pub within : (op_record old command).end.0 ≤ wal_limit old.log.mib
   pub number : receipt.number ≡ old.log.tip.count
   pub start : receipt.place.start ≡ (op_record old command).start
   pub end : receipt.place.end ≡ (op_record old command).end
@@ -32,4 +27,4 @@ pub record IsInserted (command : Op) (old new : State) (receipt : Receipt) : Typ
 abbrev pub InsertAnswer : Op → State → State → Result Receipt InsertFault → Type 0
 InsertAnswer command old new (Ok receipt) = IsInserted command old new receipt
 InsertAnswer command old new (Err fault) =
-    (new ≡ old) × Refuses old.log.mib old.pages old.log.tip command fault
+    (new ≡ old) × IsRefused old.log.mib old.pages old.log.tip command fault

@@ -1,13 +1,12 @@
 //! A store that writes its WAL.
 
-ghost use Rattle.std.specs.Prelude.{◌≡◌, IsOk, IfOk, OnOk, OnErr};
+ghost use Rattle.std.specs.Prelude.{◌≡◌, None, IsOk, IfOk, OnOk, OnErr};
 ghost use Rattle.lsn_core.specs.Causes.{HasCause};
 ghost use Rattle.wal_writer.specs.Log.{IsLog, IsReady};
 ghost use Rattle.history.specs.Applied.{IsApplicable};
-ghost use Rattle.history.specs.Op.{act_of_op, IsTidy, IsFit};
 ghost use Rattle.shared_store.specs.State.{state_of};
 ghost use Rattle.shared_store.specs.Insert.{InsertAnswer};
-ghost use Rattle.shared_store.specs.Refusals.{IsSimple};
+ghost use Rattle.shared_store.specs.Refusals.{judged};
 ghost use Rattle.shared_store.specs.Flush.{IsAllFlushed, WritesAll, all_touched};
 ghost use Rattle.shared_store.specs.Flush.{WritesPart, WritesWalAlone};
 ghost use Rattle.shared_store.specs.Inside.{IsAdded};
@@ -37,26 +36,21 @@ impl<V: Vault> Store<V> {
         Store { wal, pages }
     }
 
-    /// Inserts a command, which so far creates a fork or puts one page: judges it against the store,
-    /// changes the pages, and appends its entry to the WAL. The entry isn't durable before a flush.
-    /// A refusal changes nothing.
+    /// Inserts a command: judges it against the store, changes the pages, and appends its entry to
+    /// the WAL. The entry isn't durable before a flush. A refusal is the first one in order, and
+    /// changes nothing.
     pub fn insert(&mut self, alloc: Global, op: &Op) -> Result<Receipt, InsertFault>
-        requires { IsSimple op.now }
         ensures answer { InsertAnswer op.now (state_of self.old) (state_of self.new) result }
+        ensures known { IsLog self.old.wal.tail }
         ensures area { self.new.wal.area ≡ self.old.wal.area }
     {
-        let count = self.wal.tip().count;
-        if let Err(fault) = judge(&self.pages, count, op) {
-            return Err(fault);
-        }
+        judge(&self.pages, self.wal.tip().count, op)?;
         self.write(alloc, op)
     }
 
     /// Writes a command that may be done: prepares its entry, and applies and adds that.
     fn write(&mut self, alloc: Global, op: &Op) -> Result<Receipt, InsertFault>
-        requires simple { IsSimple op.now }
-        requires tidy { IsTidy self.old.pages (act_of_op op.now) }
-        requires fit { IsFit self.old.pages op.now }
+        requires { judged self.old.wal.tail.tip.count self.old.pages op.now ≡ None }
         ensures answer { InsertAnswer op.now (state_of self.old) (state_of self.new) result }
         ensures area { self.new.wal.area ≡ self.old.wal.area }
     {
