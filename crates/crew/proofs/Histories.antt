@@ -1,9 +1,9 @@
 -- What the entries of a run that stand behind others are written as.
 use Rattle.std.proofs.Common.{◌≡◌, ℕ, ◌+◌, true, false, Bool, cond, List, [], ◌∷◌, ◌++◌, map, Option, Some, refl, sym, ap, subst, ◌∙◌}
-use Rattle.std.specs.List.{list_all, list_any}
+use Rattle.std.specs.List.{list_any}
 use Rattle.std.specs.Prelude.{◌==◌, ◌||◌}
 use Rattle.std.specs.Option.{unwrap_or}
-use Rattle.std.proofs.lemmas.Bool.{and_parts, or_parts}
+use Rattle.std.proofs.lemmas.Bool.{or_parts}
 use Rattle.lsn_core.specs.Store.{Store}
 use Rattle.lsn_core.specs.Tip.{Tip, tip_with}
 use Rattle.wal_record.specs.declared.record.Record.{Record}
@@ -17,7 +17,7 @@ use Rattle.history.specs.Whole.{entry_of}
 use Rattle.history.specs.Op.{act_of_op}
 use Rattle.history.specs.Written.{Before, behind, behind_all, at_first, kind_of, record_of, next_record, is_redo, tip_past, tip_over, written, wal_of}
 use Rattle.history.proofs.Histories.{written_on}
-use Rattle.crew.specs.Run.{AllOfRun, NoneOfRun}
+use Rattle.crew.specs.Run.{NoneOfRun}
 
 -- entries that were read are none of a run
 pub none_of_run_read : (rs : List Record) → NoneOfRun (map entry_of rs)
@@ -52,12 +52,6 @@ known_behind before (e ∷ h) store applied =
     let b = bind_some (apply before.store e) (λ s. apply_all s h) store applied in
     let there : (behind before e).store ≡ b.0 = some_of (apply before.store e) before.store b.0 b.1 in
     known_behind (behind before e) h store (subst (λ (s : Store). apply_all s h ≡ Some store) (sym there) b.2)
-
-pub AllOfRun-push : (added : List Entry) (e : Entry) → AllOfRun added → is_of_run e ≡ true → AllOfRun (added ++ (e ∷ []))
-AllOfRun-push [] e all is = rw is refl
-AllOfRun-push (f ∷ added) e all is =
-    let a = and_parts (is_of_run f) (list_all is_of_run added) all in
-    rw a.0 (AllOfRun-push added e a.1 is)
 
 -- one more entry
 pub behind-push : (before : Before) (es : List Entry) (e : Entry) → behind_all before (es ++ (e ∷ [])) ≡ behind (behind_all before es) e

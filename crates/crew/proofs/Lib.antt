@@ -1,7 +1,12 @@
 pub mod Histories
 pub mod Nexts
+pub mod Moments
 pub mod Runs
 pub mod ReadAgain
+pub mod OneHistory
 pub mod Pieces
+pub mod Each
+pub mod ItemWords
 pub mod SoFar
 pub mod OneAnswer
+pub mod Workers

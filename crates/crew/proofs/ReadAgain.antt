@@ -30,11 +30,11 @@ use Rattle.crew.specs.Run.{IsStateOf, before_in, run_records, all_written, IsRea
 use Rattle.crew.proofs.Histories.{none_of_run_read, wal_of_grown, known_behind, same_before}
 
 -- what the run wrote, by the history
-pub written_is : (mib : ℕ) (rs : List Record) (history added : List Entry) (old : State) → IsStateOf mib (map entry_of rs) old → history ≡ map entry_of rs ++ added → wal_of mib history ≡ run_records mib old added
-written_is mib rs history added old is grown =
+pub written_is : (mib : ℕ) (rs : List Record) (added : List Entry) (old : State) → IsStateOf mib (map entry_of rs) old → wal_of mib (map entry_of rs ++ added) ≡ run_records mib old added
+written_is mib rs added old is =
     let known = known_behind (at_first mib) (map entry_of rs) old.pages is.pages in
     let same : behind_all (at_first mib) (map entry_of rs) ≡ before_in old = same_before _ _ (known.0 ∙ sym is.tip) known.1 in
-    ap (λ (h : List Entry). wal_of mib h) grown ∙ (wal_of_grown mib (map entry_of rs) added (none_of_run_read rs) ∙ ap (λ (b : Before). written mib b added) same)
+    wal_of_grown mib (map entry_of rs) added (none_of_run_read rs) ∙ ap (λ (b : Before). written mib b added) same
 
 -- all that waits is written
 pub flushed : (log : Log) (mib system at : ℕ) (news : List Record) (files : Files) → log.mib ≡ mib → log.flushed ≡ at → log.pending ≡ laid_out mib system at news → IsLog log
@@ -74,7 +74,7 @@ pub read_again : IsReadAgain
 read_again s files rs lines answers old new wal linked at is known run gap =
     let mib : ℕ = s.segment in
     let news : List Record = run_records mib old run.added in
-    let wrote : wal_of mib run.last.history ≡ news = written_is mib rs run.last.history run.added old is run.grown in
+    let wrote : wal_of mib (map entry_of rs ++ run.added) ≡ news = written_is mib rs run.added old is in
     let from : Waits record_at old.log old.log.tip [] = nothing_waits s old.log at in
     let waits : Waits record_at new.log old.log.tip news = run.waits linked old.log.tip [] from in
     let chain : IsChain record_at mib old.log.tip news new.log.tip = subst (λ (n : ℕ). IsChain record_at n old.log.tip news new.log.tip) run.state_is.mib_is waits.chain in

@@ -1,26 +1,16 @@
--- What the crate's private functions answer: no public contract cites these.
-use Rattle.std.specs.Prelude.{◌≡◌, ℕ, ◌+◌, ◌<◌, Bool, true, false, List, [], ◌∷◌, ◌++◌, length, drop, min, Option, Some, None, Result, Ok, Err}
+-- What the crate's private functions answer that read a script: no public contract cites these.
+use Rattle.std.specs.Prelude.{◌≡◌, ℕ, ◌+◌, ◌<◌, List, [], ◌∷◌, ◌++◌, length, drop, min, Option, Some, None, Result, Ok, Err}
 use Rattle.lsn_core.specs.declared.fault.NoMemory.{NoMemory}
-use Rattle.shared_store.specs.declared.fault.Receipt.{Receipt}
-use Rattle.shared_store.specs.State.{State}
-use Rattle.shared_store.specs.Insert.{InsertAnswer}
 use Rattle.crew.specs.declared.meaning.Said.{Said}
 use Rattle.crew.specs.declared.meaning.Said.TheVariants as is
 use Rattle.crew.specs.declared.reading.Draft.{Draft}
-use Rattle.crew.specs.declared.run.Answer.{Answer}
-use Rattle.crew.specs.declared.run.Answer.TheVariants.{Accepted, Refused, NotRun}
-use Rattle.crew.specs.declared.script.Command.{Command}
-use Rattle.crew.specs.declared.script.Line.{Line}
 use Rattle.crew.specs.declared.why.Why.{Why}
 use Rattle.crew.specs.declared.why.ScriptFault.{ScriptFault}
 use Rattle.crew.specs.declared.why.ScriptFault.TheVariants as fault
 use Rattle.crew.specs.Cuts.{lines_of, words_of}
-use Rattle.crew.specs.Meaning.{Says, Nothing, Worker, Does, words_say, meaning}
+use Rattle.crew.specs.Meaning.{Says, Nothing, Worker, Does, meaning}
 use Rattle.crew.specs.Reasons.{worker_named, why_line}
 use Rattle.crew.specs.Script.{command_in}
-use Rattle.crew.specs.Run.{op_of}
-
--- ---- reading a script
 
 -- what a value of the reader says
 abbrev pub said : Said → Says
@@ -32,11 +22,6 @@ said (is.Does command) = Does command
 abbrev pub WordAnswer : List ℕ → Option (List ℕ × List ℕ) → Type 0
 WordAnswer text None = words_of text ≡ []
 WordAnswer text (Some x) = words_of text ≡ x.0 ∷ words_of x.1
-
--- the two words of a line; a line with fewer or more says nothing
-abbrev pub PairAnswer : List ℕ → Option (List ℕ × List ℕ) → Type 0
-PairAnswer line None = words_say (words_of line) ≡ None
-PairAnswer line (Some x) = words_of line ≡ x.0 ∷ (x.1 ∷ [])
 
 -- the line at a place, and the place behind it and its line feed
 pub record IsLine (bytes : List ℕ) (at : ℕ) (line : List ℕ) (end : ℕ) : Type 0 where
@@ -66,17 +51,3 @@ DraftAnswer old new end number line (Ok told) =
 DraftAnswer old new end number line (Err (fault.Line n why)) =
     (n ≡ number) × (why_line end old.names.items line ≡ Some why)
 DraftAnswer old new end number line (Err fault.NoMemory) = Unit {0}
-
--- ---- running its lines
-
--- what a command was answered that was run
-abbrev pub CommandAnswer : Command → State → State → Answer → Type 0
-CommandAnswer command old new (Accepted place) =
-    (r : Receipt) × ((place ≡ r.place) × InsertAnswer (op_of command) old new (Ok r))
-CommandAnswer command old new (Refused fault) = InsertAnswer (op_of command) old new (Err fault)
-CommandAnswer command old new NotRun = ⊥
-
--- what a line was answered, where the run was stopped before it or wasn't
-abbrev pub LineAnswer : Line → Bool → State → State → Answer → Type 0
-LineAnswer line true old new answer = (answer ≡ NotRun) × (new ≡ old)
-LineAnswer line false old new answer = CommandAnswer line.command old new answer

@@ -1,4 +1,5 @@
 pub mod Shape
+pub mod Orders
 pub mod Cuts
 pub mod Items
 pub mod Meaning
@@ -6,4 +7,5 @@ pub mod Reasons
 pub mod Script
 pub mod Laws
 pub mod Run
+pub mod Running
 pub mod Inside

@@ -2,7 +2,6 @@
 use Rattle.std.specs.Prelude.{ℕ, ◌+◌, ◌-◌, List, [], ◌∷◌, length, get_or, take, min, Option, Some, None}
 use Rattle.std.specs.Prelude.{codes, nat_lt, bytes_eq, not, if◌then◌else◌}
 use Rattle.std.specs.List.{list_all, list_any, flat_map, sum_by}
-use Rattle.crew.specs.declared.script.TheConstants.{SCRIPT_LIMIT}
 use Rattle.crew.specs.declared.why.Why.{Why}
 use Rattle.crew.specs.declared.why.Why.TheVariants.{Long, Bytes, Word, NoWorker, Twice, Many}
 use Rattle.crew.specs.Cuts.{lines_of, is_allowed}
@@ -38,11 +37,15 @@ why_says names (Some (Does command)) = why_command names
 abbrev pub size_of : List (List ℕ) → ℕ
 size_of lines = sum_by (λ line. length line + 1) lines
 
+-- the most bytes of a script (profile)
+abbrev pub script_limit : ℕ
+script_limit = 4194304
+
 -- why a line that ends at this byte of a script is refused, behind lines that name these workers:
 -- the first of its reasons
 abbrev pub why_line : ℕ → List (List ℕ) → List ℕ → Option Why
 why_line end names line =
-    if nat_lt SCRIPT_LIMIT end then Some Long
+    if nat_lt script_limit end then Some Long
     else (if not (list_all is_allowed line) then Some Bytes else why_says names (meaning line))
 
 -- why a line behind these is refused, in a script of so many bytes

@@ -1,17 +1,15 @@
--- What lines are answered that are run on a store in turn, and what they leave.
-use Rattle.std.specs.Prelude.{◌≡◌, ℕ, ◌+◌, ◌<◌, ◌≤◌, Bool, true, false, List, [], ◌∷◌, ◌++◌, map, Some}
-use Rattle.std.specs.List.{list_all, list_any}
+-- What the lines of a worker are answered, over the history of the store, and what they leave.
+use Rattle.std.specs.Prelude.{◌≡◌, ℕ, ◌<◌, ◌≤◌, ◌==◌, ◌&&◌, Bool, true, false, List, [], ◌∷◌, ◌++◌, map, length, take, slice_get, Option, Some, None}
+use Rattle.std.specs.Option.{is_some}
+use Rattle.std.specs.List.{filter, list_any}
 use Rattle.std.specs.FinMap.{empty}
-use Rattle.lsn_core.specs.declared.ids.BlockId.{BlockId}
 use Rattle.lsn_core.specs.declared.lsn.Place.{Place}
 use Rattle.lsn_core.specs.Files.{Files}
 use Rattle.lsn_core.specs.Segment.{StoreSettings}
 use Rattle.lsn_core.specs.Store.{Store}
 use Rattle.lsn_core.specs.Tip.{Tip}
-use Rattle.pg_page.specs.Header.{made_page}
 use Rattle.wal_record.specs.declared.record.Record.{Record}
 use Rattle.wal_record.specs.Decoding.{record_at}
-use Rattle.wal_record.specs.Tips.{wal_limit}
 use Rattle.wal_archive.specs.Archive.{archive_of}
 use Rattle.wal_archive.specs.Laws.{HasNoGap}
 use Rattle.wal_reader.specs.Wal.{IsWal}
@@ -19,123 +17,147 @@ use Rattle.wal_writer.specs.Log.{Log, IsLog, log_at}
 use Rattle.wal_writer.specs.Laws.{Waits}
 use Rattle.wal_writer.specs.Answers.{after_flush}
 use Rattle.history.specs.declared.op.Op.{Op}
-use Rattle.history.specs.declared.op.Op.TheVariants as op
-use Rattle.history.specs.declared.op.Item.{Item}
-use Rattle.history.specs.declared.op.Edit.TheVariants.{Put}
 use Rattle.history.specs.Entry.{Entry, is_of_run}
 use Rattle.history.specs.Apply.{apply_all}
 use Rattle.history.specs.Whole.{entry_of}
 use Rattle.history.specs.Written.{Before, record_of, tip_of, written, wal_of}
-use Rattle.history.specs.Op.{act_of_op, IsTidy, IsFit}
+use Rattle.history.specs.Op.{act_of_op}
 use Rattle.shared_store.specs.State.{State}
-use Rattle.shared_store.specs.Refusals.{Refuses}
+use Rattle.shared_store.specs.Refusals.{judged_at, IsRefused}
 use Rattle.shared_store.specs.declared.fault.InsertFault.{InsertFault}
 use Rattle.shared_store.specs.declared.fault.InsertFault.TheVariants as insert
-use Rattle.crew.specs.declared.script.Command.{Command}
-use Rattle.crew.specs.declared.script.Command.TheVariants.{Create, Change}
 use Rattle.crew.specs.declared.script.Line.{Line}
 use Rattle.crew.specs.declared.run.Answer.{Answer}
 use Rattle.crew.specs.declared.run.Answer.TheVariants.{Accepted, Refused, NotRun}
-use Rattle.crew.specs.Shape.{Shape}
+use Rattle.crew.specs.Orders.{command_op}
 
--- what a command asks of the store
-abbrev pub item_with : BlockId → Shape → Item
-item_with at shape =
-    record { at = at; edit = Put (made_page shape.lower shape.upper shape.fill) }
+-- ---- the commands of a worker in a history
 
-abbrev pub op_of : Command → Op
-op_of (Create fork) = op.Create fork
-op_of (Change at shape) = op.Change (item_with at shape ∷ [])
+abbrev pub is_number : ℕ → Option ℕ → Bool
+is_number n None = false
+is_number n (Some m) = m == n
 
--- ---- histories
+-- this worker made the entry by a command
+abbrev pub is_by : ℕ → Entry → Bool
+is_by worker entry = is_number worker entry.worker && is_some entry.seq
 
--- all entries were made by workers of this run, or none was
-abbrev pub AllOfRun : List Entry → Type 0
-AllOfRun entries = list_all is_of_run entries ≡ true
+-- the accepted commands of a worker, in order
+abbrev pub accepted_by : ℕ → List Entry → List Entry
+accepted_by worker history = filter (is_by worker) history
 
+-- no entry was made by a worker of this run
 abbrev pub NoneOfRun : List Entry → Type 0
 NoneOfRun entries = list_any is_of_run entries ≡ false
 
--- the record that a command is written as behind a history that makes this store
-abbrev pub next_of : ℕ → List Entry → Store → Op → Record
-next_of mib history store command = record_of mib store (tip_of mib history) (act_of_op command)
+-- ---- what a history says of a command behind it
 
--- its entry, by the worker, of whose commands so many were accepted before
-abbrev pub run_entry : ℕ → List Entry → Store → ℕ → Op → Entry
-run_entry mib history store accepted command = record {
-  act = act_of_op command;
-  start = (next_of mib history store command).start.0;
-  end = (next_of mib history store command).end.0;
-  worker = Some 0;
-  seq = Some accepted;
-}
+-- it makes a store, on which this refuses the command
+pub record IsRefusedBehind
+    (mib : ℕ) (history : List Entry) (command : Op) (fault : InsertFault)
+    : Type 0 where
+  pub store : Store
+  pub state : apply_all empty history ≡ Some store
+  pub why : IsRefused mib store (tip_of mib history) command fault
+
+-- the entry that a command makes behind a history that makes this store, by a worker: it stands
+-- where its record is written next, with the number of the worker's commands that were accepted
+-- before
+abbrev pub own_entry : ℕ → ℕ → List Entry → Store → Op → Entry
+own_entry mib worker history store command =
+    let r = record_of mib store (tip_of mib history) (act_of_op command) in record {
+      act = act_of_op command;
+      start = r.start.0;
+      end = r.end.0;
+      worker = Some worker;
+      seq = Some (length (accepted_by worker history));
+    }
+
+-- the entry of this number is the command's, by the worker, where it is written next; and nothing
+-- refuses the command there
+pub record IsMade
+    (mib worker : ℕ) (history : List Entry) (number : ℕ) (command : Op) (entry : Entry)
+    : Type 0 where
+  pub there : slice_get history number ≡ Some entry
+  pub store : Store
+  pub state : apply_all empty (take number history) ≡ Some store
+  pub taken : judged_at mib store (tip_of mib (take number history)) command ≡ None
+  pub is : entry ≡ own_entry mib worker (take number history) store command
 
 -- ---- answers
 
--- how far a run is: the history, how many commands were accepted, and whether memory ran out
-pub record Progress : Type 0 where
-  pub history : List Entry
-  pub accepted : ℕ
-  pub stopped : Bool
-
-abbrev pub progress : List Entry → ℕ → Bool → Progress
-progress history accepted stopped =
-    record { history = history; accepted = accepted; stopped = stopped }
-
--- with one more command accepted, on this store
-abbrev pub progress_by : ℕ → Progress → Store → Op → Progress
-progress_by mib now store command =
-    let entry = run_entry mib now.history store now.accepted command in
-    progress (now.history ++ (entry ∷ [])) (now.accepted + 1) false
-
--- a command was accepted: it may be done on the store of the history, and its entry stands at this
--- place behind those of the history, within the room of the WAL
-pub record IsAccepted
-    (mib : ℕ) (now : Progress) (command : Op) (place : Place) (next : Progress)
+-- the command of a line was done: its entry, which is the one that the line made, stands at this
+-- place, behind all that the worker's earlier answers speak of
+pub record IsDone
+    (mib worker before : ℕ) (now : List Entry) (command : Op) (place : Place) (made : List Entry)
     : Type 0 where
-  pub going : now.stopped ≡ false
-  pub store : Store
-  pub state : apply_all empty now.history ≡ Some store
-  pub tidy : IsTidy store (act_of_op command)
-  pub fit : IsFit store command
-  pub within : (next_of mib now.history store command).end.0 ≤ wal_limit mib
-  pub start : place.start ≡ (next_of mib now.history store command).start
-  pub end : place.end ≡ (next_of mib now.history store command).end
-  pub next_is : next ≡ progress_by mib now store command
+  pub entry : Entry
+  pub made_is : made ≡ entry ∷ []
+  pub number : ℕ
+  pub later : before ≤ number
+  pub is : IsMade mib worker now number command entry
+  pub start : place.start.0 ≡ entry.start
+  pub end : place.end.0 ≡ entry.end
 
--- want of memory stops a run
+-- what the line of a command was answered, on a history that holds all that the worker's earlier
+-- answers speak of, so many entries at least, and the entries that the line made
+abbrev pub LineAnswer : ℕ → ℕ → ℕ → List Entry → Op → Answer → List Entry → Type 0
+LineAnswer mib worker before now command (Accepted place) made =
+    IsDone mib worker before now command place made
+LineAnswer mib worker before now command (Refused fault) made =
+    (made ≡ []) × IsRefusedBehind mib now command fault
+LineAnswer mib worker before now command NotRun made = made ≡ []
+
+-- an answer that is true of the beginning of a history up to a moment
+pub record IsAnswerAt
+    (mib worker : ℕ) (history : List Entry) (from next : ℕ) (command : Op) (answer : Answer)
+    (made : List Entry)
+    : Type 0 where
+  pub later : from ≤ next
+  pub within : next ≤ length history
+  pub is : LineAnswer mib worker from (take next history) command answer made
+
+-- lines and their answers, one each, from a moment of a history on, and the entries that they made.
+-- Each answer is true of some beginning of the history, one that holds all that the worker's
+-- earlier answers speak of
+abbrev pub Answered :
+    ℕ → ℕ → List Entry → ℕ → List Line → List Answer → List Entry → Type 0
+Answered mib worker history from [] [] made = made ≡ []
+Answered mib worker history from [] (answer ∷ answers) made = ⊥
+Answered mib worker history from (line ∷ lines) [] made = ⊥
+Answered mib worker history from (line ∷ lines) (answer ∷ answers) made =
+    (next : ℕ) × (here : List Entry) × (rest : List Entry) × (made ≡ here ++ rest)
+    × IsAnswerAt mib worker history from next (command_op line.command) answer here
+    × Answered mib worker history next lines answers rest
+
+-- want of memory stops a worker
 abbrev pub stops : InsertFault → Bool
 stops insert.NoMemory = true
 stops fault = false
 
--- a command was refused: what the refusal says is true of the store of the history, which stays
-pub record IsRefused
-    (mib : ℕ) (now : Progress) (command : Op) (fault : InsertFault) (next : Progress)
-    : Type 0 where
-  pub going : now.stopped ≡ false
-  pub store : Store
-  pub state : apply_all empty now.history ≡ Some store
-  pub why : Refuses mib store (tip_of mib now.history) command fault
-  pub next_is : next ≡ progress now.history now.accepted (stops fault)
-
-abbrev pub StepAnswer : ℕ → Progress → Line → Answer → Progress → Type 0
-StepAnswer mib now line (Accepted place) next = IsAccepted mib now (op_of line.command) place next
-StepAnswer mib now line (Refused fault) next = IsRefused mib now (op_of line.command) fault next
-StepAnswer mib now line NotRun next = (now.stopped ≡ true) × (next ≡ now)
-
--- whether a run is stopped behind an answer
 abbrev pub stops_with : Answer → Bool
 stops_with (Accepted place) = false
 stops_with (Refused fault) = stops fault
 stops_with NotRun = true
 
--- lines and their answers, one each, in order
-abbrev pub Answered : ℕ → Progress → List Line → List Answer → Progress → Type 0
-Answered mib now [] [] last = last ≡ now
-Answered mib now [] (answer ∷ answers) last = ⊥
-Answered mib now (line ∷ lines) [] last = ⊥
-Answered mib now (line ∷ lines) (answer ∷ answers) last =
-    (next : Progress) × (StepAnswer mib now line answer next × Answered mib next lines answers last)
+abbrev pub is_not_run : Answer → Bool
+is_not_run (Accepted place) = false
+is_not_run (Refused fault) = false
+is_not_run NotRun = true
+
+-- lines aren't run exactly behind an answer that stops the worker
+abbrev pub InOrder : Bool → List Answer → Type 0
+InOrder stopped [] = Unit {0}
+InOrder stopped (answer ∷ answers) =
+    (is_not_run answer ≡ stopped) × InOrder (stops_with answer) answers
+
+-- a worker's answers over the finished history, of which so many entries were found: its accepted
+-- commands are exactly those that the answers name, in order
+pub record IsAnswered
+    (mib worker : ℕ) (history : List Entry) (found : ℕ) (lines : List Line)
+    (answers : List Answer)
+    : Type 0 where
+  pub answered : Answered mib worker history found lines answers (accepted_by worker history)
+  pub order : InOrder false answers
 
 -- ---- runs
 
@@ -160,29 +182,28 @@ WaitsToo old new news =
     0 < old.tip.prev → (tip : Tip) (waiting : List Record)
     → Waits record_at old tip waiting → Waits record_at new tip (waiting ++ news)
 
--- lines were run on a store of this history: each was answered on what those before it left. The
--- entries that were added stand behind those of the history, and at the end of the WAL, where they
--- aren't flushed; what they are written as makes the store too
+-- lines were run by a worker on a store of this history: the entries that were added stand behind
+-- it and are the worker's, and at the end of the WAL, where they aren't flushed; what they are
+-- written as makes the store too
 pub record RunFrom
-    (mib : ℕ) (history : List Entry) (lines : List Line) (answers : List Answer) (old new : State)
+    (mib worker : ℕ) (history : List Entry) (lines : List Line) (answers : List Answer)
+    (old new : State)
     : Type 0 where
   pub added : List Entry
-  pub last : Progress
-  pub answered : Answered mib (progress history 0 false) lines answers last
-  pub grown : last.history ≡ history ++ added
-  pub of_run : AllOfRun added
-  pub state_is : IsStateOf mib last.history new
+  pub own : accepted_by worker added ≡ added
+  pub answered : IsAnswered mib worker (history ++ added) (length history) lines answers
+  pub state_is : IsStateOf mib (history ++ added) new
   pub flushed : new.log.flushed ≡ old.log.flushed
   pub touched : new.log.touched ≡ old.log.touched
   pub system : new.log.system ≡ old.log.system
   pub waits : WaitsToo old.log new.log (run_records mib old added)
   pub says : apply_all old.pages (map entry_of (run_records mib old added)) ≡ Some new.pages
 
--- so it is of each history that a store has
+-- so it is of each history that a store has and that no worker of this run made
 abbrev pub RunsLines : List Line → State → State → List Answer → Type 0
 RunsLines lines old new answers =
-    (history : List Entry) → IsStateOf old.log.mib history old
-    → RunFrom old.log.mib history lines answers old new
+    (history : List Entry) → IsStateOf old.log.mib history old → NoneOfRun history
+    → RunFrom old.log.mib 0 history lines answers old new
 
 -- the archive is some entries and then those that a history is written as, and all of them make the
 -- store
@@ -205,6 +226,6 @@ IsReadAgain =
     → (lines : List Line) (answers : List Answer) (old new : State)
     → IsWal s files rs old.log.tip → 0 < old.log.tip.prev → old.log ≡ log_at s old.log.tip
     → IsStateOf s.segment (map entry_of rs) old → IsLog new.log
-    → (run : RunFrom s.segment (map entry_of rs) lines answers old new)
+    → (run : RunFrom s.segment 0 (map entry_of rs) lines answers old new)
     → HasNoGap s.segment (archive_of s.segment (all_written new.log files)) new.log.tip.end
-    → IsArchiveOf s (all_written new.log files) rs run.last.history new
+    → IsArchiveOf s (all_written new.log files) rs (map entry_of rs ++ run.added) new

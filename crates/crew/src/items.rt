@@ -1,13 +1,22 @@
 //! What a word of a line names.
 
-ghost use Rattle.std.specs.Prelude.{◌≡◌};
-ghost use Rattle.crew.specs.Items.{fork_of, numbers_in, fork_in, shape_in, change_in};
+ghost use Rattle.std.specs.Prelude.{◌≡◌, ◌<◌, length, IfOk, IfSome};
+ghost use Rattle.std.specs.List.{position};
+ghost use Rattle.crew.specs.Cuts.{words_of};
+ghost use Rattle.crew.specs.Items.{fork_of, numbers_in, fork_in, shape_in, block_in, is_sign};
+ghost use Rattle.crew.specs.Items.{edit_in, item_in, items_in};
 
-use crate::script::Command;
+use crate::cuts::first_word;
+use crate::frags::frags_in;
+use crate::order::{OrderEdit, OrderItem, OrderItems};
 use crate::shape::{PageShape, shape_of};
-use byte_words::cut_at;
-use lsn_core::{BlockId, ForkId, ForkKind, Rel};
+use byte_words::{behind, cut_at};
+use lsn_core::{BlockId, ForkId, ForkKind, NoMemory, Rel};
+use std::alloc::Global;
 use text_numbers::digits_in;
+
+/// How many items a line has at most (profile).
+const ITEM_LIMIT: usize = 16;
 
 /// The fork of these numbers. None exactly where one of them is 0.
 fn fork_of(kind: ForkKind, db: u32, rel: u32) -> Option<ForkId>
@@ -52,14 +61,78 @@ fn shape_in(text: &[u8]) -> Option<PageShape>
     shape_of(lower, upper, fill)
 }
 
-/// The page at a block that a word names. None exactly where it names none.
-pub fn change_in(text: &[u8]) -> Option<Command>
-    ensures { result ≡ change_in text.now }
+/// The block that a fork, `@` and a number name. None exactly where they name none.
+fn block_in(text: &[u8]) -> Option<BlockId>
+    ensures { result ≡ block_in text.now }
 {
-    let (fork, behind) = cut_at(b'@', text)?;
-    let (block, shape) = cut_at(b'=', behind)?;
+    let (fork, block) = cut_at(b'@', text)?;
     let fork = fork_in(fork)?;
     let block = digits_in(block)?;
-    let shape = shape_in(shape)?;
-    Some(Command::Change(BlockId { fork, block }, shape))
+    Some(BlockId { fork, block })
+}
+
+/// Whether a byte begins how a block is changed.
+fn is_sign(b: u8) -> bool
+    ensures { result ≡ is_sign b }
+{
+    b == b'=' || b == b'+'
+}
+
+/// Where the first such byte stands.
+fn sign_place(word: &[u8]) -> Option<usize>
+    ensures place { result ≡ position is_sign word.now }
+    ensures within { IfSome result (λ at. at < length word.now) }
+{
+    word.iter().position(|b| is_sign(*b))
+}
+
+/// How a block is changed: `=` and a shape, or `+` and fragments. None exactly where the text is
+/// neither.
+fn edit_in(alloc: Global, text: &[u8]) -> Result<Option<OrderEdit>, NoMemory>
+    ensures { IfOk result (λ edit. edit ≡ edit_in text.now) }
+{
+    match text {
+        [b'=', shape @ ..] => Ok(shape_in(shape).map(OrderEdit::Put)),
+        [b'+', frags @ ..] => Ok(frags_in(alloc, frags)?.map(OrderEdit::Patch)),
+        _ => Ok(None),
+    }
+}
+
+/// The item that a word writes. None exactly where it writes none.
+fn item_in(alloc: Global, word: &[u8]) -> Result<Option<OrderItem>, NoMemory>
+    ensures { IfOk result (λ item. item ≡ item_in word.now) }
+{
+    let Some(sign) = sign_place(word) else {
+        return Ok(None);
+    };
+    let Some(at) = block_in(&word[..sign]) else {
+        return Ok(None);
+    };
+    match edit_in(alloc, behind(word, sign))? {
+        Some(edit) => Ok(Some(OrderItem { at, edit })),
+        None => Ok(None),
+    }
+}
+
+/// The items that words write, 1 to 16. None exactly where there are fewer or more, or one word
+/// writes none.
+pub fn items_in(alloc: Global, text: &[u8]) -> Result<Option<OrderItems>, NoMemory>
+    ensures { IfOk result (λ items. items ≡ items_in (words_of text.now)) }
+{
+    let mut list = Vec::new(alloc);
+    let mut rest = text;
+    while let Some((word, behind)) = first_word(rest) {
+        if list.len() == ITEM_LIMIT {
+            return Ok(None);
+        }
+        let Some(item) = item_in(alloc, word)? else {
+            return Ok(None);
+        };
+        list.push(item)?;
+        rest = behind;
+    }
+    if list.is_empty() {
+        return Ok(None);
+    }
+    Ok(Some(OrderItems::from_vec(list)))
 }

@@ -11,9 +11,11 @@
 #![tactic(auto)]
 
 mod cuts;
+mod frags;
 mod items;
 mod laws;
 mod meaning;
+mod order;
 mod reading;
 mod run;
 mod script;
@@ -22,6 +24,7 @@ mod why;
 
 pub use cuts::is_name;
 pub use laws::script_has_one_answer;
+pub use order::{Order, OrderEdit, OrderItem, OrderItems};
 pub use reading::read_script;
 pub use run::{Answer, Answers, run_is_read_again, run_lines};
 pub use script::{Command, Line, Lines, SCRIPT_LIMIT, Script, Task};

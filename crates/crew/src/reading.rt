@@ -67,36 +67,38 @@ fn why_said(names: &[Text], what: &Said<'_>) -> Option<Why>
 
 /// What a line says that ends at this byte of the script and stands behind those workers, or why
 /// it is refused.
-fn judged<'a>(names: &[Text], end: usize, line: &'a [u8]) -> Result<Said<'a>, Why>
-    ensures { JudgedAnswer names.now end line.now result }
+fn judged<'a>(
+    alloc: Global,
+    names: &[Text],
+    end: usize,
+    line: &'a [u8],
+) -> Result<Result<Said<'a>, Why>, NoMemory>
+    ensures { IfOk result (JudgedAnswer names.now end line.now) }
 {
     if end > SCRIPT_LIMIT {
-        return Err(Why::Long);
+        return Ok(Err(Why::Long));
     }
     if !has_allowed_bytes(line) {
-        return Err(Why::Bytes);
+        return Ok(Err(Why::Bytes));
     }
-    let Some(what) = meaning(line) else {
-        return Err(Why::Word);
+    let Some(what) = meaning(alloc, line)? else {
+        return Ok(Err(Why::Word));
     };
     match why_said(names, &what) {
-        Some(why) => Err(why),
-        None => Ok(what),
+        Some(why) => Ok(Err(why)),
+        None => Ok(Ok(what)),
     }
 }
 
 impl Draft {
     /// Keeps what a line of this number says.
-    fn keep(&mut self, alloc: Global, number: u32, what: &Said<'_>) -> Result<(), NoMemory>
-        ensures { KeepsAnswer self.old self.new number (said what.now) result }
+    fn keep(&mut self, alloc: Global, number: u32, what: Said<'_>) -> Result<(), NoMemory>
+        ensures { KeepsAnswer self.old self.new number (said what.entry) result }
     {
         match what {
             Said::Nothing => (),
             Said::Worker(name) => self.names.push(Text::copied(alloc, name)?)?,
-            Said::Does(command) => self.commands.push(Line {
-                number,
-                command: *command,
-            })?,
+            Said::Does(command) => self.commands.push(Line { number, command })?,
         }
         Ok(())
     }
@@ -111,11 +113,8 @@ impl Draft {
     ) -> Result<(), ScriptFault>
         ensures { DraftAnswer self.old self.new end number line.now result }
     {
-        match judged(&self.names, end, line) {
-            Ok(what) => match self.keep(alloc, number, &what) {
-                Ok(()) => Ok(()),
-                Err(_) => Err(ScriptFault::NoMemory),
-            },
+        match judged(alloc, &self.names, end, line)? {
+            Ok(what) => Ok(self.keep(alloc, number, what)?),
             Err(why) => Err(ScriptFault::Line(number, why)),
         }
     }
@@ -146,8 +145,9 @@ fn line_at(bytes: &[u8], at: usize) -> (&[u8], usize)
 }
 
 /// Reads a script of one worker (profile). Its lines are `worker NAME`, and behind it
-/// `create FORK` and `change FORK@BLOCK=LOWER,UPPER,FILL`; words stand between spaces and tabs,
-/// and empty lines and lines that begin with `#` say nothing. Where lines are refused, the first
+/// `create FORK` and `change ITEM..` of 1 to 16 items, each `FORK@BLOCK=LOWER,UPPER,FILL` or
+/// `FORK@BLOCK+PLACE:HEX,PLACE:HEX..`; words stand between spaces and tabs, and empty lines and
+/// lines that begin with `#` say nothing. Where lines are refused, the first
 /// of them is answered, counted from 1, with the first of its reasons. The bytes are fewer than
 /// 2^32, so that a line's number fits.
 pub fn read_script(alloc: Global, bytes: &[u8]) -> Result<Script, ScriptFault>

@@ -3,18 +3,14 @@
 ghost use Rattle.std.specs.Prelude.{◌≡◌, ◌+◌, ◌<◌, ◌≤◌, ◌∷◌, ◌++◌};
 ghost use Rattle.std.specs.Prelude.{[], length, IfOk, OnErr};
 ghost use Rattle.std.specs.Vec.{vec_len, vec_capacity};
-ghost use Rattle.pg_page.specs.Header.{made_page};
 ghost use Rattle.shared_store.specs.State.{state_of};
-ghost use Rattle.crew.specs.Run.{item_with, op_of, stops_with, RunsLines, IsReadAgain};
-ghost use Rattle.crew.specs.Inside.{CommandAnswer, LineAnswer};
+ghost use Rattle.crew.specs.Run.{stops_with, RunsLines, IsReadAgain};
+ghost use Rattle.crew.specs.Running.{CommandAnswer, LineRuns};
 
 use crate::script::{Command, Line};
-use crate::shape::PageShape;
-use history::{Edit, Item, Items, Op};
-use lsn_core::{BlockId, NoMemory, Place};
-use pg_page::{Page, make_page};
+use lsn_core::{NoMemory, Place};
 use shared_store::{InsertFault, Store};
-use std::alloc::{AllocError, Global};
+use std::alloc::Global;
 use std::marker::Model;
 use vault::Vault;
 
@@ -74,42 +70,13 @@ impl Answers {
     }
 }
 
-/// The page that is made so.
-fn page_of(shape: PageShape) -> Page
-    ensures { result ≡ made_page shape.lower shape.upper shape.fill }
-{
-    let Some(page) = make_page(shape.lower(), shape.upper(), shape.fill()) else {
-        unreachable!()
-    };
-    page
-}
-
-/// What a command asks of the store.
-fn op_of(alloc: Global, command: &Command) -> Result<Op, NoMemory>
-    ensures { IfOk result (λ op. op ≡ op_of command.now) }
-{
-    match command {
-        Command::Create(fork) => Ok(Op::Create(*fork)),
-        Command::Change(at, shape) => Ok(Op::Change(items_of(alloc, *at, *shape)?)),
-    }
-}
-
-/// A page that is made so, put at a block.
-fn items_of(alloc: Global, at: BlockId, shape: PageShape) -> Result<Items, AllocError>
-    ensures { IfOk result (λ items. items ≡ item_with at shape ∷ []) }
-{
-    let edit = Edit::Put(page_of(shape));
-    let mut items = Vec::new(alloc);
-    items.push(Item { at, edit })?;
-    Ok(Items::from_vec(items))
-}
-
 /// Inserts a command into the store, and gives the answer to it.
 fn answer_to<V: Vault>(alloc: Global, store: &mut Store<V>, command: &Command) -> Answer
     ensures answer { CommandAnswer command.now (state_of store.old) (state_of store.new) result }
     ensures area { store.new.wal.area ≡ store.old.wal.area }
 {
-    let Ok(op) = op_of(alloc, command) else {
+    let Command::Insert(order) = command;
+    let Ok(op) = order.op(alloc) else {
         return Answer::Refused(InsertFault::NoMemory);
     };
     match store.insert(alloc, &op) {
@@ -120,7 +87,7 @@ fn answer_to<V: Vault>(alloc: Global, store: &mut Store<V>, command: &Command) -
 
 /// Runs a line, unless the run is stopped, and gives the answer to it.
 fn run_line<V: Vault>(alloc: Global, store: &mut Store<V>, line: &Line, stopped: bool) -> Answer
-    ensures answer { LineAnswer line.now stopped (state_of store.old) (state_of store.new) result }
+    ensures answer { LineRuns line.now stopped (state_of store.old) (state_of store.new) result }
     ensures area { store.new.wal.area ≡ store.old.wal.area }
 {
     if stopped {

@@ -2,24 +2,22 @@
 
 ghost use Rattle.std.specs.Prelude.{◌≡◌};
 
-use crate::shape::PageShape;
-use lsn_core::{BlockId, ForkId, Text};
+use crate::order::Order;
+use lsn_core::Text;
 use std::marker::Model;
 
 /// How many bytes a script has at most (profile).
 pub const SCRIPT_LIMIT: usize = 4_194_304;
 
 /// What a line tells a worker to do (profile).
-#[derive(Clone, Copy, Debug, PartialEq, Eq)]
+#[derive(Debug, Drop)]
 pub enum Command {
-    /// Make a fork.
-    Create(ForkId),
-    /// Put a page that is made so at a block.
-    Change(BlockId, PageShape),
+    /// Insert a command into the store.
+    Insert(Order),
 }
 
 /// A command, and the number of its line in the script, counted from 1.
-#[derive(Clone, Copy, Debug, PartialEq, Eq)]
+#[derive(Debug, Drop)]
 pub struct Line {
     pub number: u32,
     pub command: Command,
@@ -84,6 +82,13 @@ impl Script {
         ensures { result ≡ workers.items }
     {
         Script { workers }
+    }
+
+    /// The workers, as a vector.
+    pub fn into_workers(self) -> Vec<Task>
+        ensures { result.items ≡ self }
+    {
+        self.workers
     }
 
     /// The workers.

@@ -9,7 +9,7 @@ loop-line-init g c = record {
   count = c.requires.empty;
   room = c.requires.room;
   area = refl;
-  running = λ h is. begun c.args.store.now.wal.tail.mib h c.args.answers.now.items (state_of c.args.store.now) c.requires.none is;
+  running = λ h is none. begun c.args.store.now.wal.tail.mib 0 h c.args.answers.now.items (state_of c.args.store.now) c.requires.none is none;
 }
 
 pub loop-line-preserved : goal.loop-line-preserved
@@ -17,7 +17,7 @@ loop-line-preserved g c = record {
   count = omega (arith, c.put.ensures.len, c.loop-line.invariant.count);
   room = omega (arith, c.put.ensures.capacity, c.loop-line.invariant.room);
   area = c.run_line-answer.ensures.area ∙ c.loop-line.invariant.area;
-  running = λ h is. line_run c.args.store.now.wal.tail.mib h c.args.lines.now c.loop-line.line-index c.line-item.result c.loop-line.answers.items c.put.new.answers.items c.run_line-answer.result
+  running = λ h is none. line_run c.args.store.now.wal.tail.mib 0 h c.args.lines.now c.loop-line.line-index c.line-item.result c.loop-line.answers.items c.put.new.answers.items c.run_line-answer.result
       (state_of c.args.store.now) (state_of c.loop-line.store) (state_of c.run_line-answer.new.store) c.loop-line.stopped c.stops-stopped.result
-      (omega arith) (sym c.line-item.is) c.put.ensures.items c.stops-stopped.ensures (c.loop-line.invariant.running h is) c.run_line-answer.ensures.answer;
+      (omega arith) (sym c.line-item.is) c.put.ensures.items c.stops-stopped.ensures (c.loop-line.invariant.running h is none) c.run_line-answer.ensures.answer;
 }

@@ -1,0 +1,113 @@
+//! What a line asks of the store, before pages are made.
+
+ghost use Rattle.std.specs.Prelude.{◌≡◌, map, IfOk};
+ghost use Rattle.pg_page.specs.Header.{made_page};
+ghost use Rattle.crew.specs.Orders.{edit_asked, item_asked, op_asked};
+
+use crate::shape::PageShape;
+use history::{Edit, Item, Items, Op};
+use lsn_core::{BlockId, ForkId, NoMemory};
+use pg_page::{Frags, Page, make_page};
+use std::alloc::{AllocError, Global};
+use std::marker::Model;
+
+/// What a line asks of the store (profile). A page is told by its shape, which takes 5 bytes where
+/// the page takes 8192.
+#[derive(Debug, Drop)]
+pub enum Order {
+    /// Make a fork.
+    Create(ForkId),
+    /// Change blocks, in turn.
+    Change(OrderItems),
+}
+
+/// The items of a change, in order. Contracts see the list.
+#[derive(Debug, Drop)]
+pub struct OrderItems {
+    list: Vec<OrderItem>,
+}
+
+impl Model for OrderItems {
+    ghost use Rattle.std.specs.Prelude.{List};
+    ghost use Rattle.crew.specs.declared.order.OrderItem.{OrderItem};
+
+    ghost Value = { List OrderItem };
+
+    ghost view = { λ o. o.list.items };
+}
+
+impl OrderItems {
+    /// These items. Takes no memory.
+    pub(crate) fn from_vec(list: Vec<OrderItem>) -> OrderItems
+        ensures { result ≡ list.items }
+    {
+        OrderItems { list }
+    }
+
+    /// The items.
+    pub fn as_slice(&self) -> &[OrderItem]
+        ensures { result.now ≡ self.now }
+    {
+        &self.list
+    }
+}
+
+/// A block, and how it is to be changed.
+#[derive(Debug, Drop)]
+pub struct OrderItem {
+    pub at: BlockId,
+    pub edit: OrderEdit,
+}
+
+/// How a block is to be changed.
+#[derive(Debug, Drop)]
+pub enum OrderEdit {
+    /// A page that is made so is put there.
+    Put(PageShape),
+    /// Fragments are written over the page that is there.
+    Patch(Frags),
+}
+
+impl Order {
+    /// The command that the store is given.
+    pub(crate) fn op(&self, alloc: Global) -> Result<Op, NoMemory>
+        ensures { IfOk result (λ op. op ≡ op_asked self.now) }
+    {
+        match self {
+            Order::Create(fork) => Ok(Op::Create(*fork)),
+            Order::Change(items) => Ok(Op::Change(items_of(alloc, items.as_slice())?)),
+        }
+    }
+}
+
+/// The items of a command.
+fn items_of(alloc: Global, orders: &[OrderItem]) -> Result<Items, AllocError>
+    ensures { IfOk result (λ items. items ≡ map item_asked orders.now) }
+{
+    let mut list = Vec::new(alloc);
+    for order in orders {
+        let edit = edit_of(alloc, &order.edit)?;
+        list.push(Item { at: order.at, edit })?;
+    }
+    Ok(Items::from_vec(list))
+}
+
+/// How a block changes.
+fn edit_of(alloc: Global, edit: &OrderEdit) -> Result<Edit, AllocError>
+    ensures { IfOk result (λ e. e ≡ edit_asked edit.now) }
+{
+    match edit {
+        OrderEdit::Put(shape) => Ok(Edit::Put(page_of(*shape))),
+        OrderEdit::Patch(frags) => Ok(Edit::Patch(frags.copied(alloc)?)),
+    }
+}
+
+/// The page that is made so.
+fn page_of(shape: PageShape) -> Page
+    ensures { result ≡ made_page shape.lower shape.upper shape.fill }
+{
+    let Some(page) = make_page(shape.lower(), shape.upper(), shape.fill()) else {
+        unreachable!()
+    };
+    page
+}
