@@ -1,10 +1,11 @@
 pub mod NoFile
 pub mod FlushLeft
 pub mod Lent
-pub mod Told
+pub mod Decided
 pub mod Sinks
 pub mod OneReplay
 pub mod OneInit
+pub mod OneWorker
 pub mod OneRun
 pub mod NewWal
 pub mod RunDone

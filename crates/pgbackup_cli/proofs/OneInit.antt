@@ -8,7 +8,7 @@ use Rattle.pgbackup_cli.specs.declared.init.InitFault.TheVariants as init
 use Rattle.pgbackup_cli.specs.Areas.{wal_name, sums_name}
 use Rattle.pgbackup_cli.specs.Init.{first_entry, InitAreas, InitAnswer, init_status}
 use Rattle.pgbackup_cli.specs.Laws.{is_decided, HasOneInit}
-use Rattle.pgbackup_cli.proofs.Told.{clear_or_not, undecided}
+use Rattle.pgbackup_cli.proofs.Decided.{clear_or_not, undecided}
 
 made_to : ℕ → Result Lsn InitFault
 made_to end = Ok (record { 0 = end })

@@ -17,7 +17,7 @@ use Rattle.pgbackup_cli.specs.declared.replay.ReplayFault.TheVariants as replay
 use Rattle.pgbackup_cli.specs.Areas.{wal_name, output_name}
 use Rattle.pgbackup_cli.specs.Replay.{ReplayAreas, ReplayDone, ReplayAnswer, replay_status}
 use Rattle.pgbackup_cli.specs.Laws.{is_decided, HasOneReplay}
-use Rattle.pgbackup_cli.proofs.Told.{some_told, clear_or_not, undecided, of_files}
+use Rattle.pgbackup_cli.proofs.Decided.{some_told, clear_or_not, undecided, of_files}
 
 -- ---- what was read, and why it could not be
 

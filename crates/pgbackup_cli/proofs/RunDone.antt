@@ -1,10 +1,10 @@
 -- What a run leaves of a WAL: its entries, and those of the run behind them.
-use Rattle.std.proofs.Common.{◌≡◌, ℕ, ◌<◌, ◌≤◌, Bool, false, List, [], ◌∷◌, ◌++◌, map, length, Option, Some, None, Result, Ok, Err, IfSome, IfOk, refl, sym, ap, subst, ◌∙◌, arith, inl, inr}
-use Rattle.std.specs.List.{list_any}
+use Rattle.std.proofs.Common.{◌≡◌, ℕ, zero, suc, ◌<◌, ◌≤◌, Bool, true, List, [], ◌∷◌, ◌++◌, map, length, Option, Some, None, Result, Ok, Err, IfSome, IfOk, refl, sym, ap, subst, ◌∙◌, arith, inr}
+use Rattle.std.specs.List.{All, slice_get}
 use Rattle.std.specs.Option.{option_map}
 use Rattle.std.specs.FinMap.{empty}
-use Rattle.std.proofs.lemmas.Bool.{or_parts}
-use Rattle.std.proofs.lemmas.List.{map-append}
+use Rattle.std.proofs.lemmas.List.{map-append, length-map}
+use Rattle.std.proofs.lemmas.List.Elements.{All-nil, filter-append, filter_passes}
 use Rattle.byte_words.specs.Told.{when_told}
 use Rattle.lsn_core.specs.Files.{Files}
 use Rattle.lsn_core.specs.Store.{Store}
@@ -39,13 +39,15 @@ use Rattle.shared_store.specs.Begin.{IsBegun}
 use Rattle.shared_store.proofs.Entries.{whole_wal}
 use Rattle.crew.specs.declared.script.Line.{Line}
 use Rattle.crew.specs.declared.run.Answer.{Answer}
-use Rattle.crew.specs.declared.run.Answer.TheVariants.{Accepted, Refused, NotRun}
-use Rattle.crew.specs.Run.{IsStateOf, Progress, Answered, stops_with, run_records, RunFrom, all_written}
+use Rattle.crew.specs.Run.{is_by, accepted_by, IsAnswered, IsStateOf, run_records, RunFrom, all_written}
+use Rattle.crew.proofs.Runs.{none_run}
+use Rattle.crew.proofs.Histories.{none_of_run_read}
 use Rattle.crew.proofs.ReadAgain.{written_is, flushed, nothing_waits, read_again}
 use Rattle.pgbackup_cli.specs.declared.run.RunReport.{RunReport}
 use Rattle.pgbackup_cli.specs.Areas.{IsWalTorn}
-use Rattle.pgbackup_cli.specs.Run.{lines_in, IsEnding, HoldsAll, HasFound, IsMadeBy, found_tip, with_run, run_bytes, RunDone}
-use Rattle.pgbackup_cli.specs.Inner.{IsAllWritten, FlushAnswer}
+use Rattle.pgbackup_cli.specs.declared.told.Told.{Told}
+use Rattle.pgbackup_cli.specs.Run.{is_stopped, IsOfRun, HasHistory, IsEnding, HoldsAll, HasFound, IsMadeBy, found_tip, with_run, run_bytes, RunDone}
+use Rattle.pgbackup_cli.specs.Inner.{lines_told, answers_told, RunsTasks, IsAllWritten, FlushAnswer}
 
 -- ---- the store that a run begins on
 
@@ -75,8 +77,8 @@ some_entries s [] tip is some = absurd (omega (arith, some, ap (λ (t : Tip). t.
 some_entries s (r ∷ rs) tip is some = omega arith
 
 -- what was read is the whole WAL
-found : (files : Option Files) (s : State) (b : IsBegun files s) → IfSome files (HasFound b.settings b.open_is.read_is.entries)
-found files s b =
+found_whole : (files : Option Files) (s : State) (b : IsBegun files s) → IfSome files (HasFound b.settings b.open_is.read_is.entries)
+found_whole files s b =
     let r = b.open_is.read_is in
     when_told files (λ m. IsRead b.settings m None r.entries b.read.tip End) (HasFound b.settings r.entries)
     (λ m read. subst (λ (t : Tip). IsWal b.settings m r.entries t) r.tip (whole_wal b.settings m r.entries b.read.tip read)) r.archive
@@ -100,19 +102,6 @@ wal_links : (s : StoreSettings) (m : Files) (rs : List Record) (tip : Tip) → 0
 wal_links s m [] tip some wal = absurd (omega (arith, some))
 wal_links s m (r ∷ rs) tip some wal = walk_links s.segment s.system (archive_of s.segment m) (first_tip s.segment) r rs tip wal.walk
 
--- ---- a run in which no answer stops isn't stopped
-
-pub never_stopped : (mib : ℕ) (now : Progress) (lines : List Line) (answers : List Answer) (last : Progress) → Answered mib now lines answers last → now.stopped ≡ false → list_any stops_with answers ≡ false → last.stopped ≡ false
-never_stopped mib now [] [] last answered going none = ap (λ (p : Progress). p.stopped) answered ∙ going
-never_stopped mib now [] (answer ∷ answers) last answered going none = absurd answered
-never_stopped mib now (line ∷ lines) [] last answered going none = absurd answered
-never_stopped mib now (line ∷ lines) (Accepted place ∷ answers) last answered going none =
-    never_stopped mib answered.0 lines answers last answered.1.1 (ap (λ (p : Progress). p.stopped) answered.1.0.next_is) none
-never_stopped mib now (line ∷ lines) (Refused fault ∷ answers) last answered going none =
-    let parts = or_parts (stops_with (Refused fault)) (list_any stops_with answers) none in
-    never_stopped mib answered.0 lines answers last answered.1.1 (ap (λ (p : Progress). p.stopped) answered.1.0.next_is ∙ parts.0) parts.1
-never_stopped mib now (line ∷ lines) (NotRun ∷ answers) last answered going none = absurd cc
-
 -- ---- what waits to be flushed
 
 -- the bytes of the run's entries wait, where the WAL before was told
@@ -122,13 +111,13 @@ pub record HasWaiting (s : StoreSettings) (entries : List Record) (history : Lis
   pub bytes : log.pending ≡ run_bytes s entries history
 
 waiting : (s : StoreSettings) (m : Files) (entries : List Record) (lines : List Line) (answers : List Answer) (old new : State) → 0 < length entries → HasFound s entries m → old.log ≡ log_at s old.log.tip → old.log.tip ≡ found_tip s entries
-    → IsStateOf s.segment (map entry_of entries) old → (run : RunFrom s.segment (map entry_of entries) lines answers old new) → HasWaiting s entries run.last.history new.log
+    → IsStateOf s.segment (map entry_of entries) old → (run : RunFrom s.segment 0 (map entry_of entries) lines answers old new) → HasWaiting s entries (map entry_of entries ++ run.added) new.log
 waiting s m entries lines answers old new some wal at is state run =
     let mib : ℕ = s.segment in
     let linked : 0 < old.log.tip.prev = omega (arith, wal_links s m entries (found_tip s entries) some wal, ap (λ (t : Tip). t.prev) is) in
     let waits : Waits record_at new.log old.log.tip (run_records mib old run.added) = run.waits linked old.log.tip [] (nothing_waits s old.log at) in
     let system : new.log.system ≡ s.system = run.system ∙ ap (λ (l : Log). l.system) at in
-    let wrote : wal_of mib run.last.history ≡ run_records mib old run.added = written_is mib entries run.last.history run.added old state run.grown in
+    let wrote : wal_of mib (map entry_of entries ++ run.added) ≡ run_records mib old run.added = written_is mib entries run.added old state in
     record {
       mib = run.state_is.mib_is;
       at = waits.from ∙ ap (λ (t : Tip). t.end) is;
@@ -163,84 +152,116 @@ leaves_run s entries history log (Some m) mid new same w torn =
 -- ---- the archive behind the flush
 
 holds_all : (s : StoreSettings) (entries : List Record) (lines : List Line) (answers : List Answer) (old new : State) (before mid after : Option Files) → 0 < length entries → IfSome before (HasFound s entries) → old.log ≡ log_at s old.log.tip
-    → old.log.tip ≡ found_tip s entries → IsStateOf s.segment (map entry_of entries) old → IsLog new.log → (run : RunFrom s.segment (map entry_of entries) lines answers old new) → mid ≡ before → IsAllWritten new.log mid after
-    → IfSome after (HoldsAll s entries run.last.history)
+    → old.log.tip ≡ found_tip s entries → IsStateOf s.segment (map entry_of entries) old → IsLog new.log → (run : RunFrom s.segment 0 (map entry_of entries) lines answers old new) → mid ≡ before → IsAllWritten new.log mid after
+    → IfSome after (HoldsAll s entries (map entry_of entries ++ run.added))
 holds_all s entries lines answers old new None mid after some wal at is state known run same wrote =
-    subst (λ (o : Option Files). IfSome o (HoldsAll s entries run.last.history)) (sym (wrote ∙ ap (option_map (all_written new.log)) same)) tt
+    subst (λ (o : Option Files). IfSome o (HoldsAll s entries (map entry_of entries ++ run.added))) (sym (wrote ∙ ap (option_map (all_written new.log)) same)) tt
 holds_all s entries lines answers old new (Some m) mid after some wal at is state known run same wrote =
     let linked : 0 < old.log.tip.prev = omega (arith, wal_links s m entries (found_tip s entries) some wal, ap (λ (t : Tip). t.prev) is) in
     let there : IsWal s m entries old.log.tip = subst (λ (t : Tip). IsWal s m entries t) (sym is) wal in
-    let tip : new.log.tip ≡ tip_of s.segment run.last.history = run.state_is.tip in
-    subst (λ (o : Option Files). IfSome o (HoldsAll s entries run.last.history)) (sym (wrote ∙ ap (option_map (all_written new.log)) same))
-    (λ gap. subst (λ (t : Tip). IsWal s (all_written new.log m) (entries ++ wal_of s.segment run.last.history) t) tip
+    let tip : new.log.tip ≡ tip_of s.segment (map entry_of entries ++ run.added) = run.state_is.tip in
+    subst (λ (o : Option Files). IfSome o (HoldsAll s entries (map entry_of entries ++ run.added))) (sym (wrote ∙ ap (option_map (all_written new.log)) same))
+    (λ gap. subst (λ (t : Tip). IsWal s (all_written new.log m) (entries ++ wal_of s.segment (map entry_of entries ++ run.added)) t) tip
     (read_again s m entries lines answers old new there linked at state known run
     (subst (λ (t : Tip). HasNoGap s.segment (archive_of s.segment (all_written new.log m)) t.end) (sym tip) gap)).archive)
 
 -- what all records make is what the run left
-made_by : (s : StoreSettings) (entries : List Record) (lines : List Line) (answers : List Answer) (old new : State) → IsStateOf s.segment (map entry_of entries) old → (run : RunFrom s.segment (map entry_of entries) lines answers old new)
-    → IsMadeBy s entries run.last.history new.pages
+made_by : (s : StoreSettings) (entries : List Record) (lines : List Line) (answers : List Answer) (old new : State) → IsStateOf s.segment (map entry_of entries) old → (run : RunFrom s.segment 0 (map entry_of entries) lines answers old new)
+    → IsMadeBy s entries (map entry_of entries ++ run.added) new.pages
 made_by s entries lines answers old new state run =
     let mib : ℕ = s.segment in
     let news : List Record = run_records mib old run.added in
-    let wrote : wal_of mib run.last.history ≡ news = written_is mib entries run.last.history run.added old state run.grown in
+    let wrote : wal_of mib (map entry_of entries ++ run.added) ≡ news = written_is mib entries run.added old state in
     subst (λ (ws : List Record). apply_all empty (map entry_of (entries ++ ws)) ≡ Some new.pages) (sym wrote)
     (ap (λ (es : List Entry). apply_all empty es) (map-append entry_of entries news) ∙ (apply_all-behind empty (map entry_of entries) (map entry_of news) old.pages state.pages ∙ run.says))
 
+-- ---- the history
+
+-- a script without a worker
+pub tasks_none : (told : List Told) (s : State) → told ≡ [] → RunsTasks told s s
+tasks_none told s none = subst (λ (ts : List Told). RunsTasks ts s s) (sym none) (record { few = omega arith; lines = none_run s })
+
+all_by : (worker workers : ℕ) (es : List Entry) → worker < workers → All (λ e. is_by worker e ≡ true) es → All (IsOfRun workers) es
+all_by worker workers es lt all = λ k d within. (worker, lt, all k d within)
+
+tail_empty : {A : Type 0} (xs ys : List A) → xs ++ ys ≡ [] → ys ≡ []
+tail_empty [] ys none = none
+tail_empty (x ∷ xs) ys none = absurd cc
+
+-- no line makes no entry
+none_added : (h added : List Entry) → accepted_by 0 (h ++ added) ≡ [] → accepted_by 0 added ≡ added → added ≡ []
+none_added h added none own = sym own ∙ tail_empty (accepted_by 0 h) (accepted_by 0 added) (sym (filter-append (is_by 0) h added) ∙ none)
+
+-- the one worker is the first
+one_told : (s : StoreSettings) (found : List Record) (t : Told) (history : List Entry) → IsAnswered s.segment 0 history (length found) t.task.lines t.answers
+    → (worker : ℕ) (u : Told) → slice_get (t ∷ []) worker ≡ Some u → IsAnswered s.segment worker history (length found) u.task.lines u.answers
+one_told s found t history is zero u there = subst (λ (v : Told). IsAnswered s.segment 0 history (length found) v.task.lines v.answers) (let e : t ≡ u = cc in e) is
+one_told s found t history is (suc worker) u there = absurd cc
+
+-- the worker of a script that has one at most ran its lines over this history
+has_history : (s : StoreSettings) (found : List Record) (told : List Told) (old new : State) → length told ≤ 1 → (run : RunFrom s.segment 0 (map entry_of found) (lines_told told) (answers_told told) old new)
+    → HasHistory s found told (map entry_of found ++ run.added)
+has_history s found [] old new few run = record {
+  own = run.added;
+  grown = refl;
+  of_run = subst (λ (es : List Entry). All (IsOfRun 0) es) (sym (none_added (map entry_of found) run.added run.answered.answered run.own)) (All-nil (IsOfRun 0));
+  answered = λ worker t there. absurd cc;
+}
+has_history s found (t ∷ []) old new few run = record {
+  own = run.added;
+  grown = refl;
+  of_run = all_by 0 1 run.added (omega arith) (subst (λ (es : List Entry). All (λ e. is_by 0 e ≡ true) es) run.own (filter_passes (is_by 0) run.added));
+  answered = one_told s found t (map entry_of found ++ run.added) (subst (λ (n : ℕ). IsAnswered s.segment 0 (map entry_of found ++ run.added) n t.task.lines t.answers) (length-map found entry_of) run.answered);
+}
+has_history s found (t ∷ (u ∷ told)) old new few run = absurd (omega (arith, few))
+
 -- ---- the whole
 
-ended : (s : StoreSettings) (entries : List Record) (last : Progress) (wal mid now : AreaState) (stopped : Bool) (log : Log) (ending : Result Lsn AreaFault) → FlushAnswer stopped log mid now ending → wal.faults ≤ mid.faults
-    → (stopped ≡ false → last.stopped ≡ false) → log.tip ≡ tip_of s.segment last.history → (IsAllWritten log mid.files now.files → IfSome now.files (HoldsAll s entries last.history)) → IsEnding s entries last wal now ending
-ended s entries last wal mid now stopped log (Ok end) flushed later going tip archive =
-    (going flushed.0, flushed.1 ∙ ap (λ (t : Tip). t.end) tip, archive flushed.2)
-ended s entries last wal mid now stopped log (Err area.Failed) flushed later going tip archive = (
-  elim flushed.0 [ inl on ↦ inl (going on) | inr memory ↦ inr memory ],
-  omega (arith, flushed.1, later),
-)
-ended s entries last wal mid now stopped log (Err area.NoMemory) flushed later going tip archive = (inr refl, tt)
+ended : (s : StoreSettings) (entries : List Record) (history : List Entry) (report : RunReport) (wal mid now : AreaState) (log : Log) (ending : Result Lsn AreaFault) → FlushAnswer (is_stopped report.told) log mid now ending
+    → wal.faults ≤ mid.faults → log.tip ≡ tip_of s.segment history → (IsAllWritten log mid.files now.files → IfSome now.files (HoldsAll s entries history)) → IsEnding s entries history report wal now ending
+ended s entries history report wal mid now log (Ok end) flushed later tip archive = (flushed.0, flushed.1 ∙ ap (λ (t : Tip). t.end) tip, archive flushed.2)
+ended s entries history report wal mid now log (Err area.Failed) flushed later tip archive = (flushed.0, omega (arith, flushed.1, later))
+ended s entries history report wal mid now log (Err area.NoMemory) flushed later tip archive = (inr refl, tt)
 
 -- what a flush that succeeded wrote
 flushed_to : (stopped : Bool) (log : Log) (mid now : AreaState) (ending : Result Lsn AreaFault) (W : Type 0) → FlushAnswer stopped log mid now ending → (IsAllWritten log mid.files now.files → W) → IfOk ending (λ end. W)
 flushed_to stopped log mid now (Ok end) W flushed leads = leads flushed.2
 flushed_to stopped log mid now (Err why) W flushed leads = tt
 
-pub run_done : (wal now : AreaState) (report : RunReport) (s t : State) (mid : AreaState) → (b : IsBegun wal.files s) → report.opened.0 ≡ s.log.tip.end
-    → ((h : List Entry) → IsStateOf s.log.mib h s → RunFrom s.log.mib h (lines_in report.script) report.answers s t)
-    → mid.files ≡ wal.files → wal.faults ≤ mid.faults → IsLog t.log → FlushAnswer (list_any stops_with report.answers) t.log mid now report.ending
-    → IsWalTorn t.log.mib t.log.flushed (length t.log.pending) mid.files now.files → RunDone wal now report
+pub run_done : (wal now : AreaState) (report : RunReport) (s t : State) (mid : AreaState) → (b : IsBegun wal.files s) → report.opened.0 ≡ s.log.tip.end → RunsTasks report.told s t → mid.files ≡ wal.files → wal.faults ≤ mid.faults
+    → IsLog t.log → FlushAnswer (is_stopped report.told) t.log mid now report.ending → IsWalTorn t.log.mib t.log.flushed (length t.log.pending) mid.files now.files → RunDone wal now report
 run_done wal now report s t mid b opened runs same later known flushed left =
     let set : StoreSettings = b.settings in
     let r = b.open_is.read_is in
-    let h : List Entry = map entry_of r.entries in
-    let lines : List Line = lines_in report.script in
+    let found_all : List Entry = map entry_of r.entries in
+    let lines : List Line = lines_told report.told in
+    let answers : List Answer = answers_told report.told in
     let mib : s.log.mib ≡ set.segment = begun_mib wal.files s b in
     let tip : s.log.tip ≡ found_tip set r.entries = begun_tip wal.files s b in
     let at : s.log ≡ log_at set s.log.tip = begun_log wal.files s b in
-    let state : IsStateOf set.segment h s = begun_state wal.files s b in
-    let run : RunFrom set.segment h lines report.answers s t =
-    subst (λ (n : ℕ). RunFrom n h lines report.answers s t) mib (runs h (subst (λ (n : ℕ). IsStateOf n h s) (sym mib) state)) in
+    let state : IsStateOf set.segment found_all s = begun_state wal.files s b in
+    let run : RunFrom set.segment 0 found_all lines answers s t =
+    subst (λ (n : ℕ). RunFrom n 0 found_all lines answers s t) mib (runs.lines found_all (subst (λ (n : ℕ). IsStateOf n found_all s) (sym mib) state) (none_of_run_read r.entries)) in
+    let history : List Entry = found_all ++ run.added in
     let some : 0 < length r.entries = some_entries set r.entries b.read.tip r.tip b.open_is.some in
-    let wal_is : IfSome wal.files (HasFound set r.entries) = found wal.files s b in
-    let waits : IfSome wal.files (λ m. HasWaiting set r.entries run.last.history t.log) =
-    when_told wal.files (HasFound set r.entries) (λ m. HasWaiting set r.entries run.last.history t.log) (λ m there. waiting set m r.entries lines report.answers s t some there at tip state run) wal_is in
+    let wal_is : IfSome wal.files (HasFound set r.entries) = found_whole wal.files s b in
+    let waits : IfSome wal.files (λ m. HasWaiting set r.entries history t.log) =
+    when_told wal.files (HasFound set r.entries) (λ m. HasWaiting set r.entries history t.log) (λ m there. waiting set m r.entries lines answers s t some there at tip state run) wal_is in
     record {
       settings = set;
       given = b.open_is.given;
-      entries = r.entries;
+      found = r.entries;
       some = some;
-      opened = opened ∙ ap (λ (e : Tip). e.end) tip;
       archive = wal_is;
-      last = run.last;
-      answered = run.answered;
-      added = run.added;
-      grown = run.grown;
-      of_run = run.of_run;
+      opened = opened ∙ ap (λ (e : Tip). e.end) tip;
+      history = history;
+      happened = has_history set r.entries report.told s t runs.few run;
       store = t.pages;
       state = run.state_is.pages;
-      replayed = made_by set r.entries lines report.answers s t state run;
-      left = leaves_run set r.entries run.last.history t.log wal.files mid.files now.files same waits left;
-      written = flushed_to (list_any stops_with report.answers) t.log mid now report.ending (now.files ≡ option_map (with_run set r.entries run.last.history) wal.files) flushed
-          (λ wrote. writes_run set r.entries run.last.history t.log wal.files mid.files now.files known same waits wrote);
-      ending = ended set r.entries run.last wal mid now (list_any stops_with report.answers) t.log report.ending flushed later
-          (λ going. never_stopped set.segment (let p : Progress = record { history = h; accepted = 0; stopped = false } in p) lines report.answers run.last run.answered refl going) run.state_is.tip
-          (λ wrote. holds_all set r.entries lines report.answers s t wal.files mid.files now.files some wal_is at tip state known run same wrote);
+      replayed = made_by set r.entries lines answers s t state run;
+      left = leaves_run set r.entries history t.log wal.files mid.files now.files same waits left;
+      written = flushed_to (is_stopped report.told) t.log mid now report.ending (now.files ≡ option_map (with_run set r.entries history) wal.files) flushed
+          (λ wrote. writes_run set r.entries history t.log wal.files mid.files now.files known same waits wrote);
+      ending = ended set r.entries history report wal mid now t.log report.ending flushed later run.state_is.tip
+          (λ wrote. holds_all set r.entries lines answers s t wal.files mid.files now.files some wal_is at tip state known run same wrote);
     }

@@ -79,8 +79,7 @@ new_wal s = insert (begun_wal s) (segment_name s) (segment_file s)
 abbrev pub HasFirstAlone : StoreSettings → Files → Type 0
 HasFirstAlone s files = IsWal s files (first_entry s.segment ∷ []) (new_tip s.segment)
 
--- the WAL is a new one: it holds just these files, which read as these settings and an archive of
--- the first entry alone
+-- the WAL is a new one: its files read as these settings and as an archive of the first entry alone
 pub record IsNewWal (s : StoreSettings) (files : Option Files) : Type 0 where
   pub archive : IfSome files (HasFirstAlone s)
   pub settings : IfSome files (λ m. IsSettingsOf m s)

@@ -25,7 +25,11 @@ use Rattle.wal_writer.specs.declared.state.WalState.{WalState}
 use Rattle.wal_writer.specs.Log.{Log, Ready}
 use Rattle.pgbackup_cli.specs.declared.init.InitFault.{InitFault}
 use Rattle.crew.specs.declared.script.Task.{Task}
-use Rattle.crew.specs.Run.{all_written}
+use Rattle.crew.specs.declared.script.Line.{Line}
+use Rattle.crew.specs.declared.run.Answer.{Answer}
+use Rattle.crew.specs.Run.{all_written, RunsLines}
+use Rattle.shared_store.specs.State.{State}
+use Rattle.pgbackup_cli.specs.declared.told.Told.{Told}
 use Rattle.pgbackup_cli.specs.declared.run.RunReport.{RunReport}
 use Rattle.pgbackup_cli.specs.declared.run.RunFault.{RunFault}
 use Rattle.pgbackup_cli.specs.declared.words.Command.{Command}
@@ -98,12 +102,10 @@ Never fault = ⊥
 
 -- ---- the input
 
--- bytes, where they are told
-abbrev pub Told : Type 0
-Told = Option (List ℕ)
-
 -- some more of the input was read behind bytes that were read, or its end was met
-pub record IsMore (before bytes : List ℕ) (most : ℕ) (left now : Told) (ended : Bool) : Type 0 where
+pub record IsMore
+    (before bytes : List ℕ) (most : ℕ) (left now : Option (List ℕ)) (ended : Bool)
+    : Type 0 where
   pub grown : IfSome left (λ l. bytes ≡ before ++ take (length bytes - length before) l)
   pub left_is : now ≡ option_map (drop (length bytes - length before)) left
   pub within : length bytes ≤ length before + most
@@ -177,6 +179,20 @@ abbrev pub IsFirstTorn : ℕ → List ℕ → Option Files → Option Files → 
 IsFirstTorn mib bytes old new = IsTornIn (segment_name_bytes 1 mib) bytes old new
 
 -- ---- `run`
+
+-- the lines of a script's worker, and their answers, where there is one
+abbrev pub lines_told : List Told → List Line
+lines_told [] = []
+lines_told (t ∷ told) = t.task.lines
+
+abbrev pub answers_told : List Told → List Answer
+answers_told [] = []
+answers_told (t ∷ told) = t.answers
+
+-- the worker of a script, if it has one, ran its lines
+pub record RunsTasks (told : List Told) (old new : State) : Type 0 where
+  pub few : length told ≤ 1
+  pub lines : RunsLines (lines_told told) old new (answers_told told)
 
 -- where the WAL ends, or why it isn't known to be written
 abbrev pub Ending : Type 0

@@ -1,11 +1,7 @@
 -- The script of the input, as far as it is read.
-use Rattle.crew.specs.declared.script.TheConstants.{SCRIPT_LIMIT}
 use Rattle.std.specs.Prelude.{◌≡◌, ℕ, ◌+◌, ◌≤◌, List, length, take, drop, Option, IfSome}
 use Rattle.std.specs.Option.{option_map}
-
--- a script has at most so many bytes (profile)
-abbrev pub script_limit : ℕ
-script_limit = SCRIPT_LIMIT
+use Rattle.crew.specs.Reasons.{script_limit}
 
 -- the input was read: all of it, or one byte more than a script may have. What is behind these
 -- bytes is left

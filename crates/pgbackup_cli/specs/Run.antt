@@ -1,5 +1,6 @@
 -- `run`: what running a script does, prints and ends with.
-use Rattle.std.specs.Prelude.{◌≡◌, ℕ, ◌+◌, ◌<◌, ◌≤◌, ◌⊎◌, false, List, [], ◌∷◌, ◌++◌, map, length, Option, Some, Result, Ok, Err, IfSome, IfOk, codes}
+use Rattle.std.specs.Prelude.{◌≡◌, ℕ, ◌+◌, ◌<◌, ◌≤◌, ◌⊎◌, Bool, true, false, List, [], ◌∷◌, ◌++◌, map, length, slice_get, Option, Some, Result, Ok, Err, IfSome, IfOk, codes}
+use Rattle.std.specs.List.{list_any, All}
 use Rattle.std.specs.Option.{option_map}
 use Rattle.std.specs.FinMap.{empty}
 use Rattle.std.specs.Fmt.{decimal}
@@ -26,19 +27,19 @@ use Rattle.recovery.specs.Causes.{HasSettings}
 use Rattle.recovery.specs.declared.fault.RecoveryFault.{RecoveryFault}
 use Rattle.shared_store.specs.Begin.{BeginCause}
 use Rattle.crew.specs.declared.script.Task.{Task}
-use Rattle.crew.specs.declared.script.Line.{Line}
 use Rattle.crew.specs.declared.why.Why.{Why}
-use Rattle.crew.specs.Reasons.{why_bytes}
+use Rattle.crew.specs.Reasons.{script_limit, why_bytes}
 use Rattle.crew.specs.Script.{IsScript, IsRefusedAt}
-use Rattle.crew.specs.Run.{Progress, progress, Answered, AllOfRun}
+use Rattle.crew.specs.Run.{is_by, stops_with, IsAnswered}
 use Rattle.pgbackup_cli.specs.declared.answer.Status.{Status}
 use Rattle.pgbackup_cli.specs.declared.answer.Status.TheVariants as status
+use Rattle.pgbackup_cli.specs.declared.told.Told.{Told}
 use Rattle.pgbackup_cli.specs.declared.run.RunReport.{RunReport}
 use Rattle.pgbackup_cli.specs.declared.run.RunFault.{RunFault}
 use Rattle.pgbackup_cli.specs.declared.run.RunFault.TheVariants as run
 use Rattle.pgbackup_cli.specs.Areas.{wal_name, Keeps, AreaCause, IsWalTorn}
 use Rattle.pgbackup_cli.specs.Outside.{Outside, Works, LeavesSite, IsUntaken}
-use Rattle.pgbackup_cli.specs.Input.{script_limit, IsInput, TakesAtMost}
+use Rattle.pgbackup_cli.specs.Input.{IsInput, TakesAtMost}
 use Rattle.pgbackup_cli.specs.Faults.{refused_line, area_text, take_text, wal_text, memory_text, area_status, wal_status}
 use Rattle.pgbackup_cli.specs.Report.{report_text}
 
@@ -61,97 +62,106 @@ pub record HasRefusedLine (left now : Option (List ℕ)) (line : ℕ) (why : Why
 
 -- ---- what the run of a script comes to, over the area of the WAL
 
--- the lines of a script's worker
-abbrev pub lines_in : List Task → List Line
-lines_in [] = []
-lines_in (task ∷ tasks) = task.lines
+-- the script whose workers were told answers
+abbrev pub tasks_told : List Told → List Task
+tasks_told told = map (λ t. t.task) told
 
--- where a WAL of these entries ends
+-- memory ran out before a worker came to its end
+abbrev pub is_stopped : List Told → Bool
+is_stopped told = list_any (λ t. list_any stops_with t.answers) told
+
+-- where a WAL of these records ends
 abbrev pub found_tip : StoreSettings → List Record → Tip
-found_tip s entries = tip_behind (first_tip s.segment) entries
+found_tip s found = tip_behind (first_tip s.segment) found
 
--- a WAL of these files has just these entries
+-- a WAL of these files has just these records
 abbrev pub HasFound : StoreSettings → List Record → Files → Type 0
-HasFound s entries files = IsWal s files entries (found_tip s entries)
+HasFound s found files = IsWal s files found (found_tip s found)
 
--- the entries that a WAL had, and behind them those that a history is written as
-abbrev pub all_entries : StoreSettings → List Record → List Entry → List Record
-all_entries s entries history = entries ++ wal_of s.segment history
+-- one of so many workers made the entry by a command
+abbrev pub IsOfRun : ℕ → Entry → Type 0
+IsOfRun workers entry = (worker : ℕ) × (worker < workers) × (is_by worker entry ≡ true)
+
+-- a history goes on behind the records that were found by commands of the workers alone; over it
+-- each worker's lines were answered so, and its commands there are those that its answers name
+pub record HasHistory
+    (s : StoreSettings) (found : List Record) (told : List Told) (history : List Entry)
+    : Type 0 where
+  pub own : List Entry
+  pub grown : history ≡ map entry_of found ++ own
+  pub of_run : All (IsOfRun (length told)) own
+  pub answered : (worker : ℕ) (t : Told) → slice_get told worker ≡ Some t
+      → IsAnswered s.segment worker history (length found) t.task.lines t.answers
+
+-- the records that were found, and behind them those that a history is written as
+abbrev pub all_records : StoreSettings → List Record → List Entry → List Record
+all_records s found history = found ++ wal_of s.segment history
+
+-- what they make from nothing is this store
+abbrev pub IsMadeBy : StoreSettings → List Record → List Entry → Store → Type 0
+IsMadeBy s found history store =
+    apply_all empty (map entry_of (all_records s found history)) ≡ Some store
 
 -- a WAL of these files has all of them, and ends where the history does, unless it goes on there
 -- over a missing file
 abbrev pub HoldsAll : StoreSettings → List Record → List Entry → Files → Type 0
-HoldsAll s entries history files =
+HoldsAll s found history files =
     HasNoGap s.segment (archive_of s.segment files) (tip_of s.segment history).end
-    → IsWal s files (all_entries s entries history) (tip_of s.segment history)
+    → IsWal s files (all_records s found history) (tip_of s.segment history)
 
--- how a run ended: no line was left out, and the WAL has all entries of the history up to its end,
--- which is told; or the device failed, or memory ran out
-abbrev pub IsEnding :
-    StoreSettings → List Record → Progress → AreaState → AreaState → Result Lsn AreaFault → Type 0
-IsEnding s entries last old new (Ok end) =
-    (last.stopped ≡ false)
-    × (end.0 ≡ (tip_of s.segment last.history).end)
-    × IfSome new.files (HoldsAll s entries last.history)
-IsEnding s entries last old new (Err why) =
-    ((last.stopped ≡ false) ⊎ (why ≡ NoMemory)) × AreaCause old.faults new.faults why
-
--- the lines were answered, the first of them behind these entries
-abbrev pub AnswersAll : StoreSettings → List Record → RunReport → Progress → Type 0
-AnswersAll s entries report last =
-    Answered s.segment (progress (map entry_of entries) 0 false)
-    (lines_in report.script) report.answers last
-
--- what the records of a WAL make from nothing, those of a run with them, is this store
-abbrev pub IsMadeBy : StoreSettings → List Record → List Entry → Store → Type 0
-IsMadeBy s entries history store =
-    apply_all empty (map entry_of (all_entries s entries history)) ≡ Some store
-
--- the files once the entries that a history is written as stand behind those that the WAL had
+-- the files once the records that a history is written as stand behind those that were found
 abbrev pub with_run : StoreSettings → List Record → List Entry → Files → Files
-with_run s entries history =
-    entries_written s.segment s.system (found_tip s entries) (wal_of s.segment history)
+with_run s found history =
+    entries_written s.segment s.system (found_tip s found) (wal_of s.segment history)
 
--- the archive's bytes of these entries, from where the WAL ended on
+-- the archive's bytes of these records, from where the WAL ended on
 abbrev pub run_bytes : StoreSettings → List Record → List Entry → List ℕ
-run_bytes s entries history =
-    laid_out s.segment s.system (found_tip s entries).end (wal_of s.segment history)
+run_bytes s found history =
+    laid_out s.segment s.system (found_tip s found).end (wal_of s.segment history)
 
--- the run's entries stand where the WAL ended, and nothing else changed
+-- the run's records stand where the WAL ended, and nothing else changed
 abbrev pub WritesRun :
     StoreSettings → List Record → List Entry → AreaState → AreaState → Type 0
-WritesRun s entries history old new =
-    new.files ≡ option_map (with_run s entries history) old.files
+WritesRun s found history old new =
+    new.files ≡ option_map (with_run s found history) old.files
 
 -- no more than their bytes was written there
 abbrev pub LeavesRun :
     StoreSettings → List Record → List Entry → AreaState → AreaState → Type 0
-LeavesRun s entries history old new =
-    IsWalTorn s.segment (found_tip s entries).end (length (run_bytes s entries history))
+LeavesRun s found history old new =
+    IsWalTorn s.segment (found_tip s found).end (length (run_bytes s found history))
     old.files new.files
 
--- a script was run on a WAL that has an entry: each line's answer is the one that the history
--- gives, and the entries before are a beginning of the history. What the run added is written where
--- the WAL ended; where that failed, in part. What the records of all these make is what the history
--- makes
+-- how a run ended: no line was left out, and the WAL has all records of the history up to its end,
+-- which is told; or the device failed, or memory ran out
+abbrev pub IsEnding :
+    StoreSettings → List Record → List Entry → RunReport → AreaState → AreaState
+    → Result Lsn AreaFault → Type 0
+IsEnding s found history report old new (Ok end) =
+    (is_stopped report.told ≡ false)
+    × (end.0 ≡ (tip_of s.segment history).end)
+    × IfSome new.files (HoldsAll s found history)
+IsEnding s found history report old new (Err why) =
+    ((is_stopped report.told ≡ false) ⊎ (why ≡ NoMemory)) × AreaCause old.faults new.faults why
+
+-- a script was run on a WAL that has an entry, and came to a history. What the run added to it is
+-- written where the WAL ended; where that failed, in part. What the records of all its entries make
+-- is what the history makes
 pub record RunDone (old new : AreaState) (report : RunReport) : Type 0 where
   pub settings : StoreSettings
   pub given : HasSettings old.files settings
-  pub entries : List Record
-  pub some : 0 < length entries
-  pub opened : report.opened.0 ≡ (found_tip settings entries).end
-  pub archive : IfSome old.files (HasFound settings entries)
-  pub last : Progress
-  pub answered : AnswersAll settings entries report last
-  pub added : List Entry
-  pub grown : last.history ≡ map entry_of entries ++ added
-  pub of_run : AllOfRun added
+  pub found : List Record
+  pub some : 0 < length found
+  pub archive : IfSome old.files (HasFound settings found)
+  pub opened : report.opened.0 ≡ (found_tip settings found).end
+  pub history : List Entry
+  pub happened : HasHistory settings found report.told history
   pub store : Store
-  pub state : apply_all empty last.history ≡ Some store
-  pub replayed : IsMadeBy settings entries last.history store
-  pub left : LeavesRun settings entries last.history old new
-  pub written : IfOk report.ending (λ end. WritesRun settings entries last.history old new)
-  pub ending : IsEnding settings entries last old new report.ending
+  pub state : apply_all empty history ≡ Some store
+  pub replayed : IsMadeBy settings found history store
+  pub left : LeavesRun settings found history old new
+  pub written : IfOk report.ending (λ end. WritesRun settings found history old new)
+  pub ending : IsEnding settings found history report old new report.ending
 
 -- ---- what `run` comes to
 
@@ -168,7 +178,7 @@ pub record IsUnread (old new : AreaState) (why : RecoveryFault) : Type 0 where
 -- ran out, or the WAL wasn't handed out or can't be run on
 abbrev pub RunAnswer : Outside → Outside → RunResult → Type 0
 RunAnswer old new (Ok report) =
-    HasScript old.left new.left report.script
+    HasScript old.left new.left (tasks_told report.told)
     × RunDone (old.areas wal_name) (new.areas wal_name) report
 RunAnswer old new (Err (run.Input why)) =
     LeavesSite old new × AreaCause old.reads new.reads why

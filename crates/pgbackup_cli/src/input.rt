@@ -2,7 +2,8 @@
 
 ghost use Rattle.std.specs.Prelude.{◌≡◌, ◌+◌, ◌<◌, length, IfOk};
 ghost use Rattle.lsn_core.specs.Causes.{HasCause};
-ghost use Rattle.pgbackup_cli.specs.Input.{script_limit, TakesAtMost};
+ghost use Rattle.crew.specs.Reasons.{script_limit};
+ghost use Rattle.pgbackup_cli.specs.Input.{TakesAtMost};
 ghost use Rattle.pgbackup_cli.specs.Inner.{IsReadOn, IsInputOf};
 
 use byte_words::zeros;

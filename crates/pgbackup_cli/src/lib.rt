@@ -23,9 +23,12 @@ mod options;
 mod replay;
 mod report;
 mod run;
+mod told;
 mod top;
 mod words;
 
 pub use answer::Status;
-pub use laws::{init_has_one_answer, replay_has_one_answer, run_has_one_answer};
+pub use laws::{
+    init_has_one_answer, replay_has_one_answer, run_has_one_answer, runs_agree_up_to_want_of_memory,
+};
 pub use top::pgbackup;

@@ -1,11 +1,13 @@
 //! The lines that the run of a script prints.
 
 ghost use Rattle.std.specs.Prelude.{◌≡◌, ◌++◌, codes, IfOk, OnOk};
-ghost use Rattle.pgbackup_cli.specs.Report.{insert_fault_text, accepted_text, answer_text, answer_line, told_lines, opened_line, last_line, report_text};
+ghost use Rattle.std.specs.List.{flat_map};
+ghost use Rattle.pgbackup_cli.specs.Report.{insert_fault_text, accepted_text, answer_text, answer_line, worker_lines, opened_line, last_line, report_text};
 
 use crate::faults::{area_text, joined, refused_line};
 use crate::run::RunReport;
-use crew::{Answer, Line, Task};
+use crate::told::Told;
+use crew::{Answer, Line};
 use lsn_core::{AreaFault, Lsn, NoMemory, Place, Text, lsn_text};
 use shared_store::InsertFault;
 use std::alloc::Global;
@@ -17,8 +19,16 @@ fn insert_fault_text(alloc: Global, fault: InsertFault) -> Result<Text, NoMemory
         InsertFault::NoFork(n) => format!(in alloc; "1 NoFork {n}")?,
         InsertFault::ForkExists(n) => format!(in alloc; "2 ForkExists {n}")?,
         InsertFault::PastEnd(n) => format!(in alloc; "3 PastEnd {n}")?,
+        InsertFault::NoBlock(n) => format!(in alloc; "4 NoBlock {n}")?,
+        InsertFault::BadPage(i, n) => format!(in alloc; "5 BadPage {i} {n}")?,
+        InsertFault::BadFragment(i, j) => format!(in alloc; "6 BadFragment {i} {j}")?,
+        InsertFault::BlockCount => format!(in alloc; "7 BlockCount")?,
+        InsertFault::TwoRelations => format!(in alloc; "8 TwoRelations")?,
         InsertFault::ForkFull(n) => format!(in alloc; "9 ForkFull {n}")?,
+        InsertFault::StoreFull(n) => format!(in alloc; "10 StoreFull {n}")?,
+        InsertFault::CutPastEnd(n) => format!(in alloc; "11 CutPastEnd {n}")?,
         InsertFault::NoMemory => format!(in alloc; "13 NoMemory")?,
+        InsertFault::SameBlock(i) => format!(in alloc; "14 SameBlock {i}")?,
         InsertFault::WalFull(n) => format!(in alloc; "15 WalFull {n}")?,
     };
     Ok(Text::from_vec(text.into_bytes()))
@@ -70,18 +80,24 @@ fn answer_line(alloc: Global, name: &[u8], line: &Line, answer: &Answer) -> Resu
     )
 }
 
-/// Prints the answers to a worker's lines behind a text.
-fn push_answers(
-    alloc: Global,
-    text: &mut Vec<u8>,
-    task: &Task,
-    answers: &[Answer],
-) -> Result<(), NoMemory>
-    ensures { OnOk result (text.new.items ≡ text.old.items ++ told_lines task.now answers.now) }
+/// Prints the answers of a worker behind a text.
+fn push_answers(alloc: Global, text: &mut Vec<u8>, told: &Told) -> Result<(), NoMemory>
+    ensures { OnOk result (text.new.items ≡ text.old.items ++ worker_lines told.now) }
 {
-    for (line, answer) in task.lines.as_slice().iter().zip(answers) {
+    let task = &told.task;
+    for (line, answer) in task.lines.as_slice().iter().zip(told.answers.as_slice()) {
         let line = answer_line(alloc, task.name.as_bytes(), line, answer)?;
         text.extend_from_slice(line.as_bytes())?;
+    }
+    Ok(())
+}
+
+/// Prints the answers of all workers behind a text.
+fn push_told(alloc: Global, text: &mut Vec<u8>, told: &[Told]) -> Result<(), NoMemory>
+    ensures { OnOk result (text.new.items ≡ text.old.items ++ flat_map worker_lines told.now) }
+{
+    for told in told {
+        push_answers(alloc, text, told)?;
     }
     Ok(())
 }
@@ -112,9 +128,7 @@ pub fn report_text(alloc: Global, report: &RunReport) -> Result<Text, NoMemory>
     ensures { IfOk result (λ text. text ≡ report_text report.now) }
 {
     let mut text = opened_line(alloc, report.opened)?.into_vec();
-    if let Some(task) = report.script.workers().first() {
-        push_answers(alloc, &mut text, task, report.answers.as_slice())?;
-    }
+    push_told(alloc, &mut text, report.told.as_slice())?;
     text.extend_from_slice(last_line(alloc, &report.ending)?.as_bytes())?;
     Ok(Text::from_vec(text))
 }

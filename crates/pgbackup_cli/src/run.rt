@@ -1,15 +1,16 @@
 //! `run`: the script of the input, run on a store.
 
-ghost use Rattle.std.specs.Prelude.{◌≡◌, ◌+◌, ◌≤◌, IfOk, IfErr};
-ghost use Rattle.std.specs.List.{list_any};
+ghost use Rattle.std.specs.Prelude.{◌≡◌, ◌+◌, ◌<◌, ◌≤◌, ◌∷◌, ◌++◌, [], length, IfOk, IfErr};
+ghost use Rattle.std.specs.Vec.{vec_len, vec_capacity};
 ghost use Rattle.vault.specs.Site.{AllHome, state_in};
 ghost use Rattle.wal_writer.specs.Log.{IsLog};
-ghost use Rattle.crew.specs.Run.{stops_with};
+ghost use Rattle.shared_store.specs.State.{state_of};
 ghost use Rattle.pgbackup_cli.specs.declared.run.RunFault.TheVariants as run;
 ghost use Rattle.pgbackup_cli.specs.Outside.{Works};
-ghost use Rattle.pgbackup_cli.specs.Input.{script_limit, TakesAtMost};
-ghost use Rattle.pgbackup_cli.specs.Run.{HasScript, lines_in, run_asks, RunDoes, script_text, run_fault_text, run_text, ending_status, run_status};
-ghost use Rattle.pgbackup_cli.specs.Inner.{of_site, of_site_input, EndsRun, IsFlushLeft, RefusesScript, RunsScript, AnswersScript};
+ghost use Rattle.crew.specs.Reasons.{script_limit};
+ghost use Rattle.pgbackup_cli.specs.Input.{TakesAtMost};
+ghost use Rattle.pgbackup_cli.specs.Run.{HasScript, tasks_told, run_asks, RunDoes, script_text, run_fault_text, run_text, ending_status, run_status};
+ghost use Rattle.pgbackup_cli.specs.Inner.{of_site, of_site_input, RunsTasks, EndsRun, IsFlushLeft, RefusesScript, RunsScript, AnswersScript};
 
 use crate::answer::Status;
 use crate::faults::{
@@ -17,20 +18,20 @@ use crate::faults::{
 };
 use crate::input::read_input;
 use crate::report::report_text;
-use crew::{Answer, Answers, Line, Script, ScriptFault, Why, read_script, run_lines, why_text};
+use crate::told::{Told, ToldTasks};
+use crew::{Script, ScriptFault, Why, read_script, run_lines, why_text};
 use lsn_core::{AreaFault, Lsn, NoMemory, Text};
 use recovery::RecoveryFault;
 use shared_store::Store;
 use std::alloc::Global;
 use vault::{Held, Site, Source, TakeFault, Vault, give_one, take_one};
 
-/// What the run of a script came to: where the WAL ended before, the script and the answers to its
+/// What the run of a script came to: where the WAL ended before, the script with the answers to its
 /// lines, and where the WAL ends now or why it isn't known to be written.
 #[derive(Drop)]
 pub struct RunReport {
     pub opened: Lsn,
-    pub script: Script,
-    pub answers: Answers,
+    pub told: ToldTasks,
     pub ending: Result<Lsn, AreaFault>,
 }
 
@@ -65,21 +66,36 @@ impl From<NoMemory> for RunFault {
     }
 }
 
-/// The lines of a script's worker.
-fn lines_of(script: &Script) -> &[Line]
-    ensures { result.now ≡ lines_in script.now }
+/// Puts what a worker was told where there is room for it.
+fn put(list: &mut Vec<Told>, told: Told)
+    requires { vec_len list.old < vec_capacity list.old }
+    ensures { list.new.items ≡ list.old.items ++ (told ∷ []) }
 {
-    match script.workers() {
-        [] => &[],
-        [task, ..] => task.lines.as_slice(),
+    if list.push(told).is_err() {
+        unreachable!()
     }
 }
 
-/// Whether a run stopped for want of memory.
-fn is_stopped(answers: &[Answer]) -> bool
-    ensures { result ≡ list_any stops_with answers.now }
+/// Runs the task of a script, if it has one. The room for the answers is taken first: where that is
+/// wanting no line was run.
+fn run_tasks<V: Vault>(
+    alloc: Global,
+    store: &mut Store<V>,
+    script: Script,
+) -> Result<ToldTasks, NoMemory>
+    requires { length script ≤ 1 }
+    ensures run { IfOk result (λ told. RunsTasks told (state_of store.old) (state_of store.new)) }
+    ensures script { IfOk result (λ told. tasks_told told ≡ script) }
+    ensures area { store.new.wal.area ≡ store.old.wal.area }
 {
-    answers.iter().any(|answer| answer.stops())
+    let mut list = Vec::with_capacity(alloc, 1)?;
+    let mut workers = script.into_workers();
+    let Some(task) = workers.pop() else {
+        return Ok(ToldTasks::from_vec(list));
+    };
+    let answers = run_lines(alloc, store, task.lines.as_slice())?;
+    put(&mut list, Told { task, answers });
+    Ok(ToldTasks::from_vec(list))
 }
 
 /// Flushes all that a run appended. The answer is where the WAL ends; want of memory where the run
@@ -104,8 +120,9 @@ fn end_run<V: Vault>(alloc: Global, store: &mut Store<V>, stopped: bool) -> Resu
 /// Runs a script on the WAL of an area: reads it whole, runs the lines, and flushes what they
 /// appended. Nothing is written before all lines are answered.
 fn run_wal<V: Vault>(alloc: Global, wal: V, script: Script) -> (V, Result<RunReport, RecoveryFault>)
+    requires { length script ≤ 1 }
     ensures answer { AnswersScript V.Vault wal result.0 result.1 }
-    ensures script { IfOk result.1 (λ report. report.script ≡ script) }
+    ensures script { IfOk result.1 (λ report. tasks_told report.told ≡ script) }
     ensures later { V.faults wal ≤ V.faults result.0 }
 {
     let mut store = match Store::begin(alloc, wal) {
@@ -113,14 +130,13 @@ fn run_wal<V: Vault>(alloc: Global, wal: V, script: Script) -> (V, Result<RunRep
         Err(fault) => return (fault.area, Err(fault.why)),
     };
     let opened = store.end();
-    let Ok(answers) = run_lines(alloc, &mut store, lines_of(&script)) else {
+    let Ok(told) = run_tasks(alloc, &mut store, script) else {
         return (store.close(), Err(RecoveryFault::NoMemory));
     };
-    let ending = end_run(alloc, &mut store, is_stopped(answers.as_slice()));
+    let ending = end_run(alloc, &mut store, told.is_stopped());
     let report = RunReport {
         opened,
-        script,
-        answers,
+        told,
         ending,
     };
     (store.close(), Ok(report))
@@ -128,7 +144,8 @@ fn run_wal<V: Vault>(alloc: Global, wal: V, script: Script) -> (V, Result<RunRep
 
 /// Runs a script on the WAL of a site.
 fn run_in<S: Site>(alloc: Global, script: Script, site: &mut S) -> Result<RunReport, RunFault>
-    requires { AllHome (S.areas site.old) }
+    requires few { length script ≤ 1 }
+    requires home { AllHome (S.areas site.old) }
     ensures site { Works run_asks (of_site S.Site site.old) (of_site S.Site site.new) }
     ensures answer { RunsScript S.Site script site.old site.new result }
 {
@@ -144,6 +161,7 @@ fn run_in<S: Site>(alloc: Global, script: Script, site: &mut S) -> Result<RunRep
 /// The script of the input.
 fn script_of<I: Source>(alloc: Global, input: &mut I) -> Result<Script, RunFault>
     ensures script { IfOk result (HasScript (I.left input.old) (I.left input.new)) }
+    ensures few { IfOk result (λ script. length script ≤ 1) }
     ensures refused { IfErr result (RefusesScript I.Source input.old input.new) }
     ensures taken { TakesAtMost (script_limit + 1) (I.left input.old) (I.left input.new) }
     ensures later { I.faults input.old ≤ I.faults input.new }

@@ -1,6 +1,6 @@
 -- A failed sync leaves what was written.
 use Rattle.std.proofs.Common.{◌∙◌}
-use Rattle.pgbackup_cli.proofs.Told.{on_err}
+use Rattle.pgbackup_cli.proofs.Decided.{on_err}
 use Rattle.pgbackup_cli.proofs.NewWal.{unsynced}
 use Rattle.pgbackup_cli.proofs.new_wal.write_first.Goals as goal
 

@@ -4,6 +4,6 @@ use Rattle.pgbackup_cli.proofs.report.push_answers.Goals as goal
 
 pub returns : goal.returns
 returns c = elim c.in-None.ensures.steps [
-  | inl lines ↦ lines_ended c.args.task.now.name _ _ _ _ c.loop-line.invariant lines.1.0
-  | inr answers ↦ answers_ended c.args.task.now.name _ _ _ _ c.loop-line.invariant answers.1.0
+  | inl lines ↦ lines_ended c.args.told.now.task.name _ _ _ _ c.loop-line.invariant lines.1.0
+  | inr answers ↦ answers_ended c.args.told.now.task.name _ _ _ _ c.loop-line.invariant answers.1.0
 ]

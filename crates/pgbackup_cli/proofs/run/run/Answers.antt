@@ -1,7 +1,7 @@
 use Rattle.std.proofs.Common.{arith}
 use Rattle.pgbackup_cli.specs.Run.{RunAnswer}
 use Rattle.pgbackup_cli.specs.Inner.{of_site, of_site_input}
-use Rattle.pgbackup_cli.proofs.Told.{err_as}
+use Rattle.pgbackup_cli.proofs.Decided.{err_as}
 use Rattle.pgbackup_cli.proofs.Lent.{none_written}
 use Rattle.pgbackup_cli.proofs.run.run.Goals as goal
 

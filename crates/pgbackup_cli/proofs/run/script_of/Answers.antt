@@ -1,4 +1,5 @@
 -- What the input was read as.
+use Rattle.crew.proofs.Workers.{few_workers}
 use Rattle.pgbackup_cli.proofs.run.script_of.Goals as goal
 
 pub returns-in-Ok-read_script-clause-script : goal.returns-in-Ok-read_script-clause-script
@@ -7,3 +8,6 @@ returns-in-Ok-read_script-clause-script g c = record {
   input = c.in-Ok.ensures.input;
   script_is = rw c.deref.ensures.value at c.in-Ok-read_script.ensures;
 }
+
+pub returns-in-Ok-read_script-clause-few : goal.returns-in-Ok-read_script-clause-few
+returns-in-Ok-read_script-clause-few g c = few_workers c.in-Ok.bytes.items _ (rw c.deref.ensures.value at c.in-Ok-read_script.ensures)
