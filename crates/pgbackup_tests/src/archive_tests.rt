@@ -6,13 +6,12 @@ ghost use Rattle.std.specs.Prelude.{IfOk};
 ghost use Rattle.vault.specs.Site.{AllHome};
 ghost use Rattle.vault.specs.MemorySite.{areas_of};
 
-use crate::areas::{Change, make};
 use crate::calls::{NONE, call, run};
-use crate::samples::SETTINGS;
 use pgbackup_cli::Status;
 use std::alloc::Global;
 use std::process::Abort;
 use std::test::Fail;
+use test_areas::{Change, SETTINGS, make};
 use vault::{MemSite, MemVault, Site, Vault, read_in};
 
 /// The names of the segments.

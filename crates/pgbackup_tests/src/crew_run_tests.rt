@@ -1,11 +1,11 @@
 //! A script that is read and run over a store in memory. The answers and the bytes are those of an
 //! independent implementation of the formats.
 
-use crate::samples::{ADDED, NEW_WAL, SEGMENT, SETTINGS};
 use crew::{Answer, read_script, run_lines};
 use lsn_core::{Lsn, Place};
 use shared_store::{InsertFault, Store};
 use std::test::Fail;
+use test_areas::{ADDED, NEW_WAL, SEGMENT, SETTINGS};
 use vault::{MemVault, Vault, read_whole};
 
 const SCRIPT: &[u8] = b"worker w

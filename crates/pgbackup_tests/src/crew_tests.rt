@@ -1,19 +1,9 @@
-use crew::{Command, Line, PageShape, Script, ScriptFault, read_script, why_text};
-use lsn_core::{BlockId, ForkId, ForkKind, Rel};
+//! Scripts as they are read: each line that is taken, and where and why others are refused.
+
+use crew::{Command, Order, OrderEdit, OrderItem, Script, ScriptFault, read_script, why_text};
+use lsn_core::{ForkId, ForkKind};
 use std::alloc::Global;
 use std::test::Fail;
-
-fn fork(kind: ForkKind, db: u32, rel: u32) -> Option<ForkId> {
-    Some(ForkId {
-        rel: Rel::new(db, rel)?,
-        kind,
-    })
-}
-
-fn change(fork: ForkId, block: u32, lower: u16, upper: u16, fill: u8) -> Option<Command> {
-    let shape = PageShape::new(lower, upper, fill)?;
-    Some(Command::Change(BlockId { fork, block }, shape))
-}
 
 // the script of a text, which is shorter than memory is
 fn script_of(alloc: Global, text: &[u8]) -> Result<Script, ScriptFault> {
@@ -32,86 +22,165 @@ fn refusal(alloc: Global, text: &[u8]) -> Option<(u32, &'static [u8])> {
     }
 }
 
-// the one line of the one worker
-fn only_line(script: &Script) -> Option<(&[u8], Line)> {
-    let [task] = script.workers() else {
-        return None;
-    };
-    let [line] = task.lines.as_slice() else {
-        return None;
-    };
-    Some((task.name.as_bytes(), *line))
+fn kind_word(kind: ForkKind) -> &'static str {
+    match kind {
+        ForkKind::Main => "main",
+        ForkKind::Init => "init",
+    }
 }
 
-/// What stands on the line of the one worker `a_1`.
-fn command_in(alloc: Global, line: &str) -> Result<Option<Command>, Fail> {
+fn fork_text(alloc: Global, fork: &ForkId) -> Result<String, Fail> {
+    let (kind, db, rel) = (kind_word(fork.kind), fork.rel.db(), fork.rel.rel());
+    Ok(format!(in alloc; "{kind} {db} {rel}")?)
+}
+
+/// What an edit does: a page by its three numbers, or fragments by their places and bytes.
+fn edit_text(alloc: Global, edit: &OrderEdit) -> Result<String, Fail> {
+    let frags = match edit {
+        OrderEdit::Put(shape) => {
+            let (lower, upper, fill) = (shape.lower(), shape.upper(), shape.fill());
+            return Ok(format!(in alloc; "put {lower} {upper} {fill}")?);
+        }
+        OrderEdit::Patch(frags) => frags,
+    };
+    let mut text = format!(in alloc; "patch")?;
+    for frag in frags.as_slice() {
+        let (at, bytes) = (frag.at(), frag.bytes());
+        text.push_str(&format!(in alloc; " {at} {bytes:?}")?)?;
+    }
+    Ok(text)
+}
+
+fn item_text(alloc: Global, item: &OrderItem) -> Result<String, Fail> {
+    let fork = fork_text(alloc, &item.at.fork)?;
+    let edit = edit_text(alloc, &item.edit)?;
+    let block = item.at.block;
+    Ok(format!(in alloc; " {fork} {block} {edit};")?)
+}
+
+fn items_text(alloc: Global, items: &[OrderItem]) -> Result<String, Fail> {
+    let mut text = format!(in alloc; "change")?;
+    for item in items {
+        text.push_str(&item_text(alloc, item)?)?;
+    }
+    Ok(text)
+}
+
+fn command_text(alloc: Global, command: &Command) -> Result<String, Fail> {
+    let Command::Insert(order) = command;
+    match order {
+        Order::Create(fork) => {
+            let fork = fork_text(alloc, fork)?;
+            Ok(format!(in alloc; "create {fork}")?)
+        }
+        Order::Change(items) => items_text(alloc, items.as_slice()),
+    }
+}
+
+/// What stands on the line of the one worker `a_1`, in words of its own; empty where it isn't taken
+/// as one line of that worker.
+fn line_text(alloc: Global, line: &str) -> Result<String, Fail> {
     let text = format!(in alloc; "# head\n  worker \t a_1\t \n\n{line}\n#{line}")?;
     let script = script_of(alloc, text.as_bytes())?;
-    let Some((name, found)) = only_line(&script) else {
-        return Ok(None);
+    let [task] = script.workers() else {
+        return Ok(String::new(alloc));
     };
-    if name != b"a_1".as_slice() || found.number != 4 {
-        return Ok(None);
+    let [found] = task.lines.as_slice() else {
+        return Ok(String::new(alloc));
+    };
+    if task.name.as_bytes() != b"a_1".as_slice() || found.number != 4 {
+        return Ok(String::new(alloc));
     }
-    Ok(Some(found.command))
+    command_text(alloc, &found.command)
 }
 
-/// Lines, and the fork that each creates.
-static CREATIONS: [(&str, ForkKind, u32, u32); 5] = [
-    ("create 1/2", ForkKind::Main, 1, 2),
-    ("\tcreate \t 1/2 ", ForkKind::Main, 1, 2),
-    ("create 0000000001/0000000002", ForkKind::Main, 1, 2),
-    ("create 1/2_init", ForkKind::Init, 1, 2),
+/// Lines, and what each says.
+static TAKEN: [(&str, &str); 14] = [
+    ("create 1/2", "create main 1 2"),
+    ("\tcreate \t 1/2 ", "create main 1 2"),
+    ("create 0000000001/0000000002", "create main 1 2"),
+    ("create 1/2_init", "create init 1 2"),
     (
         "create 4294967295/4294967295",
-        ForkKind::Main,
-        4_294_967_295,
-        4_294_967_295,
+        "create main 4294967295 4294967295",
+    ),
+    ("change 1/2@0=24,8192,7", "change main 1 2 0 put 24 8192 7;"),
+    (
+        "change 1/2_init@4294967295=24,24,255",
+        "change init 1 2 4294967295 put 24 24 255;",
+    ),
+    (
+        "change 1/2@00=0000000024,0008192,00",
+        "change main 1 2 0 put 24 8192 0;",
+    ),
+    ("change 1/2@0+24:61", "change main 1 2 0 patch 24 [97];"),
+    (
+        "change 1/2_init@7+0:0aFf,0000065535:Bc,0:00",
+        "change init 1 2 7 patch 0 [10, 255] 65535 [188] 0 [0];",
+    ),
+    (
+        "change 1/2@1=24,24,0\t3/4_init@0+1:02 1/2@1+5:06,7:08",
+        "change main 1 2 1 put 24 24 0; init 3 4 0 patch 1 [2]; main 1 2 1 patch 5 [6] 7 [8];",
+    ),
+    (
+        "change 1/2@0+24:61,24:62",
+        "change main 1 2 0 patch 24 [97] 24 [98];",
+    ),
+    ("change 1/2@0+8192:61", "change main 1 2 0 patch 8192 [97];"),
+    (
+        "change 1/2@0=24,24,0 1/2@0=24,24,1",
+        "change main 1 2 0 put 24 24 0; main 1 2 0 put 24 24 1;",
     ),
 ];
 
 #[test]
-fn creations_are_taken(rt: HostRuntime) -> Result<(), Fail> {
-    for (line, kind, db, rel) in CREATIONS {
-        let wanted = Command::Create(fork(kind, db, rel).ok_or("fork")?);
-        assert_eq!(rt; command_in(rt.alloc(), line)?, Some(wanted), "{line}");
+fn lines_are_taken(rt: HostRuntime) -> Result<(), Fail> {
+    for (line, says) in TAKEN {
+        let text = line_text(rt.alloc(), line)?;
+        assert_eq!(rt; text.as_bytes(), says.as_bytes(), "{line}");
     }
     Ok(())
 }
 
-/// Lines, and the fork of the relation 1/2, the block and the page that each changes.
-static CHANGES: [(&str, ForkKind, u32, u16, u16, u8); 3] = [
-    ("change 1/2@0=24,8192,7", ForkKind::Main, 0, 24, 8192, 7),
-    (
-        "change 1/2_init@4294967295=24,24,255",
-        ForkKind::Init,
-        4_294_967_295,
-        24,
-        24,
-        255,
-    ),
-    (
-        "change 1/2@00=0000000024,0008192,00",
-        ForkKind::Main,
-        0,
-        24,
-        8192,
-        0,
-    ),
-];
+/// A change of the block 0 by one fragment of so many bytes.
+fn long_fragment(alloc: Global, bytes: usize) -> Result<Vec<u8>, Fail> {
+    let mut text = Vec::from_slice(alloc, b"worker a\nchange 1/2@0+24:")?;
+    for _ in 0..bytes {
+        text.extend_from_slice(b"aB")?;
+    }
+    Ok(text)
+}
 
 #[test]
-fn changes_are_taken(rt: HostRuntime) -> Result<(), Fail> {
-    for (line, kind, block, lower, upper, fill) in CHANGES {
-        let fork = fork(kind, 1, 2).ok_or("fork")?;
-        let wanted = change(fork, block, lower, upper, fill).ok_or("page")?;
-        assert_eq!(rt; command_in(rt.alloc(), line)?, Some(wanted), "{line}");
+fn a_fragment_has_8192_bytes_at_most(rt: HostRuntime) -> Result<(), Fail> {
+    let alloc = rt.alloc();
+    assert_eq!(rt; refusal(alloc, &long_fragment(alloc, 8192)?), None);
+    let word = Some((2, b"Word".as_slice()));
+    assert_eq!(rt; refusal(alloc, &long_fragment(alloc, 8193)?), word);
+    Ok(())
+}
+
+/// A change of so many items.
+fn many_items(alloc: Global, items: u32) -> Result<Vec<u8>, Fail> {
+    let mut text = Vec::from_slice(alloc, b"worker a\nchange")?;
+    for block in 0..items {
+        let item = format!(in alloc; " 1/2@{block}+24:61")?;
+        text.extend_from_slice(item.as_bytes())?;
     }
+    Ok(text)
+}
+
+#[test]
+fn a_line_has_16_items_at_most(rt: HostRuntime) -> Result<(), Fail> {
+    let alloc = rt.alloc();
+    assert_eq!(rt; refusal(alloc, &many_items(alloc, 16)?), None);
+    let word = Some((2, b"Word".as_slice()));
+    assert_eq!(rt; refusal(alloc, &many_items(alloc, 17)?), word);
     Ok(())
 }
 
 /// Scripts, and where and why each is refused.
-static REFUSED: [(&str, u32, &str); 30] = [
+static REFUSED: [(&str, u32, &str); 48] = [
     ("\n#\u{7f}\n", 2, "Bytes"),
     ("worker a\r\n", 1, "Bytes"),
     ("x\0", 1, "Bytes"),
@@ -137,6 +206,24 @@ static REFUSED: [(&str, u32, &str); 30] = [
     ("worker a\nchange 1/2@0=25,24,0", 2, "Word"),
     ("worker a\nchange 1/2@0=24,65560,0", 2, "Word"),
     ("worker a\nchange 1/2@0=24,8192,0,0", 2, "Word"),
+    ("worker a\nchange", 2, "Word"),
+    ("worker a\nchange 1/2@0", 2, "Word"),
+    ("worker a\nchange 1/2@0+", 2, "Word"),
+    ("worker a\nchange 1/2@0+24", 2, "Word"),
+    ("worker a\nchange 1/2@0+24:", 2, "Word"),
+    ("worker a\nchange 1/2@0+:61", 2, "Word"),
+    ("worker a\nchange 1/2@0+24:6", 2, "Word"),
+    ("worker a\nchange 1/2@0+24:616", 2, "Word"),
+    ("worker a\nchange 1/2@0+24:6g", 2, "Word"),
+    ("worker a\nchange 1/2@0+65536:61", 2, "Word"),
+    ("worker a\nchange 1/2@0+24:61,", 2, "Word"),
+    ("worker a\nchange 1/2@0+,24:61", 2, "Word"),
+    ("worker a\nchange 1/2@0+24:61,24", 2, "Word"),
+    ("worker a\nchange 1/2@0+24:61:62", 2, "Word"),
+    ("worker a\nchange 1/2@0+24,8192,7", 2, "Word"),
+    ("worker a\nchange 1/2@0=24:61", 2, "Word"),
+    ("worker a\nchange 1/2@0+24:61 1/2@1", 2, "Word"),
+    ("worker a\nchange 1/2@0+24:61 1/2@1=24,8192,256", 2, "Word"),
     ("worker a\nerase 1/2", 2, "Word"),
     ("worker a\nworker B", 2, "Word"),
     ("create 1/2\nworker a", 1, "NoWorker"),

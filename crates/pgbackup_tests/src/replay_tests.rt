@@ -5,13 +5,12 @@ ghost use Rattle.std.specs.Prelude.{IfOk};
 ghost use Rattle.vault.specs.Site.{AllHome};
 ghost use Rattle.vault.specs.MemorySite.{areas_of};
 
-use crate::areas::{Change, holds_in, make};
 use crate::calls::{Failing, NONE, call, run};
-use crate::samples::{ARCHIVE, SEGMENT, archive_with};
 use pgbackup_cli::Status;
 use std::alloc::Global;
 use std::process::Abort;
 use std::test::Fail;
+use test_areas::{ARCHIVE, Change, SEGMENT, archive_with, holds_in, make};
 use vault::{MemSite, MemVault};
 
 /// Which call of the output's area, of the site and of the sink is to fail, counted from 1; 0 is none.

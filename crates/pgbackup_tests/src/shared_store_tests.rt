@@ -1,10 +1,10 @@
-use crate::samples::{ADDED, NEW_WAL, SEGMENT, SETTINGS, main_fork};
 use history::{Edit, Item, Items, Op};
 use lsn_core::{BlockId, ForkId, Lsn, Place};
 use pg_page::make_page;
 use shared_store::{InsertFault, Receipt, Store};
 use std::alloc::Global;
 use std::test::Fail;
+use test_areas::{ADDED, NEW_WAL, SEGMENT, SETTINGS, main_fork};
 use vault::{MemVault, Vault, read_whole};
 
 // the store of the new WAL

@@ -5,13 +5,12 @@ ghost use Rattle.std.specs.Prelude.{IfOk};
 ghost use Rattle.vault.specs.Site.{AllHome};
 ghost use Rattle.vault.specs.MemorySite.{areas_of};
 
-use crate::areas::{Change, holds_in, make_all, put_in};
 use crate::calls::{Call, Failing, call, make_calls, run};
-use crate::samples::{ADDED, NEW_WAL, SEGMENT, SETTINGS};
 use pgbackup_cli::Status;
 use std::alloc::Global;
 use std::process::Abort;
 use std::test::Fail;
+use test_areas::{ADDED, Change, NEW_WAL, SEGMENT, SETTINGS, holds_in, make_all, put_in};
 use vault::{MemSite, MemVault, Site, read_in};
 
 const INIT: &str = "init --segment-mib 1 --system-id 7";
