@@ -21,7 +21,6 @@ edits:
 	./edits/run $(NAMES)
 
 conformance: build
-	python3 conformance/replay.py bin/pgbackup
 	python3 conformance/run.py bin/pgbackup
 	python3 conformance/archives.py bin/pgbackup 500
 	python3 conformance/faults.py bin/pgbackup

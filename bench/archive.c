@@ -9,7 +9,7 @@
 #include <stdlib.h>
 #include <string.h>
 
-enum { PAGE = 8192, DELTA = 56, FORK = 16384 };
+enum { PAGE = 8192, FORK = 16384 };
 
 static const uint64_t SEGMENT = 16 << 20;
 

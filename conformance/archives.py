@@ -6,7 +6,8 @@ Each run makes an archive with the independent implementation: creations, trunca
 deltas, entries of several blocks, checkpoints, marks and no-ops, over one or more segments. It is
 replayed with and without a target. Then it is damaged three times, each time anew: one to three
 bytes changed, with the sum made again or not; an entry written otherwise than the store writes it;
-a file cut, made longer, removed, put in another's place or given another timeline. Line, status and
+a file cut, made longer, removed, put in another's place or given another timeline; other settings
+or none. Line, status and
 files have to be the same each time.
 Not part of the gate. Skipped where the independent implementation (PGBACKUP_ORACLE) isn't there.
 """
@@ -183,7 +184,7 @@ def change_bytes(rnd, places):
 def change_files(rnd):
     """Cuts, fills, removes or renames a file."""
     name = rnd.choice(segments())
-    path, pick = "wal/" + name, rnd.randrange(7)
+    path, pick = "wal/" + name, rnd.randrange(8)
     if pick == 0:
         os.truncate(path, rnd.randrange(os.path.getsize(path) + 1))
     elif pick == 1:
@@ -205,6 +206,8 @@ def change_files(rnd):
                             "000000010000000000000009"])
         with open("wal/" + extra, "wb") as f:
             f.write(bytes(rnd.randrange(3)) + rnd.choice([b"", b"\1"]))
+    elif pick == 6:
+        os.remove("wal/settings")
     else:
         with open("wal/settings", "wb") as f:
             f.write(rnd.choice([b"", b"segment-mib 1\nblocks-per-segment 0\n", b"segment-mib 1\nblocks-per-segment 9\n",

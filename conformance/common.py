@@ -7,8 +7,7 @@ import subprocess
 import sys
 import tempfile
 
-HERE = os.path.dirname(os.path.abspath(__file__))
-ORACLE = os.environ.get("PGBACKUP_ORACLE", os.path.join(HERE, "..", "..", "shared", "oracle"))
+ORACLE = os.environ.get("PGBACKUP_ORACLE", "")
 SEGMENT = "000000010000000000000001"
 # What the first page of the WAL has behind its head and the checkpoint.
 ROOM = 8192 - 96
@@ -39,19 +38,13 @@ def files(folder):
     return found
 
 
-def entry_size(lower, upper):
-    """How much room an entry of one image takes."""
-    image = 8192 - (upper - lower)
-    return (49 + image + 7) // 8 * 8
-
-
 def compare(one_run):
     """Calls one_run(path, rnd), which gives what differs as texts, in a folder of its own for each run.
 
     The arguments are PROGRAM [RUNS [SEED]]. Ends the process.
     """
     if not os.path.isdir(ORACLE):
-        print("skipped: there is no independent implementation at %s" % ORACLE)
+        print("skipped: PGBACKUP_ORACLE names no folder of an independent implementation")
         sys.exit(0)
     sys.path.insert(0, ORACLE)
     arguments = sys.argv[2:] + ["300", "1"][len(sys.argv) - 2:]

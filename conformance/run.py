@@ -5,13 +5,15 @@
 Each run makes a store with random options, runs one to three scripts of one worker on it, and
 replays its WAL, with both, each in a folder of its own. After each call the lines, the status and
 the bytes of `wal` and `o` are compared. Some scripts have one broken line, some stores can't be made.
-Entries go on over pages; now and then one ends just at a page's end, or a few bytes before it.
+Lines change one to four blocks by pages and fragments, or are refused in each way that a small store
+knows. Entries go on over pages; now and then one ends just at a page's end, or a few bytes before it.
+At times a script is run by the program in one call and in two, which must write the same WAL.
 Not part of the gate. Skipped where the independent implementation (PGBACKUP_ORACLE) isn't there.
 """
 import copy
 import os
 
-from common import ROOM, compare, entry_size, files, oracle, program
+from common import ROOM, compare, files, oracle, program
 
 TOP = (1 << 32) - 1
 NOT_ALLOWED = [0, 1, 8, 11, 12, 13, 27, 31, 127, 128, 195, 255]
@@ -70,7 +72,36 @@ change 1/2@00000000000=24,8192,0
 change 0/2@0=24,8192,0
 change 1/2_init0@0=24,8192,0
 change 1/2@-1=24,8192,0
+change 1/2@0+
+change 1/2@0+24
+change 1/2@0+24:
+change 1/2@0+:61
+change 1/2@0+24:6
+change 1/2@0+24:616
+change 1/2@0+24:6g
+change 1/2@0+24:0x61
+change 1/2@0+24: 61
+change 1/2@0+65536:61
+change 1/2@0+00000000024:61
+change 1/2@0+24:61,
+change 1/2@0+,24:61
+change 1/2@0+24:61,,24:61
+change 1/2@0+24:61,24
+change 1/2@0+24:61:61
+change 1/2@0+24=61
+change 1/2@0+24,8192,0
+change 1/2@0=24:61
+change 1/2+0@24:61
+change 1/2@0+24:61+24:61
+change 1/2@0+24:61 1/2@1
+change 1/2@0+24:61 create
+change 1/2@0=24,8192,0 1/2@1=24,8192,256
 """.strip("\n").split("\n")
+BROKEN.append("change" + 17 * " 1/2@0+24:61")
+BROKEN.append("change 1/2@0+24:" + 8193 * "61")
+# Fragments of which one is bad, though each is written well.
+BAD_FRAGMENTS = ["8192:61", "8191:6162", "65535:61", "24:61,8192:61", "0:" + 8192 * "00" + ",1:" + 8192 * "00",
+                 ",".join(8 * ["24:" + 8168 * "00"] + ["24:" + 156 * "00"])]
 
 
 class Store:
@@ -102,9 +133,20 @@ def a_fork(rnd):
     return rnd.randrange(1, high + 1), rnd.randrange(1, high + 1), rnd.choice(["", "_init"])
 
 
+def place_word(rnd, fork, block):
+    return "%s@%s" % (fork_word(rnd, fork), digits(rnd, block))
+
+
+def put_word(rnd, shape):
+    return "=" + ",".join(digits(rnd, n) for n in shape + (rnd.randrange(256),))
+
+
+def hex_word(rnd, size):
+    return "".join(rnd.choice("0123456789abcdefABCDEF") for _ in range(2 * size))
+
+
 def change(rnd, fork, block, shape):
-    numbers = ",".join(digits(rnd, n) for n in shape + (rnd.randrange(256),))
-    return "change %s@%s=%s" % (fork_word(rnd, fork), digits(rnd, block), numbers)
+    return "change " + place_word(rnd, fork, block) + put_word(rnd, shape)
 
 
 def any_shape(rnd):
@@ -132,24 +174,80 @@ def a_creation(rnd, store):
     return "create " + fork_word(rnd, fork)
 
 
+def a_put(rnd, room):
+    """A page, and how much room its image takes."""
+    shape = a_shape(rnd, room)
+    return put_word(rnd, shape), 5 + 8192 - (shape[1] - shape[0])
+
+
+def a_patch(rnd, room):
+    """Fragments behind the header, and how much room they take; at times as much as is left."""
+    words, taken = [], 0
+    for _ in range(rnd.choice([1, 1, 1, 2, 3, 9])):
+        size = rnd.choice([1, 2, rnd.randrange(1, 40), rnd.randrange(1, 40), rnd.randrange(1, 2000)])
+        if rnd.random() < 0.1 and 20 < room - taken < 8000:
+            size = room - taken - 4 - rnd.randrange(8)
+        at = 24 + rnd.choice([0, 8168 - size, rnd.randrange(8169 - size)])
+        words.append("%s:%s" % (digits(rnd, at), hex_word(rnd, size)))
+        taken += 4 + size
+    return "+" + ",".join(words), taken
+
+
+def some_items(rnd, store, forks):
+    """1 to 4 items of these forks, which are of one relation and are there: their words, the blocks that they
+    name, how long the forks are behind them, and how much room they take."""
+    words, named, lengths, size = [], [], {fork: store.blocks[fork] for fork in forks}, 24 + 12
+    for _ in range(rnd.choice([1, 1, 2, 3, 4])):
+        fork = rnd.choice(forks)
+        block = rnd.choice([lengths[fork], rnd.randrange(lengths[fork] + 1)])
+        if (fork, block) in named:
+            continue
+        patched = block < store.blocks[fork] and rnd.random() < 0.6
+        edit, taken = (a_patch if patched else a_put)(rnd, store.room - size - 8)
+        words.append(place_word(rnd, fork, block) + edit)
+        named.append((fork, block))
+        lengths[fork] = max(lengths[fork], block + 1)
+        size += 8 + taken
+    return words, named, lengths, size
+
+
+def a_refused_item(rnd, store, forks, named):
+    """An item for which a change of these blocks is refused, mostly."""
+    fork, (db, rel, last) = rnd.choice(forks), rnd.choice(forks)
+    length = store.blocks[fork]
+    put, patch = put_word(rnd, any_shape(rnd)), a_patch(rnd, 0)[0]
+    other = rnd.choice([(db, rel % TOP + 1, last), (db % TOP + 1, rel, last), (db, rel, "" if last else "_init")])
+    header = "+%d:%s" % (rnd.randrange(8, 24), hex_word(rnd, rnd.randrange(1, 10)))
+    return rnd.choice([
+        place_word(rnd, *rnd.choice(named)) + rnd.choice([put, patch]),
+        place_word(rnd, other, 0) + rnd.choice([put, patch]),
+        place_word(rnd, fork, length + rnd.choice([4, rnd.randrange(4, TOP - length + 1)])) + put,
+        place_word(rnd, fork, length + rnd.choice([0, 4])) + patch,
+        place_word(rnd, fork, rnd.randrange(length + 1)) + "+" + rnd.choice(BAD_FRAGMENTS),
+        place_word(rnd, fork, rnd.randrange(length + 1)) + rnd.choice(["+12:FFFF", "+14:0000", "+18:0000", header]),
+    ])
+
+
 def a_change(rnd, store):
-    """A change in range, or one past the end or of a fork that may be missing."""
+    """A change in range, or one that is refused."""
     kind = rnd.random()
-    if kind < 0.1:
+    if kind < 0.05:
         fork = a_fork(rnd)
         if fork not in store.blocks:
             return change(rnd, fork, rnd.choice([0, rnd.randrange(TOP + 1)]), any_shape(rnd))
     if not store.blocks:
         return None
-    fork = rnd.choice(sorted(store.blocks))
-    length = store.blocks[fork]
-    if kind < 0.2:
-        return change(rnd, fork, length + rnd.choice([1, 2, rnd.randrange(1, TOP - length + 1)]), any_shape(rnd))
-    shape = a_shape(rnd, store.room)
-    block = rnd.choice([length, rnd.randrange(length + 1)])
-    store.blocks[fork] = max(length, block + 1)
-    store.take(entry_size(*shape))
-    return change(rnd, fork, block, shape)
+    rel = rnd.choice(sorted(store.blocks))[:2]
+    forks = [fork for fork in sorted(store.blocks) if fork[:2] == rel]
+    words, named, lengths, size = some_items(rnd, store, forks)
+    if kind < 0.1:
+        words += [place_word(rnd, forks[0], block) + "+24:61" for block in range(rnd.randrange(4, 17 - len(words)))]
+    elif kind < 0.35:
+        words.insert(rnd.randrange(len(words) + 1), a_refused_item(rnd, store, forks, named))
+    else:
+        store.blocks.update(lengths)
+        store.take((size + 7) // 8 * 8)
+    return "change " + " ".join(words)
 
 
 def a_comment(rnd):
@@ -194,7 +292,7 @@ def broken_bytes(rnd, lines, worker):
     elif why == "Word":
         lines.insert(rnd.randrange(len(lines) + 1), rnd.choice(BROKEN).encode())
     elif why == "NoWorker":
-        lines.insert(rnd.randrange(worker + 1), rnd.choice([b"create 1/2", b"change 1/2@0=24,8192,7"]))
+        lines.insert(rnd.randrange(worker + 1), rnd.choice([b"create 1/2", b"change 1/2@0=24,8192,7 1/2@1+24:61"]))
     else:
         lines.insert(rnd.randrange(worker + 1, len(lines) + 1), lines[worker].strip())
     return lines
@@ -239,6 +337,20 @@ def both(path, words, script=b""):
     return ["%s %s: %s" % (" ".join(words), script, difference) for difference in differences]
 
 
+def in_two_calls(path, rnd):
+    """Runs a script in one call and in two, and gives what differs in the WAL."""
+    words, (lines, worker) = init_words(rnd), good_lines(rnd, Store())
+    cut = rnd.randrange(worker + 1, len(lines) + 1)
+    parts = [lines[:cut], [lines[worker]] + lines[cut:]]
+    for folder, scripts in (("whole", [lines]), ("parts", parts)):
+        os.mkdir(folder)
+        program(path, words, folder=folder)
+        for script in scripts:
+            program(path, ["run"], "\n".join(script).encode(), folder)
+    same = files("whole/wal") == files("parts/wal")
+    return [] if same else ["%s %s: two calls, cut at %d, write another WAL" % (" ".join(words), lines, cut)]
+
+
 def one_run(path, rnd):
     """What differs, as a list of texts."""
     for folder in ("ours", "theirs"):
@@ -257,6 +369,8 @@ def one_run(path, rnd):
     differences += both(path, ["replay", out])
     if rnd.random() < 0.1:
         differences += both(path, ["replay", out])
+    if rnd.random() < 0.3:
+        differences += in_two_calls(path, rnd)
     return differences
 
 
