@@ -21,7 +21,8 @@ edits:
 	./edits/run $(NAMES)
 
 conformance: build
-	python3 conformance/run.py bin/pgbackup
+	python3 conformance/run.py bin/pgbackup 500
+	python3 conformance/limits.py bin/pgbackup 1
 	python3 conformance/archives.py bin/pgbackup 500
 	python3 conformance/faults.py bin/pgbackup
 	cd crates/lsn_core_c && rt lib > /dev/null
