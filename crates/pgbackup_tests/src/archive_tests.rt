@@ -6,19 +6,18 @@ ghost use Rattle.std.specs.Prelude.{IfOk};
 ghost use Rattle.vault.specs.Site.{AllHome};
 ghost use Rattle.vault.specs.MemorySite.{areas_of};
 
-use crate::calls::{NONE, call, run};
+use crate::calls::{Call, NONE, is_answered, make_calls, run};
+use lsn_core::{AreaFault, NoMemory};
 use pgbackup_cli::Status;
 use std::alloc::Global;
-use std::process::Abort;
-use std::test::Fail;
-use test_areas::{Change, SETTINGS, make};
-use vault::{MemSite, MemVault, Site, Vault, read_in};
+use test_areas::{Change, SETTINGS, Wrong, make};
+use vault::{MemSite, MemVault, Site, read_in};
 
 /// The names of the segments.
 static NAMES: [&[u8]; 3] = [FIRST, SECOND, THIRD];
 
 /// A script that creates a fork and puts 260 pages without a hole.
-fn script(alloc: Global) -> Result<String, Fail> {
+fn script(alloc: Global) -> Result<String, NoMemory> {
     let mut text = String::new(alloc);
     text.push_str("worker w\ncreate 5/16384\n")?;
     for block in 0..260u32 {
@@ -27,21 +26,26 @@ fn script(alloc: Global) -> Result<String, Fail> {
     Ok(text)
 }
 
+/// The call that makes a new store.
+static NEW_STORE: [Call; 1] = [(
+    "init --segment-mib 1 --system-id 7",
+    "",
+    Status::Done,
+    "initialised 0/100060\n",
+)];
+
 /// A new store.
-fn new_site(rt: &impl Abort, alloc: Global) -> Result<MemSite, Fail>
+fn new_site(alloc: Global) -> Result<MemSite, Wrong>
     ensures { IfOk result (λ site. AllHome (areas_of site)) }
 {
     let mut site = MemSite::new(alloc, &[])?;
-    let made = "initialised 0/100060\n";
-    let init = ("init --segment-mib 1 --system-id 7", "", Status::Done, made);
-    call(rt, alloc, &mut site, &init)?;
+    make_calls(alloc, &mut site, &NEW_STORE)?;
     Ok(site)
 }
 
 /// The first segment of a site's WAL, or the first three.
-fn segments_in<S: Site>(alloc: Global, site: &mut S, all: bool) -> Result<Vec<Vec<u8>>, Fail>
+fn segments_in<S: Site>(alloc: Global, site: &mut S, all: bool) -> Result<Vec<Vec<u8>>, AreaFault>
     requires { AllHome (S.areas site.old) }
-    ensures { AllHome (S.areas site.new) }
 {
     let mut found = Vec::new(alloc);
     found.push(read_in(alloc, site, b"wal", FIRST)?)?;
@@ -53,31 +57,52 @@ fn segments_in<S: Site>(alloc: Global, site: &mut S, all: bool) -> Result<Vec<Ve
 }
 
 /// The first segment that the run of a script leaves, or the first three.
-fn segments(rt: &impl Abort, alloc: Global, script: &str, all: bool) -> Result<Vec<Vec<u8>>, Fail> {
-    let mut site = new_site(rt, alloc)?;
+fn segments(alloc: Global, script: &str, all: bool) -> Result<Vec<Vec<u8>>, Wrong> {
+    let mut site = new_site(alloc)?;
     let (status, _) = run(alloc, &mut site, "run", script, NONE)?;
-    assert_eq!(rt; status, Status::Done);
-    segments_in(alloc, &mut site, all)
+    if status != Status::Done {
+        return Err(Wrong::Step(0));
+    }
+    Ok(segments_in(alloc, &mut site, all)?)
+}
+
+/// Writes a segment in pieces of 1 MiB.
+fn write_segment(area: &mut MemVault, name: &[u8], bytes: &[u8]) -> Result<(), Wrong> {
+    for (number, piece) in bytes.chunks(1 << 20).enumerate() {
+        make(area, Change::Write(name, (number as u64) << 20, piece))?;
+    }
+    Ok(())
 }
 
 /// The area of a WAL with these segments.
-fn area_of(alloc: Global, segments: &[Vec<u8>]) -> Result<MemVault, Fail> {
+fn area_of(alloc: Global, segments: &[Vec<u8>]) -> Result<MemVault, Wrong> {
     let mut area = MemVault::new(alloc, &[])?;
-    area.write_at(b"settings", 0, SETTINGS)?;
+    make(&mut area, Change::Write(b"settings", 0, SETTINGS))?;
     for (name, bytes) in NAMES.iter().zip(segments) {
-        for (number, piece) in bytes.chunks(1 << 20).enumerate() {
-            area.write_at(name, (number as u64) << 20, piece)?;
-        }
+        write_segment(&mut area, name, bytes)?;
     }
     Ok(area)
 }
 
-/// What a call of the program prints over this area of the WAL.
-fn replayed(alloc: Global, wal: MemVault, words: &str) -> Result<Vec<u8>, Fail> {
+/// A call of the program over this area of the WAL prints this line.
+fn prints(alloc: Global, wal: MemVault, words: &str, line: &str) -> Result<bool, Wrong> {
     let mut site = MemSite::new(alloc, &[])?;
     site.set(b"wal", wal)?;
     let (_, printed) = run(alloc, &mut site, words, "", NONE)?;
-    Ok(printed)
+    Ok(printed.as_slice() == line.as_bytes())
+}
+
+/// A call of the program over a WAL with these segments and a change prints this line.
+fn prints_changed(
+    alloc: Global,
+    segments: &[Vec<u8>],
+    change: Change,
+    words: &str,
+    line: &str,
+) -> Result<bool, Wrong> {
+    let mut area = area_of(alloc, segments)?;
+    make(&mut area, change)?;
+    prints(alloc, area, words, line)
 }
 
 const FIRST: &[u8] = b"000000010000000000000001";
@@ -181,14 +206,13 @@ static CHANGED: [(Change<'static>, &str); 24] = [
 ];
 
 #[test]
-fn files_of_a_long_archive_are_damaged_in_turn(rt: HostRuntime) -> Result<(), Fail> {
-    let alloc = rt.alloc();
-    let segments = segments(&rt, alloc, &script(alloc)?, true)?;
-    for (row, line) in CHANGED {
-        let mut area = area_of(alloc, &segments)?;
-        make(&mut area, row)?;
-        let printed = replayed(alloc, area, "replay p")?;
-        assert_eq!(rt; printed.as_slice(), line.as_bytes());
+fn files_of_a_long_archive_are_damaged_in_turn(rt: HostRuntime) -> Result<(), Wrong> {
+    let segments = segments(rt.alloc(), &script(rt.alloc())?, true)?;
+    for (change, line) in &CHANGED {
+        assert!(rt;
+            prints_changed(rt.alloc(), &segments, *change, "replay p", line)?,
+            "{line}"
+        );
     }
     Ok(())
 }
@@ -208,12 +232,13 @@ static TARGETS: [(&str, &str); 7] = [
 ];
 
 #[test]
-fn a_long_archive_is_replayed_up_to_targets(rt: HostRuntime) -> Result<(), Fail> {
-    let alloc = rt.alloc();
-    let segments = segments(&rt, alloc, &script(alloc)?, true)?;
-    for (words, line) in TARGETS {
-        let printed = replayed(alloc, area_of(alloc, &segments)?, words)?;
-        assert_eq!(rt; printed.as_slice(), line.as_bytes(), "{words}");
+fn a_long_archive_is_replayed_up_to_targets(rt: HostRuntime) -> Result<(), Wrong> {
+    let segments = segments(rt.alloc(), &script(rt.alloc())?, true)?;
+    for (words, line) in &TARGETS {
+        assert!(rt;
+            prints_changed(rt.alloc(), &segments, NOTHING, words, line)?,
+            "{words}"
+        );
     }
     Ok(())
 }
@@ -250,17 +275,22 @@ static ANSWERED: [(&str, &str); 3] = [
     ),
 ];
 
+/// The run of a script on a new store prints these lines.
+fn runs(alloc: Global, script: &str, lines: &str) -> Result<bool, Wrong> {
+    let mut site = new_site(alloc)?;
+    let call = ("run", script, Status::Done, lines);
+    Ok(is_answered(alloc, &mut site, &call)?)
+}
+
 #[test]
-fn entries_go_on_over_pages(rt: HostRuntime) -> Result<(), Fail> {
-    let alloc = rt.alloc();
-    for (script, lines) in ANSWERED {
-        let mut site = new_site(&rt, alloc)?;
-        call(&rt, alloc, &mut site, &("run", script, Status::Done, lines))?;
+fn entries_go_on_over_pages(rt: HostRuntime) -> Result<(), Wrong> {
+    for (script, lines) in &ANSWERED {
+        assert!(rt; runs(rt.alloc(), script, lines)?, "{lines}");
     }
     Ok(())
 }
 
-/// The name of the first segment, and a change that changes nothing.
+/// A change that changes nothing.
 const NOTHING: Change = Change::Write(b"x", 0, b"");
 
 /// What is printed of the WAL that a script leaves, after a change.
@@ -358,14 +388,24 @@ static READ: [(&str, Change<'static>, &str, &str); 16] = [
     ),
 ];
 
+/// A call of the program over the WAL that a script leaves and a change prints this line.
+fn prints_after(
+    alloc: Global,
+    script: &str,
+    change: Change,
+    words: &str,
+    line: &str,
+) -> Result<bool, Wrong> {
+    prints_changed(alloc, &segments(alloc, script, false)?, change, words, line)
+}
+
 #[test]
-fn damage_on_a_page_is_told_at_its_place(rt: HostRuntime) -> Result<(), Fail> {
-    let alloc = rt.alloc();
-    for (script, row, words, line) in READ {
-        let mut area = area_of(alloc, &segments(&rt, alloc, script, false)?)?;
-        make(&mut area, row)?;
-        let printed = replayed(alloc, area, words)?;
-        assert_eq!(rt; printed.as_slice(), line.as_bytes(), "{words} {line}");
+fn damage_on_a_page_is_told_at_its_place(rt: HostRuntime) -> Result<(), Wrong> {
+    for (script, change, words, line) in &READ {
+        assert!(rt;
+            prints_after(rt.alloc(), script, *change, words, line)?,
+            "{words} {line}"
+        );
     }
     Ok(())
 }

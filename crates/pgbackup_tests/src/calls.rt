@@ -2,21 +2,20 @@
 
 ghost use Rattle.vault.specs.Site.{AllHome};
 
-use lsn_core::Text;
+use lsn_core::{NoMemory, Text};
 use pgbackup_cli::{Status, pgbackup};
 use std::alloc::Global;
-use std::process::Abort;
-use std::test::Fail;
+use test_areas::Wrong;
 use vault::{MemSink, MemSource, SetClock, Site};
 
 /// A moment of 2023, in seconds.
 const MOMENT: u64 = 1_700_000_000;
 
 /// The words of a command line, which stand between spaces.
-fn words_in(alloc: Global, line: &str) -> Result<Vec<Text>, Fail> {
+fn words_in(alloc: Global, line: &str) -> Result<Vec<Text>, NoMemory> {
     let mut words = Vec::new(alloc);
     for word in line.split_whitespace() {
-        words.push(Text::from_vec(Vec::from_slice(alloc, word.as_bytes())?))?;
+        words.push(Text::copied(alloc, word.as_bytes())?)?;
     }
     Ok(words)
 }
@@ -38,7 +37,7 @@ pub(crate) fn run<S: Site>(
     line: &str,
     script: &str,
     failing: Failing,
-) -> Result<(Status, Vec<u8>), Fail>
+) -> Result<(Status, Vec<u8>), NoMemory>
     requires { AllHome (S.areas site.old) }
     ensures { AllHome (S.areas site.new) }
 {
@@ -53,35 +52,30 @@ pub(crate) fn run<S: Site>(
 /// A call of the program: its words, its input, its status, and all that it prints.
 pub(crate) type Call<'a> = (&'a str, &'a str, Status, &'a str);
 
-/// Makes a call of the program.
-pub(crate) fn call<S: Site>(
-    rt: &impl Abort,
+/// Makes a call of the program, and says whether it ends and prints so.
+pub(crate) fn is_answered<S: Site>(
     alloc: Global,
     site: &mut S,
     call: &Call,
-) -> Result<(), Fail>
+) -> Result<bool, NoMemory>
     requires { AllHome (S.areas site.old) }
     ensures { AllHome (S.areas site.new) }
 {
     let (line, script, status, printed) = *call;
     let (ended, out) = run(alloc, site, line, script, NONE)?;
-    assert_eq!(rt; out.as_slice(), printed.as_bytes(), "{line}");
-    assert_eq!(rt; ended, status, "{line}");
-    Ok(())
+    Ok(ended == status && out.as_slice() == printed.as_bytes())
 }
 
-/// Makes calls of the program in turn, over one site.
-pub(crate) fn make_calls<S: Site>(
-    rt: &impl Abort,
-    alloc: Global,
-    site: &mut S,
-    calls: &[Call],
-) -> Result<(), Fail>
+/// Makes calls of the program in turn, over one site. The first one that isn't answered so is the
+/// error.
+pub(crate) fn make_calls<S: Site>(alloc: Global, site: &mut S, calls: &[Call]) -> Result<(), Wrong>
     requires { AllHome (S.areas site.old) }
     ensures { AllHome (S.areas site.new) }
 {
-    for row in calls {
-        call(rt, alloc, site, row)?;
+    for (number, call) in calls.iter().enumerate() {
+        if !is_answered(alloc, site, call)? {
+            return Err(Wrong::Step(number));
+        }
     }
     Ok(())
 }

@@ -4,20 +4,14 @@
 ghost use Rattle.vault.specs.Site.{AllHome};
 
 use crate::calls::{Call, make_calls};
+use lsn_core::NoMemory;
 use pgbackup_cli::Status;
 use std::alloc::Global;
-use std::process::Abort;
-use std::test::Fail;
+use test_areas::Wrong;
 use vault::{MemSite, Site, read_in};
 
 /// Makes a store of one entry, and runs a script on it.
-fn runs<S: Site>(
-    rt: &impl Abort,
-    alloc: Global,
-    site: &mut S,
-    script: &str,
-    printed: &str,
-) -> Result<(), Fail>
+fn run_anew<S: Site>(alloc: Global, site: &mut S, script: &str, printed: &str) -> Result<(), Wrong>
     requires { AllHome (S.areas site.old) }
     ensures { AllHome (S.areas site.new) }
 {
@@ -26,7 +20,7 @@ fn runs<S: Site>(
         (init, "", Status::Done, "initialised 0/100060\n"),
         ("run", script, Status::Done, printed),
     ];
-    make_calls(rt, alloc, site, &calls)
+    make_calls(alloc, site, &calls)
 }
 
 /// Scripts on a store of one entry, and what each prints.
@@ -159,15 +153,15 @@ wal 0/1022E0
 ];
 
 /// Runs a script on a store of its own.
-fn runs_anew(rt: &impl Abort, alloc: Global, row: &(&str, &str)) -> Result<(), Fail> {
+fn runs(alloc: Global, script: &str, printed: &str) -> Result<(), Wrong> {
     let mut site = MemSite::new(alloc, &[])?;
-    runs(rt, alloc, &mut site, row.0, row.1)
+    run_anew(alloc, &mut site, script, printed)
 }
 
 #[test]
-fn each_line_is_answered_as_its_items_ask(rt: HostRuntime) -> Result<(), Fail> {
-    for row in ROWS {
-        runs_anew(&rt, rt.alloc(), &row)?;
+fn each_line_is_answered_as_its_items_ask(rt: HostRuntime) -> Result<(), Wrong> {
+    for (script, printed) in &ROWS {
+        runs(rt.alloc(), script, printed)?;
     }
     Ok(())
 }
@@ -178,22 +172,29 @@ const PATCHED: (&[u8], &[u8]) = (
     b"AAAAAAAAAAcd",
 );
 
+/// Its replay.
+static REPLAY: [Call; 1] = [("replay p", "", Status::Done, "replayed 0/1022E0 2 6\n")];
+
+/// The bytes of the init fork's file in the output.
+fn replayed<S: Site>(alloc: Global, site: &mut S) -> Result<Vec<u8>, Wrong>
+    requires { AllHome (S.areas site.old) }
+{
+    make_calls(alloc, site, &REPLAY)?;
+    Ok(read_in(alloc, site, b"o/p", b"base/5/16384_init")?)
+}
+
 #[test]
-fn patched_pages_are_replayed(rt: HostRuntime) -> Result<(), Fail> {
-    let alloc = rt.alloc();
-    let mut site = MemSite::new(alloc, &[])?;
+fn patched_pages_are_replayed(rt: HostRuntime) -> Result<(), Wrong> {
+    let mut site = MemSite::new(rt.alloc(), &[])?;
     let [_, _, _, _, (script, printed)] = ROWS;
-    runs(&rt, alloc, &mut site, script, printed)?;
-    let replay: [Call; 1] = [("replay p", "", Status::Done, "replayed 0/1022E0 2 6\n")];
-    make_calls(&rt, alloc, &mut site, &replay)?;
-    let page = read_in(alloc, &mut site, b"o/p", b"base/5/16384_init")?;
-    assert_eq!(rt; page.get(..32), Some(PATCHED.0));
-    assert_eq!(rt; page.get(8180..), Some(PATCHED.1));
+    run_anew(rt.alloc(), &mut site, script, printed)?;
+    let page = replayed(rt.alloc(), &mut site)?;
+    assert!(rt; page.len() == 8192 && page.starts_with(PATCHED.0) && page.ends_with(PATCHED.1));
     Ok(())
 }
 
 /// Adds a line that patches the block 0 by eight fragments of 8,168 bytes, and others of so many.
-fn push_patch(alloc: Global, script: &mut String, others: &[u8]) -> Result<(), Fail> {
+fn push_patch(alloc: Global, script: &mut String, others: &[u8]) -> Result<(), NoMemory> {
     script.push_str("\nchange 5/16384@0+24:00")?;
     for at in 1..65_344u32 {
         script.push_str(if at % 8168 == 0 { ",24:00" } else { "00" })?;
@@ -206,15 +207,18 @@ fn push_patch(alloc: Global, script: &mut String, others: &[u8]) -> Result<(), F
     Ok(())
 }
 
-#[test]
-fn fragments_take_65535_bytes_at_most(rt: HostRuntime) -> Result<(), Fail> {
-    let alloc = rt.alloc();
+/// A script with a put and three patches, of 65,535 bytes in all and of one more.
+fn long_patches(alloc: Global) -> Result<String, NoMemory> {
     let head = "worker w\ncreate 5/16384\nchange 5/16384@0=8192,8192,7";
     let mut script = format!(in alloc; "{head}")?;
     push_patch(alloc, &mut script, &[155])?;
     push_patch(alloc, &mut script, &[156])?;
     push_patch(alloc, &mut script, &[155, 1])?;
-    let mut site = MemSite::new(alloc, &[])?;
+    Ok(script)
+}
+
+#[test]
+fn fragments_take_65535_bytes_at_most(rt: HostRuntime) -> Result<(), Wrong> {
     let printed = "opened 0/100060
 w 2 ok 0/100060 0/100090
 w 3 ok 0/100090 0/1020E0
@@ -223,5 +227,5 @@ w 5 refused 6 BadFragment 0 8
 w 6 refused 6 BadFragment 0 9
 wal 0/1121D0
 ";
-    runs(&rt, alloc, &mut site, &script, printed)
+    runs(rt.alloc(), &long_patches(rt.alloc())?, printed)
 }

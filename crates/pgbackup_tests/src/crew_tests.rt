@@ -1,11 +1,10 @@
 //! Scripts as they are read: each line that is taken, and where and why others are refused.
 
 use crew::{Command, Order, OrderEdit, OrderItem, Script, ScriptFault, read_script, why_text};
-use lsn_core::{ForkId, ForkKind};
+use lsn_core::{ForkId, ForkKind, NoMemory};
 use std::alloc::Global;
-use std::test::Fail;
 
-// the script of a text, which is shorter than memory is
+/// The script of a text, which is shorter than memory is.
 fn script_of(alloc: Global, text: &[u8]) -> Result<Script, ScriptFault> {
     if text.len() > 1_000_000_000 {
         return Err(ScriptFault::NoMemory);
@@ -13,13 +12,19 @@ fn script_of(alloc: Global, text: &[u8]) -> Result<Script, ScriptFault> {
     read_script(alloc, text)
 }
 
-// where and why a text is refused
+/// Where and why a text is refused.
 fn refusal(alloc: Global, text: &[u8]) -> Option<(u32, &'static [u8])> {
     match script_of(alloc, text) {
         Ok(_) => None,
         Err(ScriptFault::Line(line, why)) => Some((line, why_text(why))),
         Err(ScriptFault::NoMemory) => None,
     }
+}
+
+/// How many workers a text that is taken has.
+fn worker_count(alloc: Global, text: &[u8]) -> Option<usize> {
+    let script = script_of(alloc, text).ok()?;
+    Some(script.workers().len())
 }
 
 fn kind_word(kind: ForkKind) -> &'static str {
@@ -29,13 +34,13 @@ fn kind_word(kind: ForkKind) -> &'static str {
     }
 }
 
-fn fork_text(alloc: Global, fork: &ForkId) -> Result<String, Fail> {
+fn fork_text(alloc: Global, fork: &ForkId) -> Result<String, NoMemory> {
     let (kind, db, rel) = (kind_word(fork.kind), fork.rel.db(), fork.rel.rel());
     Ok(format!(in alloc; "{kind} {db} {rel}")?)
 }
 
 /// What an edit does: a page by its three numbers, or fragments by their places and bytes.
-fn edit_text(alloc: Global, edit: &OrderEdit) -> Result<String, Fail> {
+fn edit_text(alloc: Global, edit: &OrderEdit) -> Result<String, NoMemory> {
     let frags = match edit {
         OrderEdit::Put(shape) => {
             let (lower, upper, fill) = (shape.lower(), shape.upper(), shape.fill());
@@ -51,14 +56,14 @@ fn edit_text(alloc: Global, edit: &OrderEdit) -> Result<String, Fail> {
     Ok(text)
 }
 
-fn item_text(alloc: Global, item: &OrderItem) -> Result<String, Fail> {
+fn item_text(alloc: Global, item: &OrderItem) -> Result<String, NoMemory> {
     let fork = fork_text(alloc, &item.at.fork)?;
     let edit = edit_text(alloc, &item.edit)?;
     let block = item.at.block;
     Ok(format!(in alloc; " {fork} {block} {edit};")?)
 }
 
-fn items_text(alloc: Global, items: &[OrderItem]) -> Result<String, Fail> {
+fn items_text(alloc: Global, items: &[OrderItem]) -> Result<String, NoMemory> {
     let mut text = format!(in alloc; "change")?;
     for item in items {
         text.push_str(&item_text(alloc, item)?)?;
@@ -66,7 +71,7 @@ fn items_text(alloc: Global, items: &[OrderItem]) -> Result<String, Fail> {
     Ok(text)
 }
 
-fn command_text(alloc: Global, command: &Command) -> Result<String, Fail> {
+fn command_text(alloc: Global, command: &Command) -> Result<String, NoMemory> {
     let Command::Insert(order) = command;
     match order {
         Order::Create(fork) => {
@@ -77,21 +82,28 @@ fn command_text(alloc: Global, command: &Command) -> Result<String, Fail> {
     }
 }
 
-/// What stands on the line of the one worker `a_1`, in words of its own; empty where it isn't taken
-/// as one line of that worker.
-fn line_text(alloc: Global, line: &str) -> Result<String, Fail> {
-    let text = format!(in alloc; "# head\n  worker \t a_1\t \n\n{line}\n#{line}")?;
-    let script = script_of(alloc, text.as_bytes())?;
+/// The one line of a script's one worker `a_1`, the fourth.
+fn only_command(script: &Script) -> Option<&Command> {
     let [task] = script.workers() else {
-        return Ok(String::new(alloc));
+        return None;
     };
-    let [found] = task.lines.as_slice() else {
-        return Ok(String::new(alloc));
+    let [line] = task.lines.as_slice() else {
+        return None;
     };
-    if task.name.as_bytes() != b"a_1".as_slice() || found.number != 4 {
-        return Ok(String::new(alloc));
+    let is_it = task.name.as_bytes() == b"a_1".as_slice() && line.number == 4;
+    if is_it { Some(&line.command) } else { None }
+}
+
+/// A line is taken as one of the worker `a_1`, and says this in words of its own.
+fn is_taken(alloc: Global, line: &str, says: &str) -> Result<bool, NoMemory> {
+    let text = format!(in alloc; "# head\n  worker \t a_1\t \n\n{line}\n#{line}")?;
+    let Ok(script) = script_of(alloc, text.as_bytes()) else {
+        return Ok(false);
+    };
+    match only_command(&script) {
+        Some(command) => Ok(command_text(alloc, command)?.as_bytes() == says.as_bytes()),
+        None => Ok(false),
     }
-    command_text(alloc, &found.command)
 }
 
 /// Lines, and what each says.
@@ -134,16 +146,15 @@ static TAKEN: [(&str, &str); 14] = [
 ];
 
 #[test]
-fn lines_are_taken(rt: HostRuntime) -> Result<(), Fail> {
-    for (line, says) in TAKEN {
-        let text = line_text(rt.alloc(), line)?;
-        assert_eq!(rt; text.as_bytes(), says.as_bytes(), "{line}");
+fn lines_are_taken(rt: HostRuntime) -> Result<(), NoMemory> {
+    for (line, says) in &TAKEN {
+        assert!(rt; is_taken(rt.alloc(), line, says)?, "{line}");
     }
     Ok(())
 }
 
 /// A change of the block 0 by one fragment of so many bytes.
-fn long_fragment(alloc: Global, bytes: usize) -> Result<Vec<u8>, Fail> {
+fn long_fragment(alloc: Global, bytes: usize) -> Result<Vec<u8>, NoMemory> {
     let mut text = Vec::from_slice(alloc, b"worker a\nchange 1/2@0+24:")?;
     for _ in 0..bytes {
         text.extend_from_slice(b"aB")?;
@@ -151,17 +162,19 @@ fn long_fragment(alloc: Global, bytes: usize) -> Result<Vec<u8>, Fail> {
     Ok(text)
 }
 
+/// What refuses the second line for its words.
+const WORD: Option<(u32, &[u8])> = Some((2, b"Word"));
+
 #[test]
-fn a_fragment_has_8192_bytes_at_most(rt: HostRuntime) -> Result<(), Fail> {
+fn a_fragment_has_8192_bytes_at_most(rt: HostRuntime) -> Result<(), NoMemory> {
     let alloc = rt.alloc();
-    assert_eq!(rt; refusal(alloc, &long_fragment(alloc, 8192)?), None);
-    let word = Some((2, b"Word".as_slice()));
-    assert_eq!(rt; refusal(alloc, &long_fragment(alloc, 8193)?), word);
+    assert!(rt; worker_count(alloc, &long_fragment(alloc, 8192)?) == Some(1));
+    assert!(rt; refusal(alloc, &long_fragment(alloc, 8193)?) == WORD);
     Ok(())
 }
 
 /// A change of so many items.
-fn many_items(alloc: Global, items: u32) -> Result<Vec<u8>, Fail> {
+fn many_items(alloc: Global, items: u32) -> Result<Vec<u8>, NoMemory> {
     let mut text = Vec::from_slice(alloc, b"worker a\nchange")?;
     for block in 0..items {
         let item = format!(in alloc; " 1/2@{block}+24:61")?;
@@ -171,11 +184,10 @@ fn many_items(alloc: Global, items: u32) -> Result<Vec<u8>, Fail> {
 }
 
 #[test]
-fn a_line_has_16_items_at_most(rt: HostRuntime) -> Result<(), Fail> {
+fn a_line_has_16_items_at_most(rt: HostRuntime) -> Result<(), NoMemory> {
     let alloc = rt.alloc();
-    assert_eq!(rt; refusal(alloc, &many_items(alloc, 16)?), None);
-    let word = Some((2, b"Word".as_slice()));
-    assert_eq!(rt; refusal(alloc, &many_items(alloc, 17)?), word);
+    assert!(rt; worker_count(alloc, &many_items(alloc, 16)?) == Some(1));
+    assert!(rt; refusal(alloc, &many_items(alloc, 17)?) == WORD);
     Ok(())
 }
 
@@ -233,21 +245,24 @@ static REFUSED: [(&str, u32, &str); 48] = [
 
 #[test]
 fn lines_are_refused(rt: HostRuntime) {
-    for (text, number, why) in REFUSED {
-        assert_eq!(rt;
-            refusal(rt.alloc(), text.as_bytes()),
-            Some((number, why.as_bytes())),
-            "{text}"
-        );
+    for (text, number, why) in &REFUSED {
+        let refused = refusal(rt.alloc(), text.as_bytes());
+        assert!(rt; refused == Some((*number, why.as_bytes())), "{text}");
     }
 }
 
+/// A script of one comment of so many bytes.
+fn comment(alloc: Global, bytes: usize) -> Result<Vec<u8>, NoMemory> {
+    let mut text = Vec::new(alloc);
+    text.resize(bytes, b'#')?;
+    Ok(text)
+}
+
 #[test]
-fn four_mebibytes_are_the_most(rt: HostRuntime) -> Result<(), Fail> {
-    let mut text = Vec::new(rt.alloc());
-    text.resize(4_194_304, b'#')?;
-    assert_eq!(rt; script_of(rt.alloc(), &text)?.workers().len(), 0);
-    text.push(b'#')?;
-    assert_eq!(rt; refusal(rt.alloc(), &text), Some((1, b"Long".as_slice())));
+fn four_mebibytes_are_the_most(rt: HostRuntime) -> Result<(), NoMemory> {
+    let alloc = rt.alloc();
+    assert!(rt; worker_count(alloc, &comment(alloc, 4_194_304)?) == Some(0));
+    let long = refusal(alloc, &comment(alloc, 4_194_305)?);
+    assert!(rt; long == Some((1, b"Long".as_slice())));
     Ok(())
 }

@@ -1,11 +1,11 @@
 //! Every kind of entry replayed. The WAL and the files that it makes are those of an independent
 //! implementation of the formats.
 
-use crate::calls::call;
+use crate::calls::{Call, make_calls};
+use lsn_core::NoMemory;
 use pgbackup_cli::Status;
 use std::alloc::Global;
-use std::test::Fail;
-use test_areas::{SEGMENT, SETTINGS, holds_in, put_in};
+use test_areas::{SEGMENT, SETTINGS, SiteStep, Wrong, take_site_steps};
 use vault::MemSite;
 
 /// Segment 1 of a WAL with segments of 1 MiB and system identifier 7. Behind the shutdown checkpoint
@@ -90,7 +90,7 @@ static INIT: [Span; 2] = [
 ];
 
 /// A file of these bytes, each behind zeros up to its place.
-fn file_of(alloc: Global, spans: &[Span]) -> Result<Vec<u8>, Fail> {
+fn file_of(alloc: Global, spans: &[Span]) -> Result<Vec<u8>, NoMemory> {
     let mut file = Vec::new(alloc);
     for (at, bytes) in spans {
         file.resize(*at, 0)?;
@@ -99,17 +99,23 @@ fn file_of(alloc: Global, spans: &[Span]) -> Result<Vec<u8>, Fail> {
     Ok(file)
 }
 
+/// The WAL's replay.
+static REPLAY: [Call; 1] = [("replay p", "", Status::Done, "replayed 0/100328 2 4\n")];
+
 #[test]
-fn each_kind_is_replayed(rt: HostRuntime) -> Result<(), Fail> {
+fn each_kind_is_replayed(rt: HostRuntime) -> Result<(), Wrong> {
     let alloc = rt.alloc();
     let mut site = MemSite::new(alloc, &[])?;
-    put_in(&mut site, b"wal", b"settings", SETTINGS)?;
-    put_in(&mut site, b"wal", SEGMENT, &KINDS)?;
-    let done = "replayed 0/100328 2 4\n";
-    call(&rt, alloc, &mut site, &("replay p", "", Status::Done, done))?;
-    let main = file_of(alloc, &MAIN)?;
-    assert!(rt; holds_in(alloc, &mut site, b"o/p", b"base/5/16384", &main)?);
-    let init = file_of(alloc, &INIT)?;
-    assert!(rt; holds_in(alloc, &mut site, b"o/p", b"base/5/16384_init", &init)?);
-    Ok(())
+    let wal = [
+        SiteStep::Puts(b"wal", b"settings", SETTINGS),
+        SiteStep::Puts(b"wal", SEGMENT, &KINDS),
+    ];
+    take_site_steps(alloc, &mut site, &wal)?;
+    make_calls(alloc, &mut site, &REPLAY)?;
+    let (main, init) = (file_of(alloc, &MAIN)?, file_of(alloc, &INIT)?);
+    let files = [
+        SiteStep::Holds(b"o/p", b"base/5/16384", &main),
+        SiteStep::Holds(b"o/p", b"base/5/16384_init", &init),
+    ];
+    take_site_steps(alloc, &mut site, &files)
 }

@@ -56,30 +56,15 @@ fn commands_are_inserted_or_refused(rt: HostRuntime) -> Result<(), Fail> {
     let mut store = new_store(alloc)?;
     let fork = main_fork(16384).ok_or("no fork")?;
     let other = main_fork(16388).ok_or("no fork")?;
-    assert_eq!(rt;
-        create(alloc, &mut store, fork),
-        receipt(1, 0x100060, 0x100090)
-    );
-    assert_eq!(rt;
-        create(alloc, &mut store, fork),
-        Err(InsertFault::ForkExists(2))
-    );
-    assert_eq!(rt;
-        put(alloc, &mut store, fork, 1)?,
-        Err(InsertFault::PastEnd(2))
-    );
-    assert_eq!(rt;
-        put(alloc, &mut store, fork, 0)?,
-        receipt(2, 0x100090, 0x1000E0)
-    );
-    assert_eq!(rt;
-        put(alloc, &mut store, other, 0)?,
-        Err(InsertFault::NoFork(3))
-    );
-    assert_eq!(rt; store.end(), Lsn(0x1000E0));
-    assert_eq!(rt; store.flush_wal(alloc)?.to(), Lsn(0x1000E0));
+    assert!(rt; create(alloc, &mut store, fork) == receipt(1, 0x100060, 0x100090));
+    assert!(rt; create(alloc, &mut store, fork) == Err(InsertFault::ForkExists(2)));
+    assert!(rt; put(alloc, &mut store, fork, 1)? == Err(InsertFault::PastEnd(2)));
+    assert!(rt; put(alloc, &mut store, fork, 0)? == receipt(2, 0x100090, 0x1000E0));
+    assert!(rt; put(alloc, &mut store, other, 0)? == Err(InsertFault::NoFork(3)));
+    assert!(rt; store.end() == Lsn(0x1000E0));
+    assert!(rt; store.flush_wal(alloc)?.to() == Lsn(0x1000E0));
     let mut area = store.close();
     let bytes = read_whole(alloc, &mut area, SEGMENT)?;
-    assert_eq!(rt; bytes.get(0x60..), Some(ADDED.as_slice()));
+    assert!(rt; bytes.get(0x60..) == Some(ADDED.as_slice()));
     Ok(())
 }

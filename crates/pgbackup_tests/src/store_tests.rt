@@ -5,12 +5,14 @@ ghost use Rattle.std.specs.Prelude.{IfOk};
 ghost use Rattle.vault.specs.Site.{AllHome};
 ghost use Rattle.vault.specs.MemorySite.{areas_of};
 
-use crate::calls::{Call, Failing, call, make_calls, run};
+use crate::calls::{Call, Failing, is_answered, make_calls, run};
+use lsn_core::{AreaFault, NoMemory};
 use pgbackup_cli::Status;
 use std::alloc::Global;
-use std::process::Abort;
-use std::test::Fail;
-use test_areas::{ADDED, Change, NEW_WAL, SEGMENT, SETTINGS, holds_in, make_all, put_in};
+use test_areas::{
+    ADDED, Change, NEW_WAL, SEGMENT, SETTINGS, SiteStep, Wrong, holds_in, make_all, put_in,
+    take_site_steps,
+};
 use vault::{MemSite, MemVault, Site, read_in};
 
 const INIT: &str = "init --segment-mib 1 --system-id 7";
@@ -29,13 +31,15 @@ static ONE_ENTRY: [Call; 3] = [
 ];
 
 #[test]
-fn a_store_is_made_once(rt: HostRuntime) -> Result<(), Fail> {
-    let alloc = rt.alloc();
-    let mut site = MemSite::new(alloc, &[])?;
-    make_calls(&rt, alloc, &mut site, &NEW_STORE)?;
-    assert!(rt; holds_in(alloc, &mut site, b"wal", b"settings", SETTINGS)?);
-    assert!(rt; holds_in(alloc, &mut site, b"wal", SEGMENT, &NEW_WAL)?);
-    make_calls(&rt, alloc, &mut site, &ONE_ENTRY)
+fn a_store_is_made_once(rt: HostRuntime) -> Result<(), Wrong> {
+    let mut site = MemSite::new(rt.alloc(), &[])?;
+    make_calls(rt.alloc(), &mut site, &NEW_STORE)?;
+    let files = [
+        SiteStep::Holds(b"wal", b"settings", SETTINGS),
+        SiteStep::Holds(b"wal", SEGMENT, &NEW_WAL),
+    ];
+    take_site_steps(rt.alloc(), &mut site, &files)?;
+    make_calls(rt.alloc(), &mut site, &ONE_ENTRY)
 }
 
 /// A script that creates a fork.
@@ -69,7 +73,7 @@ static CHANGE: [Call; 3] = [
 const PAGE: &[u8] = b"\0\0\0\0\xe0\0\x10\0\0\0\0\0\x18\0\0\x20\0\x20\x04\x20";
 
 /// The WAL of a new store behind the creation of a fork.
-fn created_wal(alloc: Global) -> Result<Vec<u8>, Fail> {
+fn created_wal(alloc: Global) -> Result<Vec<u8>, NoMemory> {
     let mut wal = Vec::from_slice(alloc, &NEW_WAL)?;
     wal.extend_from_slice(&ADDED[..48])?;
     Ok(wal)
@@ -81,7 +85,7 @@ fn holds_part<S: Site>(
     site: &mut S,
     place: (&[u8], &[u8], usize),
     bytes: &[u8],
-) -> Result<bool, Fail>
+) -> Result<bool, AreaFault>
     requires { AllHome (S.areas site.old) }
     ensures { AllHome (S.areas site.new) }
 {
@@ -90,20 +94,37 @@ fn holds_part<S: Site>(
     Ok(found.get(at..).is_some_and(|rest| rest.starts_with(bytes)))
 }
 
-#[test]
-fn a_run_appends_what_it_accepts(rt: HostRuntime) -> Result<(), Fail> {
-    let alloc = rt.alloc();
-    let mut site = MemSite::new(alloc, &[])?;
-    make_calls(&rt, alloc, &mut site, &CREATION)?;
+/// The WAL of a site becomes a whole segment with zeros behind its entries.
+fn fill_segment<S: Site>(alloc: Global, site: &mut S) -> Result<bool, AreaFault>
+    requires { AllHome (S.areas site.old) }
+    ensures { AllHome (S.areas site.new) }
+{
     let mut wal = created_wal(alloc)?;
-    assert!(rt; holds_in(alloc, &mut site, b"wal", SEGMENT, &wal)?);
+    let found = holds_in(alloc, site, b"wal", SEGMENT, &wal)?;
     wal.resize(1_048_576, 0)?;
-    put_in(&mut site, b"wal", SEGMENT, &wal)?;
-    make_calls(&rt, alloc, &mut site, &CHANGE)?;
-    wal.truncate(144);
-    assert!(rt; holds_part(alloc, &mut site, (b"wal", SEGMENT, 0), &wal)?);
-    assert!(rt; holds_in(alloc, &mut site, b"o/p", b"base/5/16384", b"")?);
-    assert!(rt; holds_part(alloc, &mut site, (b"o/q", b"base/5/16384", 0), PAGE)?);
+    put_in(site, b"wal", SEGMENT, &wal)?;
+    Ok(found)
+}
+
+/// The outputs before the change and behind it hold what the WAL says, and the WAL goes on.
+fn holds_changes<S: Site>(alloc: Global, site: &mut S) -> Result<bool, AreaFault>
+    requires { AllHome (S.areas site.old) }
+    ensures { AllHome (S.areas site.new) }
+{
+    let wal = created_wal(alloc)?;
+    let goes_on = holds_part(alloc, site, (b"wal", SEGMENT, 0), &wal)?;
+    let empty = holds_in(alloc, site, b"o/p", b"base/5/16384", b"")?;
+    let page = holds_part(alloc, site, (b"o/q", b"base/5/16384", 0), PAGE)?;
+    Ok(goes_on && empty && page)
+}
+
+#[test]
+fn a_run_appends_what_it_accepts(rt: HostRuntime) -> Result<(), Wrong> {
+    let mut site = MemSite::new(rt.alloc(), &[])?;
+    make_calls(rt.alloc(), &mut site, &CREATION)?;
+    assert!(rt; fill_segment(rt.alloc(), &mut site)?);
+    make_calls(rt.alloc(), &mut site, &CHANGE)?;
+    assert!(rt; holds_changes(rt.alloc(), &mut site)?);
     Ok(())
 }
 
@@ -127,12 +148,17 @@ static OTHER_WORDS: [&str; 16] = [
     "replay --target 0/g p",
 ];
 
+/// Words are refused over an empty site.
+fn are_refused(alloc: Global, words: &str) -> Result<bool, NoMemory> {
+    let mut site = MemSite::new(alloc, &[])?;
+    let refused = (words, "", Status::Usage, "refused 1 Usage\n");
+    is_answered(alloc, &mut site, &refused)
+}
+
 #[test]
-fn words_are_refused(rt: HostRuntime) -> Result<(), Fail> {
-    for line in OTHER_WORDS {
-        let mut site = MemSite::new(rt.alloc(), &[])?;
-        let refused = (line, "", Status::Usage, "refused 1 Usage\n");
-        call(&rt, rt.alloc(), &mut site, &refused)?;
+fn words_are_refused(rt: HostRuntime) -> Result<(), NoMemory> {
+    for words in &OTHER_WORDS {
+        assert!(rt; are_refused(rt.alloc(), words)?, "{words}");
     }
     Ok(())
 }
@@ -184,43 +210,46 @@ static NO_STORE: [Call; 2] = [
     ("run", "", Status::Refused, "refused 43 NotInit\n"),
 ];
 
-/// Writes a file, and then makes the call.
-fn is_refused<S: Site>(
-    rt: &impl Abort,
-    alloc: Global,
-    site: &mut S,
-    row: &Refusal,
-) -> Result<(), Fail>
+/// Writes a file, and says whether the call is answered so then.
+fn is_refused<S: Site>(alloc: Global, site: &mut S, row: &Refusal) -> Result<bool, AreaFault>
     requires { AllHome (S.areas site.old) }
     ensures { AllHome (S.areas site.new) }
 {
     let (area, file, bytes, refused) = *row;
     put_in(site, area, file, bytes)?;
-    call(rt, alloc, site, &refused)
+    Ok(is_answered(alloc, site, &refused)?)
 }
 
 #[test]
-fn refusals_come_in_their_order(rt: HostRuntime) -> Result<(), Fail> {
+fn refusals_come_in_their_order(rt: HostRuntime) -> Result<(), Wrong> {
     let mut site = MemSite::new(rt.alloc(), &[])?;
-    make_calls(&rt, rt.alloc(), &mut site, &NO_STORE)?;
-    let [no_wal, no_sums, replayed, ran] = REFUSALS;
-    is_refused(&rt, rt.alloc(), &mut site, &no_wal)?;
-    is_refused(&rt, rt.alloc(), &mut site, &no_sums)?;
-    is_refused(&rt, rt.alloc(), &mut site, &replayed)?;
-    is_refused(&rt, rt.alloc(), &mut site, &ran)
+    make_calls(rt.alloc(), &mut site, &NO_STORE)?;
+    let [no_wal, no_sums, replayed, ran] = &REFUSALS;
+    assert!(rt; is_refused(rt.alloc(), &mut site, no_wal)?);
+    assert!(rt; is_refused(rt.alloc(), &mut site, no_sums)?);
+    assert!(rt; is_refused(rt.alloc(), &mut site, replayed)?);
+    assert!(rt; is_refused(rt.alloc(), &mut site, ran)?);
+    Ok(())
 }
 
+/// A file of an area, before a new store is asked for.
+static NOT_EMPTY: Refusal = (
+    b"sums",
+    b"x",
+    b"",
+    (
+        "init",
+        "",
+        Status::Refused,
+        "refused 41 AreaNotEmpty sums\n",
+    ),
+);
+
 #[test]
-fn an_area_that_is_not_empty_is_refused(rt: HostRuntime) -> Result<(), Fail> {
+fn an_area_that_is_not_empty_is_refused(rt: HostRuntime) -> Result<(), AreaFault> {
     let mut site = MemSite::new(rt.alloc(), &[])?;
-    put_in(&mut site, b"sums", b"x", b"")?;
-    let full = "refused 41 AreaNotEmpty sums\n";
-    call(
-        &rt,
-        rt.alloc(),
-        &mut site,
-        &("init", "", Status::Refused, full),
-    )
+    assert!(rt; is_refused(rt.alloc(), &mut site, &NOT_EMPTY)?);
+    Ok(())
 }
 
 /// Words, what is printed, and the bytes of a file of the WAL from a place on.
@@ -241,20 +270,33 @@ static BOUNDS: [(&str, &str, &[u8], usize, &[u8]); 2] = [
     ),
 ];
 
+/// A new store by these words leaves these bytes in a file of the WAL from a place on.
+fn is_made(
+    alloc: Global,
+    words: &str,
+    printed: &str,
+    place: (&[u8], usize),
+    bytes: &[u8],
+) -> Result<bool, AreaFault> {
+    let mut site = MemSite::new(alloc, &[])?;
+    let done = is_answered(alloc, &mut site, &(words, "", Status::Done, printed))?;
+    let (file, at) = place;
+    Ok(done && holds_part(alloc, &mut site, (b"wal", file, at), bytes)?)
+}
+
 #[test]
-fn options_are_taken_at_their_bounds(rt: HostRuntime) -> Result<(), Fail> {
-    let alloc = rt.alloc();
-    for (line, printed, file, at, bytes) in BOUNDS {
-        let mut site = MemSite::new(alloc, &[])?;
-        call(&rt, alloc, &mut site, &(line, "", Status::Done, printed))?;
-        let place = (b"wal".as_slice(), file, at);
-        assert!(rt; holds_part(alloc, &mut site, place, bytes)?, "{line}");
+fn options_are_taken_at_their_bounds(rt: HostRuntime) -> Result<(), AreaFault> {
+    for (words, printed, file, at, bytes) in &BOUNDS {
+        assert!(rt;
+            is_made(rt.alloc(), words, printed, (file, *at), bytes)?,
+            "{words}"
+        );
     }
     Ok(())
 }
 
 /// A site with the new WAL, of whose area one of the calls after its files are there fails; 0 is none.
-fn new_site(alloc: Global, fails: u64) -> Result<MemSite, Fail>
+fn new_site(alloc: Global, fails: u64) -> Result<MemSite, AreaFault>
     ensures { IfOk result (λ site. AllHome (areas_of site)) }
 {
     let call = if fails == 0 {
@@ -275,7 +317,12 @@ fn new_site(alloc: Global, fails: u64) -> Result<MemSite, Fail>
 
 /// The status of a run in which a call of the area of the WAL or one of the input fails, and
 /// whether what it prints last tells the fault.
-fn failing_run(alloc: Global, wal: u64, input: u64, line: &str) -> Result<(Status, bool), Fail> {
+fn failing_run(
+    alloc: Global,
+    wal: u64,
+    input: u64,
+    line: &str,
+) -> Result<(Status, bool), AreaFault> {
     let mut site = new_site(alloc, wal)?;
     let failing = Failing { input, sink: 0 };
     let (status, printed) = run(alloc, &mut site, "run", CREATES, failing)?;
@@ -283,21 +330,26 @@ fn failing_run(alloc: Global, wal: u64, input: u64, line: &str) -> Result<(Statu
 }
 
 #[test]
-fn a_call_of_the_input_fails(rt: HostRuntime) -> Result<(), Fail> {
+fn a_call_of_the_input_fails(rt: HostRuntime) -> Result<(), AreaFault> {
     let ended = failing_run(rt.alloc(), 0, 1, "refused 60 DeviceFault input\n")?;
-    assert_eq!(rt; ended, (Status::Device, true));
+    assert!(rt; ended == (Status::Device, true));
     Ok(())
 }
 
 #[test]
-fn each_device_call_of_a_run_fails_in_turn(rt: HostRuntime) -> Result<(), Fail> {
+fn each_device_call_of_a_run_fails_in_turn(rt: HostRuntime) -> Result<(), AreaFault> {
     // eleven calls: a sync before the WAL is read and one behind the write are two
     for k in 1..12u64 {
         let ended = failing_run(rt.alloc(), k, 0, "refused 60 DeviceFault wal\n")?;
-        assert_eq!(rt; ended, (Status::Device, true), "call {k}");
+        assert!(rt; ended == (Status::Device, true), "call {k}");
     }
+    Ok(())
+}
+
+#[test]
+fn a_run_has_eleven_device_calls(rt: HostRuntime) -> Result<(), AreaFault> {
     let (status, _) = failing_run(rt.alloc(), 12, 0, "")?;
-    assert_eq!(rt; status, Status::Done);
+    assert!(rt; status == Status::Done);
     Ok(())
 }
 
@@ -347,14 +399,30 @@ static FAILING_INITS: [(&str, u64, &str, Status, &str); 6] = [
     ),
 ];
 
+/// A call of an area fails in a call of `init`, which tells the fault, and a second one is answered
+/// so.
+fn init_fails(
+    alloc: Global,
+    area: &str,
+    fails: u64,
+    fault: &str,
+    again: (Status, &str),
+) -> Result<bool, NoMemory> {
+    let mut site = MemSite::new(alloc, &[])?;
+    site.set(area.as_bytes(), MemVault::new(alloc, &[fails])?)?;
+    let failed = is_answered(alloc, &mut site, &(INIT, "", Status::Device, fault))?;
+    let (status, printed) = again;
+    Ok(failed && is_answered(alloc, &mut site, &(INIT, "", status, printed))?)
+}
+
 #[test]
-fn each_device_call_of_a_new_store_fails_in_turn(rt: HostRuntime) -> Result<(), Fail> {
-    let alloc = rt.alloc();
-    for (area, fails, fault, status, again) in FAILING_INITS {
-        let mut site = MemSite::new(alloc, &[])?;
-        site.set(area.as_bytes(), MemVault::new(alloc, &[fails])?)?;
-        call(&rt, alloc, &mut site, &(INIT, "", Status::Device, fault))?;
-        call(&rt, alloc, &mut site, &(INIT, "", status, again))?;
+fn each_device_call_of_a_new_store_fails_in_turn(rt: HostRuntime) -> Result<(), NoMemory> {
+    for (area, fails, fault, status, again) in &FAILING_INITS {
+        let again = (*status, *again);
+        assert!(rt;
+            init_fails(rt.alloc(), area, *fails, fault, again)?,
+            "{area} {fails}"
+        );
     }
     Ok(())
 }
