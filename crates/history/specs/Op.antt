@@ -61,10 +61,14 @@ IsFitEdit old (Put page) = Unit
 IsFitEdit old (Patch frags) =
     (bad_frag frags ≡ None) × (is_good (written_frags frags old) ≡ true)
 
--- an item of a command can be written, on the store before the command
-pub record IsFitItem (store : Store) (item : Item) : Type 0 where
+-- an item of a command can be written, where this page was there before
+pub record IsFitOver (item : Item) (old : List ℕ) : Type 0 where
   pub number : item.at.block < most_blocks
-  pub edit : IsFitEdit (page_at store item.at) item.edit
+  pub edit : IsFitEdit old item.edit
+
+-- on the store before the command
+abbrev pub IsFitItem : Store → Item → Type 0
+IsFitItem store item = IsFitOver item (page_at store item.at)
 
 -- 1 to 33 items that can be written
 pub record AreFit (store : Store) (items : List Item) : Type 0 where

@@ -1,5 +1,5 @@
 -- Replay over pages that may be newer than the entries.
-use Rattle.std.specs.Prelude.{◌≡◌, ℕ, ◌<◌, ◌≤◌, ◌^◌, List, [], ◌∷◌, map, Option, Some, nat_lt, if◌then◌else◌}
+use Rattle.std.specs.Prelude.{◌≡◌, ℕ, ◌<◌, ◌≤◌, ◌^◌, List, [], ◌∷◌, map, Option, Some, None, nat_lt, if◌then◌else◌}
 use Rattle.byte_words.specs.Numbers.{◌>>=◌}
 use Rattle.lsn_core.specs.declared.ids.BlockId.{BlockId}
 use Rattle.lsn_core.specs.Store.{Store}
@@ -23,6 +23,18 @@ redo store r = act_by redone r.end.0 store (act_with (map item_of) r.kind)
 abbrev pub redo_all : Store → List Record → Option Store
 redo_all store [] = Some store
 redo_all store (r ∷ rs) = redo store r >>= λ next. redo_all next rs
+
+-- for each store that is shown before, the change can be made, and what it leaves is shown behind
+abbrev pub Redoes :
+    {P : Type 0} → (P → Store → Type 0) → P → P → (Store → Option Store) → Type 0
+Redoes shows before behind changed =
+    (s : Store) → shows before s → (next : Store) × ((changed s ≡ Some next) × shows behind next)
+
+-- for none that is shown before it can be made, and these are shown behind
+abbrev pub Refuses :
+    {P : Type 0} → (P → Store → Type 0) → P → P → (Store → Option Store) → Type 0
+Refuses shows before behind changed =
+    (s : Store) → shows before s → (changed s ≡ None) × shows behind s
 
 -- no page has an LSN past a place
 abbrev pub AreBelow : ℕ → Store → Type 0

@@ -27,12 +27,13 @@ body_of redo old (Put page) = Image (hole_zeroed page)
 body_of redo old (Patch frags) =
     if nat_le (lsn_of old) redo then Image (patched frags (lsn_of old) old) else Delta frags
 
+-- the block that an item is written as, where this page was there before
+abbrev pub block_over : ℕ → Item → List ℕ → BlockRef
+block_over redo item old = record { at = item.at; body = body_of redo old item.edit }
+
 -- by the store before the entry
 abbrev pub block_of_item : Store → ℕ → Item → BlockRef
-block_of_item store redo item = record {
-  at = item.at;
-  body = body_of redo (page_at store item.at) item.edit;
-}
+block_of_item store redo item = block_over redo item (page_at store item.at)
 
 -- the kind that a mark is written as
 abbrev pub mark_kind : Marking → Kind
@@ -44,7 +45,7 @@ mark_kind (BackupEnd start) = kind.BackupEnd (record { 0 = start })
 mark_kind (IdleCut rel count others) = kind.Truncate rel count (2 * others)
 
 -- the kind that an act is written as, by the store before it and the latest redo point; a
--- truncation cuts all forks of its relation
+-- truncation's flags name all forks that one may name: main, free space map, visibility map
 abbrev pub kind_of : Store → ℕ → Act → Kind
 kind_of store redo (Create fork) = kind.Create fork
 kind_of store redo (Truncate rel count) = kind.Truncate rel count 7

@@ -81,7 +81,7 @@ pub fn apply_undoably(store: &mut PageMap, rec: &Record) -> Result<Undo, ApplyFa
 }
 
 /// Whether a truncation's flags name the main fork.
-fn cuts_main(flags: u32) -> bool
+pub fn cuts_main(flags: u32) -> bool
     ensures { result ≡ cuts_main flags }
 {
     flags % 2 == 1

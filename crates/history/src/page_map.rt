@@ -1,10 +1,9 @@
 //! A store of pages in memory.
 
-ghost use Rattle.std.specs.Prelude.{◌≡◌, ◌<◌, ◌≤◌, ◌^◌};
+ghost use Rattle.std.specs.Prelude.{◌≡◌, ◌-◌, ◌<◌, ◌≤◌, ◌^◌};
 ghost use Rattle.std.specs.Prelude.{length, slice_get, OnOk, OnErr, IfOk};
 ghost use Rattle.std.specs.FinMap.{empty, keys, len};
 ghost use Rattle.std.specs.Option.{option_map};
-ghost use Rattle.lsn_core.specs.Sizes.{most_blocks};
 ghost use Rattle.lsn_core.specs.Blocks.{block_of, block_count, pages_of, with_block, page_put, with_fork, with_cut};
 ghost use Rattle.history.specs.Apply.{page_at};
 ghost use Rattle.history.specs.Pages.{store_in, page_count};
@@ -147,7 +146,7 @@ impl PageMap {
 
     /// Puts a page at a block; a missing fork and missing pages before it are made.
     pub(crate) fn put(&mut self, at: &BlockId, page: &[u8; 8192]) -> Result<(), NoMemory>
-        requires { at.now.block < most_blocks }
+        requires { at.now.block < 2 ^ 32 - 1 }
         ensures put { OnOk result (self.new ≡ page_put at.now page.now self.old) }
         ensures same { OnErr result (self.new ≡ self.old) }
     {
@@ -214,7 +213,7 @@ fn put_in(
     page: &[u8; 8192],
     alloc: Global,
 ) -> Result<(), NoMemory>
-    requires { at.now.block < most_blocks }
+    requires { at.now.block < 2 ^ 32 - 1 }
     ensures put { OnOk result (store_in forks.new ≡ page_put at.now page.now (store_in forks.old)) }
     ensures same { OnErr result (store_in forks.new ≡ store_in forks.old) }
 {
@@ -230,7 +229,7 @@ fn put_in(
 /// Puts a page at a block; missing pages before it are zero pages. After a fault the pages are as
 /// before.
 fn put_block(pages: &mut Vec<[u8; 8192]>, block: u32, page: &[u8; 8192]) -> Result<(), NoMemory>
-    requires { block < most_blocks }
+    requires { block < 2 ^ 32 - 1 }
     ensures put { OnOk result (pages.new.items ≡ with_block pages.old.items block page.now) }
     ensures same { OnErr result (pages.new.items ≡ pages.old.items) }
 {

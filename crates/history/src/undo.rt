@@ -150,7 +150,7 @@ impl PageMap {
     }
 
     /// Takes a fork away.
-    fn unmake(&mut self, fork: &ForkId)
+    pub(crate) fn unmake(&mut self, fork: &ForkId)
         ensures { self.new ≡ remove self.old fork.now }
     {
         let before = length_in(&self.forks, fork);
