@@ -1,0 +1,12 @@
+pub mod Touches
+pub mod Effects
+pub mod Orderly
+pub mod Sound
+pub mod Recovered
+pub mod Taken
+pub mod Logged
+pub mod Laws
+pub mod Covers
+pub mod Summary
+pub mod Increment
+pub mod CoverLaws

@@ -1,0 +1,194 @@
+-- What a partition keeps of its history over entries and writes.
+use Rattle.std.proofs.Common.{◌≡◌, ℕ, ◌<◌, ◌≤◌, Bool, true, false, cond, List, [], ◌∷◌, ◌++◌, map, take, Option, Some, None, is_some, IsSome, IfSome, refl, ap, sym, subst, ◌∙◌, arith, true≢false}
+use Rattle.std.specs.Prelude.{nat_le}
+use Rattle.std.specs.List.{list_any, filter}
+use Rattle.std.specs.FinMap.{empty}
+use Rattle.std.proofs.Math.Nat.{max-le}
+use Rattle.std.proofs.lemmas.Bool.{le-leb}
+use Rattle.std.proofs.lemmas.List.{map-append, append_assoc, append-nil, take-append-drop}
+use Rattle.std.proofs.lemmas.List.Elements.{filter-append}
+use Rattle.std.proofs.lemmas.List.Sums.{fold-append}
+use Rattle.byte_words.specs.Numbers.{◌>>=◌}
+use Rattle.lsn_core.specs.Store.{Store}
+use Rattle.lsn_core.specs.Tip.{Tip, tip_with}
+use Rattle.history.specs.declared.op.Item.{Item}
+use Rattle.history.specs.Entry.{Act, Create, Truncate, Change, Mark, NoOp, Entry}
+use Rattle.history.specs.Apply.{main_fork, apply, apply_act, apply_all}
+use Rattle.history.specs.Written.{tip_past, tip_over}
+use Rattle.history.proofs.Stores.{by_test}
+use Rattle.history.proofs.Histories.{tip_over-append}
+use Rattle.partitions.specs.Parts.{is_item_of, act_part, part_of, concerns, ConcernsNoOther}
+use Rattle.partitions.proofs.Folds.{none_kept, passed_over}
+use Rattle.partitions.proofs.OwnActs.{own_fork, OfNoOther, first_own, others_own}
+use Rattle.fuzzy_copies.specs.Touches.{act_touches, act_cuts}
+use Rattle.fuzzy_copies.specs.Orderly.{IsOrderly}
+use Rattle.fuzzy_copies.specs.Taken.{since}
+use Rattle.fuzzy_copies.proofs.Replay.{applied_in_two}
+use Rattle.page_pool.specs.declared.work.Work.TheVariants.{Make, Cut}
+use Rattle.page_pool.specs.declared.work.Pending.{Pending}
+use Rattle.page_pool.specs.Part.{DirtyMarks, Part, touch_end}
+use Rattle.page_pool.specs.Steps.{marks_after, works_after, HasApplied, HasWritten, IsClean}
+use Rattle.page_pool.specs.Facts.{history_end, touch_over, last_touch, works_over, entered_works, IsSince, own_since}
+use Rattle.page_pool.specs.Laws.{OwnEntriesAreFollowed, OtherEntriesAreFollowed, WritesAreFollowed, CleaningIsFollowed, CleanPartsFollow}
+use Rattle.page_pool.proofs.Marks.{mark_after}
+use Rattle.page_pool.proofs.Windows.{any_filtered, others_touch, others_enter}
+
+-- where a history ends that goes on
+rest_rises : (tip : Tip) (xs ys : List Entry) → IsOrderly tip.end (xs ++ ys) → IsOrderly (tip_over tip xs).end ys
+rest_rises tip [] ys r = r
+rest_rises tip (x ∷ xs) ys r = rest_rises (tip_past tip x) xs ys r.3
+
+end_over : (tip : Tip) (es : List Entry) → IsOrderly tip.end es → tip.end ≤ (tip_over tip es).end
+end_over tip [] r = omega arith
+end_over tip (e ∷ es) r =
+    let rest : e.end ≤ (tip_over (tip_past tip e) es).end = end_over (tip_past tip e) es r.3 in
+    let first : tip.end ≤ e.start = r.0 in
+    let wide : e.start < e.end = r.1 in
+    omega (arith, first, wide, rest)
+
+later_end : (history more : List Entry) → IsOrderly 0 (history ++ more) → history_end history ≤ history_end (history ++ more)
+later_end history more r =
+    subst (λ (t : Tip). history_end history ≤ t.end) (sym (tip_over-append (tip_with 0 0 0 0) history more)) (end_over (tip_over (tip_with 0 0 0 0) history) more (rest_rises (tip_with 0 0 0 0) history more r))
+
+-- what is known where an area tells its files
+where_told : {A : Type 0} (o : Option A) (P : Type 0) → (IsSome o → P) → IfSome o (λ x. P)
+where_told (Some x) P k = k refl
+where_told None P k = tt
+
+pub told : {A : Type 0} (o : Option A) (P : Type 0) → IsSome o → IfSome o (λ x. P) → P
+told (Some x) P some k = k
+told None P some k = absurd (true≢false (sym some))
+
+over_told : {A B : Type 0} (o : Option A) (p : Option B) (P Q : Type 0) → (IsSome p → IsSome o) → (P → Q) → IfSome o (λ x. P) → IfSome p (λ x. Q)
+over_told o p P Q back f k = where_told p Q (λ some. f (told o P (back some) k))
+
+-- an entry more
+touched_last : (cut touch : Bool) (new end : ℕ) (old last : Option ℕ) → cond cut None (cond touch (Some new) old) ≡ Some end → (old ≡ Some end → last ≡ Some end) → cond touch (Some new) last ≡ Some end
+touched_last true touch new end old last e before = absurd cc
+touched_last false true new end old last e before = e
+touched_last false false new end old last e before = before e
+
+works_behind : (end : ℕ) (done works : List Pending) (act : Act) → done ++ works_after end works act ≡ works_after end (done ++ works) act
+works_behind end done works (Create fork) = sym (append_assoc done works (record { work = Make fork; end = record { 0 = end } } ∷ []))
+works_behind end done works (Truncate rel count) = sym (append_assoc done works (record { work = Cut (main_fork rel) count; end = record { 0 = end } } ∷ []))
+works_behind end done works (Change items) = refl
+works_behind end done works (Mark marking) = refl
+
+since_last : (xs : List Entry) (e : Entry) (marks : DirtyMarks) (works : List Pending) → IsSince xs marks works → IsSince (xs ++ (e ∷ [])) (marks_after e.end marks e.act) (works_after e.end works e.act)
+since_last xs e marks works s = record {
+  touched = λ fork b end m. fold-append (touch_over fork b) None xs (e ∷ [])
+      ∙ touched_last (act_cuts fork b e.act) (act_touches fork b e.act) e.end end (touch_end marks fork b) (last_touch fork b xs) (sym (mark_after e.end marks e.act fork b) ∙ m) (s.touched fork b end);
+  done = s.done;
+  entered = works_behind e.end s.done works e.act ∙ ap (λ (ws : List Pending). works_after e.end ws e.act) s.entered ∙ sym (fold-append works_over [] xs (e ∷ []));
+}
+
+-- entries of others more
+since_others : (q : ℕ) (xs es : List Entry) (marks : DirtyMarks) (works : List Pending) → list_any (concerns q) es ≡ false → IsSince xs marks works → IsSince (xs ++ map (part_of q) es) marks works
+since_others q xs es marks works none s = record {
+  touched = λ fork b end m. fold-append (touch_over fork b) None xs (map (part_of q) es) ∙ others_touch q fork b (last_touch fork b xs) es none ∙ s.touched fork b end m;
+  done = s.done;
+  entered = s.entered ∙ sym (fold-append works_over [] xs (map (part_of q) es) ∙ others_enter q (entered_works xs) es none);
+}
+
+-- an act of the partition alone
+items_own : (q : ℕ) (items : List Item) → OfNoOther q items → filter (is_item_of q) items ≡ items
+items_own q [] none = refl
+items_own q (item ∷ items) none =
+    ap (λ c. cond c (item ∷ filter (is_item_of q) items) (filter (is_item_of q) items)) (first_own q item items none) ∙ ap (λ (is : List Item). item ∷ is) (items_own q items (others_own q item items none))
+
+act_own : (q : ℕ) (act : Act) → ConcernsNoOther q act → act_part q act ≡ act
+act_own q (Create fork) none = ap (λ c. cond c (Create fork) (Mark NoOp)) (own_fork q fork none)
+act_own q (Truncate rel count) none = ap (λ c. cond c (Truncate rel count) (Mark NoOp)) (own_fork q (main_fork rel) none)
+act_own q (Change items) none = ap (λ (is : List Item). Change is) (items_own q items none)
+act_own q (Mark marking) none = refl
+
+-- the fold of a history's part that goes on
+abbrev IsMadeOf : ℕ → List Entry → Store → Type 0
+IsMadeOf q history frames = apply_all empty (map (part_of q) history) ≡ Some frames
+
+goes_on : (q : ℕ) (xs ys : List Entry) (store next : Store) → apply_all empty (map (part_of q) xs) ≡ Some store → apply_all store (map (part_of q) ys) ≡ Some next → apply_all empty (map (part_of q) (xs ++ ys)) ≡ Some next
+goes_on q xs ys store next first rest =
+    ap (apply_all empty) (map-append (part_of q) xs ys) ∙ applied_in_two empty (map (part_of q) xs) (map (part_of q) ys) ∙ ap (λ (o : Option Store). o >>= λ s. apply_all s (map (part_of q) ys)) first ∙ rest
+
+one_on : (q : ℕ) (e : Entry) (store next : Store) → ConcernsNoOther q e.act → apply store e ≡ Some next → apply_all store (map (part_of q) (e ∷ [])) ≡ Some next
+one_on q e store next none done = ap (λ (o : Option Store). o >>= λ s. Some s) (ap (apply_act e.end store) (act_own q e.act none) ∙ done)
+
+since_more : (point : ℕ) (xs ys : List Entry) → since point (xs ++ ys) ≡ since point xs ++ since point ys
+since_more point xs ys = filter-append (λ (e : Entry). nat_le point e.start) xs ys
+
+own_more : (q point : ℕ) (xs ys : List Entry) → own_since q point (xs ++ ys) ≡ own_since q point xs ++ own_since q point ys
+own_more q point xs ys = ap (map (part_of q)) (since_more point xs ys) ∙ map-append (part_of q) (since point xs) (since point ys)
+
+whole_part : (q : ℕ) (e : Entry) → ConcernsNoOther q e.act → part_of q e ≡ e
+whole_part q e none = ap (λ (act : Act). record { act = act; start = e.start; end = e.end; worker = e.worker; seq = e.seq }) (act_own q e.act none)
+
+own_last : (q point : ℕ) (e : Entry) → ConcernsNoOther q e.act → point ≤ e.start → own_since q point (e ∷ []) ≡ e ∷ []
+own_last q point e none late = ap (λ c. map (part_of q) (cond c (e ∷ []) [])) (le-leb point e.start late) ∙ ap (λ (x : Entry). x ∷ []) (whole_part q e none)
+
+own_unwritten : (q : ℕ) (history : List Entry) (e : Entry) (old new : Part) → ConcernsNoOther q e.act → old.point ≤ e.start → HasApplied e old new → IsSince (own_since q old.point history) old.marks old.works → IsSince (own_since q new.point (history ++ (e ∷ []))) new.marks new.works
+own_unwritten q history e old new none late a u =
+    let before = own_since q old.point history in
+    let window : own_since q new.point (history ++ (e ∷ [])) ≡ before ++ (e ∷ []) =
+    ap (λ (n : ℕ). own_since q n (history ++ (e ∷ []))) a.point ∙ own_more q old.point history (e ∷ []) ∙ ap (λ (es : List Entry). before ++ es) (own_last q old.point e none late) in
+    let s = since_last before e old.marks old.works u in
+    subst (λ (w : List Entry). IsSince w new.marks new.works) (sym window)
+    (subst (λ (m : DirtyMarks). IsSince (before ++ (e ∷ [])) m new.works) (sym a.marks) (subst (λ (ws : List Pending). IsSince (before ++ (e ∷ [])) (marks_after e.end old.marks e.act) ws) (sym a.works) s))
+
+pub own_followed : OwnEntriesAreFollowed
+own_followed q history e old new r none a f =
+    let last = rest_rises (tip_with 0 0 0 0) history (e ∷ []) r in
+    let start : history_end history ≤ e.start = last.0 in
+    let late = f.late in
+    let longer = later_end history (e ∷ []) r in
+    record {
+      late = subst (λ (n : ℕ). n ≤ history_end (history ++ (e ∷ []))) (sym a.point) (omega (arith, late, longer));
+      unwritten = own_unwritten q history e old new none (omega (arith, late, start)) a f.unwritten;
+      made = over_told old.disk new.disk (IsMadeOf q history old.frames) (IsMadeOf q (history ++ (e ∷ [])) new.frames) (λ some. sym (ap (λ o. is_some o) a.disk) ∙ some)
+          (λ made. goes_on q history (e ∷ []) old.frames new.frames made (one_on q e old.frames new.frames none a.frames)) f.made;
+    }
+
+pub others_followed : OtherEntriesAreFollowed
+others_followed q history more part r none f =
+    let late = f.late in
+    let longer = later_end history more r in
+    let few = since part.point more in
+    let unconcerned : list_any (concerns q) few ≡ false =
+    by_test (list_any (concerns q) few) (λ some. absurd (true≢false (sym (any_filtered (concerns q) (λ (e : Entry). nat_le part.point e.start) more some) ∙ none))) (λ no. no) in
+    record {
+      late = omega (arith, late, longer);
+      unwritten = subst (λ (w : List Entry). IsSince w part.marks part.works) (sym (own_more q part.point history more)) (since_others q (own_since q part.point history) few part.marks part.works unconcerned f.unwritten);
+      made = over_told part.disk part.disk (IsMadeOf q history part.frames) (IsMadeOf q (history ++ more) part.frames) (λ some. some)
+          (λ made. goes_on q history more part.frames part.frames made (passed_over q part.frames more ∙ ap (λ (es : List Entry). apply_all part.frames (map (part_of q) es)) (none_kept (concerns q) more none))) f.made;
+    }
+
+fewer : (window : List Entry) (old new : Part) → HasWritten old new → IsSince window old.marks old.works → IsSince window new.marks new.works
+fewer window old new w s = record {
+  touched = λ fork b end m. s.touched fork b end (w.marks fork b end m);
+  done = s.done ++ take w.done old.works;
+  entered = append_assoc s.done (take w.done old.works) new.works ∙ ap (λ (ws : List Pending). s.done ++ (take w.done old.works ++ ws)) w.works
+      ∙ ap (λ (ws : List Pending). s.done ++ ws) (take-append-drop w.done old.works) ∙ s.entered;
+}
+
+pub writes_followed : WritesAreFollowed
+writes_followed q history old new w f = record {
+  late = subst (λ (n : ℕ). n ≤ history_end history) (sym w.point) f.late;
+  unwritten = subst (λ (n : ℕ). IsSince (own_since q n history) new.marks new.works) (sym w.point) (fewer (own_since q old.point history) old new w f.unwritten);
+  made = over_told old.disk new.disk (IsMadeOf q history old.frames) (IsMadeOf q history new.frames) w.told (λ made. made ∙ ap (λ (s : Store). Some s) (sym w.frames)) f.made;
+}
+
+none_since : (window : List Entry) (part : Part) → IsClean part → IsSince window part.marks part.works
+none_since window part clean = record {
+  touched = λ fork b end m. absurd (true≢false (sym (ap (λ (o : Option ℕ). is_some o) m) ∙ clean.marks fork b));
+  done = entered_works window;
+  entered = ap (λ (ws : List Pending). entered_works window ++ ws) clean.works ∙ append-nil (entered_works window);
+}
+
+pub clean_follow : CleanPartsFollow
+clean_follow q history part made clean late = record { late = late; unwritten = none_since (own_since q part.point history) part clean; made = made }
+
+pub cleaning_followed : CleaningIsFollowed
+cleaning_followed q redo history old new frames clean point disk late f = record {
+  late = subst (λ (n : ℕ). n ≤ history_end history) (sym point) (max-le f.late late);
+  unwritten = none_since (own_since q new.point history) new clean;
+  made = over_told old.disk new.disk (IsMadeOf q history old.frames) (IsMadeOf q history new.frames) disk (λ made. made ∙ ap (λ (s : Store). Some s) (sym frames)) f.made;
+}

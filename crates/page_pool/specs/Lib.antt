@@ -1,0 +1,4 @@
+pub mod Part
+pub mod Steps
+pub mod Facts
+pub mod Laws

@@ -1,0 +1,103 @@
+-- A partition of a store: its pages in frames, and what of them isn't written to its disk yet.
+-- What is reserved before a change is logged is left to the code that needs it.
+use Rattle.std.specs.Prelude.{◌≡◌, ℕ, ◌==◌, ◌&&◌, max, Bool, true, false, List, [], ◌++◌, ◌⊎◌, map, length, get_or, slice_get, nat_le, Option, Some, None, if◌then◌else◌}
+use Rattle.std.specs.List.{list_any, flat_map, filter_map, reduce}
+use Rattle.std.specs.Option.{unwrap_or, is_some}
+use Rattle.std.specs.FinMap.{FinMap, get, keys, contains_key}
+use Rattle.lsn_core.specs.declared.ids.ForkId.{ForkId}
+use Rattle.lsn_core.specs.Files.{Files}
+use Rattle.lsn_core.specs.Store.{Store, fork_cmp}
+use Rattle.lsn_core.specs.Blocks.{block_of}
+use Rattle.history.specs.Apply.{is_same_fork}
+use Rattle.fuzzy_copies.specs.Sound.{Agree}
+use Rattle.page_pool.specs.declared.work.Work.{Work}
+use Rattle.page_pool.specs.declared.work.Work.TheVariants.{Make, Cut}
+use Rattle.page_pool.specs.declared.work.Pending.{Pending}
+
+-- beside each page, where the last entry ends that touched it since it was written; None where the
+-- page is clean
+abbrev pub DirtyMarks : Type 0
+DirtyMarks = FinMap fork_cmp (List (Option ℕ))
+
+-- what a partition holds
+pub record Part : Type 0 where
+  pub frames : Store  -- its pages, as they are now
+  pub marks : DirtyMarks  -- which of them are dirty
+  pub works : List Pending  -- what is to be done before dirty pages are written, in order
+  pub point : ℕ  -- replay from here on makes good what isn't written
+  pub relseg : ℕ  -- blocks a segment file
+  pub disk : Option Files  -- the files of its area, where that tells them
+  pub faults : ℕ  -- how often a call of the area failed
+
+-- the marks of a fork's pages
+abbrev pub fork_marks : DirtyMarks → ForkId → List (Option ℕ)
+fork_marks marks fork = unwrap_or (get marks fork) []
+
+-- where the last entry ends that touched a block since it was written; None where it is clean
+abbrev pub touch_end : DirtyMarks → ForkId → ℕ → Option ℕ
+touch_end marks fork block = get_or (fork_marks marks fork) block None
+
+-- a block is dirty
+abbrev pub is_dirty : DirtyMarks → ForkId → ℕ → Bool
+is_dirty marks fork block = is_some (touch_end marks fork block)
+
+-- a work makes the fork; it cuts the block off
+abbrev pub work_makes : ForkId → Work → Bool
+work_makes fork (Make made) = is_same_fork fork made
+work_makes fork (Cut cut count) = false
+
+abbrev pub work_cuts : ForkId → ℕ → Work → Bool
+work_cuts fork block (Make made) = false
+work_cuts fork block (Cut cut count) = is_same_fork fork cut && nat_le count block
+
+-- one of the pending works makes the fork; one cuts the block off
+abbrev pub is_to_make : List Pending → ForkId → Bool
+is_to_make works fork = list_any (λ w. work_makes fork w.work) works
+
+abbrev pub is_to_cut : List Pending → ForkId → ℕ → Bool
+is_to_cut works fork block = list_any (λ w. work_cuts fork block w.work) works
+
+-- a disk lacks of the frames what is dirty or pending, and nothing else
+pub record LacksUnwritten (disk frames : Store) (marks : DirtyMarks) (works : List Pending)
+    : Type 0 where
+  -- it has a clean block as it is, unless a pending work cuts it
+  pub same : (fork : ForkId) (block : ℕ) → is_dirty marks fork block ≡ false
+      → is_to_cut works fork block ≡ false → Agree disk frames fork block
+  -- a clean block that a pending work cuts isn't there any more
+  pub gone : (fork : ForkId) (block : ℕ) → is_dirty marks fork block ≡ false
+      → is_to_cut works fork block ≡ true → block_of frames fork block ≡ None
+  -- it has the forks that there are, unless a pending work makes one
+  pub forks : (fork : ForkId) → is_to_make works fork ≡ false
+      → contains_key disk fork ≡ contains_key frames fork
+  -- a fork that a pending work makes is there
+  pub made : (fork : ForkId) → is_to_make works fork ≡ true → contains_key frames fork ≡ true
+
+-- a page of 8192 bytes; a short one, as a write that failed may leave at a fork's end, is none
+abbrev pub if_whole : Option (List ℕ) → Option (List ℕ)
+if_whole None = None
+if_whole (Some page) = if length page == 8192 then Some page else None
+
+-- a disk without some of the short pages of another, whose other blocks stay as they are: writes
+-- mend one fork at a time
+pub record IsMended (raw disk : Store) : Type 0 where
+  pub blocks : (fork : ForkId) (block : ℕ) → Agree disk raw fork block
+      ⊎ (block_of disk fork block ≡ if_whole (block_of raw fork block))
+  pub forks : (fork : ForkId) → contains_key disk fork ≡ contains_key raw fork
+
+-- where the entries end that touched the dirty pages of a fork, by block
+abbrev pub dirty_ends : DirtyMarks → ForkId → List ℕ
+dirty_ends marks fork = filter_map (λ mark. mark) (fork_marks marks fork)
+
+-- where the entries end of all that isn't written, in the order in which it is written: of the
+-- pending works, then of the dirty pages, by fork and block
+abbrev pub unwritten_ends : Part → List ℕ
+unwritten_ends part =
+    map (λ w. w.end.0) part.works ++ flat_map (dirty_ends part.marks) (keys part.marks)
+
+-- where the entry ends of what is written next; None where nothing is dirty or pending
+abbrev pub next_end : Part → Option ℕ
+next_end part = slice_get (unwritten_ends part) 0
+
+-- the greatest of these ends
+abbrev pub newest_end : Part → Option ℕ
+newest_end part = reduce max (unwritten_ends part)

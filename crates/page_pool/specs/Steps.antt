@@ -1,0 +1,91 @@
+-- What entries and writes leave of a partition.
+use Rattle.std.specs.Prelude.{◌≡◌, ℕ, ◌+◌, ◌-◌, ◌<◌, false, List, [], ◌∷◌, ◌++◌, length, take, drop, replicate, slice_set, Option, Some, None, IsSome}
+use Rattle.std.specs.FinMap.{insert, contains_key}
+use Rattle.lsn_core.specs.declared.ids.ForkId.{ForkId}
+use Rattle.lsn_core.specs.declared.ids.BlockId.{BlockId}
+use Rattle.lsn_core.specs.Store.{Store}
+use Rattle.lsn_core.specs.Blocks.{with_fork, with_cut}
+use Rattle.history.specs.declared.op.Item.{Item}
+use Rattle.history.specs.Entry.{Act, Create, Truncate, Change, Mark, Entry}
+use Rattle.history.specs.Apply.{main_fork, apply}
+use Rattle.fuzzy_copies.specs.Sound.{Agree}
+use Rattle.page_pool.specs.declared.work.Work.{Work}
+use Rattle.page_pool.specs.declared.work.Work.TheVariants.{Make, Cut}
+use Rattle.page_pool.specs.declared.work.Pending.{Pending}
+use Rattle.page_pool.specs.Part.{DirtyMarks, Part, fork_marks, touch_end, is_dirty, is_to_make, is_to_cut}
+
+-- marks with another one at a block; missing ones up to the block are clean
+abbrev pub with_mark : List (Option ℕ) → ℕ → Option ℕ → List (Option ℕ)
+with_mark marks block mark =
+    slice_set (marks ++ replicate (block + 1 - length marks) None) block mark
+
+-- a block was touched by an entry that ends at a place
+abbrev pub touched : ℕ → DirtyMarks → BlockId → DirtyMarks
+touched end marks at =
+    insert marks at.fork (with_mark (fork_marks marks at.fork) at.block (Some end))
+
+abbrev pub items_touched : ℕ → DirtyMarks → List Item → DirtyMarks
+items_touched end marks [] = marks
+items_touched end marks (item ∷ items) = items_touched end (touched end marks item.at) items
+
+-- the marks after an act by an entry that ends at a place
+abbrev pub marks_after : ℕ → DirtyMarks → Act → DirtyMarks
+marks_after end marks (Create fork) = insert marks fork (fork_marks marks fork)
+marks_after end marks (Truncate rel count) =
+    insert marks (main_fork rel) (take count (fork_marks marks (main_fork rel)))
+marks_after end marks (Change items) = items_touched end marks items
+marks_after end marks (Mark marking) = marks
+
+-- the pending works after it: a creation enters one, and so does each truncation
+abbrev pub works_after : ℕ → List Pending → Act → List Pending
+works_after end works (Create fork) =
+    works ++ (record { work = Make fork; end = record { 0 = end } } ∷ [])
+works_after end works (Truncate rel count) =
+    works ++ (record { work = Cut (main_fork rel) count; end = record { 0 = end } } ∷ [])
+works_after end works (Change items) = works
+works_after end works (Mark marking) = works
+
+-- a partition after an entry of its own
+pub record HasApplied (e : Entry) (old new : Part) : Type 0 where
+  pub frames : apply old.frames e ≡ Some new.frames
+  pub marks : new.marks ≡ marks_after e.end old.marks e.act
+  pub works : new.works ≡ works_after e.end old.works e.act
+  pub point : new.point ≡ old.point
+  pub disk : new.disk ≡ old.disk
+
+-- a disk after a work
+abbrev pub work_done : Work → Store → Store
+work_done (Make fork) disk = with_fork disk fork
+work_done (Cut fork count) disk = with_cut disk fork count
+
+-- a block's page was written
+abbrev pub cleaned : DirtyMarks → BlockId → DirtyMarks
+cleaned marks at = insert marks at.fork (with_mark (fork_marks marks at.fork) at.block None)
+
+-- no block of the fork before this one is dirty
+abbrev pub NoneDirtyBefore : DirtyMarks → BlockId → Type 0
+NoneDirtyBefore marks at = (block : ℕ) → block < at.block → is_dirty marks at.fork block ≡ false
+
+-- a disk after writes that may have failed: it changed nowhere but where something is dirty or
+-- pending, and there it may be anything, as after a torn write
+pub record ChangedWhereUnwritten (old new : Store) (marks : DirtyMarks) (works : List Pending)
+    : Type 0 where
+  pub blocks : (fork : ForkId) (block : ℕ) → is_dirty marks fork block ≡ false
+      → is_to_cut works fork block ≡ false → Agree new old fork block
+  pub forks : (fork : ForkId) → is_to_make works fork ≡ false
+      → contains_key new fork ≡ contains_key old fork
+
+-- a partition after some of it was written, of its works the first ones
+pub record HasWritten (old new : Part) : Type 0 where
+  pub frames : new.frames ≡ old.frames
+  pub marks : (fork : ForkId) (block end : ℕ) → touch_end new.marks fork block ≡ Some end
+      → touch_end old.marks fork block ≡ Some end
+  pub done : ℕ
+  pub works : new.works ≡ drop done old.works
+  pub point : new.point ≡ old.point
+  pub told : IsSome new.disk → IsSome old.disk
+
+-- nothing is dirty or pending
+pub record IsClean (part : Part) : Type 0 where
+  pub marks : (fork : ForkId) (block : ℕ) → is_dirty part.marks fork block ≡ false
+  pub works : part.works ≡ []
