@@ -7,7 +7,7 @@ ghost use Rattle.shared_store.specs.Inside.{OpenAnswer};
 
 use crate::store::Store;
 use lsn_core::Settings;
-use recovery::{ReadWal, RecoveryFault, replay, settings_of};
+use recovery::{ReadWal, RecoveryFault, replay_in_memory, settings_of};
 use std::alloc::Global;
 use vault::Vault;
 use wal_writer::WalState;
@@ -28,7 +28,7 @@ fn open<V: Vault>(alloc: Global, area: &mut V) -> Result<(Settings, ReadWal), Re
 {
     let settings = settings_of(alloc, area)?;
     area.sync()?;
-    let read = replay(alloc, area, &settings, None)?;
+    let read = replay_in_memory(alloc, area, &settings, None)?;
     if read.tip.count == 0 {
         return Err(RecoveryFault::NotInit);
     }

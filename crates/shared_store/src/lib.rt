@@ -14,6 +14,7 @@ mod begin;
 mod fault;
 mod form;
 mod judge;
+mod kinds;
 mod store;
 
 pub use begin::BeginFault;

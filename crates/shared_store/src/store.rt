@@ -13,6 +13,7 @@ ghost use Rattle.shared_store.specs.Inside.{IsAdded};
 
 use crate::fault::{InsertFault, Receipt};
 use crate::judge::judge;
+use crate::kinds::kind_of;
 use history::{Op, PageMap, apply_undoably};
 use lsn_core::{AreaFault, Lsn, NoMemory, Place};
 use std::alloc::Global;
@@ -55,7 +56,7 @@ impl<V: Vault> Store<V> {
         ensures area { self.new.wal.area ≡ self.old.wal.area }
     {
         let tip = self.wal.tip();
-        let Ok(kind) = op.kind(alloc, &self.pages, tip.redo) else {
+        let Ok(kind) = kind_of(alloc, op, &self.pages, tip.redo) else {
             return Err(InsertFault::NoMemory);
         };
         let entry = match self.wal.prepare(alloc, kind) {

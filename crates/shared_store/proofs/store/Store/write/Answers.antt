@@ -6,8 +6,8 @@ use Rattle.shared_store.proofs.Inserted.{inserted}
 use Rattle.shared_store.proofs.Judged.{judged-fit}
 use Rattle.shared_store.proofs.store.Store.write.Goals as goal
 
-pub kind-requires : goal.kind-requires
-kind-requires g c = judged-fit c.args.self.now.wal.tail.tip.count c.args.self.now.pages c.args.op.now c.requires
+pub kind_of-requires : goal.kind_of-requires
+kind_of-requires g c = judged-fit c.args.self.now.wal.tail.tip.count c.args.self.now.pages c.args.op.now c.requires
 
 pub returns-clause-answer : goal.returns-clause-answer
 returns-clause-answer g c =
