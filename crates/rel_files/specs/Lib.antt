@@ -1,2 +1,5 @@
-pub mod Writes
+pub mod Forks
+pub mod Shown
 pub mod Inside
+pub mod Kept
+pub mod Laws

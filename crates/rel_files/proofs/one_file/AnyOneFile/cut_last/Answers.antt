@@ -1,0 +1,30 @@
+use Rattle.std.proofs.Common.{◌≡◌, ℕ, ◌-◌, ◌*◌, false, ap, ◌∙◌}
+use Rattle.lsn_core.specs.Names.{fork_path_bytes}
+use Rattle.rel_files.specs.Inside.{last_file}
+use Rattle.rel_files.proofs.FileCalls.{file_cut, cut_left}
+use Rattle.rel_files.proofs.ForkFrames.{cut_changes}
+use Rattle.rel_files.proofs.one_file.AnyOneFile.cut_last.Goals as goal
+
+place : (left relseg seg a b d : ℕ) → a ≡ seg → b ≡ relseg → d ≡ left → (d - a * b) * 8192 ≡ (left - seg * relseg) * 8192
+place left relseg seg a b d e f h = ap (λ (n : ℕ). (n - a * b) * 8192) h ∙ ap (λ (n : ℕ). (left - n * b) * 8192) e ∙ ap (λ (n : ℕ). (left - seg * n) * 8192) f
+
+pub returns-clause-cut : goal.returns-clause-cut
+returns-clause-cut g c =
+    let relseg = c.args.relseg in
+    let is : c.as_bytes.result.now ≡ fork_path_bytes c.args.fork.now (last_file relseg c.args.left) false = c.as_bytes.ensures ∙ c.in_ok-path.ensures.path ∙ ap (λ (n : ℕ). fork_path_bytes c.args.fork.now n false) c.last_file-seg.ensures in
+    file_cut relseg (g.V.Vault.files c.args.self.now) (g.V.Vault.files c.cut.new.self) c.args.fork.now c.args.left ((c.from-3.result - c.from.result * c.from-2.result) * 8192) c.as_bytes.result.now c.cut.result c.blocks-2.ensures.range.least
+    is (place c.args.left relseg (last_file relseg c.args.left) c.from.result c.from-2.result c.from-3.result (c.from.ensures ∙ c.last_file-seg.ensures) (c.from-2.ensures ∙ c.blocks-2.ensures.value) c.from-3.ensures) c.cut.ensures.cut
+
+pub returns-clause-torn : goal.returns-clause-torn
+returns-clause-torn g c =
+    let relseg = c.args.relseg in
+    let is : c.as_bytes.result.now ≡ fork_path_bytes c.args.fork.now (last_file relseg c.args.left) false = c.as_bytes.ensures ∙ c.in_ok-path.ensures.path ∙ ap (λ (n : ℕ). fork_path_bytes c.args.fork.now n false) c.last_file-seg.ensures in
+    cut_left relseg (g.V.Vault.files c.args.self.now) (g.V.Vault.files c.cut.new.self) c.args.fork.now c.args.left ((c.from-3.result - c.from.result * c.from-2.result) * 8192) c.as_bytes.result.now c.cut.result c.blocks-2.ensures.range.least
+    is (place c.args.left relseg (last_file relseg c.args.left) c.from.result c.from-2.result c.from-3.result (c.from.ensures ∙ c.last_file-seg.ensures) (c.from-2.ensures ∙ c.blocks-2.ensures.value) c.from-3.ensures) c.cut.ensures.memory c.cut.ensures.failed
+
+pub returns-clause-frame : goal.returns-clause-frame
+returns-clause-frame g c =
+    let e = c.cut.ensures in
+    cut_changes g.V.Vault c.as_bytes.result.now ((c.from-3.result - c.from.result * c.from-2.result) * 8192) c.args.self.now c.cut.new.self c.cut.result
+    (record { fork = c.args.fork.now; seg = c.last_file-seg.result; named = c.segment_path.ensures.named; path_is = c.as_bytes.ensures ∙ c.in_ok-path.ensures.path })
+    e.cut e.memory e.failed e.noted e.tried e.cause.later

@@ -1,0 +1,31 @@
+use Rattle.std.proofs.Common.{◌+◌, ◌*◌, sym, subst, ◌∙◌, arith}
+use Rattle.lsn_core.specs.Store.{Store}
+use Rattle.rel_files.specs.Inside.{Held}
+use Rattle.rel_files.proofs.ForkCuts.{uncut}
+use Rattle.rel_files.proofs.FileCalls.{file_removed, removal_left, err_is}
+use Rattle.rel_files.proofs.ForkFrames.{removal_changes}
+use Rattle.rel_files.proofs.one_file.AnyOneFile.remove_last.Goals as goal
+
+pub returns-in_err-path-clause-torn : goal.returns-in_err-path-clause-torn
+returns-in_err-path-clause-torn g c =
+    let relseg = c.args.relseg in
+    let seg = c.args.seg in
+    let fork = c.args.fork.now in
+    err_is _ c.from_residual.result (λ s held le. ((seg + 1) * relseg, (omega arith, subst (λ (t : Store). Held g.V.Vault relseg c.args.self.now t) (sym (uncut s fork ((seg + 1) * relseg) le)) held)))
+
+pub returns-clause-gone : goal.returns-clause-gone
+returns-clause-gone g c =
+    file_removed c.args.relseg (g.V.Vault.files c.args.self.now) (g.V.Vault.files c.remove.new.self) c.args.fork.now c.args.seg c.as_bytes.result.now c.remove.result c.blocks-some.ensures.range.least
+    c.segment_path.ensures.named (c.as_bytes.ensures ∙ c.in_ok-path.ensures.path) c.requires c.remove.ensures.removed
+
+pub returns-clause-torn : goal.returns-clause-torn
+returns-clause-torn g c =
+    removal_left c.args.relseg (g.V.Vault.files c.args.self.now) (g.V.Vault.files c.remove.new.self) c.args.fork.now c.args.seg c.as_bytes.result.now c.remove.result c.blocks-some.ensures.range.least
+    c.segment_path.ensures.named (c.as_bytes.ensures ∙ c.in_ok-path.ensures.path) c.requires c.remove.ensures.memory c.remove.ensures.failed
+
+pub returns-clause-frame : goal.returns-clause-frame
+returns-clause-frame g c =
+    let e = c.remove.ensures in
+    removal_changes g.V.Vault c.as_bytes.result.now c.args.self.now c.remove.new.self c.remove.result
+    (record { fork = c.args.fork.now; seg = c.args.seg; named = c.segment_path.ensures.named; path_is = c.as_bytes.ensures ∙ c.in_ok-path.ensures.path })
+    e.removed e.memory e.failed e.noted e.tried e.cause.later
