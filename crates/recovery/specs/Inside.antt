@@ -1,18 +1,29 @@
 -- What the crate's private functions answer: no public contract cites these.
-use Rattle.std.specs.Prelude.{◌≡◌, ℕ, ◌<◌, ◌≤◌, ◌⊎◌, Option, Some, None, Result, Ok, Err}
+use Rattle.std.specs.Prelude.{◌≡◌, ℕ, ◌+◌, ◌-◌, ◌<◌, ◌≤◌, ◌⊎◌, List, map, length, Option, Some, None, Result, Ok, Err, IfSome}
+use Rattle.std.specs.FinMap.{len}
 use Rattle.lsn_core.specs.Store.{Store}
 use Rattle.lsn_core.specs.Tip.{Tip}
+use Rattle.lsn_core.specs.declared.ids.ForkId.{ForkId}
 use Rattle.lsn_core.specs.declared.lsn.Lsn.{Lsn}
 use Rattle.vault.specs.declared.area.Vault.{Ghosts}
 use Rattle.wal_record.specs.declared.record.Record.{Record}
+use Rattle.wal_record.specs.declared.record.BlockRef.{BlockRef}
+use Rattle.wal_record.specs.declared.record.Kind.{Kind}
+use Rattle.wal_record.specs.declared.record.Kind.TheVariants as kind
+use Rattle.wal_record.specs.Spelling.{blocks_of}
 use Rattle.wal_reader.specs.declared.fault.WalFault.{WalFault}
 use Rattle.wal_reader.specs.Cursor.{Cursor, Steps}
-use Rattle.history.specs.Apply.{apply}
-use Rattle.history.specs.Whole.{entry_of}
+use Rattle.history.specs.Apply.{main_fork}
+use Rattle.history.specs.Entry.{Change}
+use Rattle.history.specs.Pages.{page_count}
+use Rattle.history.specs.Redo.{redo}
+use Rattle.history.specs.Whole.{item_of, act_with}
+use Rattle.generic_redo.specs.Redo.{block_ref}
 use Rattle.recovery.specs.declared.fault.RecoveryFault.{RecoveryFault}
 use Rattle.recovery.specs.declared.fault.RecoveryFault.TheVariants.{Damaged, Short, BadDelta, SettingsDamaged, Timeline, NotInit, Failed, NoMemory}
-use Rattle.recovery.specs.declared.replaying.ReadWal.{ReadWal}
+use Rattle.recovery.specs.declared.redo.Tally.{Tally}
 use Rattle.recovery.specs.declared.replaying.Replayed.{Replayed}
+use Rattle.recovery.specs.declared.replaying.Progress.{Progress}
 use Rattle.recovery.specs.Replay.{replayed_to}
 use Rattle.recovery.specs.Causes.{fault_of}
 
@@ -40,41 +51,119 @@ StepsTo g mib upto c new old now result =
     × ((r : Result (Option Record) WalFault) ×
     (Steps g c new old now r × (result ≡ as_step mib r))))
 
--- one more entry: it was applied to the store, or is the first one that can't be, or stands behind
--- that one
-abbrev pub AddsTo : Option Lsn → Record → Store → Replayed → Type 0
-AddsTo (Some place) r store new = new.bad ≡ Some place
-AddsTo None r store new =
-    ((new.bad ≡ None) × (apply store (entry_of r) ≡ Some new.store))
-    ⊎ ((new.bad ≡ Some r.start) × (apply store (entry_of r) ≡ None))
+-- a WAL that was read up to a tip wasn't read up to its target where it ends before that
+abbrev pub EndAnswer : Option Lsn → Tip → Result Tip RecoveryFault → Type 0
+EndAnswer upto tip (Ok last) = (last ≡ tip) × (replayed_to upto tip ≤ tip.end)
+EndAnswer upto tip (Err (Damaged mib damage)) = ⊥
+EndAnswer upto tip (Err (Short end target)) =
+    (upto ≡ Some target) × ((end.0 ≡ tip.end) × (tip.end < target.0))
+EndAnswer upto tip (Err (BadDelta place)) = ⊥
+EndAnswer upto tip (Err SettingsDamaged) = ⊥
+EndAnswer upto tip (Err (Timeline name)) = ⊥
+EndAnswer upto tip (Err NotInit) = ⊥
+EndAnswer upto tip (Err Failed) = ⊥
+EndAnswer upto tip (Err NoMemory) = ⊥
 
-abbrev pub Adds : Record → Replayed → Replayed → Type 0
-Adds r old new = (new.end ≡ r.end) × AddsTo old.bad r old.store new
+-- ---- one entry redone
+
+-- what a fork of so many blocks counts, or a missing one
+abbrev pub fork_tally : Option ℕ → Tally
+fork_tally None = record { forks = 0; pages = 0 }
+fork_tally (Some blocks) = record { forks = 1; pages = blocks }
+
+-- a fork counts this now, in place of that before
+pub record IsRecounted (before now old new : Tally) : Type 0 where
+  pub forks : new.forks ≡ old.forks + now.forks - before.forks
+  pub pages : new.pages ≡ old.pages + now.pages - before.pages
+
+-- as many forks and pages as a store has
+pub record IsTallyOf (tally : Tally) (store : Store) : Type 0 where
+  pub forks : tally.forks ≡ len store
+  pub pages : tally.pages ≡ page_count store
+
+-- a change of a store can be made, and what it leaves is shown, and counted where the store was
+pub record IsRedone
+    (shows : Store → Type 0) (old new : Tally) (store : Store) (changed : Option Store)
+    : Type 0 where
+  pub next : Store
+  pub made : changed ≡ Some next
+  pub shown : shows next
+  pub counted : IsTallyOf old store → IsTallyOf new next
+
+-- so it is for each store that is shown before
+abbrev pub RedoesCounted : {P : Type 0} → (P → Store → Type 0) → P → P → Tally → Tally
+    → (Store → Option Store) → Type 0
+RedoesCounted shows before behind old new changed =
+    (s : Store) → shows before s → IsRedone (shows behind) old new s (changed s)
+
+-- for none that is shown before the change can be made
+abbrev pub RedoesNone : {P : Type 0} → (P → Store → Type 0) → P → (Store → Option Store) → Type 0
+RedoesNone shows before changed = (s : Store) → shows before s → changed s ≡ None
+
+-- an entry has a block reference of this number, of this fork
+pub record IsRefOf (r : Record) (i : ℕ) (fork : ForkId) : Type 0 where
+  pub there : i < length (blocks_of r.kind)
+  pub fork_is : IfSome (block_ref r i) (λ block. block.at.fork ≡ fork)
+
+-- an entry changes these blocks in turn
+pub record IsChange (r : Record) (blocks : List BlockRef) : Type 0 where
+  pub blocks_are : blocks ≡ blocks_of r.kind
+  pub act : act_with (map item_of) r.kind ≡ Change (map item_of blocks)
+
+-- an entry creates this fork or cuts it
+abbrev pub IsOfFork : Kind → ForkId → Type 0
+IsOfFork (kind.Shutdown redo) fork = ⊥
+IsOfFork (kind.Online redo) fork = ⊥
+IsOfFork (kind.RedoMark n) fork = ⊥
+IsOfFork kind.NoOp fork = ⊥
+IsOfFork (kind.BackupEnd start) fork = ⊥
+IsOfFork (kind.Images blocks) fork = ⊥
+IsOfFork (kind.Generic blocks) fork = ⊥
+IsOfFork (kind.Create made) fork = made ≡ fork
+IsOfFork (kind.Truncate rel count flags) fork = main_fork rel ≡ fork
+
+-- ---- entries replayed
+
+-- one more entry: it was redone, or is the first one that can't be, or stands behind that one
+abbrev pub AddsTo : {P : Type 0} → (P → Store → Type 0) → Option Lsn → Record → P → P
+    → Progress → Progress → Type 0
+AddsTo shows (Some place) r before behind old new = new.bad ≡ Some place
+AddsTo shows None r before behind old new =
+    ((new.bad ≡ None) × RedoesCounted shows before behind old.tally new.tally (λ s. redo s r))
+    ⊎ ((new.bad ≡ Some r.start) × RedoesNone shows before (λ s. redo s r))
+
+abbrev pub Adds : {P : Type 0} → (P → Store → Type 0) → Record → P → P
+    → Progress → Progress → Type 0
+Adds shows r before behind old new =
+    (new.end ≡ r.end) × AddsTo shows old.bad r before behind old new
 
 -- one more entry was read
-abbrev pub Takes : Option Lsn → Record → Replayed → Replayed → Type 0
-Takes upto r old new =
-    (IsTaken upto r.end.0 × Adds r old new) ⊎ ((IsTaken upto r.end.0 → ⊥) × (new ≡ old))
+abbrev pub Takes : {P : Type 0} → (P → Store → Type 0) → Option Lsn → Record → P → P
+    → Progress → Progress → Type 0
+Takes shows upto r before behind old new =
+    (IsTaken upto r.end.0 × Adds shows r before behind old new)
+    ⊎ ((IsTaken upto r.end.0 → ⊥) × ((new ≡ old) × (behind ≡ before)))
 
 -- what was replayed of a WAL that was read up to a tip
-pub record IsFinished (upto : Option Lsn) (last : Tip) (replayed : Replayed) (read : ReadWal)
+pub record IsFinished (upto : Option Lsn) (last : Tip) (progress : Progress) (replayed : Replayed)
     : Type 0 where
   pub reached : replayed_to upto last ≤ last.end
-  pub good : replayed.bad ≡ None
-  pub end : read.end ≡ replayed.end
-  pub tip : read.tip ≡ last
-  pub store : read.store ≡ replayed.store
+  pub good : progress.bad ≡ None
+  pub end : replayed.end ≡ progress.end
+  pub tip : replayed.tip ≡ last
+  pub forks : replayed.forks ≡ progress.tally.forks
+  pub pages : replayed.pages ≡ progress.tally.pages
 
 abbrev pub FinishAnswer :
-    Option Lsn → Tip → Replayed → Result ReadWal RecoveryFault → Type 0
-FinishAnswer upto tip replayed (Ok read) = IsFinished upto tip replayed read
-FinishAnswer upto tip replayed (Err (Damaged mib damage)) = ⊥
-FinishAnswer upto tip replayed (Err (Short end target)) =
+    Option Lsn → Tip → Progress → Result Replayed RecoveryFault → Type 0
+FinishAnswer upto tip progress (Ok replayed) = IsFinished upto tip progress replayed
+FinishAnswer upto tip progress (Err (Damaged mib damage)) = ⊥
+FinishAnswer upto tip progress (Err (Short end target)) =
     (upto ≡ Some target) × ((end.0 ≡ tip.end) × (tip.end < target.0))
-FinishAnswer upto tip replayed (Err (BadDelta place)) =
-    (replayed_to upto tip ≤ tip.end) × (replayed.bad ≡ Some place)
-FinishAnswer upto tip replayed (Err SettingsDamaged) = ⊥
-FinishAnswer upto tip replayed (Err (Timeline name)) = ⊥
-FinishAnswer upto tip replayed (Err NotInit) = ⊥
-FinishAnswer upto tip replayed (Err Failed) = ⊥
-FinishAnswer upto tip replayed (Err NoMemory) = ⊥
+FinishAnswer upto tip progress (Err (BadDelta place)) =
+    (replayed_to upto tip ≤ tip.end) × (progress.bad ≡ Some place)
+FinishAnswer upto tip progress (Err SettingsDamaged) = ⊥
+FinishAnswer upto tip progress (Err (Timeline name)) = ⊥
+FinishAnswer upto tip progress (Err NotInit) = ⊥
+FinishAnswer upto tip progress (Err Failed) = ⊥
+FinishAnswer upto tip progress (Err NoMemory) = ⊥

@@ -2,6 +2,7 @@
 
 ghost use Rattle.std.specs.Prelude.{◌≡◌};
 ghost use Rattle.recovery.specs.declared.fault.RecoveryFault.TheVariants as fault;
+ghost use Rattle.recovery.specs.declared.fault.ReplayFault.TheVariants.{Wal, Out};
 ghost use Rattle.recovery.specs.Causes.{fault_of, area_fault_of};
 
 use lsn_core::{AreaFault, Lsn, NoMemory, SegSize};
@@ -60,5 +61,38 @@ impl From<AreaFault> for RecoveryFault {
             AreaFault::Failed => RecoveryFault::Failed,
             AreaFault::NoMemory => RecoveryFault::NoMemory,
         }
+    }
+}
+
+/// Why a WAL is not replayed into pages.
+#[derive(Clone, Copy, Debug, PartialEq, Eq)]
+pub enum ReplayFault {
+    /// The WAL is not replayed, or memory ran out.
+    Wal(RecoveryFault),
+    /// A call on the pages failed.
+    Out(AreaFault),
+}
+
+impl From<RecoveryFault> for ReplayFault {
+    ghost from_gives = { λ why e. e ≡ Wal why };
+
+    fn from(fault: RecoveryFault) -> Self {
+        ReplayFault::Wal(fault)
+    }
+}
+
+impl From<AreaFault> for ReplayFault {
+    ghost from_gives = { λ why e. e ≡ Out why };
+
+    fn from(fault: AreaFault) -> Self {
+        ReplayFault::Out(fault)
+    }
+}
+
+impl From<NoMemory> for ReplayFault {
+    ghost from_gives = { λ _ e. e ≡ Wal fault.NoMemory };
+
+    fn from(_: NoMemory) -> Self {
+        ReplayFault::Wal(RecoveryFault::NoMemory)
     }
 }

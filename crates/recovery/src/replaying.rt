@@ -1,20 +1,35 @@
-//! Replay of a WAL from its beginning into a store in memory.
+//! Replay of a WAL from its beginning into pages.
 
-ghost use Rattle.std.specs.Prelude.{◌≡◌, ◌≤◌, ◌<◌, ◌↔◌, IsTrue, None, IfOk, IfErr, OnOk, OnErr};
-ghost use Rattle.std.specs.FinMap.{empty};
+ghost use Rattle.std.specs.Prelude.{◌≡◌, ◌≤◌, ◌<◌, ◌↔◌, IsTrue, None, OnOk};
+ghost use Rattle.lsn_core.specs.Causes.{HasCause};
 ghost use Rattle.lsn_core.specs.Segment.{segment_bytes};
 ghost use Rattle.vault.specs.Frame.{OnlyReads};
 ghost use Rattle.history.specs.Applied.{IsApplicable};
-ghost use Rattle.recovery.specs.Causes.{Replays, SettingsAnswer, WalAnswer};
-ghost use Rattle.recovery.specs.Inside.{IsAtTarget, IsTaken, StepsTo, Adds, Takes, FinishAnswer};
+ghost use Rattle.recovery.specs.Causes.{Replays};
+ghost use Rattle.recovery.specs.Replayed.{ReplaysInto};
+ghost use Rattle.recovery.specs.Inside.{IsTaken, Adds, Takes, FinishAnswer};
 
-use crate::fault::{RecoveryFault, fault_of};
-use history::{ApplyFault, PageMap, apply};
-use lsn_core::{Lsn, NoMemory, SegSize, Settings, WalTip};
+use crate::fault::{RecoveryFault, ReplayFault};
+use crate::reading::{next_to, whole_to};
+use crate::redo::{Tally, redo_entry};
+use generic_redo::RedoFault;
+use history::PageMap;
+use lsn_core::{AreaFault, Lsn, Pages, SegSize, Settings, WalTip};
 use std::alloc::Global;
 use vault::Vault;
-use wal_reader::{WalCursor, read_settings};
+use wal_reader::WalCursor;
 use wal_record::Record;
+
+/// What a replay came to: where the last entry ends that ends at the target or before it, or where
+/// the WAL begins if there is none; how many forks and pages there are then; and the tip behind all
+/// that was read.
+#[derive(Clone, Copy)]
+pub struct Replayed {
+    pub end: Lsn,
+    pub forks: u64,
+    pub pages: u64,
+    pub tip: WalTip,
+}
 
 /// A WAL that was read up to a target, or to its end: where the last entry ends that ends at the
 /// target or before it, or where the WAL begins if there is none; the store that these entries make
@@ -26,23 +41,13 @@ pub struct ReadWal {
     pub store: PageMap,
 }
 
-/// What was replayed so far: where the last of the entries ends, the store that they make, and the
-/// start of the first one that can't be applied.
-#[derive(Drop)]
-pub struct Replayed {
+/// What was replayed so far: where the last of the entries ends, how many forks and pages there
+/// are, and the start of the first entry that can't be redone.
+#[derive(Clone, Copy)]
+pub struct Progress {
     pub end: Lsn,
-    pub store: PageMap,
+    pub tally: Tally,
     pub bad: Option<Lsn>,
-}
-
-/// Whether no more is read of a WAL that was read up to a place.
-fn is_reached(upto: Option<Lsn>, end: Lsn) -> bool
-    ensures { IsTrue result ↔ IsAtTarget upto end.0 }
-{
-    match upto {
-        Some(target) => target.0 <= end.0,
-        None => false,
-    }
 }
 
 /// Whether an entry that ends there is replayed.
@@ -55,91 +60,113 @@ fn is_taken(upto: Option<Lsn>, end: Lsn) -> bool
     }
 }
 
-impl Replayed {
+impl Progress {
     /// Nothing yet, of a WAL with segments of that size.
-    fn new(alloc: Global, size: SegSize) -> Replayed
+    fn new(size: SegSize) -> Progress
         ensures end { result.end.0 ≡ segment_bytes size }
-        ensures store { result.store ≡ empty }
+        ensures forks { result.tally.forks ≡ 0 }
+        ensures pages { result.tally.pages ≡ 0 }
         ensures bad { result.bad ≡ None }
     {
-        Replayed {
+        Progress {
             end: Lsn(size.bytes()),
-            store: PageMap::new(alloc),
+            tally: Tally { forks: 0, pages: 0 },
             bad: None,
         }
     }
 
-    /// Applies an entry, unless one before it couldn't be applied.
-    fn add(&mut self, entry: &Record) -> Result<(), NoMemory>
-        requires { IsApplicable entry.now.kind }
-        ensures { OnOk result (Adds entry.now self.old self.new) }
+    /// Redoes an entry, unless one before it couldn't be redone.
+    fn add<P: Pages>(&mut self, target: &mut P, entry: &Record) -> Result<(), AreaFault>
+        requires applicable { IsApplicable entry.now.kind }
+        requires end { 0 < entry.now.end.0 }
+        ensures adds { OnOk result
+            (Adds P.shows entry.now target.old target.new self.old self.new) }
+        ensures kept { P.keeps target.old target.new }
+        ensures cause { HasCause (P.faults target.old) (P.faults target.new) result }
     {
-        if self.bad.is_none() {
-            match apply(&mut self.store, entry) {
-                Ok(()) => {}
-                Err(ApplyFault::BadDelta) => self.bad = Some(entry.start),
-                Err(ApplyFault::NoMemory) => return Err(NoMemory),
-            }
-        }
         self.end = entry.end;
-        Ok(())
+        if self.bad.is_some() {
+            return Ok(());
+        }
+        match redo_entry(target, entry, &mut self.tally) {
+            Ok(()) => Ok(()),
+            Err(RedoFault::BadDelta) => {
+                self.bad = Some(entry.start);
+                Ok(())
+            }
+            Err(RedoFault::Failed) => Err(AreaFault::Failed),
+            Err(RedoFault::NoMemory) => Err(AreaFault::NoMemory),
+        }
     }
 
     /// Replays an entry that was read, where it ends at the target or before it.
-    fn take(&mut self, upto: Option<Lsn>, entry: &Record) -> Result<(), NoMemory>
-        requires { IsApplicable entry.now.kind }
-        ensures { OnOk result (Takes upto entry.now self.old self.new) }
+    fn take<P: Pages>(
+        &mut self,
+        target: &mut P,
+        upto: Option<Lsn>,
+        entry: &Record,
+    ) -> Result<(), AreaFault>
+        requires applicable { IsApplicable entry.now.kind }
+        requires end { 0 < entry.now.end.0 }
+        ensures takes { OnOk result
+            (Takes P.shows upto entry.now target.old target.new self.old self.new) }
+        ensures kept { P.keeps target.old target.new }
+        ensures cause { HasCause (P.faults target.old) (P.faults target.new) result }
     {
         if is_taken(upto, entry.end) {
-            return self.add(entry);
+            return self.add(target, entry);
         }
         Ok(())
     }
 
     /// What was replayed of a WAL that was read up to a tip. The archive's end before the target
-    /// comes before an entry that can't be applied.
-    fn finish(self, upto: Option<Lsn>, tip: WalTip) -> Result<ReadWal, RecoveryFault>
+    /// comes before an entry that can't be redone.
+    fn finish(self, upto: Option<Lsn>, tip: WalTip) -> Result<Replayed, RecoveryFault>
         ensures { FinishAnswer upto tip self result }
     {
-        if let Some(target) = upto {
-            if tip.end.0 < target.0 {
-                return Err(RecoveryFault::Short(tip.end, target));
-            }
-        }
+        let tip = whole_to(upto, tip)?;
         if let Some(place) = self.bad {
             return Err(RecoveryFault::BadDelta(place));
         }
-        let (end, store) = (self.end, self.store);
-        Ok(ReadWal { end, tip, store })
+        let (end, forks, pages) = (self.end, self.tally.forks, self.tally.pages);
+        Ok(Replayed {
+            end,
+            forks,
+            pages,
+            tip,
+        })
     }
 }
 
-/// The next entry of a WAL that is read up to a target; none once an end at or past it is reached.
-fn next_to<V: Vault>(
+/// Reads the WAL of these settings from its first entry up to the first end at or past the target,
+/// or to its end where no target is given, and redoes over the pages the entries that end at the
+/// target or before it. The whole of it is read before it is told that an entry can't be redone: a
+/// damaged archive, and one that ends before the target, come first; the pages then have the
+/// entries before that one. It holds one entry of the WAL.
+pub fn replay<V: Vault, P: Pages>(
     alloc: Global,
     wal: &mut V,
-    cursor: &mut WalCursor,
-    size: SegSize,
+    settings: &Settings,
     upto: Option<Lsn>,
-) -> Result<Option<Record>, RecoveryFault>
-    ensures answer { StepsTo V.Vault size upto cursor.old cursor.new wal.old wal.new result }
+    target: &mut P,
+) -> Result<Replayed, ReplayFault>
+    ensures answer { ReplaysInto V.Vault P.Pages settings.now upto wal.old wal.new target.old
+        target.new result }
     ensures reads { OnlyReads V.Vault wal.old wal.new }
+    ensures kept { P.keeps target.old target.new }
+    ensures later { P.faults target.old ≤ P.faults target.new }
 {
-    if is_reached(upto, cursor.tip().end) {
-        return Ok(None);
+    let size = settings.segment();
+    let mut cursor = WalCursor::first(settings);
+    let mut progress = Progress::new(size);
+    while let Some(record) = next_to(alloc, wal, &mut cursor, size, upto)? {
+        progress.take(target, upto, &record)?;
     }
-    match cursor.next(alloc, wal) {
-        Ok(record) => Ok(record),
-        Err(fault) => Err(fault_of(size, fault)),
-    }
+    Ok(progress.finish(upto, cursor.tip())?)
 }
 
-/// Reads the WAL of these settings from its beginning up to the first end at or past the target, or
-/// to its end where no target is given, and applies to an empty store in memory the entries that
-/// end at the target or before it. The whole of it is read before it is told that an entry can't be
-/// applied: a damaged archive, and one that ends before the target, come first. It holds the
-/// store's pages and one entry of the WAL.
-pub fn replay<V: Vault>(
+/// The same into an empty store in memory, which is answered.
+pub fn replay_in_memory<V: Vault>(
     alloc: Global,
     wal: &mut V,
     settings: &Settings,
@@ -148,39 +175,15 @@ pub fn replay<V: Vault>(
     ensures answer { Replays V.Vault settings.now upto wal.old wal.new result }
     ensures reads { OnlyReads V.Vault wal.old wal.new }
 {
-    let size = settings.segment();
-    let mut cursor = WalCursor::first(settings);
-    let mut replayed = Replayed::new(alloc, size);
-    while let Some(record) = next_to(alloc, wal, &mut cursor, size, upto)? {
-        replayed.take(upto, &record)?;
+    let mut store = PageMap::new(alloc);
+    match replay(alloc, wal, settings, upto, &mut store) {
+        Ok(replayed) => Ok(ReadWal {
+            end: replayed.end,
+            tip: replayed.tip,
+            store,
+        }),
+        Err(ReplayFault::Wal(fault)) => Err(fault),
+        // a store in memory fails where memory runs out, and nowhere else
+        Err(ReplayFault::Out(_)) => Err(RecoveryFault::NoMemory),
     }
-    replayed.finish(upto, cursor.tip())
-}
-
-/// The settings of the WAL.
-pub fn settings_of<V: Vault>(alloc: Global, wal: &mut V) -> Result<Settings, RecoveryFault>
-    ensures answer { SettingsAnswer (V.files wal.old) (V.faults wal.old) (V.faults wal.new) result }
-    ensures reads { OnlyReads V.Vault wal.old wal.new }
-{
-    match read_settings(alloc, wal) {
-        Ok(settings) => Ok(settings),
-        Err(fault) => Err(fault_of(SegSize::standard(), fault)),
-    }
-}
-
-/// The settings of the WAL, and its entries up to the target applied to an empty store in memory.
-/// Refused where there is no WAL, where its settings are damaged, where a name is of another
-/// timeline, and then by the archive, in this order. It holds the store's pages and one entry of
-/// the WAL.
-pub fn read_wal<V: Vault>(
-    alloc: Global,
-    wal: &mut V,
-    upto: Option<Lsn>,
-) -> Result<(Settings, ReadWal), RecoveryFault>
-    ensures answer { WalAnswer upto (V.files wal.old) (V.faults wal.old) (V.faults wal.new) result }
-    ensures reads { OnlyReads V.Vault wal.old wal.new }
-{
-    let settings = settings_of(alloc, wal)?;
-    let read = replay(alloc, wal, &settings, upto)?;
-    Ok((settings, read))
 }

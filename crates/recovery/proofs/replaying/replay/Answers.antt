@@ -1,32 +1,53 @@
--- Each answer of the cursor carries on what was read so far.
-use Rattle.recovery.proofs.Stepping.{given_kept, given_applies, next_kept, end_kept}
+-- Each entry that the cursor gives carries on what was replayed so far.
+use Rattle.std.proofs.Common.{[], Err, sym, ap, subst, ◌∙◌, arith}
+use Rattle.std.proofs.lemmas.Result.{err_from_is_err_and}
+use Rattle.lsn_core.specs.Segment.{IsSegmentMib, segment_bytes}
+use Rattle.recovery.specs.declared.fault.ReplayFault.{ReplayFault}
+use Rattle.recovery.specs.Replayed.{ReplaysInto}
+use Rattle.recovery.proofs.Stepping.{nothing_read, all_read}
+use Rattle.recovery.proofs.Replays.{none_replayed, next_kept, replayed_at, replay_refused}
 use Rattle.recovery.proofs.replaying.replay.Goals as goal
 
-pub take-requires : goal.take-requires
-take-requires g c =
-    given_applies (given_kept g.V.Vault c.args.settings.now c.args.upto c.args.wal.now c.loop-replayed.wal c.next_to.new.wal
-    c.loop-replayed.cursor c.next_to.new.cursor c.loop-replayed.replayed c.in-Some.record c.loop-replayed.invariant
-    (rw (← c.segment-size.ensures.value, ← c.in-Some.is) c.in_ok-record.ensures.answer))
+pub loop-record-init : goal.loop-record-init
+loop-record-init g c = record {
+  entries = [];
+  read = nothing_read g.V.Vault c.args.settings.now c.args.upto c.args.wal.now c.first-cursor.result (subst IsSegmentMib c.segment-size.ensures.value c.segment-size.ensures.range) c.first-cursor.ensures;
+  replayed = none_replayed g.P.Pages.shows c.args.settings.now c.args.upto c.args.target.now c.new-progress.result (c.new-progress.ensures.end ∙ ap segment_bytes c.segment-size.ensures.value) c.new-progress.ensures.forks c.new-progress.ensures.pages c.new-progress.ensures.bad;
+  kept = g.met.P.Pages.keeps_refl c.args.target.now;
+  later = omega arith;
+}
 
-pub loop-replayed-preserved-in_ok-take : goal.loop-replayed-preserved-in_ok-take
-loop-replayed-preserved-in_ok-take g c =
-    next_kept g.V.Vault c.args.settings.now c.args.upto c.args.wal.now c.loop-replayed.wal c.next_to.new.wal
-    c.loop-replayed.cursor c.next_to.new.cursor c.loop-replayed.replayed c.take.new.self c.in-Some.record c.loop-replayed.invariant
-    (rw (← c.segment-size.ensures.value, ← c.in-Some.is) c.in_ok-record.ensures.answer) c.in_ok-record.ensures.reads c.in_ok-take.ensures
+pub loop-record-preserved-in_ok-take : goal.loop-record-preserved-in_ok-take
+loop-record-preserved-in_ok-take g c =
+    next_kept g.V.Vault g.P.Pages c.args.settings.now c.args.upto c.args.wal.now c.loop-record.wal c.next_to.new.wal c.args.target.now c.loop-record.target c.take.new.target c.loop-record.cursor c.next_to.new.cursor
+    c.loop-record.progress c.take.new.self c.in-Some.record c.loop-record.invariant (rw (← c.segment-size.ensures.value, ← c.in-Some.is) c.in_ok-record.ensures.answer) c.in_ok-record.ensures.reads c.in_ok-take.ensures.takes
+    (g.met.P.Pages.keeps_trans c.args.target.now c.loop-record.target c.take.new.target c.loop-record.invariant.kept c.in_ok-take.ensures.kept) c.in_ok-take.ensures.cause.later
 
-pub loop-replayed-preserved-in_ok-take-2 : goal.loop-replayed-preserved-in_ok-take-2
-loop-replayed-preserved-in_ok-take-2 g c =
-    next_kept g.V.Vault c.args.settings.now c.args.upto c.args.wal.now c.loop-replayed.wal c.next_to.new.wal
-    c.loop-replayed.cursor c.next_to.new.cursor c.loop-replayed.replayed c.take.new.self c.in-Some.record c.loop-replayed.invariant
-    (rw (← c.segment-size.ensures.value, ← c.in-Some.is) c.in_ok-record.ensures.answer) c.in_ok-record.ensures.reads c.in_ok-take.ensures
+pub loop-record-preserved-in_ok-take-2 : goal.loop-record-preserved-in_ok-take-2
+loop-record-preserved-in_ok-take-2 g c =
+    next_kept g.V.Vault g.P.Pages c.args.settings.now c.args.upto c.args.wal.now c.loop-record.wal c.next_to.new.wal c.args.target.now c.loop-record.target c.take.new.target c.loop-record.cursor c.next_to.new.cursor
+    c.loop-record.progress c.take.new.self c.in-Some.record c.loop-record.invariant (rw (← c.segment-size.ensures.value, ← c.in-Some.is) c.in_ok-record.ensures.answer) c.in_ok-record.ensures.reads c.in_ok-take.ensures.takes
+    (g.met.P.Pages.keeps_trans c.args.target.now c.loop-record.target c.take.new.target c.loop-record.invariant.kept c.in_ok-take.ensures.kept) c.in_ok-take.ensures.cause.later
 
-pub loop-replayed-preserved : goal.loop-replayed-preserved
-loop-replayed-preserved g c =
-    next_kept g.V.Vault c.args.settings.now c.args.upto c.args.wal.now c.loop-replayed.wal c.next_to.new.wal
-    c.loop-replayed.cursor c.next_to.new.cursor c.loop-replayed.replayed c.take.new.self c.in-Some.record c.loop-replayed.invariant
-    (rw (← c.segment-size.ensures.value, ← c.in-Some.is) c.in_ok-record.ensures.answer) c.in_ok-record.ensures.reads c.in_ok-take.ensures
+pub loop-record-preserved : goal.loop-record-preserved
+loop-record-preserved g c =
+    next_kept g.V.Vault g.P.Pages c.args.settings.now c.args.upto c.args.wal.now c.loop-record.wal c.next_to.new.wal c.args.target.now c.loop-record.target c.take.new.target c.loop-record.cursor c.next_to.new.cursor
+    c.loop-record.progress c.take.new.self c.in-Some.record c.loop-record.invariant (rw (← c.segment-size.ensures.value, ← c.in-Some.is) c.in_ok-record.ensures.answer) c.in_ok-record.ensures.reads c.in_ok-take.ensures.takes
+    (g.met.P.Pages.keeps_trans c.args.target.now c.loop-record.target c.take.new.target c.loop-record.invariant.kept c.in_ok-take.ensures.kept) c.in_ok-take.ensures.cause.later
+
+pub returns-in_err-finish-clause-answer : goal.returns-in_err-finish-clause-answer
+returns-in_err-finish-clause-answer g c =
+    let gone = err_from_is_err_and c.from_residual-in_err-finish.result c.from_residual-in_err-finish.ensures.1 in
+    subst (ReplaysInto g.V.Vault g.P.Pages c.args.settings.now c.args.upto c.args.wal.now c.next_to.new.wal c.args.target.now c.loop-record.target) (sym gone.1)
+    (subst (λ (f : ReplayFault). ReplaysInto g.V.Vault g.P.Pages c.args.settings.now c.args.upto c.args.wal.now c.next_to.new.wal c.args.target.now c.loop-record.target (Err f)) (sym gone.2)
+    (replay_refused g.V.Vault g.P.Pages c.args.settings.now c.args.upto c.args.wal.now c.next_to.new.wal c.args.target.now c.loop-record.target c.tip.result c.loop-record.invariant.entries c.loop-record.progress c.in_err-finish.field-0.0
+    (all_read g.V.Vault c.args.settings.now c.args.upto c.args.wal.now c.loop-record.wal c.next_to.new.wal c.loop-record.cursor c.next_to.new.cursor c.loop-record.invariant.entries c.tip.result c.loop-record.invariant.read
+    (rw (c.segment-size.ensures.value, c.in_default.is) at c.in_ok-record.ensures.answer) c.tip.ensures.tip)
+    c.loop-record.invariant.replayed c.in_err-finish.ensures))
 
 pub returns-clause-answer : goal.returns-clause-answer
 returns-clause-answer g c =
-    end_kept g.V.Vault c.args.settings.now c.args.upto c.args.wal.now c.loop-replayed.wal c.next_to.new.wal c.loop-replayed.cursor c.next_to.new.cursor c.loop-replayed.replayed
-    c.tip.result c.finish.result c.loop-replayed.invariant (rw (c.segment-size.ensures.value, c.in_default.is) at c.in_ok-record.ensures.answer) c.tip.ensures.tip c.finish.ensures
+    replayed_at g.V.Vault g.P.Pages c.args.settings.now c.args.upto c.args.wal.now c.args.target.now c.loop-record.target c.tip.result c.loop-record.invariant.entries c.loop-record.progress c.in_ok-finish.field-0
+    (all_read g.V.Vault c.args.settings.now c.args.upto c.args.wal.now c.loop-record.wal c.next_to.new.wal c.loop-record.cursor c.next_to.new.cursor c.loop-record.invariant.entries c.tip.result c.loop-record.invariant.read
+    (rw (c.segment-size.ensures.value, c.in_default.is) at c.in_ok-record.ensures.answer) c.tip.ensures.tip)
+    c.loop-record.invariant.replayed c.in_ok-finish.ensures
