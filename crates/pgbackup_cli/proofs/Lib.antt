@@ -1,4 +1,7 @@
+pub mod Emptied
 pub mod NoFile
+pub mod ReplayCauses
+pub mod ReplayedOut
 pub mod FlushLeft
 pub mod Lent
 pub mod Decided
@@ -10,6 +13,4 @@ pub mod OneRun
 pub mod NewWal
 pub mod RunDone
 pub mod Reading
-pub mod OptionWords
 pub mod AnswerLines
-pub mod LsnWords

@@ -99,20 +99,20 @@ replay_once upto Untaken Also old new other files (Err (replay.Site f)) b told o
 replay_once upto Untaken Also old new other files (Err (replay.Out f)) b told out first second own also = absurd (undecided f own)
 replay_once upto Untaken Also old new other files (Ok a) (Err (replay.Site g)) told out first second own also = absurd (undecided g.why also)
 replay_once upto Untaken Also old new other files (Ok a) (Err (replay.Out g)) told out first second own also = absurd (undecided g also)
-replay_once upto Untaken Also old new other files (Ok a) (Ok b) told out first second own also = ap answer_of (same_done upto old new other files a b told first second)
-replay_once upto Untaken Also old new other files (Ok a) (Err replay.NotEmpty) told out first second own also = absurd (clear_or_not old.out out first.clear second.0)
-replay_once upto Untaken Also old new other files (Ok a) (Err (replay.Wal g)) told out first second own also = absurd (done_or_refused upto old new other files a g told first second.2 (of_files g also))
+replay_once upto Untaken Also old new other files (Ok a) (Ok b) told out first second own also = ap answer_of (same_done upto old new other files a b told (first.1 out) (second.1 out))
+replay_once upto Untaken Also old new other files (Ok a) (Err replay.NotEmpty) told out first second own also = absurd (clear_or_not old.out out first.0.clear second.0)
+replay_once upto Untaken Also old new other files (Ok a) (Err (replay.Wal g)) told out first second own also = absurd (done_or_refused upto old new other files a g told (first.1 out) (second.2 (λ e. out)) (of_files g also))
 replay_once upto Untaken Also old new other files (Err replay.NotEmpty) (Err (replay.Site g)) told out first second own also = absurd (undecided g.why also)
 replay_once upto Untaken Also old new other files (Err replay.NotEmpty) (Err (replay.Out g)) told out first second own also = absurd (undecided g also)
-replay_once upto Untaken Also old new other files (Err replay.NotEmpty) (Ok b) told out first second own also = absurd (clear_or_not old.out out second.clear first.0)
+replay_once upto Untaken Also old new other files (Err replay.NotEmpty) (Ok b) told out first second own also = absurd (clear_or_not old.out out second.0.clear first.0)
 replay_once upto Untaken Also old new other files (Err replay.NotEmpty) (Err replay.NotEmpty) told out first second own also = refl
 replay_once upto Untaken Also old new other files (Err replay.NotEmpty) (Err (replay.Wal g)) told out first second own also = absurd (clear_or_not old.out out second.0 first.0)
 replay_once upto Untaken Also old new other files (Err (replay.Wal f)) (Err (replay.Site g)) told out first second own also = absurd (undecided g.why also)
 replay_once upto Untaken Also old new other files (Err (replay.Wal f)) (Err (replay.Out g)) told out first second own also = absurd (undecided g also)
-replay_once upto Untaken Also old new other files (Err (replay.Wal f)) (Ok b) told out first second own also = absurd (done_or_refused upto old other new files b f told second first.2 (of_files f own))
+replay_once upto Untaken Also old new other files (Err (replay.Wal f)) (Ok b) told out first second own also = absurd (done_or_refused upto old other new files b f told (second.1 out) (first.2 (λ e. out)) (of_files f own))
 replay_once upto Untaken Also old new other files (Err (replay.Wal f)) (Err replay.NotEmpty) told out first second own also = absurd (clear_or_not old.out out first.0 second.0)
 replay_once upto Untaken Also old new other files (Err (replay.Wal f)) (Err (replay.Wal g)) told out first second own also =
-    ap refused_by (same_fault upto old.wal new.wal other.wal files f g told first.2 second.2 (of_files f own) (of_files g also))
+    ap refused_by (same_fault upto old.wal new.wal other.wal files f g told (first.2 (λ e. out)) (second.2 (λ e. out)) (of_files f own) (of_files g also))
 
 pub one_replay : HasOneReplay
 one_replay upto name old new other a b told first second own also =

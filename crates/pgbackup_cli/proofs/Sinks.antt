@@ -1,7 +1,7 @@
 -- What a command does is nothing to a sink.
 use Rattle.std.proofs.Common.{ℕ, List, Option, Some, None}
 use Rattle.pgbackup_cli.specs.declared.answer.Answer.{Answer}
-use Rattle.pgbackup_cli.specs.Words.{Asked, Init, Run, Replay}
+use Rattle.command_line.specs.Words.{Asked, Init, Run, Replay}
 use Rattle.pgbackup_cli.specs.Outside.{Outside}
 use Rattle.pgbackup_cli.specs.Top.{DoesAsked}
 

@@ -20,7 +20,7 @@ use Rattle.wal_reader.specs.Settings.{settings_text, IsSettingsOf}
 use Rattle.wal_reader.specs.Wal.{IsWal}
 use Rattle.pgbackup_cli.specs.declared.answer.Status.{Status}
 use Rattle.pgbackup_cli.specs.declared.answer.Status.TheVariants as status
-use Rattle.pgbackup_cli.specs.declared.options.InitOptions.{InitOptions}
+use Rattle.command_line.specs.declared.options.InitOptions.{InitOptions}
 use Rattle.pgbackup_cli.specs.declared.init.InitFault.{InitFault}
 use Rattle.pgbackup_cli.specs.declared.init.InitFault.TheVariants as init
 use Rattle.pgbackup_cli.specs.Areas.{wal_name, sums_name, IsClear, IsFull, Keeps, AreaFails}

@@ -6,7 +6,6 @@ use Rattle.std.specs.FinMap.{empty, insert}
 use Rattle.std.specs.Global.{Vec}
 use Rattle.lsn_core.specs.Files.{Files}
 use Rattle.lsn_core.specs.Names.{segment_name_bytes}
-use Rattle.lsn_core.specs.Store.{Store, files_of}
 use Rattle.lsn_core.specs.declared.lsn.Lsn.{Lsn}
 use Rattle.lsn_core.specs.Segment.{StoreSettings, IsSegmentMib, IsRelseg}
 use Rattle.lsn_core.specs.declared.fault.AreaFault.{AreaFault}
@@ -18,9 +17,13 @@ use Rattle.vault.specs.declared.stream.Sink.{Ghosts as Sinks}
 use Rattle.vault.specs.declared.stream.Clock.{Ghosts as Clocks}
 use Rattle.vault.specs.Stream.{Tells}
 use Rattle.vault.specs.declared.lending.TakeFault.{TakeFault}
-use Rattle.vault.specs.Area.{after_write}
+use Rattle.vault.specs.Area.{after_write, after_remove}
 use Rattle.vault.specs.Site.{AreaState, state_in}
 use Rattle.recovery.specs.declared.fault.RecoveryFault.{RecoveryFault}
+use Rattle.recovery.specs.declared.replaying.Replayed.{Replayed}
+use Rattle.recovery.specs.declared.fault.ReplayFault.{ReplayFault as Unreplayed}
+use Rattle.recovery.specs.declared.fault.ReplayFault.TheVariants as unreplayed
+use Rattle.recovery.specs.Causes.{HasSettings}
 use Rattle.wal_writer.specs.declared.state.WalState.{WalState}
 use Rattle.wal_writer.specs.Log.{Log, Ready}
 use Rattle.pgbackup_cli.specs.declared.init.InitFault.{InitFault}
@@ -30,13 +33,12 @@ use Rattle.crew.specs.declared.run.Answer.{Answer}
 use Rattle.crew.specs.Run.{all_written, RunsLines}
 use Rattle.shared_store.specs.State.{State}
 use Rattle.pgbackup_cli.specs.declared.told.Told.{Told}
+use Rattle.pgbackup_cli.specs.declared.replay.ReplayReport.{ReplayReport}
+use Rattle.pgbackup_cli.specs.declared.replay.ReplayFault.{ReplayFault}
+use Rattle.pgbackup_cli.specs.declared.replay.ReplayFault.TheVariants as replay
 use Rattle.pgbackup_cli.specs.declared.run.RunReport.{RunReport}
 use Rattle.pgbackup_cli.specs.declared.run.RunFault.{RunFault}
-use Rattle.pgbackup_cli.specs.declared.words.Command.{Command}
-use Rattle.pgbackup_cli.specs.declared.words.Command.TheVariants as command
-use Rattle.pgbackup_cli.specs.Areas.{AreaFails, IsWalTorn}
-use Rattle.pgbackup_cli.specs.Options.{IsInRange}
-use Rattle.pgbackup_cli.specs.Words.{Asked, Init, Run, Replay}
+use Rattle.pgbackup_cli.specs.Areas.{AreaCause, AreaFails, IsWalTorn}
 use Rattle.pgbackup_cli.specs.Outside.{Outside}
 use Rattle.pgbackup_cli.specs.Input.{IsInput}
 use Rattle.pgbackup_cli.specs.Init.{InitResult, InitAreas, InitAnswer, IsTornIn, new_wal, first_entry, settings_name, settings_file, segment_name, segment_file}
@@ -48,19 +50,6 @@ abbrev pub joined : List (List ℕ) → List ℕ
 joined [] = []
 joined (text ∷ []) = text
 joined (text ∷ (next ∷ texts)) = text ++ joined (next ∷ texts)
-
--- ---- words
-
--- a command asks for this
-abbrev pub asks : Command → Asked
-asks (command.Init options) = Init options
-asks command.Run = Run
-asks (command.Replay upto name) = Replay upto name.now
-
-abbrev pub HasRange : Command → Type 0
-HasRange (command.Init options) = IsInRange options
-HasRange command.Run = Unit {0}
-HasRange (command.Replay upto name) = Unit {0}
 
 -- ---- the outside, as far as a call sees it
 
@@ -253,8 +242,41 @@ AnswersReplay vaults upto wal out wal_now out_now r =
     ReplayAnswer upto Never
     (replay_areas_in vaults wal out) (replay_areas_in vaults wal_now out_now) r
 
--- an area that held no file has those of a store
-abbrev pub IsWrittenOut : {V : Type 0} → Vaults V → StoreSettings → Store → V → V → Type 0
-IsWrittenOut vaults settings store old new =
-    IfSome (vaults.files old) (λ m. m ≡ empty)
-    → vaults.files new ≡ option_map (λ m. files_of settings.relseg store) (vaults.files old)
+-- what is known before anything is written, or why nothing is
+abbrev pub AnswersPrepared :
+    {V : Type 0} → Vaults V → Option Lsn → V → V → V → V → Result StoreSettings ReplayFault
+    → Type 0
+AnswersPrepared vaults upto wal out wal_now out_now (Ok settings) =
+    IfSome (vaults.files out) (λ m. m ≡ empty) × HasSettings (vaults.files wal) settings
+AnswersPrepared vaults upto wal out wal_now out_now (Err fault) =
+    AnswersReplay vaults upto wal out wal_now out_now (Err fault)
+
+-- the report of a replay that came to its end
+abbrev pub reported : Replayed → ReplayReport
+reported r = record { end = r.end; forks = r.forks; pages = r.pages }
+
+-- how a replay into an area ends: what was written is as it was, or, where the WAL couldn't be
+-- replayed, it is taken away
+abbrev pub FinishAnswer :
+    {V : Type 0} → Vaults V → Result Replayed Unreplayed → V → V → ReplayResult → Type 0
+FinishAnswer vaults (Ok r) old new (Ok report) =
+    (vaults.files new ≡ vaults.files old) × (report ≡ reported r)
+FinishAnswer vaults (Ok r) old new (Err (replay.Out why)) =
+    AreaCause (vaults.faults old) (vaults.faults new) why
+FinishAnswer vaults (Ok r) old new (Err (replay.Site fault)) = ⊥
+FinishAnswer vaults (Ok r) old new (Err replay.NotEmpty) = ⊥
+FinishAnswer vaults (Ok r) old new (Err (replay.Wal why)) = ⊥
+FinishAnswer vaults (Err (unreplayed.Out f)) old new result =
+    (vaults.faults new ≡ vaults.faults old) × (result ≡ Err (replay.Out f))
+FinishAnswer vaults (Err (unreplayed.Wal f)) old new (Err (replay.Wal why)) =
+    (vaults.files new ≡ option_map (λ m. empty) (vaults.files old)) × (why ≡ f)
+FinishAnswer vaults (Err (unreplayed.Wal f)) old new (Err (replay.Out why)) =
+    AreaCause (vaults.faults old) (vaults.faults new) why
+FinishAnswer vaults (Err (unreplayed.Wal f)) old new (Err (replay.Site fault)) = ⊥
+FinishAnswer vaults (Err (unreplayed.Wal f)) old new (Err replay.NotEmpty) = ⊥
+FinishAnswer vaults (Err (unreplayed.Wal f)) old new (Ok report) = ⊥
+
+-- files without those of these names
+abbrev pub without : List (List ℕ) → Files → Files
+without [] files = files
+without (name ∷ names) files = without names (after_remove name files)

@@ -11,7 +11,7 @@ use Rattle.pgbackup_cli.specs.declared.told.Told.{Told}
 use Rattle.pgbackup_cli.specs.declared.run.RunReport.{RunReport}
 use Rattle.pgbackup_cli.specs.Run.{RunDoes, run_status}
 use Rattle.pgbackup_cli.specs.Replay.{ReplayDoes, replay_status}
-use Rattle.pgbackup_cli.specs.declared.options.InitOptions.{InitOptions}
+use Rattle.command_line.specs.declared.options.InitOptions.{InitOptions}
 
 -- what is outside decided an answer of this status, and no failed device and no want of memory
 abbrev pub is_decided : Status → Bool

@@ -1,6 +1,4 @@
 pub mod Areas
-pub mod Options
-pub mod Words
 pub mod Outside
 pub mod Faults
 pub mod Input

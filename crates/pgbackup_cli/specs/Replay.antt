@@ -1,5 +1,5 @@
 -- `replay`: what replaying a WAL into an output does, prints and ends with.
-use Rattle.std.specs.Prelude.{◌≡◌, ◌≢◌, ℕ, Option, List, [], ◌∷◌, ◌++◌, IfSome, Some, Result, Ok, Err, codes}
+use Rattle.std.specs.Prelude.{◌≡◌, ◌≢◌, ℕ, Bool, true, false, Option, List, [], ◌∷◌, ◌++◌, IsSome, IfSome, Some, Result, Ok, Err, codes}
 use Rattle.std.specs.Option.{option_map}
 use Rattle.std.specs.FinMap.{empty, len}
 use Rattle.std.specs.Fmt.{decimal}
@@ -11,8 +11,11 @@ use Rattle.vault.specs.Site.{AreaState}
 use Rattle.vault.specs.Lending.{Names}
 use Rattle.wal_record.specs.declared.record.Record.{Record}
 use Rattle.recovery.specs.declared.fault.RecoveryFault.{RecoveryFault}
+use Rattle.recovery.specs.declared.fault.RecoveryFault.TheVariants.{Damaged, Short, BadDelta, SettingsDamaged, Timeline, NotInit, Failed, NoMemory}
 use Rattle.history.specs.Pages.{page_count}
 use Rattle.history.specs.Whole.{whole}
+use Rattle.lsn_core.specs.Tip.{Tip}
+use Rattle.recovery.specs.Reading.{IsReadTo}
 use Rattle.recovery.specs.Replay.{IsReadWal, replayed_to, ending_by, last_end}
 use Rattle.recovery.specs.Causes.{HasSettings, WalCause}
 use Rattle.recovery.specs.declared.replaying.ReadWal.{ReadWal}
@@ -46,6 +49,17 @@ replay_asks out = wal_name ∷ (out ∷ [])
 abbrev pub end_by : ℕ → ℕ → List Record → ℕ
 end_by mib place entries = last_end mib (ending_by place entries)
 
+-- what was read of the WAL by a replay up to a target, or to its end: the entries, and where the
+-- last of them ends that ends at the target or before it
+pub record ReplayRead (upto : Option Lsn) (old : ReplayAreas) (report : ReplayReport) : Type 0 where
+  pub clear : IsClear old.out
+  pub settings : StoreSettings
+  pub given : HasSettings old.wal.files settings
+  pub entries : List Record
+  pub last : Tip
+  pub read : IsReadTo settings old.wal.files upto entries last
+  pub end : report.end.0 ≡ end_by settings.segment (replayed_to upto last) entries
+
 -- a replay up to a target, or to the WAL's end, that was done: the output's files are those of the
 -- store that the WAL makes up to there
 pub record ReplayDone
@@ -66,20 +80,35 @@ pub record ReplayDone
 abbrev pub KeepsFull : AreaState → AreaState → Type 0
 KeepsFull old new = IfSome old.files (λ m. m ≢ empty → Keeps old new)
 
--- the WAL can't be replayed
-abbrev pub IsUnreadable : Option Lsn → AreaState → AreaState → RecoveryFault → Type 0
-IsUnreadable upto old new why = WalCause upto old.files old.faults new.faults why
+-- a fault that the pages decide, which are those that the output's area holds
+abbrev pub is_of_pages : RecoveryFault → Bool
+is_of_pages (Damaged mib damage) = false
+is_of_pages (Short end target) = false
+is_of_pages (BadDelta place) = true
+is_of_pages SettingsDamaged = false
+is_of_pages (Timeline name) = false
+is_of_pages NotInit = false
+is_of_pages Failed = false
+is_of_pages NoMemory = false
 
--- why `replay` comes to its answer, where an area that isn't handed out means this. A full output
--- and a WAL that can't be read leave the output as it was; of one that was empty a failed device or
--- want of memory says nothing
+-- the WAL can't be replayed; where the pages decide that, the output tells its files
+abbrev pub IsUnreadable : Option Lsn → ReplayAreas → ReplayAreas → RecoveryFault → Type 0
+IsUnreadable upto old new why =
+    (is_of_pages why ≡ true → IsSome old.out.files)
+    → WalCause upto old.wal.files old.wal.faults new.wal.faults why
+
+-- why `replay` comes to its answer, where an area that isn't handed out means this. What the pages
+-- are is said where the output tells its files, from which they are read. A full output and a WAL
+-- that can't be replayed leave the output as it was; of one that was empty a failed device or want
+-- of memory says nothing
 abbrev pub ReplayAnswer :
     Option Lsn → Untakens → ReplayAreas → ReplayAreas → ReplayResult → Type 0
-ReplayAnswer upto Untaken old new (Ok report) = ReplayDone upto old new report
+ReplayAnswer upto Untaken old new (Ok report) =
+    ReplayRead upto old report × (IsSome old.out.files → ReplayDone upto old new report)
 ReplayAnswer upto Untaken old new (Err (replay.Site fault)) = Untaken fault
 ReplayAnswer upto Untaken old new (Err replay.NotEmpty) = IsFull old.out × Keeps old.out new.out
 ReplayAnswer upto Untaken old new (Err (replay.Wal why)) =
-    IsClear old.out × Keeps old.out new.out × IsUnreadable upto old.wal new.wal why
+    IsClear old.out × Keeps old.out new.out × IsUnreadable upto old new why
 ReplayAnswer upto Untaken old new (Err (replay.Out why)) =
     AreaFails old.out new.out why × KeepsFull old.out new.out
 

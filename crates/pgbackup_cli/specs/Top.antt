@@ -6,8 +6,8 @@ use Rattle.pgbackup_cli.specs.declared.answer.Answer.{Answer}
 use Rattle.pgbackup_cli.specs.declared.answer.Answer.TheVariants as answer
 use Rattle.pgbackup_cli.specs.declared.answer.Status.{Status}
 use Rattle.pgbackup_cli.specs.declared.answer.Status.TheVariants as status
-use Rattle.pgbackup_cli.specs.declared.options.InitOptions.{InitOptions}
-use Rattle.pgbackup_cli.specs.Words.{Asked, Init, Run, Replay, asked}
+use Rattle.command_line.specs.declared.options.InitOptions.{InitOptions}
+use Rattle.command_line.specs.Words.{Asked, Init, Run, Replay, asked}
 use Rattle.pgbackup_cli.specs.Areas.{output_name}
 use Rattle.pgbackup_cli.specs.Outside.{Outside, LeavesSite, Prints}
 use Rattle.pgbackup_cli.specs.Faults.{refused_line, area_status}

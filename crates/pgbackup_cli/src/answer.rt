@@ -1,7 +1,7 @@
 //! What the program comes to, the lines that it prints for that, and its exit status.
 
 ghost use Rattle.std.specs.Prelude.{◌≡◌, IfOk};
-ghost use Rattle.pgbackup_cli.specs.Words.{asked};
+ghost use Rattle.command_line.specs.Words.{asked};
 ghost use Rattle.pgbackup_cli.specs.Top.{output_asked, text_of, answer_status, status_of, code_of};
 
 use crate::faults::{area_status, refused_line};
@@ -9,7 +9,7 @@ use crate::init::{InitFault, init_status, init_text};
 use crate::names::output_name;
 use crate::replay::{ReplayFault, ReplayReport, replay_status, replay_text};
 use crate::run::{RunFault, RunReport, run_status, run_text};
-use crate::words::{Command, command_of};
+use command_line::{Command, command_of};
 use lsn_core::{AreaFault, Lsn, NoMemory, Text};
 use std::alloc::Global;
 

@@ -6,9 +6,9 @@
 //! what it prints and how it ends; each command's part stands in a file of its own
 //! (`specs/Init.antt`, `Run.antt`, `Replay.antt`). Laws say that a command comes to one answer.
 //!
-//! Left to others: what a script, a store, a replay and a WAL are (`crew`, `shared_store`,
-//! `recovery`, `wal_archive`), the system's areas and streams (`vault_os`), and the process that
-//! hands them over (`pgbackup`).
+//! Left to others: the words (`command_line`), what a script, a store, a replay and a WAL are
+//! (`crew`, `shared_store`, `recovery`, `wal_archive`), the system's areas and streams
+//! (`vault_os`), and the process that hands them over (`pgbackup`).
 #![tactic(auto)]
 
 mod answer;
@@ -19,13 +19,11 @@ mod input;
 mod laws;
 mod names;
 mod new_wal;
-mod options;
 mod replay;
 mod report;
 mod run;
 mod told;
 mod top;
-mod words;
 
 pub use answer::Status;
 pub use laws::{

@@ -1,31 +1,29 @@
 //! `replay`: the WAL from its beginning, from one area into another.
 
-ghost use Rattle.std.specs.Prelude.{◌≡◌, ◌≢◌, ◌<◌, ◌≤◌, [], ◌∷◌, IfOk, IfSome, IfErr, OnOk};
-ghost use Rattle.std.specs.Option.{option_map};
-ghost use Rattle.std.specs.FinMap.{empty};
-ghost use Rattle.lsn_core.specs.Causes.{HasCause};
+ghost use Rattle.std.specs.Prelude.{◌≡◌, ◌≢◌, ◌≤◌, [], ◌∷◌, IfOk};
 ghost use Rattle.lsn_core.specs.declared.fault.AreaFault.TheVariants as area;
-ghost use Rattle.lsn_core.specs.Store.{files_of};
+ghost use Rattle.vault.specs.Frame.{OnlyReads};
 ghost use Rattle.vault.specs.Site.{AllHome};
-ghost use Rattle.history.specs.Pages.{page_count};
 ghost use Rattle.pgbackup_cli.specs.declared.replay.ReplayFault.TheVariants as replay;
 ghost use Rattle.pgbackup_cli.specs.Areas.{wal_name};
 ghost use Rattle.pgbackup_cli.specs.Outside.{Works};
 ghost use Rattle.pgbackup_cli.specs.Replay.{ReplayRan, ReplayDoes, replay_fault_text, replayed_line, replay_text, replay_status};
-ghost use Rattle.pgbackup_cli.specs.Inner.{of_site, AnswersReplay, IsWrittenOut};
+ghost use Rattle.pgbackup_cli.specs.Inner.{of_site, AnswersPrepared, AnswersReplay, FinishAnswer};
 
 use crate::answer::Status;
-use crate::clear::is_clear;
+use crate::clear::{empty_area, is_clear};
 use crate::faults::{
     area_status, area_text, full_text, joined, refused_line, take_text, wal_status, wal_text,
 };
 use crate::names::{names_of, output_name};
-use history::PageMap;
 use lsn_core::{AreaFault, Lsn, NoMemory, Settings, Text, lsn_text};
-use recovery::{RecoveryFault, read_wal};
-use rel_files::write_store;
+use recovery::{
+    RecoveryFault, ReplayFault as Unreplayed, Replayed, read_through, replay as replay_into,
+    settings_of,
+};
+use rel_files::Forks;
 use std::alloc::Global;
-use vault::{Site, TakeFault, Vault, give_two, take_all, two_of};
+use vault::{Held, Site, TakeFault, Vault, give_two, take_all, two_of};
 
 /// What a replay came to: where the last entry ends that ends at the target or before it (where
 /// there is none, where the WAL begins), and how many forks and pages there are.
@@ -81,55 +79,77 @@ impl From<NoMemory> for ReplayFault {
     }
 }
 
-/// How many pages a store has. Their number may not fit.
-fn page_count(store: &PageMap) -> Result<u64, AreaFault>
-    ensures count { IfOk result (λ count. count ≡ page_count store.now) }
-    ensures memory { IfErr result (λ fault. fault ≡ area.NoMemory) }
-{
-    match store.page_count() {
-        Ok(count) => Ok(count),
-        Err(_) => Err(AreaFault::NoMemory),
-    }
-}
-
-/// Writes the files of a store into an area that holds none, and makes them durable.
-fn write_out<V: Vault>(
-    alloc: Global,
-    out: &mut V,
-    store: &PageMap,
-    settings: &Settings,
-) -> Result<(), AreaFault>
-    ensures written { OnOk result (IsWrittenOut V.Vault settings.now store.now out.old out.new) }
-    ensures cause { HasCause (V.faults out.old) (V.faults out.new) result }
-{
-    write_store(alloc, out, store, settings.relseg())?;
-    out.sync()
-}
-
-/// Reads the WAL up to the target, and then writes the files of the store that it makes into the
-/// output's area, which has to be empty.
-fn replay_areas<V: Vault>(
+/// What a replay needs before anything is written: that the output's area is empty, the settings of
+/// the WAL, and a first reading of it up to the target, which finds all damage.
+fn prepare<V: Vault>(
     alloc: Global,
     wal: &mut V,
     out: &mut V,
     upto: Option<Lsn>,
-) -> Result<ReplayReport, ReplayFault>
-    ensures answer { AnswersReplay V.Vault upto wal.old out.old wal.new out.new result }
-    ensures wal { V.files wal.new ≡ V.files wal.old }
-    ensures wal_later { V.faults wal.old ≤ V.faults wal.new }
+) -> Result<Settings, ReplayFault>
+    ensures answer { AnswersPrepared V.Vault upto wal.old out.old wal.new out.new result }
+    ensures wal { OnlyReads V.Vault wal.old wal.new }
+    ensures out { V.files out.new ≡ V.files out.old }
     ensures out_later { V.faults out.old ≤ V.faults out.new }
 {
     if !is_clear(alloc, out)? {
         return Err(ReplayFault::NotEmpty);
     }
-    let (settings, read) = read_wal(alloc, wal, upto)?;
-    let pages = page_count(&read.store)?;
-    write_out(alloc, out, &read.store, &settings)?;
-    Ok(ReplayReport {
-        end: read.end,
-        forks: read.store.fork_count(),
-        pages,
-    })
+    let settings = settings_of(alloc, wal)?;
+    read_through(alloc, wal, &settings, upto)?;
+    Ok(settings)
+}
+
+/// Ends a replay into an area that was empty: makes durable what was written, or takes it away
+/// again where the WAL couldn't be replayed.
+fn finish<V: Vault>(
+    alloc: Global,
+    out: &mut V,
+    came: Result<Replayed, Unreplayed>,
+) -> Result<ReplayReport, ReplayFault>
+    ensures answer { FinishAnswer V.Vault came out.old out.new result }
+    ensures later { V.faults out.old ≤ V.faults out.new }
+{
+    match came {
+        Ok(replayed) => {
+            out.sync()?;
+            Ok(ReplayReport {
+                end: replayed.end,
+                forks: replayed.forks,
+                pages: replayed.pages,
+            })
+        }
+        Err(Unreplayed::Out(why)) => Err(ReplayFault::Out(why)),
+        Err(Unreplayed::Wal(why)) => {
+            empty_area(alloc, out)?;
+            Err(ReplayFault::Wal(why))
+        }
+    }
+}
+
+/// Reads the WAL up to the target, and then replays it into the output's area, which has to be
+/// empty, entry by entry. Gives that area back.
+fn replay_areas<V: Vault>(
+    alloc: Global,
+    wal: &mut V,
+    out: V,
+    upto: Option<Lsn>,
+) -> (V, Result<ReplayReport, ReplayFault>)
+    ensures answer { AnswersReplay V.Vault upto wal.old out wal.new result.0 result.1 }
+    ensures wal { V.files wal.new ≡ V.files wal.old }
+    ensures wal_later { V.faults wal.old ≤ V.faults wal.new }
+    ensures out_later { V.faults out ≤ V.faults result.0 }
+{
+    let mut out = out;
+    let settings = match prepare(alloc, wal, &mut out, upto) {
+        Ok(settings) => settings,
+        Err(fault) => return (out, Err(fault)),
+    };
+    let mut forks = Forks::new(alloc, out, settings.relseg());
+    let came = replay_into(alloc, wal, &settings, upto, &mut forks);
+    let mut out = forks.area();
+    let answer = finish(alloc, &mut out, came);
+    (out, answer)
 }
 
 /// Replays the WAL of a site into the area of this name, which isn't that of the WAL.
@@ -146,9 +166,10 @@ fn replay_in<S: Site>(
         (of_site S.Site site.old) (of_site S.Site site.new) result }
 {
     let names = names_of(alloc, &[b"wal", out])?;
-    let (mut wal, mut out) = two_of(take_all(alloc, site, names)?);
-    let answer = replay_areas(alloc, &mut wal.area, &mut out.area, upto);
-    give_two(site, wal, out);
+    let (mut wal, out) = two_of(take_all(alloc, site, names)?);
+    let Held { name, area } = out;
+    let (area, answer) = replay_areas(alloc, &mut wal.area, area, upto);
+    give_two(site, wal, Held { name, area });
     answer
 }
 

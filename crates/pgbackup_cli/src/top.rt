@@ -2,7 +2,7 @@
 
 ghost use Rattle.std.specs.Prelude.{◌≡◌, ◌⊎◌};
 ghost use Rattle.vault.specs.Site.{AllHome};
-ghost use Rattle.pgbackup_cli.specs.Words.{asked};
+ghost use Rattle.command_line.specs.Words.{asked};
 ghost use Rattle.pgbackup_cli.specs.Outside.{outside};
 ghost use Rattle.pgbackup_cli.specs.Top.{DoesAsked, ReadsInput, ReadsClock, text_of, Ran};
 ghost use Rattle.pgbackup_cli.specs.Inner.{of_all, TellsIn};
@@ -11,7 +11,7 @@ use crate::answer::{Answer, Status, exit_status, text_of};
 use crate::init::init;
 use crate::replay::replay;
 use crate::run::run;
-use crate::words::{Command, command_of};
+use command_line::{Command, command_of};
 use lsn_core::{AreaFault, Text};
 use std::alloc::Global;
 use vault::{Clock, Sink, Site, Source, print};

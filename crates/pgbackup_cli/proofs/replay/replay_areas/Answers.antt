@@ -1,28 +1,36 @@
--- What was read of the WAL is what was written.
-use Rattle.std.proofs.Common.{◌≡◌, IsTrue, ◌↔◌, IfSome, sym, subst}
-use Rattle.std.specs.Prelude.{Option}
-use Rattle.std.specs.Option.{option_map}
-use Rattle.std.specs.FinMap.{empty}
+-- What is replayed into the forks of an empty area, and how that ends.
+use Rattle.std.proofs.Common.{◌≡◌, ℕ, ◌<◌, ◌≤◌, Option, refl, ap, sym, subst, ◌∙◌}
 use Rattle.lsn_core.specs.Files.{Files}
-use Rattle.lsn_core.specs.Store.{files_of}
-use Rattle.byte_words.specs.Told.{when_told}
+use Rattle.rel_files.specs.Shown.{AreFilesOf}
+use Rattle.pgbackup_cli.specs.Inner.{FinishAnswer}
+use Rattle.pgbackup_cli.proofs.ReplayedOut.{answered}
 use Rattle.pgbackup_cli.proofs.replay.replay_areas.Goals as goal
 
 pub returns-clause-answer : goal.returns-clause-answer
 returns-clause-answer g c =
-    let clear : IfSome (g.V.Vault.files c.args.out.now) (λ m. m ≡ empty) =
-    when_told (g.V.Vault.files c.args.out.now) (λ m. IsTrue c.in_ok-is_clear.field-0 ↔ (m ≡ empty)) (λ m. m ≡ empty) (λ m iff. iff.0 c.if-not-branch.false) c.in_ok-is_clear.ensures.clear in
-    let read_is = c.in_ok-settings.ensures.answer.1 in
-    record {
-      clear = clear;
-      settings = c.in_ok-settings.settings;
-      given = c.in_ok-settings.ensures.answer.0;
-      read = c.in_ok-settings.read;
-      read_is = read_is;
-      made = read_is.store;
-      written = subst (λ (f : Option Files). g.V.Vault.files c.write_out.new.out ≡ option_map (λ m. files_of c.in_ok-settings.settings.relseg c.in_ok-settings.read.store) f) c.in_ok-is_clear.ensures.same
-          (c.in_ok-write_out.ensures.written (subst (λ (f : Option Files). IfSome f (λ m. m ≡ empty)) (sym c.in_ok-is_clear.ensures.same) clear));
-      end = read_is.end;
-      forks = c.fork_count.ensures;
-      pages = c.in_ok-pages.ensures.count;
-    }
+    let files = g.V.Vault.files in
+    let same : c.area-out.result ≡ c.replay-came.new.target.area = c.area-out.ensures in
+    answered g.V.Vault _ c.args.upto c.args.wal.now c.args.out c.replay-came.new.wal c.finish-answer.new.out c.in-Ok.settings c.replay-came.result c.finish-answer.result (record {
+      read = c.prepare.new.wal;
+      old = c.new-forks.result;
+      new = c.replay-came.new.target;
+      shows = λ f s held. held;
+      shown = λ f s held. held;
+      faults = λ f. refl;
+      clear = c.in-Ok.ensures.answer.0;
+      given = c.in-Ok.ensures.answer.1;
+      relseg = c.new-forks.ensures.relseg ∙ c.relseg.ensures.value;
+      some = subst (λ (n : ℕ). 0 < n) c.relseg.ensures.value c.relseg.ensures.least;
+      area = ap files c.new-forks.ensures.area ∙ c.in-Ok.ensures.out;
+      held = λ s are. c.new-forks.ensures.held s
+          (subst (λ (n : ℕ). AreFilesOf n (files c.prepare.new.out) s) (sym c.relseg.ensures.value)
+          (subst (λ (f : Option Files). AreFilesOf c.in-Ok.settings.relseg f s) (ap files c.new-forks.ensures.area) are));
+      kept = c.replay-came.ensures.kept;
+      wal_files = c.in-Ok.ensures.wal.files;
+      into = c.replay-came.ensures.answer;
+      finish = subst (λ a. FinishAnswer g.V.Vault c.replay-came.result a c.finish-answer.new.out c.finish-answer.result) same c.finish-answer.ensures.answer;
+      wal_faults = c.in-Ok.ensures.wal.faults;
+      out_faults = subst (λ a. g.V.Vault.faults c.args.out ≤ g.V.Vault.faults a) (sym c.new-forks.ensures.area) c.in-Ok.ensures.out_later;
+      later = c.replay-came.ensures.later;
+      last = subst (λ a. g.V.Vault.faults a ≤ g.V.Vault.faults c.finish-answer.new.out) same c.finish-answer.ensures.later;
+    })

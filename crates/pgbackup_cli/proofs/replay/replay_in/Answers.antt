@@ -12,4 +12,4 @@ returns-clause-site g c =
     let taken = taken_as g.S.Site g.S.Area.Vault c.in_ok-names.names.items wal_name c.args.out.now c.args.site.now c.take_all.new.site c.in_ok-take_all.field-0.items wal out
     c.in_ok-names.ensures c.two_of-wal.ensures c.in_ok-take_all.ensures.takes in
     let back = two_back g.S.Site g.S.Area.Vault wal_name c.args.out.now c.args.site.now c.take_all.new.site c.give_two.new.site wal.name out.name wal.area out.area _ _ c.requires.home taken c.give_two.ensures.gives in
-    (second_writes wal_name c.args.out.now _ _ back.site (ap (λ (x : AreaState). x.files) back.first_now ∙ c.replay_areas-answer.ensures.wal ∙ sym (ap (λ (x : AreaState). x.files) back.first)), back.later)
+    (second_writes wal_name c.args.out.now _ _ back.site (ap (λ (x : AreaState). x.files) back.first_now ∙ c.replay_areas-area.ensures.wal ∙ sym (ap (λ (x : AreaState). x.files) back.first)), back.later)

@@ -1,4 +1,4 @@
-use Rattle.pgbackup_cli.specs.Words.{asked}
+use Rattle.command_line.specs.Words.{asked}
 use Rattle.pgbackup_cli.proofs.Sinks.{whatever_is_printed}
 use Rattle.pgbackup_cli.proofs.top.pgbackup.Goals as goal
 

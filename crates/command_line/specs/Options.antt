@@ -5,7 +5,7 @@ use Rattle.std.specs.Fmt.{decimal}
 use Rattle.std.specs.Str.Parse.{digits_value}
 use Rattle.byte_words.specs.Numbers.{◌>>=◌}
 use Rattle.lsn_core.specs.Segment.{IsSegmentMib}
-use Rattle.pgbackup_cli.specs.declared.options.InitOptions.{InitOptions}
+use Rattle.command_line.specs.declared.options.InitOptions.{InitOptions}
 
 -- the number below 2^64 that a text writes in decimal without leading zeros
 abbrev pub decimal_number : List ℕ → Option ℕ

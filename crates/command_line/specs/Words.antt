@@ -6,8 +6,10 @@ use Rattle.byte_words.specs.Cuts.{cut_at}
 use Rattle.text_numbers.specs.Numbers.{hex_number_of}
 use Rattle.lsn_core.specs.declared.lsn.Lsn.{Lsn}
 use Rattle.crew.specs.Cuts.{is_name}
-use Rattle.pgbackup_cli.specs.declared.options.InitOptions.{InitOptions}
-use Rattle.pgbackup_cli.specs.Options.{none_given, options_in}
+use Rattle.command_line.specs.declared.options.InitOptions.{InitOptions}
+use Rattle.command_line.specs.declared.words.Command.{Command}
+use Rattle.command_line.specs.declared.words.Command.TheVariants as command
+use Rattle.command_line.specs.Options.{none_given, options_in, IsInRange}
 
 -- a new store, a script to be run, or a replay to an output of that name, up to a target where one
 -- is given
@@ -64,3 +66,15 @@ asked (word ∷ words) =
     if bytes_eq word (codes "init") then init_asked words
     else (if bytes_eq word (codes "run") then run_asked words
     else (if bytes_eq word (codes "replay") then replay_asked words else None))
+
+-- a command asks for this
+abbrev pub asks : Command → Asked
+asks (command.Init options) = Init options
+asks command.Run = Run
+asks (command.Replay upto name) = Replay upto name.now
+
+-- the options of a command are in their ranges
+abbrev pub HasRange : Command → Type 0
+HasRange (command.Init options) = IsInRange options
+HasRange command.Run = Unit {0}
+HasRange (command.Replay upto name) = Unit {0}

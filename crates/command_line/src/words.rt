@@ -2,8 +2,8 @@
 
 ghost use Rattle.std.specs.Prelude.{◌≡◌, IfSome};
 ghost use Rattle.std.specs.Option.{option_map};
-ghost use Rattle.pgbackup_cli.specs.Words.{init_asked, run_asked, lsn_value, replay_to, replay_up_to, is_target, replay_with, replay_asked, asked};
-ghost use Rattle.pgbackup_cli.specs.Inner.{asks, HasRange};
+ghost use Rattle.command_line.specs.Words.{init_asked, run_asked, lsn_value, replay_to, replay_up_to, is_target, replay_with, replay_asked, asked};
+ghost use Rattle.command_line.specs.Words.{asks, HasRange};
 
 use crate::options::{InitOptions, options_of};
 use crew::is_name;

@@ -2,7 +2,7 @@
 
 ghost use Rattle.std.specs.Prelude.{◌≡◌, ◌≤◌, IfSome};
 ghost use Rattle.lsn_core.specs.Segment.{IsSegmentMib};
-ghost use Rattle.pgbackup_cli.specs.Options.{decimal_number, segment_value, relseg_value, with_option, none_given, options_in, IsInRange};
+ghost use Rattle.command_line.specs.Options.{decimal_number, segment_value, relseg_value, with_option, none_given, options_in, IsInRange};
 
 use lsn_core::{MOST_RELSEG, SegSize, Text};
 use text_numbers::decimal_in;

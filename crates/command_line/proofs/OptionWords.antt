@@ -2,14 +2,14 @@
 use Rattle.std.proofs.Common.{◌≡◌, ℕ, ◌+◌, ◌<◌, ◌≤◌, ◌^◌, Bool, true, false, ◌&&◌, if◌then◌else◌, List, [], ◌∷◌, length, get_or, drop, suc, Option, Some, None, IfSome, IfNone, bytes_eq, nat_lt, refl, ap, sym, subst, ◌∙◌, drop-cons, arith}
 use Rattle.byte_words.specs.Numbers.{◌>>=◌}
 use Rattle.std.proofs.lemmas.List.{drop_all}
-use Rattle.pgbackup_cli.specs.declared.options.InitOptions.{InitOptions}
+use Rattle.command_line.specs.declared.options.InitOptions.{InitOptions}
 use Rattle.std.specs.Fmt.{decimal}
 use Rattle.std.specs.Str.Parse.{digits_value}
 use Rattle.std.proofs.lemmas.Bool.Decides.{Decides-ltb}
 use Rattle.std.proofs.lemmas.Slice.Eq.{bytes_eq-Decides}
 use Rattle.std.proofs.lemmas.Fmt.{digits_value-decimal}
 use Rattle.text_numbers.proofs.Decimal.{own}
-use Rattle.pgbackup_cli.specs.Options.{decimal_number, with_option, options_in}
+use Rattle.command_line.specs.Options.{decimal_number, with_option, options_in}
 
 picks_none : (a b : Bool) (n : ℕ) → (a ≡ true → b ≡ true → ⊥) → None ≡ (if a && b then Some n else None)
 picks_none true true n h = absurd (h refl refl)

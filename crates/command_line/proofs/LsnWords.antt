@@ -6,7 +6,7 @@ use Rattle.text_numbers.specs.Numbers.{hex_number_of}
 use Rattle.lsn_core.specs.Names.{IsLsnText}
 use Rattle.lsn_core.specs.declared.lsn.Lsn.{Lsn}
 use Rattle.lsn_core.proofs.LsnTexts.{not_cut, not_high, not_low, is_lsn, one_lsn}
-use Rattle.pgbackup_cli.specs.Words.{lsn_of, lsn_value}
+use Rattle.command_line.specs.Words.{lsn_of, lsn_value}
 
 -- what a reader of LSNs found of a text, or that it writes none
 abbrev pub Found : List ℕ → Option Lsn → Type 0

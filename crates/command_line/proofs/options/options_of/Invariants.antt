@@ -1,6 +1,6 @@
 use Rattle.std.proofs.Common.{◌≡◌, ◌-◌, length, drop}
-use Rattle.pgbackup_cli.specs.Options.{none_given, options_in, IsInRange}
-use Rattle.pgbackup_cli.proofs.options.options_of.Given as goal
+use Rattle.command_line.specs.Options.{none_given, options_in, IsInRange}
+use Rattle.command_line.proofs.options.options_of.Given as goal
 
 abbrev pub invariant-loop-at : goal.invariant-loop-at
 invariant-loop-at l = record {

@@ -1,0 +1,205 @@
+-- A replay into an area that was empty leaves just the files of what it shows.
+use Rattle.std.proofs.Common.{◌≡◌, ◌≢◌, ℕ, ◌<◌, ◌≤◌, true, List, Option, Some, None, IsSome, IfSome, option_map, Result, Ok, Err, refl, ap, sym, subst, ◌∙◌, arith}
+use Rattle.std.specs.Ordering.{nat_cmp}
+use Rattle.std.specs.Cmp.Lexicographic.{slice_cmp}
+use Rattle.std.specs.FinMap.{empty, get, get-empty}
+use Rattle.lsn_core.specs.Causes.{Rose}
+use Rattle.lsn_core.specs.Files.{Files}
+use Rattle.lsn_core.specs.Segment.{StoreSettings}
+use Rattle.lsn_core.specs.declared.fault.AreaFault.{AreaFault}
+use Rattle.lsn_core.specs.declared.fault.AreaFault.TheVariants.{Failed, NoMemory}
+use Rattle.lsn_core.specs.declared.lsn.Lsn.{Lsn}
+use Rattle.lsn_core.specs.declared.pages.Pages.{Ghosts as Pages}
+use Rattle.lsn_core.specs.Store.{Store, fork_cmp, files_of}
+use Rattle.vault.specs.Area.{Related}
+use Rattle.vault.specs.Frame.{AgreeBut}
+use Rattle.vault.specs.declared.area.Vault.{Ghosts}
+use Rattle.rel_files.specs.Forks.{IsForkPath, Holds}
+use Rattle.rel_files.specs.Shown.{AreFilesOf, HoldsStore, ShowsStore, KeepsOthers}
+use Rattle.rel_files.specs.declared.forks.Forks.{Forks}
+use Rattle.rel_files.proofs.WholeStores.{nothing_is_held, files_are_exact}
+use Rattle.wal_archive.specs.Rules.{End}
+use Rattle.recovery.specs.declared.fault.RecoveryFault.{RecoveryFault}
+use Rattle.recovery.specs.declared.fault.ReplayFault.{ReplayFault as Unreplayed}
+use Rattle.recovery.specs.declared.fault.ReplayFault.TheVariants as unreplayed
+use Rattle.recovery.specs.declared.replaying.Replayed.{Replayed}
+use Rattle.recovery.specs.declared.replaying.ReadWal.{ReadWal}
+use Rattle.recovery.specs.Replay.{IsRead}
+use Rattle.recovery.specs.Causes.{CauseOf, HasSettings, WalCause}
+use Rattle.recovery.specs.Replayed.{into_causes, ReplaysInto}
+use Rattle.pgbackup_cli.specs.declared.replay.ReplayReport.{ReplayReport}
+use Rattle.pgbackup_cli.specs.declared.replay.ReplayFault.TheVariants as replay
+use Rattle.pgbackup_cli.specs.Areas.{AreaCause}
+use Rattle.pgbackup_cli.specs.Replay.{ReplayResult, ReplayAreas, ReplayRead, ReplayDone, ReplayAnswer, is_of_pages}
+use Rattle.pgbackup_cli.specs.Inner.{Never, replay_areas_in, AnswersReplay, FinishAnswer}
+use Rattle.pgbackup_cli.proofs.ReplayCauses.{rises, replay_told}
+
+none_some : {X : Type 0} (x : X) → None ≡ Some x → ⊥
+none_some x e = absurd cc
+
+-- files without any hold the empty store
+pub empty_held : (relseg : ℕ) (told : Option Files) → told ≡ Some empty → AreFilesOf relseg told empty
+empty_held relseg told is = record { files = empty; are_told = is; hold = nothing_is_held relseg empty (λ path named. get-empty (slice_cmp nat_cmp) path) }
+
+-- and show it
+pub empty_shown : {V : Type 0} (g : Ghosts V) (forks : Forks V) → HoldsStore g forks empty → ShowsStore g forks empty
+empty_shown g forks held = record { holds = held; whole = λ fork pages is. absurd (none_some pages (sym (get-empty fork_cmp fork) ∙ is)) }
+
+-- files that differ from none in segment files alone are just those of the store that they hold
+only_forks : (new : Files) → AgreeBut IsForkPath empty new → (path : List ℕ) → (IsForkPath path → ⊥) → get new path ≡ None
+only_forks new same path other = same path other ∙ get-empty (slice_cmp nat_cmp) path
+
+related_to : (R : Files → Files → Type 0) (old new : Option Files) (m n : Files) → old ≡ Some m → new ≡ Some n → Related R old new → R m n
+related_to R old new m n is now related = subst (λ (o : Option Files). Related R (Some m) o) now (subst (λ (o : Option Files). Related R o new) is related)
+
+pub files_shown : {V : Type 0} (g : Ghosts V) (old new : Forks V) (store : Store) → 0 < old.relseg → g.files old.area ≡ Some empty → KeepsOthers g old new → ShowsStore g new store
+    → g.files new.area ≡ Some (files_of old.relseg store)
+files_shown g old new store some none kept shown =
+    let held = shown.holds.files in
+    let same : Holds old.relseg held.files store = subst (λ (n : ℕ). Holds n held.files store) kept.relseg held.hold in
+    let agree : AgreeBut IsForkPath empty held.files = related_to (AgreeBut IsForkPath) (g.files old.area) (g.files new.area) empty held.files none held.are_told kept.area.files in
+    held.are_told ∙ ap (λ (m : Files). Some m) (files_are_exact old.relseg held.files store some same (only_forks held.files agree))
+
+-- ---- how a replay ends
+
+none_or_empty : (R : Files → Files → Type 0) (old new : Option Files) → IfSome old (λ m. m ≡ empty) → Related R old new → option_map (λ m. empty) new ≡ old
+none_or_empty R None None clear related = refl
+none_or_empty R None (Some n) clear related = elim related [ ]
+none_or_empty R (Some m) None clear related = elim related [ ]
+none_or_empty R (Some m) (Some n) clear related = ap (λ (f : Files). Some f) (sym clear)
+
+told_empty : (told : Option Files) → IfSome told (λ m. m ≡ empty) → IsSome told → told ≡ Some empty
+told_empty None clear some = absurd (cc)
+told_empty (Some m) clear some = ap (λ (f : Files). Some f) clear
+
+never_full : (told now : Option Files) → IfSome told (λ m. m ≡ empty) → IfSome told (λ m. m ≢ empty → now ≡ told)
+never_full None now clear = tt
+never_full (Some m) now clear = λ full. absurd (full clear)
+
+area_rises : (a b c d : ℕ) (why : AreaFault) → a ≤ b → c ≤ d → AreaCause b c why → AreaCause a d why
+area_rises a b c d Failed low high rose = rises a b c d low high rose
+area_rises a b c d NoMemory low high cause = tt
+
+area_cause : (before now : ℕ) (why : AreaFault) → (why ≡ Failed → Rose before now) → AreaCause before now why
+area_cause before now Failed cause = cause refl
+area_cause before now NoMemory cause = tt
+
+module _ {V : Type 0} (g : Ghosts V) (p : Pages (Forks V)) where
+  -- the parts of a replay into the forks of an area: what was there before, and what each call did
+  pub record Came (upto : Option Lsn) (wal out wal_now out_now : V) (s : StoreSettings) (came : Result Replayed Unreplayed) (answer : ReplayResult) : Type 0 where
+    pub read : V
+    pub old : Forks V
+    pub new : Forks V
+    pub shows : (f : Forks V) (store : Store) → ShowsStore g f store → p.shows f store
+    pub shown : (f : Forks V) (store : Store) → p.shows f store → ShowsStore g f store
+    pub faults : (f : Forks V) → p.faults f ≡ g.faults f.area
+    pub clear : IfSome (g.files out) (λ m. m ≡ empty)
+    pub given : HasSettings (g.files wal) s
+    pub relseg : old.relseg ≡ s.relseg
+    pub some : 0 < s.relseg
+    pub area : g.files old.area ≡ g.files out
+    pub held : (store : Store) → AreFilesOf s.relseg (g.files old.area) store → HoldsStore g old store
+    pub kept : KeepsOthers g old new
+    pub wal_files : g.files read ≡ g.files wal
+    pub into : ReplaysInto g p s upto read wal_now old new came
+    pub finish : FinishAnswer g came new.area out_now answer
+    pub wal_faults : g.faults wal ≤ g.faults read
+    pub out_faults : g.faults out ≤ g.faults old.area
+    pub later : g.faults old.area ≤ g.faults new.area
+    pub last : g.faults new.area ≤ g.faults out_now
+
+  module _ (upto : Option Lsn) (wal out wal_now out_now : V) (s : StoreSettings) where
+    abbrev areas : ReplayAreas
+    areas = replay_areas_in g wal out
+
+    abbrev now : ReplayAreas
+    now = replay_areas_in g wal_now out_now
+
+    empty_there : (came : Result Replayed Unreplayed) (answer : ReplayResult) (c : Came upto wal out wal_now out_now s came answer) → IsSome (g.files out) → g.files c.old.area ≡ Some empty
+    empty_there came answer c told = c.area ∙ told_empty (g.files out) c.clear told
+
+    fresh : (came : Result Replayed Unreplayed) (answer : ReplayResult) (c : Came upto wal out wal_now out_now s came answer) → IsSome (g.files out) → p.shows c.old empty
+    fresh came answer c told = c.shows c.old empty (empty_shown g c.old (c.held empty (empty_held s.relseg (g.files c.old.area) (empty_there came answer c told))))
+
+    abbrev read_of : (r : Replayed) → Store → ReadWal
+    read_of r store = record { end = r.end; tip = r.tip; store = store }
+
+    done : (r : Replayed) (report : ReplayReport) (c : Came upto wal out wal_now out_now s (Ok r) (Ok report)) → IsSome (g.files out) → ReplayDone upto areas now report
+    done r report c told =
+        let made = c.into.fresh (fresh (Ok r) (Ok report) c told) in
+        let files : g.files c.new.area ≡ Some (files_of c.old.relseg made.last) =
+        files_shown g c.old c.new made.last (subst (λ (n : ℕ). 0 < n) (sym c.relseg) c.some) (empty_there (Ok r) (Ok report) c told) c.kept (c.shown c.new made.last made.shown) in
+        record {
+          clear = c.clear;
+          settings = s;
+          given = c.given;
+          read = read_of r made.last;
+          read_is = record {
+            entries = c.into.entries;
+            archive = subst (λ (f : Option Files). IfSome f (λ m. IsRead s m upto c.into.entries r.tip End)) c.wal_files c.into.read.archive;
+            tip = c.into.read.tip;
+            ends = c.into.read.ends;
+            reached = c.into.read.reached;
+            store = made.whole;
+            end = c.into.end;
+            within = c.into.read.within;
+          };
+          made = made.whole;
+          written =
+              c.finish.0 ∙ files ∙ ap (λ (n : ℕ). Some (files_of n made.last)) c.relseg
+              ∙ sym (ap (option_map (λ m. files_of s.relseg made.last)) (told_empty (g.files out) c.clear told));
+          end = ap (λ (x : ReplayReport). x.end.0) c.finish.1 ∙ c.into.end;
+          forks = ap (λ (x : ReplayReport). x.forks) c.finish.1 ∙ made.forks_are;
+          pages = ap (λ (x : ReplayReport). x.pages) c.finish.1 ∙ made.pages_are;
+        }
+
+    was_read : (r : Replayed) (report : ReplayReport) (c : Came upto wal out wal_now out_now s (Ok r) (Ok report)) → ReplayRead upto areas report
+    was_read r report c = record {
+      clear = c.clear;
+      settings = s;
+      given = c.given;
+      entries = c.into.entries;
+      last = r.tip;
+      read = record {
+        archive = subst (λ (f : Option Files). IfSome f (λ m. IsRead s m upto c.into.entries r.tip End)) c.wal_files c.into.read.archive;
+        tip = c.into.read.tip;
+        ends = c.into.read.ends;
+        reached = c.into.read.reached;
+        within = c.into.read.within;
+      };
+      end = ap (λ (x : ReplayReport). x.end.0) c.finish.1 ∙ c.into.end;
+    }
+
+    refused : (f why : RecoveryFault) (c : Came upto wal out wal_now out_now s (Err (unreplayed.Wal f)) (Err (replay.Wal why))) → ReplayAnswer upto Never areas now (Err (replay.Wal why))
+    refused f why c = (
+      c.clear,
+      c.finish.0 ∙ none_or_empty (AgreeBut IsForkPath) (g.files out) (g.files c.new.area) c.clear (subst (λ (o : Option Files). Related (AgreeBut IsForkPath) o (g.files c.new.area)) c.area c.kept.area.files),
+      λ of. subst (λ (w : RecoveryFault). WalCause upto (g.files wal) (g.faults wal) (g.faults wal_now) w) (sym c.finish.1)
+          (replay_told upto s (g.files wal) (p.shows c.old empty) (g.faults wal) (g.faults c.read) (g.faults wal_now) (g.faults wal_now) f c.given c.wal_faults (omega arith)
+          (λ is. fresh (Err (unreplayed.Wal f)) (Err (replay.Wal why)) c (of (subst (λ (w : RecoveryFault). is_of_pages w ≡ true) (sym c.finish.1) is)))
+          (subst (λ (o : Option Files). CauseOf (into_causes s upto o (p.shows c.old empty)) (g.faults c.read) (g.faults wal_now) f) c.wal_files c.into)),
+    )
+
+    out_failed : (came : Result Replayed Unreplayed) (why : AreaFault) (c : Came upto wal out wal_now out_now s came (Err (replay.Out why))) → AreaCause (g.faults out) (g.faults out_now) why → ReplayAnswer upto Never areas now (Err (replay.Out why))
+    out_failed came why c cause = (cause, never_full (g.files out) (g.files out_now) c.clear)
+
+    pub answered : (came : Result Replayed Unreplayed) (answer : ReplayResult) → Came upto wal out wal_now out_now s came answer → AnswersReplay g upto wal out wal_now out_now answer
+    answered (Ok r) (Ok report) c = (was_read r report c, λ told. done r report c told)
+    answered (Ok r) (Err (replay.Out why)) c =
+        out_failed (Ok r) why c (area_rises (g.faults out) (g.faults c.new.area) (g.faults out_now) (g.faults out_now) why (omega (arith, c.out_faults, c.later)) (omega arith) c.finish)
+    answered (Ok r) (Err (replay.Site fault)) c = elim c.finish [ ]
+    answered (Ok r) (Err replay.NotEmpty) c = elim c.finish [ ]
+    answered (Ok r) (Err (replay.Wal why)) c = elim c.finish [ ]
+    answered (Err (unreplayed.Out f)) answer c =
+        let is : answer ≡ Err (replay.Out f) = c.finish.1 in
+        subst (λ (r : ReplayResult). AnswersReplay g upto wal out wal_now out_now r) (sym is) (
+          area_rises (g.faults out) (g.faults c.old.area) (g.faults c.new.area) (g.faults out_now) f c.out_faults c.last
+              (area_cause (g.faults c.old.area) (g.faults c.new.area) f (λ failed. subst (λ (n : ℕ). Rose n (g.faults c.new.area)) (c.faults c.old) (subst (λ (n : ℕ). Rose (p.faults c.old) n) (c.faults c.new) (c.into failed)))),
+          never_full (g.files out) (g.files out_now) c.clear,
+        )
+    answered (Err (unreplayed.Wal f)) (Err (replay.Wal why)) c = refused f why c
+    answered (Err (unreplayed.Wal f)) (Err (replay.Out why)) c =
+        out_failed (Err (unreplayed.Wal f)) why c (area_rises (g.faults out) (g.faults c.new.area) (g.faults out_now) (g.faults out_now) why (omega (arith, c.out_faults, c.later)) (omega arith) c.finish)
+    answered (Err (unreplayed.Wal f)) (Err (replay.Site fault)) c = elim c.finish [ ]
+    answered (Err (unreplayed.Wal f)) (Err replay.NotEmpty) c = elim c.finish [ ]
+    answered (Err (unreplayed.Wal f)) (Ok report) c = elim c.finish [ ]
