@@ -1,17 +1,15 @@
-//! Entries and commands that change a store in memory.
+//! Entries that change a store in memory.
 
-ghost use Rattle.std.specs.Prelude.{◌≡◌, IfOk};
-ghost use Rattle.std.specs.FinMap.{empty};
+ghost use Rattle.std.specs.Prelude.{◌≡◌};
 ghost use Rattle.history.specs.Applied.{IsApplicable};
-ghost use Rattle.history.specs.Op.{IsFit};
 
-use history::{ApplyFault, Edit, Item, Items, Op, PageMap, apply, apply_undoably};
+use history::{ApplyFault, PageMap, apply, apply_undoably};
 use lsn_core::{BlockId, ForkId, Lsn, NoMemory};
 use pg_page::make_page;
 use std::alloc::Global;
 use std::test::Fail;
-use test_areas::{ADDED, main_fork};
-use wal_record::{Blocks, Body, Kind, Record, encode_record};
+use test_areas::main_fork;
+use wal_record::{Blocks, Body, Kind, Record};
 
 /// An entry of this kind that ends there.
 fn record(end: u64, kind: Kind) -> Record
@@ -141,49 +139,5 @@ fn a_cut_of_other_forks_is_idle(rt: HostRuntime) -> Result<(), Fail> {
     put(rt.alloc(), &mut store, fork)?;
     apply_kind(&mut store, 0x1000f8, Kind::Truncate(fork.rel, 1, 6))?;
     assert!(rt; store.blocks(&fork) == Some(3));
-    Ok(())
-}
-
-/// The bytes of an entry of this command over an empty store, between these places.
-fn bytes_of(alloc: Global, op: &Op, places: (u64, u64, u64)) -> Result<Vec<u8>, NoMemory>
-    requires { IsFit empty op.now }
-{
-    let store = PageMap::new(alloc);
-    let (start, end, prev) = places;
-    let entry = Record {
-        start: Lsn(start),
-        end: Lsn(end),
-        prev: Lsn(prev),
-        xid: 0,
-        kind: op.kind(alloc, &store, Lsn(0))?,
-    };
-    encode_record(alloc, &entry)
-}
-
-#[test]
-fn a_creation_has_its_bytes(rt: HostRuntime) -> Result<(), Fail> {
-    let op = Op::Create(main_fork(16384).ok_or("the numbers are good")?);
-    let bytes = bytes_of(rt.alloc(), &op, (0x100060, 0x100090, 0x100028))?;
-    assert!(rt; bytes.as_slice() == &ADDED[..42]);
-    Ok(())
-}
-
-/// The command that puts a page without content into block 0 of a fork.
-fn put_of(alloc: Global, fork: ForkId) -> Result<Op, Fail>
-    ensures { IfOk result (IsFit empty) }
-{
-    let edit = Edit::Put(make_page(24, 8192, 0).ok_or("the places are good")?);
-    let at = BlockId { fork, block: 0 };
-    let mut items = Vec::new(alloc);
-    items.push(Item { at, edit })?;
-    Ok(Op::Change(Items::from_vec(items)))
-}
-
-#[test]
-fn a_put_has_its_bytes(rt: HostRuntime) -> Result<(), Fail> {
-    let fork = main_fork(16384).ok_or("the numbers are good")?;
-    let op = put_of(rt.alloc(), fork)?;
-    let bytes = bytes_of(rt.alloc(), &op, (0x100090, 0x1000e0, 0x100060))?;
-    assert!(rt; bytes.as_slice() == &ADDED[48..121]);
     Ok(())
 }

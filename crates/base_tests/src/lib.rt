@@ -10,11 +10,17 @@
 #[cfg(test)]
 mod byte_words_tests;
 #[cfg(test)]
+mod checkpointer_tests;
+#[cfg(test)]
 mod history_tests;
 #[cfg(test)]
 mod lsn_core_tests;
 #[cfg(test)]
 mod pg_page_tests;
+#[cfg(test)]
+mod redo_tests;
+#[cfg(test)]
+mod rel_files_tests;
 #[cfg(test)]
 mod text_numbers_tests;
 #[cfg(test)]

@@ -20,6 +20,8 @@ mod crew_tests;
 #[cfg(test)]
 mod kinds_tests;
 #[cfg(test)]
+mod replay_files_tests;
+#[cfg(test)]
 mod replay_tests;
 #[cfg(test)]
 mod shared_store_tests;
