@@ -3,13 +3,16 @@
 //     archive make FOLDER MIB    writes segments of 16 MiB with about so many MiB of short entries:
 //                                a checkpoint, a creation, an image, and then deltas of 8 bytes;
 //                                prints how many entries it wrote
+//     archive grow FOLDER FORKS  writes them with so many forks of 32,768 blocks: a checkpoint, and of
+//                                each fork a creation and an image of each block without its hole;
+//                                prints how many entries it wrote
 //     archive sum FILE..         the CRC-32C of these files, by the loop over the tables
 #include "crc32c.h"
 #include <stdio.h>
 #include <stdlib.h>
 #include <string.h>
 
-enum { PAGE = 8192, FORK = 16384 };
+enum { PAGE = 8192, FORK = 16384, BLOCKS = 32768 };
 
 static const uint64_t SEGMENT = 16 << 20;
 
@@ -71,33 +74,65 @@ static void entry(uint8_t manager, uint8_t info, const uint8_t *body, uint32_t l
     previous = begin, entries++;
 }
 
-static uint8_t *relation(uint8_t *to) {
-    return put(put(put(to, 1663, 4), 5, 4), FORK, 4);
+static uint8_t *relation(uint8_t *to, uint32_t fork) {
+    return put(put(put(to, 1663, 4), 5, 4), fork, 4);
 }
 
-static int make(uint64_t mib) {
-    uint8_t body[PAGE + 64], *to;
+// The first entry of a new archive, a checkpoint.
+static void begin(void) {
+    uint8_t body[64], *to;
     segment = calloc(1, SEGMENT);
-    if (!segment) return 1;
+    if (!segment) exit(1);
     at = SEGMENT;
     to = put(body, 255, 1), to = put(to, 24, 1), to = put(to, SEGMENT + 40, 8), to = put(to, 1, 4);
     to = put(to, 1, 4), to = put(to, 1, 8);
     entry(0, 0x00, body, to - body);
-    to = put(body, 255, 1), to = put(to, 16, 1), to = relation(to), to = put(to, 0, 4);
+}
+
+static void creation(uint32_t fork) {
+    uint8_t body[64], *to;
+    to = put(body, 255, 1), to = put(to, 16, 1), to = relation(to, fork), to = put(to, 0, 4);
     entry(2, 0x11, body, to - body);
-    to = put(body, 0, 1), to = put(to, 0x10, 1), to = put(to, 0, 2), to = put(to, PAGE, 2), to = put(to, 0, 2);
-    to = put(to, 2, 1), to = relation(to), to = put(to, 0, 4);
-    memset(to, 0, PAGE);
+}
+
+// The image of a page without content: whole, or its header alone, without its hole.
+static void image(uint32_t fork, uint32_t block, int whole) {
+    uint8_t body[PAGE + 64], *to;
+    uint32_t size = whole ? PAGE : 24;
+    to = put(body, 0, 1), to = put(to, 0x10, 1), to = put(to, 0, 2), to = put(to, size, 2);
+    to = put(to, whole ? 0 : 24, 2), to = put(to, whole ? 2 : 3, 1), to = relation(to, fork), to = put(to, block, 4);
+    memset(to, 0, size);
     put(to + 12, 24, 2), put(to + 14, PAGE, 2), put(to + 16, PAGE, 2), put(to + 18, 8196, 2);
-    entry(20, 0x00, body, to + PAGE - body);
-    for (uint64_t i = 0; at < SEGMENT + (mib << 20); i++) {
-        to = put(body, 0, 1), to = put(to, 0x20, 1), to = put(to, 12, 2), to = relation(to), to = put(to, 0, 4);
-        to = put(to, 24 + 8 * (i % 1000), 2), to = put(to, 8, 2), to = put(to, i * 2654435761u, 8);
-        entry(20, 0x00, body, to - body);
-    }
+    entry(20, 0x00, body, to + size - body);
+}
+
+// Writes the last segment, and prints how many entries there are.
+static int end(void) {
     if (at % SEGMENT) write_segment(at / SEGMENT, at % SEGMENT);
     printf("%llu\n", (unsigned long long)entries);
     return 0;
+}
+
+static int make(uint64_t mib) {
+    uint8_t body[64], *to;
+    begin();
+    creation(FORK);
+    image(FORK, 0, 1);
+    for (uint64_t i = 0; at < SEGMENT + (mib << 20); i++) {
+        to = put(body, 0, 1), to = put(to, 0x20, 1), to = put(to, 12, 2), to = relation(to, FORK), to = put(to, 0, 4);
+        to = put(to, 24 + 8 * (i % 1000), 2), to = put(to, 8, 2), to = put(to, i * 2654435761u, 8);
+        entry(20, 0x00, body, to - body);
+    }
+    return end();
+}
+
+static int grow(uint32_t forks) {
+    begin();
+    for (uint32_t fork = FORK; fork < FORK + forks; fork++) {
+        creation(fork);
+        for (uint32_t block = 0; block < BLOCKS; block++) image(fork, block, 0);
+    }
+    return end();
 }
 
 static int sum(char **names) {
@@ -116,6 +151,7 @@ static int sum(char **names) {
 int main(int count, char **words) {
     make_tables();
     if (count == 4 && !strcmp(words[1], "make")) return folder = words[2], make(strtoull(words[3], 0, 10));
+    if (count == 4 && !strcmp(words[1], "grow")) return folder = words[2], grow(strtoul(words[3], 0, 10));
     if (count >= 2 && !strcmp(words[1], "sum")) return sum(words + 2);
     return 2;
 }

@@ -1,9 +1,10 @@
 """Measures what `run` writes and `replay` reads, beside the system's own tools.
 
-    python3 bench/wal.py PROGRAM ARCHIVE [ROUNDS]
+    python3 bench/wal.py PROGRAM ARCHIVE [ROUNDS [OLD]]
 
-PROGRAM is pgbackup, ARCHIVE the tool of archive.c. Prints the best time of each way over rounds in
-which they take turns, their ratios, and the peak memory of the program.
+PROGRAM is pgbackup, ARCHIVE the tool of archive.c, and OLD another pgbackup, whose `replay` is
+measured beside that of PROGRAM. Prints the best time of each way over rounds in which they take
+turns, their ratios, and the peak memory of the program.
 """
 import os
 import shutil
@@ -52,8 +53,14 @@ class Best:
         return text
 
 
-def images(program, archive, rounds):
-    """About 256 MiB of full-page images: written by `run`, read by `replay`."""
+def replays(best, way, program):
+    """Takes one `replay` into a new output."""
+    shutil.rmtree("o", ignore_errors=True)
+    best.take(way, [program, "replay", "p"])
+
+
+def images(program, archive, rounds, old):
+    """About 256 MiB of full-page images: written by `run`, read by `replay`, and by that of another program."""
     best = Best()
     with open("script", "w") as script:
         script.write("worker w\ncreate 5/16384\n")
@@ -66,9 +73,10 @@ def images(program, archive, rounds):
         mib = size("wal") / MIB
         best.take("dd", ["dd", "if=/dev/zero", "of=zeros", "bs=1M", "count=%d" % round(mib), "conv=fsync", "status=none"])
     for _ in range(rounds):
-        shutil.rmtree("o", ignore_errors=True)
         shutil.rmtree("copy", ignore_errors=True)
-        best.take("replay", [program, "replay", "p"])
+        if old:
+            replays(best, "old", old)
+        replays(best, "replay", program)
         best.take("sum", [archive, "sum"] + segments())
         best.take("cp", ["cp", "-r", "o/p", "copy"])
     run, dd, replay, both = (best.seconds["run"], best.seconds["dd"], best.seconds["replay"],
@@ -78,6 +86,9 @@ def images(program, archive, rounds):
     print("dd      %.2f s with one fsync: run takes %.2f of it" % (dd, run / dd))
     print("replay  %.2f s, %.0f MiB of memory" % (replay, best.memory["replay"]))
     print("sum     %.2f s, cp %.2f s: replay takes %.2f of both" % (best.seconds["sum"], best.seconds["cp"], replay / both))
+    if old:
+        print("other   %.2f s, %.0f MiB of memory: replay takes %.2f of it" % (best.seconds["old"], best.memory["old"],
+                                                                           replay / best.seconds["old"]))
 
 
 def short(program, archive, rounds):
@@ -87,11 +98,22 @@ def short(program, archive, rounds):
     os.mkdir("wal")
     entries = int(timed([archive, "make", "wal", "64"])[2])
     for _ in range(rounds):
-        shutil.rmtree("o", ignore_errors=True)
-        best.take("replay", [program, "replay", "p"])
+        replays(best, "replay", program)
     took = best.seconds["replay"]
     print("%d short entries, %.0f MiB of WAL" % (entries, size("wal") / MIB))
     print("replay  %.2f s, %.0f entries/s, %.0f MiB of memory" % (took, entries / took, best.memory["replay"]))
+
+
+def grown(program, archive):
+    """The peak memory of `replay` where it makes 512 MiB of pages of two forks."""
+    best = Best()
+    shutil.rmtree("wal")
+    os.mkdir("wal")
+    timed([archive, "grow", "wal", "2"])
+    replays(best, "replay", program)
+    mib = sum(size(top) for top, folders, _ in os.walk("o") if not folders) / MIB
+    print("2 forks, %.0f MiB of pages, %.0f MiB of WAL" % (mib, size("wal") / MIB))
+    print("replay  %.0f MiB of memory" % best.memory["replay"])
 
 
 def accepted(program, rounds, what, lines):
@@ -122,13 +144,15 @@ def commands(program, rounds):
 def main():
     program, archive = (os.path.abspath(path) for path in sys.argv[1:3])
     rounds = int(sys.argv[3]) if len(sys.argv) > 3 else 3
+    old = os.path.abspath(sys.argv[4]) if len(sys.argv) > 4 else None
     folder = tempfile.mkdtemp(dir=os.path.dirname(archive))
     os.chdir(folder)
     try:
         for name in ("wal", "sums", "o"):
             os.mkdir(name)
-        images(program, archive, rounds)
+        images(program, archive, rounds, old)
         short(program, archive, rounds)
+        grown(program, archive)
         commands(program, rounds)
     finally:
         os.chdir("/")

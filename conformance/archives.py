@@ -3,12 +3,12 @@
     python3 conformance/archives.py PROGRAM [RUNS [SEED]]
 
 Each run makes an archive with the independent implementation: creations, truncations, images,
-deltas, entries of several blocks, checkpoints, marks and no-ops, over one or more segments. It is
-replayed with and without a target. Then it is damaged three times, each time anew: one to three
-bytes changed, with the sum made again or not; an entry written otherwise than the store writes it;
-a file cut, made longer, removed, put in another's place or given another timeline; other settings
-or none. Line, status and
-files have to be the same each time.
+deltas, entries of several blocks, checkpoints, marks and no-ops, over one or more segments, mostly
+with 1 to 7 blocks in each file of a relation. It is replayed with and without a target. Then it is
+damaged three times, each time anew: one to three bytes changed, with the sum made again or not; an
+entry written otherwise than the store writes it; a file cut, made longer, removed, put in another's
+place or given another timeline; other settings or none. Line, status and files have to be the same
+each time.
 Not part of the gate. Skipped where the independent implementation (PGBACKUP_ORACLE) isn't there.
 """
 import os
@@ -146,7 +146,8 @@ def write_archive(rnd):
     if rnd.random() < 0.3:
         items.insert(rnd.randrange(len(items) + 1), strange(rnd))
     first = rnd.random() < 0.98
-    return hand.write_wal(items, 1, rnd.choice([1, 3, 64, 131072]), rnd.randrange(1 << 64), first=first)
+    blocks = rnd.choice([64, 131072] + 3 * [rnd.randrange(1, 8)])
+    return hand.write_wal(items, 1, blocks, rnd.randrange(1 << 64), first=first)
 
 
 def segments():

@@ -315,7 +315,7 @@ def init_words(rnd):
     if rnd.random() < 0.7:
         options.append(["--segment-mib", str(1 << rnd.randrange(11))])
     if rnd.random() < 0.7:
-        options.append(["--relseg", str(rnd.choice([1, 2, 3, rnd.randrange(1, 131073), 131072]))])
+        options.append(["--relseg", str(rnd.choice([rnd.randrange(1, 131073), 131072] + 3 * [rnd.randrange(1, 8)]))])
     if rnd.random() < 0.07:
         options += rnd.choice([[["--segment-mib", rnd.choice(["0", "3", "016", "2048", "1m", ""])]],
                                [["--relseg", rnd.choice(["0", "131073", "01", "-1"])]],
