@@ -142,7 +142,8 @@ impl Progress {
 /// or to its end where no target is given, and redoes over the pages the entries that end at the
 /// target or before it. The whole of it is read before it is told that an entry can't be redone: a
 /// damaged archive, and one that ends before the target, come first; the pages then have the
-/// entries before that one. It holds one entry of the WAL.
+/// entries before that one, and of it the blocks before the one that can't be redone. It holds one
+/// entry of the WAL.
 pub fn replay<V: Vault, P: Pages>(
     alloc: Global,
     wal: &mut V,

@@ -18,3 +18,4 @@ pub mod Filling
 pub mod Removing
 pub mod RawCalls
 pub mod ForkNames
+pub mod Alike

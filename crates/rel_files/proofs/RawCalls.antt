@@ -74,6 +74,12 @@ made_by s fork false e q ne = ap (λ b. get (cond b s (insert s fork [])) q) e �
 pub made_others : (s : Store) (fork : ForkId) → AgreeOnOthers fork s (with_fork s fork)
 made_others s fork = made_by s fork (contains_key s fork) refl
 
+pub made_count : (s : Store) (fork : ForkId) → get s fork ≡ None → whole_count (with_fork s fork) fork ≡ Some 0
+made_count s fork e =
+    let absent : contains_key s fork ≡ false = ap (λ (o : Option ForkPages). is_some o) e in
+    let made : with_fork s fork ≡ insert s fork [] = ap (λ b. cond b s (insert s fork [])) absent in
+    ap (λ (t : Store). whole_count t fork) made ∙ ap (option_map (λ (ps : ForkPages). length (whole_pages ps))) (get_here s fork [])
+
 -- ---- what a call that failed leaves of the other forks
 
 pub make_torn_others : (s t : Store) (fork : ForkId) → IsTornMake fork s t → AgreeOnOthers fork s t

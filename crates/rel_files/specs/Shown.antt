@@ -39,6 +39,11 @@ pub record HoldsStore {V : Type 0} (g : Ghosts V) (forks : Forks V) (store : Sto
   pub files : AreFilesOf forks.relseg (g.files forks.area) store
   pub known : AreKnown forks.known store
 
+-- each store that the files hold is held, where one is: all have the same numbers of whole pages
+abbrev pub HoldAlike : {V : Type 0} → Ghosts V → Forks V → Type 0
+HoldAlike g forks = (s t : Store) → HoldsStore g forks s
+    → AreFilesOf forks.relseg (g.files forks.area) t → HoldsStore g forks t
+
 -- a store that is held is shown where all its pages are whole
 pub record ShowsStore {V : Type 0} (g : Ghosts V) (forks : Forks V) (store : Store) : Type 0 where
   pub holds : HoldsStore g forks store

@@ -10,7 +10,7 @@ ghost use Rattle.vault.specs.Frame.{OnlyReads};
 ghost use Rattle.vault.specs.Stops.{synced, Notes};
 ghost use Rattle.rel_files.specs.Forks.{mended, page_over, IsTornPut, IsTornCut, IsTornRemoval};
 ghost use Rattle.rel_files.specs.Shown.{AreFilesOf, HoldsStore, ShowsStore, KeepsOthers, Leaves};
-ghost use Rattle.rel_files.specs.Shown.{CountsWhole, ReadsWhole, IsTornMake};
+ghost use Rattle.rel_files.specs.Shown.{CountsWhole, ReadsWhole, IsTornMake, HoldAlike};
 ghost use Rattle.rel_files.specs.Kept.{keeps_none, keeps_on};
 
 use crate::raw_calls::RawCalls;
@@ -46,6 +46,15 @@ impl<V: Vault> Forks<V> {
             known: BTreeMap::new(alloc),
             alloc,
         }
+    }
+
+    /// Files that hold a store may hold others, by how a short page is counted. The lengths that are
+    /// known are right of all of them, where they are of one.
+    pub fn know_all(&self)
+        ensures { HoldAlike V.Vault self.now }
+    {
+        // known: a file has some blocks
+        let _some = self.relseg.blocks();
     }
 
     /// Makes durable what was written since the last sync.

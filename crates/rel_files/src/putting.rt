@@ -43,8 +43,8 @@ impl<V: Vault> Putting for V {
         ensures frame { ChangesOnly V.Vault IsForkPath self.old self.new }
         ensures cause { HasCause (V.faults self.old) (V.faults self.new) result }
     {
-        let zeros = zero_page();
         for block in count..at.block {
+            let zeros = zero_page();
             let fork = at.fork;
             self.write_page(alloc, relseg, &BlockId { fork, block }, &zeros)?;
         }

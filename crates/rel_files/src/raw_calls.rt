@@ -105,7 +105,10 @@ impl<V: Vault> RawCalls for Forks<V> {
             return Ok(());
         }
         forget(&mut self.known, fork);
-        self.area.make_first(self.alloc, self.relseg, fork)
+        self.area.make_first(self.alloc, self.relseg, fork)?;
+        // without memory the number is looked up again
+        note(&mut self.known, fork, 0).ok();
+        Ok(())
     }
 
     fn cut_to(&mut self, fork: &ForkId, to: u32) -> Result<(), AreaFault>
