@@ -61,7 +61,7 @@ cut_or_not : (c : Bool) (o p : Option (List ℕ)) → after edited (cond c Clear
 cut_or_not true o p e = cc
 cut_or_not false o p e = cc
 
-cut_block : (store : Store) (cut : ForkId) (count : ℕ) (fork : ForkId) (b : ℕ) → block_of (with_cut store cut count) fork b ≡ cond (is_same_fork fork cut && nat_le count b) None (block_of store fork b)
+pub cut_block : (store : Store) (cut : ForkId) (count : ℕ) (fork : ForkId) (b : ℕ) → block_of (with_cut store cut count) fork b ≡ cond (is_same_fork fork cut && nat_le count b) None (block_of store fork b)
 cut_block store cut count fork b = cut_or_not (is_same_fork fork cut && nat_le count b) (block_of store fork b) (block_of (with_cut store cut count) fork b) (cut_view edited store cut count fork b)
 
 act_gone : (end : ℕ) (store next : Store) (act : Act) (fork : ForkId) (b : ℕ) → apply_act end store act ≡ Some next → act_cuts fork b act ≡ true → block_of next fork b ≡ None
@@ -158,13 +158,13 @@ page_block store at page before fork b =
     (put_view (puts page) 0 (Put page) store at page fork b refl)
 
 -- a fork has all blocks before one that it has
-has_before : (store : Store) (fork : ForkId) (b block : ℕ) → is_some (block_of store fork block) ≡ true → b < block → is_some (block_of store fork b) ≡ true
+pub has_before : (store : Store) (fork : ForkId) (b block : ℕ) → is_some (block_of store fork block) ≡ true → b < block → is_some (block_of store fork b) ≡ true
 has_before store fork b block there l =
     let count = unwrap_or (block_count store fork) 0 in
     let h = ltb-true block count (sym (listed_blocks store fork block) ∙ there) in
     listed_blocks store fork b ∙ lt-ltb b count (omega (arith, l, h))
 
-has_fork : (store : Store) (fork : ForkId) (b : ℕ) → is_some (block_of store fork b) ≡ true → contains_key store fork ≡ true
+pub has_fork : (store : Store) (fork : ForkId) (b : ℕ) → is_some (block_of store fork b) ≡ true → contains_key store fork ≡ true
 has_fork store fork b there =
     elim (get store fork) as (λ (o : Option ForkPages). is_some (o >>= λ pages. slice_get pages b) ≡ true → is_some o ≡ true) [ None ↦ λ e. absurd (true≢false (sym e)) | Some pages ↦ λ e. refl ] there
 

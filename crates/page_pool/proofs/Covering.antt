@@ -1,10 +1,10 @@
 -- The disk of a partition that follows its history covers the history from its point on.
-use Rattle.std.proofs.Common.{◌≡◌, ℕ, Bool, true, false, cond, ◌||◌, List, [], ◌++◌, map, Option, Some, None, is_some, refl, ap, sym, subst, ◌∙◌, true≢false}
+use Rattle.std.proofs.Common.{◌≡◌, ℕ, Bool, true, false, cond, ◌||◌, List, map, Option, Some, None, is_some, refl, ap, sym, subst, ◌∙◌, true≢false}
 use Rattle.std.specs.Prelude.{◌==◌, slice_get}
 use Rattle.std.specs.List.{list_any}
 use Rattle.std.specs.FinMap.{get, empty, get-empty}
 use Rattle.std.proofs.lemmas.Bool.{and_parts}
-use Rattle.std.proofs.lemmas.List.Folds.{list_any-append}
+use Rattle.std.proofs.lemmas.List.Elements.{recursion_from_All}
 use Rattle.byte_words.specs.Numbers.{◌>>=◌}
 use Rattle.lsn_core.specs.declared.ids.ForkId.{ForkId}
 use Rattle.lsn_core.specs.Store.{Store, ForkPages, fork_cmp}
@@ -14,34 +14,22 @@ use Rattle.history.proofs.Stores.{by_test}
 use Rattle.partitions.specs.Parts.{is_of, part_of, IsPart}
 use Rattle.partitions.proofs.Puts.{own}
 use Rattle.partitions.proofs.Folds.{parts_fold}
-use Rattle.fuzzy_copies.specs.Touches.{act_touches, act_cuts, act_creates, touches, resets, creates}
+use Rattle.fuzzy_copies.specs.Touches.{act_cuts, touches, resets, creates}
 use Rattle.fuzzy_copies.specs.Taken.{since}
 use Rattle.fuzzy_copies.proofs.Covering.{lagging}
 use Rattle.page_pool.specs.declared.work.Pending.{Pending}
-use Rattle.page_pool.specs.Part.{DirtyMarks, touch_end, is_dirty, work_makes, work_cuts, is_to_make, is_to_cut}
-use Rattle.page_pool.specs.Facts.{IsSince}
+use Rattle.page_pool.specs.Part.{DirtyMarks, touch_end, is_dirty, is_to_make, is_to_cut}
+use Rattle.page_pool.specs.Facts.{is_entered, IsSince}
 use Rattle.page_pool.specs.Laws.{FollowersCover}
-use Rattle.page_pool.proofs.Windows.{or_true, any_part, part_touches, part_cuts, part_creates, touches_to, touch_in, entered_cuts, entered_makes}
+use Rattle.page_pool.proofs.Windows.{any_part, part_touches, touches_to, touch_in, entered_cuts, entered_makes}
 use Rattle.page_pool.proofs.Followed.{told}
 
 -- what pending works cut off and make, the entries of the history from the place on do
-all_cut : (done works : List Pending) (fork : ForkId) (b : ℕ) → is_to_cut works fork b ≡ true → is_to_cut (done ++ works) fork b ≡ true
-all_cut done works fork b cut = list_any-append (λ (w : Pending). work_cuts fork b w.work) done works ∙ or_true (is_to_cut done fork b) (is_to_cut works fork b) cut
-
-all_made : (done works : List Pending) (fork : ForkId) → is_to_make works fork ≡ true → is_to_make (done ++ works) fork ≡ true
-all_made done works fork make = list_any-append (λ (w : Pending). work_makes fork w.work) done works ∙ or_true (is_to_make done fork) (is_to_make works fork) make
-
 window_cuts : (q : ℕ) (es : List Entry) (marks : DirtyMarks) (works : List Pending) (fork : ForkId) (b : ℕ) → IsSince (map (part_of q) es) marks works → is_to_cut works fork b ≡ true → list_any (resets fork b) es ≡ true
-window_cuts q es marks works fork b s cut =
-    let own = map (part_of q) es in
-    any_part q (λ (e : Entry). act_cuts fork b e.act) (resets fork b) es (λ e c. or_true (act_touches fork b e.act) (act_cuts fork b e.act) (part_cuts q fork b e.act c))
-    (sym (entered_cuts fork b [] own) ∙ sym (ap (λ (ws : List Pending). is_to_cut ws fork b) s.entered) ∙ all_cut s.done works fork b cut)
+window_cuts q es marks works fork b s cut = entered_cuts q fork b es works (recursion_from_All (λ (w : Pending). is_entered (map (part_of q) es) w ≡ true) works s.entered) cut
 
 window_makes : (q : ℕ) (es : List Entry) (marks : DirtyMarks) (works : List Pending) (fork : ForkId) → IsSince (map (part_of q) es) marks works → is_to_make works fork ≡ true → list_any (creates fork) es ≡ true
-window_makes q es marks works fork s make =
-    let own = map (part_of q) es in
-    any_part q (λ (e : Entry). act_creates fork e.act) (creates fork) es (λ e c. part_creates q fork e.act c)
-    (sym (entered_makes fork [] own) ∙ sym (ap (λ (ws : List Pending). is_to_make ws fork) s.entered) ∙ all_made s.done works fork make)
+window_makes q es marks works fork s make = entered_makes q fork es works (recursion_from_All (λ (w : Pending). is_entered (map (part_of q) es) w ≡ true) works s.entered) make
 
 -- what the entries leave is neither dirty nor pending
 clean_of : (q : ℕ) (es : List Entry) (marks : DirtyMarks) (works : List Pending) (fork : ForkId) (b : ℕ) → IsSince (map (part_of q) es) marks works → list_any (resets fork b) es ≡ false → is_dirty marks fork b ≡ false

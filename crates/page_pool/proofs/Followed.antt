@@ -1,54 +1,43 @@
 -- What a partition keeps of its history over entries and writes.
-use Rattle.std.proofs.Common.{◌≡◌, ℕ, ◌<◌, ◌≤◌, Bool, true, false, cond, List, [], ◌∷◌, ◌++◌, map, take, Option, Some, None, is_some, IsSome, IfSome, refl, ap, sym, subst, ◌∙◌, arith, true≢false}
-use Rattle.std.specs.Prelude.{nat_le}
-use Rattle.std.specs.List.{list_any, filter}
+use Rattle.std.proofs.Common.{◌≡◌, ℕ, ◌≤◌, Bool, true, false, cond, ◌&&◌, ◌||◌, List, [], ◌∷◌, ◌++◌, map, drop, Option, Some, None, is_some, IsSome, IfSome, refl, ap, sym, subst, ◌∙◌, arith, true≢false}
+use Rattle.std.specs.Prelude.{◌==◌, nat_le}
+use Rattle.std.specs.List.{All, list_any, filter}
 use Rattle.std.specs.FinMap.{empty}
 use Rattle.std.proofs.Math.Nat.{max-le}
-use Rattle.std.proofs.lemmas.Bool.{le-leb}
-use Rattle.std.proofs.lemmas.List.{map-append, append_assoc, append-nil, take-append-drop}
-use Rattle.std.proofs.lemmas.List.Elements.{filter-append}
+use Rattle.std.proofs.lemmas.Bool.{le-leb, eq-eqb}
+use Rattle.std.proofs.lemmas.List.{map-append}
+use Rattle.std.proofs.lemmas.List.Elements.{filter-append, All-nil, All-push, All-same, All-weaker, All-drop}
+use Rattle.std.proofs.lemmas.List.Folds.{list_any-append}
 use Rattle.std.proofs.lemmas.List.Sums.{fold-append}
 use Rattle.byte_words.specs.Numbers.{◌>>=◌}
 use Rattle.lsn_core.specs.Store.{Store}
 use Rattle.lsn_core.specs.Tip.{Tip, tip_with}
 use Rattle.history.specs.declared.op.Item.{Item}
 use Rattle.history.specs.Entry.{Act, Create, Truncate, Change, Mark, NoOp, Entry}
-use Rattle.history.specs.Apply.{main_fork, apply, apply_act, apply_all}
-use Rattle.history.specs.Written.{tip_past, tip_over}
-use Rattle.history.proofs.Stores.{by_test}
+use Rattle.history.specs.Apply.{main_fork, is_same_block, apply, apply_act, apply_all}
+use Rattle.history.proofs.Stores.{by_test, fork_self}
 use Rattle.history.proofs.Histories.{tip_over-append}
 use Rattle.partitions.specs.Parts.{is_item_of, act_part, part_of, concerns, ConcernsNoOther}
 use Rattle.partitions.proofs.Folds.{none_kept, passed_over}
 use Rattle.partitions.proofs.OwnActs.{own_fork, OfNoOther, first_own, others_own}
 use Rattle.fuzzy_copies.specs.Touches.{act_touches, act_cuts}
-use Rattle.fuzzy_copies.specs.Orderly.{IsOrderly}
 use Rattle.fuzzy_copies.specs.Taken.{since}
 use Rattle.fuzzy_copies.proofs.Replay.{applied_in_two}
+use Rattle.page_pool.specs.declared.work.Work.{Work}
 use Rattle.page_pool.specs.declared.work.Work.TheVariants.{Make, Cut}
+use Rattle.page_pool.specs.declared.turn.Wrote.TheVariants as wrote
 use Rattle.page_pool.specs.declared.work.Pending.{Pending}
 use Rattle.page_pool.specs.Part.{DirtyMarks, Part, touch_end}
 use Rattle.page_pool.specs.Steps.{marks_after, works_after, HasApplied, HasWritten, IsClean}
-use Rattle.page_pool.specs.Facts.{history_end, touch_over, last_touch, works_over, entered_works, IsSince, own_since}
-use Rattle.page_pool.specs.Laws.{OwnEntriesAreFollowed, OtherEntriesAreFollowed, WritesAreFollowed, CleaningIsFollowed, CleanPartsFollow}
-use Rattle.page_pool.proofs.Marks.{mark_after}
-use Rattle.page_pool.proofs.Windows.{any_filtered, others_touch, others_enter}
+use Rattle.page_pool.specs.Facts.{history_end, touch_over, last_touch, enters, is_entered, IsSince, own_since}
+use Rattle.page_pool.specs.Calls.{HasDone}
+use Rattle.page_pool.specs.Laws.{OwnEntriesAreFollowed, OtherEntriesAreFollowed, OneWrittenIsWritten, WritesAreFollowed, CleaningIsFollowed, CleanPartsFollow}
+use Rattle.page_pool.proofs.Marks.{mark_set, mark_after}
+use Rattle.page_pool.proofs.Windows.{or_true, any_filtered, others_touch, entered_by}
 
--- where a history ends that goes on
-rest_rises : (tip : Tip) (xs ys : List Entry) → IsOrderly tip.end (xs ++ ys) → IsOrderly (tip_over tip xs).end ys
-rest_rises tip [] ys r = r
-rest_rises tip (x ∷ xs) ys r = rest_rises (tip_past tip x) xs ys r.3
-
-end_over : (tip : Tip) (es : List Entry) → IsOrderly tip.end es → tip.end ≤ (tip_over tip es).end
-end_over tip [] r = omega arith
-end_over tip (e ∷ es) r =
-    let rest : e.end ≤ (tip_over (tip_past tip e) es).end = end_over (tip_past tip e) es r.3 in
-    let first : tip.end ≤ e.start = r.0 in
-    let wide : e.start < e.end = r.1 in
-    omega (arith, first, wide, rest)
-
-later_end : (history more : List Entry) → IsOrderly 0 (history ++ more) → history_end history ≤ history_end (history ++ more)
-later_end history more r =
-    subst (λ (t : Tip). history_end history ≤ t.end) (sym (tip_over-append (tip_with 0 0 0 0) history more)) (end_over (tip_over (tip_with 0 0 0 0) history) more (rest_rises (tip_with 0 0 0 0) history more r))
+-- where a history ends that has one entry more
+last_end : (history : List Entry) (e : Entry) → history_end (history ++ (e ∷ [])) ≡ e.end
+last_end history e = ap (λ (t : Tip). t.end) (tip_over-append (tip_with 0 0 0 0) history (e ∷ []))
 
 -- what is known where an area tells its files
 where_told : {A : Type 0} (o : Option A) (P : Type 0) → (IsSome o → P) → IfSome o (λ x. P)
@@ -68,26 +57,40 @@ touched_last true touch new end old last e before = absurd cc
 touched_last false true new end old last e before = e
 touched_last false false new end old last e before = before e
 
-works_behind : (end : ℕ) (done works : List Pending) (act : Act) → done ++ works_after end works act ≡ works_after end (done ++ works) act
-works_behind end done works (Create fork) = sym (append_assoc done works (record { work = Make fork; end = record { 0 = end } } ∷ []))
-works_behind end done works (Truncate rel count) = sym (append_assoc done works (record { work = Cut (main_fork rel) count; end = record { 0 = end } } ∷ []))
-works_behind end done works (Change items) = refl
-works_behind end done works (Mark marking) = refl
+-- works that entries entered, one more entry among them
+abbrev IsEnteredIn : List Entry → Pending → Type 0
+IsEnteredIn window w = is_entered window w ≡ true
+
+longer_window : (xs ys : List Entry) (works : List Pending) → All (IsEnteredIn xs) works → All (IsEnteredIn (xs ++ ys)) works
+longer_window xs ys works all = All-weaker (IsEnteredIn xs) (IsEnteredIn (xs ++ ys)) (λ w h. list_any-append (entered_by w) xs ys ∙ ap (λ c. c || list_any (entered_by w) ys) h) works all
+
+new_works : (P : Pending → Type 0) (end : ℕ) (works : List Pending) (act : Act) → All P works → ((w : Pending) → enters act w.work ≡ true → end ≡ w.end.0 → P w) → All P (works_after end works act)
+new_works P end works (Create fork) all new =
+    let w : Pending = record { work = Make fork; end = record { 0 = end } } in
+    All-push P works w all (new w (fork_self fork) refl)
+new_works P end works (Truncate rel count) all new =
+    let w : Pending = record { work = Cut (main_fork rel) count; end = record { 0 = end } } in
+    All-push P works w all (new w (ap (λ c. c && (count == count)) (fork_self (main_fork rel)) ∙ eq-eqb count count refl) refl)
+new_works P end works (Change items) all new = all
+new_works P end works (Mark marking) all new = all
+
+last_entered : (xs : List Entry) (e : Entry) (w : Pending) → enters e.act w.work ≡ true → e.end ≡ w.end.0 → IsEnteredIn (xs ++ (e ∷ [])) w
+last_entered xs e w entered end =
+    let now : entered_by w e ≡ true = ap (λ c. c && (e.end == w.end.0)) entered ∙ eq-eqb e.end w.end.0 end in
+    list_any-append (entered_by w) xs (e ∷ []) ∙ or_true (list_any (entered_by w) xs) (list_any (entered_by w) (e ∷ [])) (ap (λ c. c || false) now)
 
 since_last : (xs : List Entry) (e : Entry) (marks : DirtyMarks) (works : List Pending) → IsSince xs marks works → IsSince (xs ++ (e ∷ [])) (marks_after e.end marks e.act) (works_after e.end works e.act)
 since_last xs e marks works s = record {
   touched = λ fork b end m. fold-append (touch_over fork b) None xs (e ∷ [])
       ∙ touched_last (act_cuts fork b e.act) (act_touches fork b e.act) e.end end (touch_end marks fork b) (last_touch fork b xs) (sym (mark_after e.end marks e.act fork b) ∙ m) (s.touched fork b end);
-  done = s.done;
-  entered = works_behind e.end s.done works e.act ∙ ap (λ (ws : List Pending). works_after e.end ws e.act) s.entered ∙ sym (fold-append works_over [] xs (e ∷ []));
+  entered = new_works (IsEnteredIn (xs ++ (e ∷ []))) e.end works e.act (longer_window xs (e ∷ []) works s.entered) (last_entered xs e);
 }
 
 -- entries of others more
 since_others : (q : ℕ) (xs es : List Entry) (marks : DirtyMarks) (works : List Pending) → list_any (concerns q) es ≡ false → IsSince xs marks works → IsSince (xs ++ map (part_of q) es) marks works
 since_others q xs es marks works none s = record {
   touched = λ fork b end m. fold-append (touch_over fork b) None xs (map (part_of q) es) ∙ others_touch q fork b (last_touch fork b xs) es none ∙ s.touched fork b end m;
-  done = s.done;
-  entered = s.entered ∙ sym (fold-append works_over [] xs (map (part_of q) es) ∙ others_enter q (entered_works xs) es none);
+  entered = longer_window xs (map (part_of q) es) works s.entered;
 }
 
 -- an act of the partition alone
@@ -125,7 +128,7 @@ whole_part q e none = ap (λ (act : Act). record { act = act; start = e.start; e
 own_last : (q point : ℕ) (e : Entry) → ConcernsNoOther q e.act → point ≤ e.start → own_since q point (e ∷ []) ≡ e ∷ []
 own_last q point e none late = ap (λ c. map (part_of q) (cond c (e ∷ []) [])) (le-leb point e.start late) ∙ ap (λ (x : Entry). x ∷ []) (whole_part q e none)
 
-own_unwritten : (q : ℕ) (history : List Entry) (e : Entry) (old new : Part) → ConcernsNoOther q e.act → old.point ≤ e.start → HasApplied e old new → IsSince (own_since q old.point history) old.marks old.works → IsSince (own_since q new.point (history ++ (e ∷ []))) new.marks new.works
+own_unwritten : (q : ℕ) (history : List Entry) (e : Entry) (old new : Part) → ConcernsNoOther q e.act → old.point ≤ e.start → HasApplied e.end e.act old new → IsSince (own_since q old.point history) old.marks old.works → IsSince (own_since q new.point (history ++ (e ∷ []))) new.marks new.works
 own_unwritten q history e old new none late a u =
     let before = own_since q old.point history in
     let window : own_since q new.point (history ++ (e ∷ [])) ≡ before ++ (e ∷ []) =
@@ -135,27 +138,23 @@ own_unwritten q history e old new none late a u =
     (subst (λ (m : DirtyMarks). IsSince (before ++ (e ∷ [])) m new.works) (sym a.marks) (subst (λ (ws : List Pending). IsSince (before ++ (e ∷ [])) (marks_after e.end old.marks e.act) ws) (sym a.works) s))
 
 pub own_followed : OwnEntriesAreFollowed
-own_followed q history e old new r none a f =
-    let last = rest_rises (tip_with 0 0 0 0) history (e ∷ []) r in
-    let start : history_end history ≤ e.start = last.0 in
+own_followed q history e old new start end none a f =
     let late = f.late in
-    let longer = later_end history (e ∷ []) r in
     record {
-      late = subst (λ (n : ℕ). n ≤ history_end (history ++ (e ∷ []))) (sym a.point) (omega (arith, late, longer));
+      late = subst (λ (n : ℕ). n ≤ history_end (history ++ (e ∷ []))) (sym a.point) (omega (arith, late, start, end, last_end history e));
       unwritten = own_unwritten q history e old new none (omega (arith, late, start)) a f.unwritten;
       made = over_told old.disk new.disk (IsMadeOf q history old.frames) (IsMadeOf q (history ++ (e ∷ [])) new.frames) (λ some. sym (ap (λ o. is_some o) a.disk) ∙ some)
           (λ made. goes_on q history (e ∷ []) old.frames new.frames made (one_on q e old.frames new.frames none a.frames)) f.made;
     }
 
 pub others_followed : OtherEntriesAreFollowed
-others_followed q history more part r none f =
+others_followed q history more part later none f =
     let late = f.late in
-    let longer = later_end history more r in
     let few = since part.point more in
     let unconcerned : list_any (concerns q) few ≡ false =
     by_test (list_any (concerns q) few) (λ some. absurd (true≢false (sym (any_filtered (concerns q) (λ (e : Entry). nat_le part.point e.start) more some) ∙ none))) (λ no. no) in
     record {
-      late = omega (arith, late, longer);
+      late = omega (arith, late, later);
       unwritten = subst (λ (w : List Entry). IsSince w part.marks part.works) (sym (own_more q part.point history more)) (since_others q (own_since q part.point history) few part.marks part.works unconcerned f.unwritten);
       made = over_told part.disk part.disk (IsMadeOf q history part.frames) (IsMadeOf q (history ++ more) part.frames) (λ some. some)
           (λ made. goes_on q history more part.frames part.frames made (passed_over q part.frames more ∙ ap (λ (es : List Entry). apply_all part.frames (map (part_of q) es)) (none_kept (concerns q) more none))) f.made;
@@ -164,9 +163,43 @@ others_followed q history more part r none f =
 fewer : (window : List Entry) (old new : Part) → HasWritten old new → IsSince window old.marks old.works → IsSince window new.marks new.works
 fewer window old new w s = record {
   touched = λ fork b end m. s.touched fork b end (w.marks fork b end m);
-  done = s.done ++ take w.done old.works;
-  entered = append_assoc s.done (take w.done old.works) new.works ∙ ap (λ (ws : List Pending). s.done ++ (take w.done old.works ++ ws)) w.works
-      ∙ ap (λ (ws : List Pending). s.done ++ ws) (take-append-drop w.done old.works) ∙ s.entered;
+  entered = All-same (IsEnteredIn window) new.works (drop w.done old.works) w.works (All-drop (IsEnteredIn window) w.done old.works s.entered);
+}
+
+-- a block that was cleaned is clean, and the others are as they were
+still_dirty : (here : Bool) (end : ℕ) (mark : Option ℕ) → cond here None mark ≡ Some end → mark ≡ Some end
+still_dirty true end mark e = absurd cc
+still_dirty false end mark e = e
+
+done_first : (done : Work) (old new : Part) → new.frames ≡ old.frames → new.point ≡ old.point → HasDone done old new → (IsSome new.disk → IsSome old.disk) → HasWritten old new
+done_first done old new frames point d disk = record {
+  frames = frames;
+  marks = λ fork b end m. ap (λ (ms : DirtyMarks). touch_end ms fork b) (sym d.marks) ∙ m;
+  done = 1;
+  works = ap (λ (ws : List Pending). drop 1 ws) (sym d.works);
+  point = point;
+  told = disk;
+}
+
+pub one_written : OneWrittenIsWritten
+one_written None old new w disk = record {
+  frames = w.frames;
+  marks = λ fork b end m. ap (λ (ms : DirtyMarks). touch_end ms fork b) (sym w.next.1) ∙ m;
+  done = 0;
+  works = w.next.2;
+  point = w.point;
+  told = disk;
+}
+one_written (Some (wrote.Made fork)) old new w disk = done_first (Make fork) old new w.frames w.point w.next disk
+one_written (Some (wrote.Cut fork count)) old new w disk = done_first (Cut fork count) old new w.frames w.point w.next disk
+one_written (Some (wrote.Wrote at)) old new w disk = record {
+  frames = w.frames;
+  marks = λ fork b end m.
+      still_dirty (is_same_block (record { fork = fork; block = b }) at) end (touch_end old.marks fork b) (sym (mark_set old.marks at None fork b) ∙ ap (λ (ms : DirtyMarks). touch_end ms fork b) (sym w.next.marks) ∙ m);
+  done = 0;
+  works = w.next.works ∙ sym w.next.none;
+  point = w.point;
+  told = disk;
 }
 
 pub writes_followed : WritesAreFollowed
@@ -179,8 +212,7 @@ writes_followed q history old new w f = record {
 none_since : (window : List Entry) (part : Part) → IsClean part → IsSince window part.marks part.works
 none_since window part clean = record {
   touched = λ fork b end m. absurd (true≢false (sym (ap (λ (o : Option ℕ). is_some o) m) ∙ clean.marks fork b));
-  done = entered_works window;
-  entered = ap (λ (ws : List Pending). entered_works window ++ ws) clean.works ∙ append-nil (entered_works window);
+  entered = All-same (IsEnteredIn window) part.works [] clean.works (All-nil (IsEnteredIn window));
 }
 
 pub clean_follow : CleanPartsFollow

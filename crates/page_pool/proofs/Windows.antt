@@ -1,22 +1,21 @@
 -- What the partition's parts of entries touch, cut off, create and enter.
-use Rattle.std.proofs.Common.{◌≡◌, ℕ, Bool, true, false, cond, ◌&&◌, ◌||◌, List, [], ◌∷◌, map, fold, Option, Some, None, refl, ap, sym, ◌∙◌, true≢false}
-use Rattle.std.specs.Prelude.{◌==◌}
-use Rattle.std.specs.List.{list_any, filter}
-use Rattle.std.proofs.lemmas.Bool.{or_parts, eq-eqb}
-use Rattle.std.proofs.Math.Bool.{or-false, or_assoc}
+use Rattle.std.proofs.Common.{◌≡◌, ℕ, Bool, true, false, cond, ◌&&◌, ◌||◌, List, [], ◌∷◌, map, fold, Option, Some, None, refl, ap, sym, ◌∙◌, true≢false, eqb-true}
+use Rattle.std.specs.Prelude.{◌==◌, nat_le}
+use Rattle.std.specs.List.{AllByRecursion, list_any, filter}
+use Rattle.std.proofs.lemmas.Bool.{and_parts, or_parts, eq-eqb}
 use Rattle.lsn_core.specs.declared.ids.ForkId.{ForkId}
 use Rattle.history.specs.Entry.{Act, Create, Truncate, Change, Mark, NoOp, Entry}
-use Rattle.history.specs.Apply.{main_fork}
-use Rattle.history.proofs.Stores.{by_test}
+use Rattle.history.specs.Apply.{main_fork, is_same_fork}
+use Rattle.history.proofs.Stores.{by_test, fork_is}
 use Rattle.partitions.specs.Parts.{is_of, is_item_of, act_part, part_of, act_concerns, concerns}
 use Rattle.partitions.proofs.Folds.{none_kept}
-use Rattle.fuzzy_copies.specs.Touches.{is_at, act_touches, act_cuts, act_creates, touches}
+use Rattle.fuzzy_copies.specs.Touches.{is_at, act_touches, act_cuts, act_creates, touches, resets, creates}
 use Rattle.fuzzy_copies.proofs.Completed.{or_second}
+use Rattle.page_pool.specs.declared.work.Work.{Work}
+use Rattle.page_pool.specs.declared.work.Work.TheVariants.{Make, Cut}
 use Rattle.page_pool.specs.declared.work.Pending.{Pending}
-use Rattle.page_pool.specs.Part.{is_to_make, is_to_cut}
-use Rattle.page_pool.specs.Steps.{works_after}
-use Rattle.page_pool.specs.Facts.{touch_over, works_over}
-use Rattle.page_pool.proofs.Behind.{to_cut_after, to_make_after}
+use Rattle.page_pool.specs.Part.{work_makes, work_cuts, is_to_make, is_to_cut}
+use Rattle.page_pool.specs.Facts.{touch_over, enters, is_entered}
 
 pub or_true : (a b : Bool) → b ≡ true → (a || b) ≡ true
 or_true true b k = refl
@@ -40,7 +39,7 @@ any_filtered t p (e ∷ es) h =
     by_test (t e) (λ now. ap (λ c. c || list_any t es) now) (λ not_now. or_true (t e) (list_any t es) (any_filtered t p es (or_second (t e) (list_any t rest) found not_now))))
     (λ left_out. or_true (t e) (list_any t es) (any_filtered t p es (sym (ap (λ c. list_any t (cond c (e ∷ rest) rest)) left_out) ∙ h)))
 
--- an act's part touches, cuts off and creates only what the act does
+-- an act's part touches only what the act does
 touches_kept : (fork : ForkId) (b : ℕ) (c : Bool) (act : Act) → act_touches fork b (cond c act (Mark NoOp)) ≡ true → act_touches fork b act ≡ true
 touches_kept fork b true act h = h
 touches_kept fork b false act h = absurd (true≢false (sym h))
@@ -51,50 +50,18 @@ part_touches q fork b (Truncate rel count) h = touches_kept fork b (is_of q (mai
 part_touches q fork b (Change items) h = any_filtered (is_at fork b) (is_item_of q) items h
 part_touches q fork b (Mark marking) h = h
 
-cuts_kept : (fork : ForkId) (b : ℕ) (c : Bool) (act : Act) → act_cuts fork b (cond c act (Mark NoOp)) ≡ true → act_cuts fork b act ≡ true
-cuts_kept fork b true act h = h
-cuts_kept fork b false act h = absurd (true≢false (sym h))
-
-pub part_cuts : (q : ℕ) (fork : ForkId) (b : ℕ) (act : Act) → act_cuts fork b (act_part q act) ≡ true → act_cuts fork b act ≡ true
-part_cuts q fork b (Create made) h = cuts_kept fork b (is_of q made) (Create made) h
-part_cuts q fork b (Truncate rel count) h = cuts_kept fork b (is_of q (main_fork rel)) (Truncate rel count) h
-part_cuts q fork b (Change items) h = h
-part_cuts q fork b (Mark marking) h = h
-
-creates_kept : (fork : ForkId) (c : Bool) (act : Act) → act_creates fork (cond c act (Mark NoOp)) ≡ true → act_creates fork act ≡ true
-creates_kept fork true act h = h
-creates_kept fork false act h = absurd (true≢false (sym h))
-
-pub part_creates : (q : ℕ) (fork : ForkId) (act : Act) → act_creates fork (act_part q act) ≡ true → act_creates fork act ≡ true
-part_creates q fork (Create made) h = creates_kept fork (is_of q made) (Create made) h
-part_creates q fork (Truncate rel count) h = creates_kept fork (is_of q (main_fork rel)) (Truncate rel count) h
-part_creates q fork (Change items) h = h
-part_creates q fork (Mark marking) h = h
-
--- of an act that doesn't concern the partition the part touches and enters nothing
+-- of an act that doesn't concern the partition the part touches nothing
 other_touches : (q : ℕ) (fork : ForkId) (b : ℕ) (act : Act) → act_concerns q act ≡ false → act_touches fork b (act_part q act) ≡ false
 other_touches q fork b (Create made) none = ap (λ c. act_touches fork b (cond c (Create made) (Mark NoOp))) none
 other_touches q fork b (Truncate rel count) none = ap (λ c. act_touches fork b (cond c (Truncate rel count) (Mark NoOp))) none
 other_touches q fork b (Change items) none = ap (list_any (is_at fork b)) (none_kept (is_item_of q) items none)
 other_touches q fork b (Mark marking) none = refl
 
-other_enters : (q end : ℕ) (works : List Pending) (act : Act) → act_concerns q act ≡ false → works_after end works (act_part q act) ≡ works
-other_enters q end works (Create made) none = ap (λ c. works_after end works (cond c (Create made) (Mark NoOp))) none
-other_enters q end works (Truncate rel count) none = ap (λ c. works_after end works (cond c (Truncate rel count) (Mark NoOp))) none
-other_enters q end works (Change items) none = refl
-other_enters q end works (Mark marking) none = refl
-
 pub others_touch : (q : ℕ) (fork : ForkId) (b : ℕ) (last : Option ℕ) (es : List Entry) → list_any (concerns q) es ≡ false → fold (touch_over fork b) last (map (part_of q) es) ≡ last
 others_touch q fork b last [] none = refl
 others_touch q fork b last (e ∷ es) none =
     let p = or_parts (concerns q e) (list_any (concerns q) es) none in
     ap (λ c. fold (touch_over fork b) (cond c (Some e.end) last) (map (part_of q) es)) (other_touches q fork b e.act p.0) ∙ others_touch q fork b last es p.1
-
-pub others_enter : (q : ℕ) (works : List Pending) (es : List Entry) → list_any (concerns q) es ≡ false → fold works_over works (map (part_of q) es) ≡ works
-others_enter q works [] none = refl
-others_enter q works (e ∷ es) none =
-    let p = or_parts (concerns q e) (list_any (concerns q) es) none in
-    ap (λ (ws : List Pending). fold works_over ws (map (part_of q) es)) (other_enters q e.end works e.act p.0) ∙ others_enter q works es p.1
 
 -- an entry touched the block, and ends at the place
 abbrev pub touches_to : ForkId → ℕ → ℕ → Entry → Bool
@@ -120,15 +87,60 @@ touch_found fork b end last (e ∷ es) h before found =
 pub touch_in : (fork : ForkId) (b end : ℕ) (es : List Entry) → fold (touch_over fork b) None es ≡ Some end → list_any (touches_to fork b end) es ≡ true
 touch_in fork b end es h = touch_found fork b end None es h (λ none. absurd cc) (λ found. found)
 
--- what entries enter cuts off and makes what they cut off and create
-pub entered_cuts : (fork : ForkId) (b : ℕ) (works : List Pending) (es : List Entry) → is_to_cut (fold works_over works es) fork b ≡ (is_to_cut works fork b || list_any (λ (e : Entry). act_cuts fork b e.act) es)
-entered_cuts fork b works [] = sym (or-false (is_to_cut works fork b))
-entered_cuts fork b works (e ∷ es) =
-    let rest = list_any (λ (x : Entry). act_cuts fork b x.act) es in
-    entered_cuts fork b (works_over works e) es ∙ ap (λ c. c || rest) (to_cut_after e.end works e.act fork b) ∙ or_assoc (is_to_cut works fork b) (act_cuts fork b e.act) rest
+-- an entry entered the work, and ends where the work says
+abbrev pub entered_by : Pending → Entry → Bool
+entered_by w e = enters e.act w.work && (e.end == w.end.0)
 
-pub entered_makes : (fork : ForkId) (works : List Pending) (es : List Entry) → is_to_make (fold works_over works es) fork ≡ (is_to_make works fork || list_any (λ (e : Entry). act_creates fork e.act) es)
-entered_makes fork works [] = sym (or-false (is_to_make works fork))
-entered_makes fork works (e ∷ es) =
-    let rest = list_any (λ (x : Entry). act_creates fork x.act) es in
-    entered_makes fork (works_over works e) es ∙ ap (λ c. c || rest) (to_make_after e.end works e.act fork) ∙ or_assoc (is_to_make works fork) (act_creates fork e.act) rest
+-- a work that an act's part enters, the act enters
+enters_kept : (work : Work) (c : Bool) (act : Act) → enters (cond c act (Mark NoOp)) work ≡ true → enters act work ≡ true
+enters_kept work true act h = h
+enters_kept work false act h = absurd (true≢false (sym h))
+
+part_enters : (q : ℕ) (work : Work) (act : Act) → enters (act_part q act) work ≡ true → enters act work ≡ true
+part_enters q work (Create made) h = enters_kept work (is_of q made) (Create made) h
+part_enters q work (Truncate rel count) h = enters_kept work (is_of q (main_fork rel)) (Truncate rel count) h
+part_enters q work (Change items) h = h
+part_enters q work (Mark marking) h = h
+
+-- an act that enters a work cuts off and creates what the work does
+cut_entered : (fork : ForkId) (b : ℕ) (act : Act) (work : Work) → enters act work ≡ true → work_cuts fork b work ≡ true → act_cuts fork b act ≡ true
+cut_entered fork b (Create made) (Make m) e c = absurd (true≢false (sym c))
+cut_entered fork b (Create made) (Cut cut n) e c = absurd (true≢false (sym e))
+cut_entered fork b (Truncate rel count) (Make m) e c = absurd (true≢false (sym e))
+cut_entered fork b (Truncate rel count) (Cut cut n) e c =
+    let same = and_parts (is_same_fork cut (main_fork rel)) (n == count) e in
+    let cuts = and_parts (is_same_fork fork cut) (nat_le n b) c in
+    both (is_same_fork fork (main_fork rel)) (nat_le count b) (ap (is_same_fork fork) (sym (fork_is cut (main_fork rel) same.0)) ∙ cuts.0) (ap (λ (k : ℕ). nat_le k b) (sym (eqb-true n count same.1)) ∙ cuts.1)
+cut_entered fork b (Change items) work e c = absurd (true≢false (sym e))
+cut_entered fork b (Mark marking) work e c = absurd (true≢false (sym e))
+
+make_entered : (fork : ForkId) (act : Act) (work : Work) → enters act work ≡ true → work_makes fork work ≡ true → act_creates fork act ≡ true
+make_entered fork (Create made) (Make m) e c = ap (is_same_fork fork) (sym (fork_is m made e)) ∙ c
+make_entered fork (Create made) (Cut cut n) e c = absurd (true≢false (sym e))
+make_entered fork (Truncate rel count) (Make m) e c = absurd (true≢false (sym e))
+make_entered fork (Truncate rel count) (Cut cut n) e c = absurd (true≢false (sym c))
+make_entered fork (Change items) work e c = absurd (true≢false (sym e))
+make_entered fork (Mark marking) work e c = absurd (true≢false (sym e))
+
+-- entries entered all of some works
+abbrev pub AreEntered : List Entry → List Pending → Type 0
+AreEntered es works = AllByRecursion (λ (w : Pending). is_entered es w ≡ true) works
+
+-- of the partition's parts of entries: what works cut off and make that they entered, the entries do
+cuts_back : (q : ℕ) (fork : ForkId) (b : ℕ) (es : List Entry) (w : Pending) → is_entered (map (part_of q) es) w ≡ true → work_cuts fork b w.work ≡ true → list_any (resets fork b) es ≡ true
+cuts_back q fork b es w entered cuts =
+    any_part q (entered_by w) (resets fork b) es (λ e h. or_true (act_touches fork b e.act) (act_cuts fork b e.act) (cut_entered fork b e.act w.work (part_enters q w.work e.act (and_parts (enters (act_part q e.act) w.work) (e.end == w.end.0) h).0) cuts)) entered
+
+makes_back : (q : ℕ) (fork : ForkId) (es : List Entry) (w : Pending) → is_entered (map (part_of q) es) w ≡ true → work_makes fork w.work ≡ true → list_any (creates fork) es ≡ true
+makes_back q fork es w entered makes =
+    any_part q (entered_by w) (creates fork) es (λ e h. make_entered fork e.act w.work (part_enters q w.work e.act (and_parts (enters (act_part q e.act) w.work) (e.end == w.end.0) h).0) makes) entered
+
+pub entered_cuts : (q : ℕ) (fork : ForkId) (b : ℕ) (es : List Entry) (works : List Pending) → AreEntered (map (part_of q) es) works → is_to_cut works fork b ≡ true → list_any (resets fork b) es ≡ true
+entered_cuts q fork b es [] entered cut = absurd (true≢false (sym cut))
+entered_cuts q fork b es (w ∷ works) entered cut =
+    by_test (work_cuts fork b w.work) (cuts_back q fork b es w entered.0) (λ not_now. entered_cuts q fork b es works entered.1 (or_second (work_cuts fork b w.work) (is_to_cut works fork b) cut not_now))
+
+pub entered_makes : (q : ℕ) (fork : ForkId) (es : List Entry) (works : List Pending) → AreEntered (map (part_of q) es) works → is_to_make works fork ≡ true → list_any (creates fork) es ≡ true
+entered_makes q fork es [] entered make = absurd (true≢false (sym make))
+entered_makes q fork es (w ∷ works) entered make =
+    by_test (work_makes fork w.work) (makes_back q fork es w entered.0) (λ not_now. entered_makes q fork es works entered.1 (or_second (work_makes fork w.work) (is_to_make works fork) make not_now))

@@ -1,18 +1,19 @@
 -- What a partition keeps of its history.
-use Rattle.std.specs.Prelude.{◌≡◌, ℕ, ◌≤◌, List, [], ◌++◌, map, Option, Some, None, IfSome, if◌then◌else◌}
-use Rattle.std.specs.List.{fold}
+use Rattle.std.specs.Prelude.{◌≡◌, ℕ, ◌≤◌, ◌==◌, ◌&&◌, Bool, true, false, List, map, Option, Some, None, IfSome, if◌then◌else◌}
+use Rattle.std.specs.List.{All, fold, list_any}
 use Rattle.std.specs.FinMap.{empty}
 use Rattle.lsn_core.specs.declared.ids.ForkId.{ForkId}
 use Rattle.lsn_core.specs.Tip.{tip_with}
-use Rattle.history.specs.Entry.{Entry}
-use Rattle.history.specs.Apply.{apply_all}
+use Rattle.history.specs.Entry.{Act, Create, Truncate, Change, Mark, Entry}
+use Rattle.history.specs.Apply.{main_fork, is_same_fork, apply_all}
 use Rattle.history.specs.Written.{tip_over}
 use Rattle.partitions.specs.Parts.{part_of}
 use Rattle.fuzzy_copies.specs.Touches.{touches}
 use Rattle.fuzzy_copies.specs.Taken.{since}
+use Rattle.page_pool.specs.declared.work.Work.{Work}
+use Rattle.page_pool.specs.declared.work.Work.TheVariants.{Make, Cut}
 use Rattle.page_pool.specs.declared.work.Pending.{Pending}
 use Rattle.page_pool.specs.Part.{DirtyMarks, Part, touch_end}
-use Rattle.page_pool.specs.Steps.{works_after}
 
 -- where the last entry of a history ends; 0 where there is none
 abbrev pub history_end : List Entry → ℕ
@@ -26,13 +27,19 @@ touch_over fork block last e = if touches fork block e then Some e.end else last
 abbrev pub last_touch : ForkId → ℕ → List Entry → Option ℕ
 last_touch fork block entries = fold (touch_over fork block) None entries
 
--- the pending works after an entry
-abbrev pub works_over : List Pending → Entry → List Pending
-works_over works e = works_after e.end works e.act
+-- an act enters a work: a creation the making of its fork, a truncation the cut of its main fork
+abbrev pub enters : Act → Work → Bool
+enters (Create fork) (Make made) = is_same_fork made fork
+enters (Create fork) (Cut cut blocks) = false
+enters (Truncate rel count) (Make made) = false
+enters (Truncate rel count) (Cut cut blocks) =
+    is_same_fork cut (main_fork rel) && (blocks == count)
+enters (Change items) work = false
+enters (Mark marking) work = false
 
--- the works that some entries entered, in their order
-abbrev pub entered_works : List Entry → List Pending
-entered_works entries = fold works_over [] entries
+-- one of some entries entered a pending work, and ends where the work says
+abbrev pub is_entered : List Entry → Pending → Bool
+is_entered entries w = list_any (λ e. enters e.act w.work && (e.end == w.end.0)) entries
 
 -- all that is dirty or pending comes from entries of a window
 pub record IsSince (window : List Entry) (marks : DirtyMarks) (works : List Pending)
@@ -40,9 +47,8 @@ pub record IsSince (window : List Entry) (marks : DirtyMarks) (works : List Pend
   -- a dirty block's mark is the end of the last entry that touched the block
   pub touched : (fork : ForkId) (block end : ℕ) → touch_end marks fork block ≡ Some end
       → last_touch fork block window ≡ Some end
-  -- the pending works are those that the entries entered, but for the first ones, which are done
-  pub done : List Pending
-  pub entered : done ++ works ≡ entered_works window
+  -- a pending work was entered by one of the entries
+  pub entered : All (λ w. is_entered window w ≡ true) works
 
 -- the partition's parts of the entries from a place on
 abbrev pub own_since : ℕ → ℕ → List Entry → List Entry

@@ -1,22 +1,26 @@
 -- Laws of a partition's frames and disk.
-use Rattle.std.specs.Prelude.{◌≡◌, ℕ, ◌≤◌, ◌==◌, max, true, false, List, [], ◌∷◌, ◌++◌, map, length, Some, None, IsSome, IfSome}
+use Rattle.std.specs.Prelude.{◌≡◌, ℕ, ◌+◌, ◌≤◌, ◌==◌, max, true, false, List, [], ◌∷◌, ◌++◌, map, length, Option, Some, None, IsSome, IfSome}
 use Rattle.std.specs.List.{list_any}
 use Rattle.std.specs.FinMap.{empty}
 use Rattle.lsn_core.specs.declared.ids.ForkId.{ForkId}
 use Rattle.lsn_core.specs.declared.ids.BlockId.{BlockId}
 use Rattle.lsn_core.specs.Store.{Store}
 use Rattle.lsn_core.specs.Blocks.{block_of, page_put}
+use Rattle.history.specs.declared.op.Op.{Op}
 use Rattle.history.specs.Entry.{Act, Entry}
 use Rattle.history.specs.Apply.{apply_act, apply_all}
-use Rattle.history.specs.Op.{IsTidy}
-use Rattle.partitions.specs.Parts.{is_of, part_of, concerns, ConcernsNoOther}
-use Rattle.fuzzy_copies.specs.Orderly.{IsOrderly}
+use Rattle.history.specs.Op.{act_of_op, IsTidy}
+use Rattle.history.specs.Pages.{page_count}
+use Rattle.partitions.specs.Parts.{is_of, part_of, IsPart, concerns, ConcernsNoOther}
 use Rattle.fuzzy_copies.specs.Covers.{Covers}
 use Rattle.fuzzy_copies.specs.CoverLaws.{MakesTidily}
 use Rattle.page_pool.specs.declared.work.Pending.{Pending}
+use Rattle.page_pool.specs.declared.turn.Wrote.{Wrote}
 use Rattle.page_pool.specs.Part.{DirtyMarks, Part, is_dirty, LacksUnwritten, IsMended, next_end, newest_end}
 use Rattle.page_pool.specs.Steps.{marks_after, works_after, HasApplied, work_done, cleaned, NoneDirtyBefore, ChangedWhereUnwritten, HasWritten, IsClean}
 use Rattle.page_pool.specs.Facts.{history_end, Follows}
+use Rattle.page_pool.specs.Calls.{IsOneWritten}
+use Rattle.page_pool.specs.Refusals.{judged_op}
 
 -- a tidy act done in frames: the disk lacks what it lacked, and what the act touched or entered
 abbrev pub ActsAreEntered : Type 0
@@ -75,19 +79,26 @@ CleanPartsFollow =
     → IfSome part.disk (λ files. apply_all empty (map (part_of q) history) ≡ Some part.frames)
     → IsClean part → part.point ≤ history_end history → Follows q history part
 
--- a partition follows its history over an entry of its own that was applied
+-- a partition follows its history over an entry of its own that was applied, which starts at the
+-- history's end or past it
 abbrev pub OwnEntriesAreFollowed : Type 0
 OwnEntriesAreFollowed =
     (q : ℕ) (history : List Entry) (e : Entry) (old new : Part)
-    → IsOrderly 0 (history ++ (e ∷ [])) → ConcernsNoOther q e.act → HasApplied e old new
-    → Follows q history old → Follows q (history ++ (e ∷ [])) new
+    → history_end history ≤ e.start → e.start ≤ e.end → ConcernsNoOther q e.act
+    → HasApplied e.end e.act old new → Follows q history old → Follows q (history ++ (e ∷ [])) new
 
--- and over entries of others, of which it knows nothing
+-- and over entries of others, of which it knows nothing, where the history ends no earlier with them
 abbrev pub OtherEntriesAreFollowed : Type 0
 OtherEntriesAreFollowed =
     (q : ℕ) (history more : List Entry) (part : Part)
-    → IsOrderly 0 (history ++ more) → list_any (concerns q) more ≡ false
+    → history_end history ≤ history_end (history ++ more) → list_any (concerns q) more ≡ false
     → Follows q history part → Follows q (history ++ more) part
+
+-- what one call wrote was written: of the pending works the first one, or a page
+abbrev pub OneWrittenIsWritten : Type 0
+OneWrittenIsWritten =
+    (what : Option Wrote) (old new : Part) → IsOneWritten what old new
+    → (IsSome new.disk → IsSome old.disk) → HasWritten old new
 
 -- it follows its history still when pages and works are written
 abbrev pub WritesAreFollowed : Type 0
@@ -127,3 +138,19 @@ FollowersCover =
     → MakesTidily history part.point now → IsSome part.disk → Follows q history part
     → LacksUnwritten disk part.frames part.marks part.works
     → Covers (is_of q) disk history part.point
+
+-- a command that concerns one partition alone is refused on its part where it is on the store, and
+-- for the same reason
+abbrev pub PartsJudgeAlike : Type 0
+PartsJudgeAlike =
+    (q : ℕ) (store part : Store) (command : Op) → IsPart q store part
+    → ConcernsNoOther q (act_of_op command) → judged_op part command ≡ judged_op store command
+
+-- and an act that concerns one partition alone adds and takes away as many pages of its part as of
+-- the store
+abbrev pub PartsCountAlike : Type 0
+PartsCountAlike =
+    (q end : ℕ) (store part next last : Store) (act : Act) → IsPart q store part
+    → ConcernsNoOther q act → apply_act end part act ≡ Some next
+    → apply_act end store act ≡ Some last
+    → page_count last + page_count part ≡ page_count store + page_count next

@@ -2,3 +2,12 @@ pub mod Part
 pub mod Steps
 pub mod Facts
 pub mod Laws
+pub mod Framed
+pub mod Dirty
+pub mod Refusals
+pub mod Ready
+pub mod Calls
+pub mod Inside
+pub mod PartCode
+pub mod Writing
+pub mod Partition

@@ -1,5 +1,4 @@
 -- A partition of a store: its pages in frames, and what of them isn't written to its disk yet.
--- What is reserved before a change is logged is left to the code that needs it.
 use Rattle.std.specs.Prelude.{◌≡◌, ℕ, ◌==◌, ◌&&◌, max, Bool, true, false, List, [], ◌++◌, ◌⊎◌, map, length, get_or, slice_get, nat_le, Option, Some, None, if◌then◌else◌}
 use Rattle.std.specs.List.{list_any, flat_map, filter_map, reduce}
 use Rattle.std.specs.Option.{unwrap_or, is_some}
@@ -8,6 +7,7 @@ use Rattle.lsn_core.specs.declared.ids.ForkId.{ForkId}
 use Rattle.lsn_core.specs.Files.{Files}
 use Rattle.lsn_core.specs.Store.{Store, fork_cmp}
 use Rattle.lsn_core.specs.Blocks.{block_of}
+use Rattle.vault.specs.Stops.{Event}
 use Rattle.history.specs.Apply.{is_same_fork}
 use Rattle.fuzzy_copies.specs.Sound.{Agree}
 use Rattle.page_pool.specs.declared.work.Work.{Work}
@@ -19,14 +19,21 @@ use Rattle.page_pool.specs.declared.work.Pending.{Pending}
 abbrev pub DirtyMarks : Type 0
 DirtyMarks = FinMap fork_cmp (List (Option ℕ))
 
+-- how many pages may be added to a fork without memory; a fork that isn't there may have room too
+abbrev pub PageRoom : Type 0
+PageRoom = FinMap fork_cmp ℕ
+
 -- what a partition holds
 pub record Part : Type 0 where
   pub frames : Store  -- its pages, as they are now
   pub marks : DirtyMarks  -- which of them are dirty
   pub works : List Pending  -- what is to be done before dirty pages are written, in order
   pub point : ℕ  -- replay from here on makes good what isn't written
+  pub page_room : PageRoom  -- where pages may be added without memory
+  pub work_room : ℕ  -- how many works may be entered without memory
   pub relseg : ℕ  -- blocks a segment file
   pub disk : Option Files  -- the files of its area, where that tells them
+  pub past : Option (List Event)  -- what happened to the area, where that tells it
   pub faults : ℕ  -- how often a call of the area failed
 
 -- the marks of a fork's pages

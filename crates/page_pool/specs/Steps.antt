@@ -6,8 +6,8 @@ use Rattle.lsn_core.specs.declared.ids.BlockId.{BlockId}
 use Rattle.lsn_core.specs.Store.{Store}
 use Rattle.lsn_core.specs.Blocks.{with_fork, with_cut}
 use Rattle.history.specs.declared.op.Item.{Item}
-use Rattle.history.specs.Entry.{Act, Create, Truncate, Change, Mark, Entry}
-use Rattle.history.specs.Apply.{main_fork, apply}
+use Rattle.history.specs.Entry.{Act, Create, Truncate, Change, Mark}
+use Rattle.history.specs.Apply.{main_fork, apply_act}
 use Rattle.fuzzy_copies.specs.Sound.{Agree}
 use Rattle.page_pool.specs.declared.work.Work.{Work}
 use Rattle.page_pool.specs.declared.work.Work.TheVariants.{Make, Cut}
@@ -45,11 +45,11 @@ works_after end works (Truncate rel count) =
 works_after end works (Change items) = works
 works_after end works (Mark marking) = works
 
--- a partition after an entry of its own
-pub record HasApplied (e : Entry) (old new : Part) : Type 0 where
-  pub frames : apply old.frames e ≡ Some new.frames
-  pub marks : new.marks ≡ marks_after e.end old.marks e.act
-  pub works : new.works ≡ works_after e.end old.works e.act
+-- a partition after an act of its own, by an entry that ends at a place
+pub record HasApplied (end : ℕ) (act : Act) (old new : Part) : Type 0 where
+  pub frames : apply_act end old.frames act ≡ Some new.frames
+  pub marks : new.marks ≡ marks_after end old.marks act
+  pub works : new.works ≡ works_after end old.works act
   pub point : new.point ≡ old.point
   pub disk : new.disk ≡ old.disk
 

@@ -1,6 +1,6 @@
 //! Laws of a partition's frames and disk: each is the contract of a function that does nothing.
 
-ghost use Rattle.page_pool.specs.Laws.{ActsAreEntered, WorksAreDone, PagesAreWritten, TornWritesStayUnwritten, MendedDisksLackNoMore, CleanDisksAreFrames, FramesLackNothing, CleanPartsFollow, CleanPartsHaveNoNext, OwnEntriesAreFollowed, OtherEntriesAreFollowed, WritesAreFollowed, CleaningIsFollowed, UnwrittenIsOfHistory, FollowersCover};
+ghost use Rattle.page_pool.specs.Laws.{ActsAreEntered, WorksAreDone, PagesAreWritten, TornWritesStayUnwritten, MendedDisksLackNoMore, CleanDisksAreFrames, FramesLackNothing, CleanPartsFollow, CleanPartsHaveNoNext, OwnEntriesAreFollowed, OtherEntriesAreFollowed, OneWrittenIsWritten, WritesAreFollowed, CleaningIsFollowed, UnwrittenIsOfHistory, FollowersCover, PartsJudgeAlike, PartsCountAlike};
 
 /// A tidy act done in frames: the disk lacks of them what it lacked before, and what the act
 /// touched or entered.
@@ -28,15 +28,16 @@ pub fn clean_partitions_lack_nothing()
     ensures next { CleanPartsHaveNoNext }
 {}
 
-/// A partition follows its history over entries of its own and of others.
+/// A partition follows its history over entries of its own and of others that come behind it.
 pub fn entries_are_followed()
     ensures own { OwnEntriesAreFollowed }
     ensures others { OtherEntriesAreFollowed }
 {}
 
-/// A partition follows its history still when some of it is written, and when all is and its point
-/// is raised.
+/// A partition follows its history still when some of it is written, one thing or more, and when
+/// all is and its point is raised.
 pub fn writes_are_followed()
+    ensures one { OneWrittenIsWritten }
     ensures some { WritesAreFollowed }
     ensures all { CleaningIsFollowed }
 {}
@@ -51,4 +52,16 @@ pub fn unwritten_is_of_history()
 /// point on makes good what isn't written.
 pub fn followers_cover()
     ensures { FollowersCover }
+{}
+
+/// A command that concerns one partition alone is judged by the partition's pages as by those of the
+/// whole store.
+pub fn parts_judge_alike()
+    ensures { PartsJudgeAlike }
+{}
+
+/// An act that concerns one partition alone adds and takes away as many of the partition's pages as
+/// of the whole store's.
+pub fn parts_count_alike()
+    ensures { PartsCountAlike }
 {}

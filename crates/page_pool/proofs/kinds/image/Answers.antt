@@ -1,0 +1,8 @@
+-- A page that can be written can be so with another LSN.
+use Rattle.std.proofs.Common.{◌∙◌, ap}
+use Rattle.pg_page.specs.Header.{with_lsn}
+use Rattle.page_pool.proofs.Making.{page_with_lsn}
+use Rattle.page_pool.proofs.kinds.image.Goals as goal
+
+pub returns-clause-writable : goal.returns-clause-writable
+returns-clause-writable c = page_with_lsn c.args.lsn c.args.page.now c.set_lsn.new.self c.requires (c.set_lsn.ensures ∙ ap (with_lsn c.args.lsn) c.from_good-image.ensures)

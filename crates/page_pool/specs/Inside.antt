@@ -1,0 +1,167 @@
+-- What the crate's private functions answer: no public contract cites these.
+use Rattle.std.specs.Prelude.{◌≡◌, ℕ, ◌+◌, ◌-◌, ◌≤◌, ◌==◌, ◌&&◌, Bool, max, false, List, [], ◌∷◌, ◌++◌, map, take, length, get_or, nat_le, nat_lt, Some, None, IsSome, if◌then◌else◌, vec_len, vec_capacity, box_value}
+use Rattle.std.specs.Option.{option_map}
+use Rattle.std.specs.Global.{Vec}
+use Rattle.std.specs.List.{All}
+use Rattle.std.specs.FinMap.{get, insert}
+use Rattle.lsn_core.specs.declared.ids.ForkId.{ForkId}
+use Rattle.lsn_core.specs.declared.ids.BlockId.{BlockId}
+use Rattle.lsn_core.specs.Blocks.{block_count, pages_of, page_put}
+use Rattle.lsn_core.specs.Store.{Store, ForkPages}
+use Rattle.pg_page.specs.Header.{hole_zeroed, with_lsn}
+use Rattle.pg_page.specs.Frags.{Fragment, bad_frag, written_frags}
+use Rattle.history.specs.declared.op.Op.{Op}
+use Rattle.history.specs.declared.op.Op.TheVariants as op
+use Rattle.history.specs.declared.op.Edit.{Edit}
+use Rattle.history.specs.declared.op.Edit.TheVariants.{Put, Patch}
+use Rattle.history.specs.declared.op.Item.{Item}
+use Rattle.history.specs.Apply.{is_same_fork, main_fork, page_at, apply_act}
+use Rattle.history.specs.Op.{act_of_op}
+use Rattle.history.specs.Pages.{page_count}
+use Rattle.history.specs.Whole.{is_named}
+use Rattle.page_pool.specs.declared.ready.Done.{Done}
+use Rattle.page_pool.specs.declared.ready.Done.TheVariants as done
+use Rattle.page_pool.specs.declared.ready.NewPage.{NewPage}
+use Rattle.page_pool.specs.declared.work.Work.TheVariants as work
+use Rattle.page_pool.specs.declared.work.Pending.{Pending}
+use Rattle.page_pool.specs.Part.{DirtyMarks, Part, fork_marks}
+use Rattle.page_pool.specs.Steps.{touched}
+use Rattle.page_pool.specs.Framed.{Framed, HasRoom}
+use Rattle.page_pool.specs.Refusals.{most_items, judged_blocks, judged_edits}
+
+-- ---- judging
+
+-- the byte at a place behind one fragment, where it was this one
+abbrev pub byte_over : Fragment → ℕ → ℕ → ℕ
+byte_over frag at byte =
+    if nat_le frag.at at && nat_lt (at - frag.at) (length frag.bytes)
+    then get_or frag.bytes (at - frag.at) 0 else byte
+
+-- and behind some in turn
+abbrev pub byte_over_all : List Fragment → ℕ → ℕ → ℕ
+byte_over_all [] at byte = byte
+byte_over_all (frag ∷ frags) at byte = byte_over_all frags at (byte_over frag at byte)
+
+-- these are the places of a good header
+abbrev pub is_header : ℕ → ℕ → ℕ → ℕ → Bool
+is_header version lower upper special =
+    (version == 8196) && (nat_le 24 lower && (nat_le lower upper
+    && (nat_le upper special && nat_le special 8192)))
+
+-- how many blocks a fork has behind items, where it had so many before them
+abbrev pub grown : List Item → ForkId → ℕ → ℕ
+grown [] fork count = count
+grown (item ∷ items) fork count =
+    grown items fork
+    (if is_same_fork fork item.at.fork then max count (item.at.block + 1) else count)
+
+-- what is known of a store behind items that were done on another one: how many blocks its forks
+-- have, and that the blocks that no item names have the pages of before
+pub record IsBehind (first : Store) (items : List Item) (store : Store) : Type 0 where
+  pub blocks : (fork : ForkId)
+      → block_count store fork ≡ option_map (grown items fork) (block_count first fork)
+  pub pages : (at : BlockId) → is_named at (map (λ i. i.at) items) ≡ false
+      → page_at store at ≡ page_at first at
+
+-- no fragment of an edit is bad
+abbrev pub HasGoodFrags : Edit → Type 0
+HasGoodFrags (Put page) = Unit {0}
+HasGoodFrags (Patch frags) = bad_frag frags ≡ None
+
+-- 1 to 4 items, of different blocks and of good fragments
+pub record IsFormed (items : List Item) : Type 0 where
+  pub some : 1 ≤ length items
+  pub most : length items ≤ most_items
+  pub blocks : judged_blocks 0 [] items ≡ None
+  pub edits : judged_edits 0 items ≡ None
+
+-- how many pages an item adds to a store
+abbrev pub item_adds : Store → Item → ℕ
+item_adds store item = item.at.block + 1 - length (pages_of store item.at.fork)
+
+-- a command adds so many pages to a store, and takes so many away
+abbrev pub IsCounted : Store → Op → ℕ → ℕ → Type 0
+IsCounted store command added gone =
+    (end : ℕ) (next : Store) → apply_act end store (act_of_op command) ≡ Some next
+    → page_count next + gone ≡ page_count store + added
+
+-- ---- what is made ready
+
+-- the page that an edit leaves, but for its LSN
+abbrev pub page_of_edit : List ℕ → Edit → List ℕ
+page_of_edit old (Put page) = hole_zeroed page
+page_of_edit old (Patch frags) = hole_zeroed (written_frags frags old)
+
+-- an item's block, and the page that it leaves there
+abbrev pub page_of_item : Store → Item → BlockId × List ℕ
+page_of_item store item = (item.at, page_of_edit (page_at store item.at) item.edit)
+
+abbrev pub seen_page : NewPage → BlockId × List ℕ
+seen_page new = (new.at, box_value new.page)
+
+-- what a command does to the pages: each new page is what an item makes of the page before all
+abbrev pub IsDoneBy : Store → Op → Done → Type 0
+IsDoneBy store (op.Create fork) made = made ≡ done.Created fork
+IsDoneBy store (op.Truncate rel count) made = made ≡ done.Cut rel count
+IsDoneBy store (op.Change items) (done.Created fork) = ⊥
+IsDoneBy store (op.Change items) (done.Cut rel count) = ⊥
+IsDoneBy store (op.Change items) (done.Put pages) =
+    map seen_page pages.items ≡ map (page_of_item store) items
+
+-- ---- what is done
+
+-- a fork is there, up to the block
+pub record IsPlace (store : Store) (at : BlockId) : Type 0 where
+  pub pages : ForkPages
+  pub there : get store at.fork ≡ Some pages
+  pub within : at.block ≤ length pages
+
+-- new pages are put in turn, each at a place that the ones before it leave
+abbrev pub ArePlaces : ℕ → Store → List NewPage → Type 0
+ArePlaces end store [] = Unit {0}
+ArePlaces end store (new ∷ pages) =
+    IsPlace store new.at
+    × ArePlaces end (page_put new.at (with_lsn end (box_value new.page)) store) pages
+
+abbrev pub pages_touched : ℕ → DirtyMarks → List NewPage → DirtyMarks
+pages_touched end marks [] = marks
+pages_touched end marks (new ∷ pages) = pages_touched end (touched end marks new.at) pages
+
+-- the marks and the pending works behind what was made ready, by an entry that ends at a place
+abbrev pub marks_done : ℕ → DirtyMarks → Done → DirtyMarks
+marks_done end marks (done.Created fork) = insert marks fork (fork_marks marks fork)
+marks_done end marks (done.Cut rel count) =
+    insert marks (main_fork rel) (take count (fork_marks marks (main_fork rel)))
+marks_done end marks (done.Put pages) = pages_touched end marks pages.items
+
+abbrev pub works_done : ℕ → List Pending → Done → List Pending
+works_done end works (done.Created fork) =
+    works ++ (record { work = work.Make fork; end = record { 0 = end } } ∷ [])
+works_done end works (done.Cut rel count) =
+    works ++ (record { work = work.Cut (main_fork rel) count; end = record { 0 = end } } ∷ [])
+works_done end works (done.Put pages) = works
+
+-- what was made ready may be done on a partition, without memory
+abbrev pub MayBeDone : ℕ → Part → Done → Type 0
+MayBeDone end part (done.Created fork) =
+    HasRoom part.page_room fork 0 × (get part.frames fork ≡ None) × (1 ≤ part.work_room)
+MayBeDone end part (done.Cut rel count) =
+    IsSome (get part.frames (main_fork rel)) × (1 ≤ part.work_room)
+MayBeDone end part (done.Put pages) =
+    ArePlaces end part.frames pages.items
+    × All (λ p. HasRoom part.page_room p.at.fork (length pages.items)) pages.items
+
+-- a partition of which frames and pending works alone are known
+abbrev pub bare : Framed → Vec Pending → Part
+bare frames works = record {
+  frames = frames.pages;
+  marks = frames.marks;
+  works = works.items;
+  point = 0;
+  page_room = frames.room;
+  work_room = vec_capacity works - vec_len works;
+  relseg = 0;
+  disk = None;
+  past = None;
+  faults = 0;
+}

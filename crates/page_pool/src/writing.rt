@@ -1,0 +1,255 @@
+//! Writing what a partition has dirty or pending.
+
+ghost use Rattle.std.specs.Prelude.{◌≡◌, ◌<◌, ◌^◌, [], None, Some, IfOk, OnOk, OnErr, IfSome};
+ghost use Rattle.std.specs.FinMap.{keys};
+ghost use Rattle.lsn_core.specs.Causes.{HasCause};
+ghost use Rattle.page_pool.specs.declared.work.Work.TheVariants as work;
+ghost use Rattle.page_pool.specs.declared.turn.Wrote.TheVariants as wrote;
+ghost use Rattle.page_pool.specs.Part.{is_dirty};
+ghost use Rattle.page_pool.specs.Steps.{HasWritten, IsClean};
+ghost use Rattle.page_pool.specs.Framed.{AreFramed, all_dirty_ends};
+ghost use Rattle.page_pool.specs.Calls.{SameUnwritten, ChangesForks, IsOneWritten, IsAllWritten};
+ghost use Rattle.page_pool.specs.Calls.{MayWriteNext, MayWriteAll};
+ghost use Rattle.page_pool.specs.Writing.{framed_of, IsFirstWork, IsFirstPage};
+ghost use Rattle.page_pool.specs.Writing.{IsNextPage, HasCleaned, NoneDirtyFrom, IsForkClean};
+
+use crate::partition::Partition;
+use crate::turn::{Cleaned, Turn, Wrote};
+use crate::work::Work;
+use lsn_core::{AreaFault, BlockId, ForkId, Lsn, NoMemory, Pages};
+use std::alloc::Global;
+use vault::Vault;
+use wal_writer::Flushed;
+
+impl<V: Vault, const Q: u32> Partition<V, Q> {
+    /// Writes what comes first: pending works in their order, then the first dirty page.
+    pub fn write_one(&mut self, mark: &Flushed) -> Result<Turn, AreaFault>
+        requires { MayWriteNext self.old mark.now.to.0 }
+        ensures part { IfOk result (λ turn. turn.part ≡ Q) }
+        ensures written { IfOk result (λ turn. IsOneWritten turn.wrote self.old self.new) }
+        ensures kept { OnErr result (SameUnwritten self.old self.new) }
+        ensures area { ChangesForks self.old self.new }
+        ensures cause { HasCause self.old.faults self.new.faults result }
+    {
+        let wrote = self.write_next()?;
+        Ok(Turn { part: Q, wrote })
+    }
+
+    /// Writes all that is dirty or pending, syncs the area, and raises the point to that redo point.
+    /// After a fault some of it may be written, and the point stands.
+    pub fn clean_all(
+        &mut self,
+        alloc: Global,
+        redo: Lsn,
+        mark: &Flushed,
+    ) -> Result<Cleaned, AreaFault>
+        requires { MayWriteAll self.old mark.now.to.0 }
+        ensures part { IfOk result (λ cleaned. cleaned.part ≡ Q) }
+        ensures redo { IfOk result (λ cleaned. cleaned.redo ≡ redo) }
+        ensures written { OnOk result (IsAllWritten redo.0 self.old self.new) }
+        ensures kept { OnErr result (HasWritten self.old self.new) }
+        ensures area { ChangesForks self.old self.new }
+        ensures cause { HasCause self.old.faults self.new.faults result }
+    {
+        self.finish_works()?;
+        self.write_pages(alloc)?;
+        self.settle(redo)?;
+        Ok(Cleaned { part: Q, redo })
+    }
+
+    /// Writes what comes first, where there is anything.
+    fn write_next(&mut self) -> Result<Option<Wrote>, AreaFault>
+        ensures written { IfOk result (λ wrote. IsOneWritten wrote self.old self.new) }
+        ensures kept { OnErr result (SameUnwritten self.old self.new) }
+        ensures area { ChangesForks self.old self.new }
+        ensures cause { HasCause self.old.faults self.new.faults result }
+    {
+        if let Some(work) = self.next_work() {
+            return Ok(Some(self.do_work(work)?));
+        }
+        let Some(at) = self.next_page() else {
+            return Ok(None);
+        };
+        self.write_page(&at)?;
+        Ok(Some(Wrote::Wrote(at)))
+    }
+
+    /// Does all pending works, in their order.
+    fn finish_works(&mut self) -> Result<(), AreaFault>
+        ensures none { OnOk result (self.new.works ≡ []) }
+        ensures kept { HasWritten self.old self.new }
+        ensures area { ChangesForks self.old self.new }
+        ensures cause { HasCause self.old.faults self.new.faults result }
+    {
+        while let Some(work) = self.next_work() {
+            self.do_work(work)?;
+        }
+        Ok(())
+    }
+
+    /// Writes all dirty pages, fork by fork, where no work is pending.
+    fn write_pages(&mut self, alloc: Global) -> Result<(), AreaFault>
+        requires { self.old.works ≡ [] }
+        ensures clean { OnOk result (IsClean self.new) }
+        ensures kept { HasWritten self.old self.new }
+        ensures area { ChangesForks self.old self.new }
+        ensures cause { HasCause self.old.faults self.new.faults result }
+    {
+        self.know_frames();
+        let forks = self.forks_held(alloc)?;
+        for fork in &forks {
+            self.write_fork(fork)?;
+        }
+        Ok(())
+    }
+
+    /// Writes the dirty pages of a fork, where no work is pending.
+    fn write_fork(&mut self, fork: &ForkId) -> Result<(), AreaFault>
+        requires { self.old.works ≡ [] }
+        ensures clean { OnOk result (IsForkClean self.new fork.now) }
+        ensures none { self.new.works ≡ [] }
+        ensures kept { HasWritten self.old self.new }
+        ensures area { ChangesForks self.old self.new }
+        ensures cause { HasCause self.old.faults self.new.faults result }
+    {
+        let fork = *fork;
+        let blocks = self.blocks_held(&fork)?;
+        for block in 0..blocks {
+            let at = BlockId { fork, block };
+            if self.is_dirty(&at) {
+                self.write_page(&at)?;
+            }
+        }
+        Ok(())
+    }
+
+    /// The first pending work. None exactly where there is none.
+    fn next_work(&self) -> Option<Work>
+        ensures first { IfSome result (λ work. IsFirstWork work self.now) }
+        ensures none { result ≡ None → self.now.works ≡ [] }
+    {
+        Some(self.works.first()?.work)
+    }
+
+    /// The first dirty block. None exactly where there is none.
+    fn next_page(&self) -> Option<BlockId>
+        ensures first { IfSome result (λ at. IsFirstPage at self.now) }
+        ensures none { result ≡ None → all_dirty_ends self.now.marks ≡ [] }
+    {
+        Some(self.frames.first_dirty()?.at)
+    }
+
+    /// The forks in frames, in order.
+    fn forks_held(&self, alloc: Global) -> Result<Vec<ForkId>, NoMemory>
+        ensures { IfOk result (λ forks. forks.items ≡ keys self.now.frames) }
+    {
+        self.frames.forks(alloc)
+    }
+
+    /// How many blocks a fork has in frames: none from there on is dirty. Fails where that is past
+    /// the number's type, which no memory holds.
+    fn blocks_held(&self, fork: &ForkId) -> Result<u32, NoMemory>
+        ensures { IfOk result (NoneDirtyFrom self.now fork.now) }
+    {
+        self.frames.know();
+        let count = self.frames.blocks(fork).unwrap_or(0);
+        u32::try_from(count).map_err(|_| NoMemory)
+    }
+
+    /// Whether a block is dirty.
+    fn is_dirty(&self, at: &BlockId) -> bool
+        ensures { result ≡ is_dirty self.now.marks at.now.fork at.now.block }
+    {
+        self.frames.is_dirty(at)
+    }
+
+    /// That each page has 8192 bytes and a mark.
+    fn know_frames(&self)
+        ensures { AreFramed (framed_of self.now) }
+    {
+        self.frames.know();
+    }
+
+    /// Does the first pending work.
+    fn do_work(&mut self, work: Work) -> Result<Wrote, AreaFault>
+        requires { IsFirstWork work self.old }
+        ensures written { IfOk result (λ wrote. IsOneWritten (Some wrote) self.old self.new) }
+        ensures kept { OnErr result (SameUnwritten self.old self.new) }
+        ensures area { ChangesForks self.old self.new }
+        ensures cause { HasCause self.old.faults self.new.faults result }
+    {
+        match work {
+            Work::Make(fork) => {
+                self.make_fork(&fork)?;
+                Ok(Wrote::Made(fork))
+            }
+            Work::Cut(fork, count) => {
+                self.cut_fork(&fork, count)?;
+                Ok(Wrote::Cut(fork, count))
+            }
+        }
+    }
+
+    /// Makes a fork on the disk, which is the first pending work.
+    fn make_fork(&mut self, fork: &ForkId) -> Result<(), AreaFault>
+        requires { IsFirstWork (work.Make fork.now) self.old }
+        ensures made { OnOk result (IsOneWritten (Some (wrote.Made fork.now)) self.old self.new) }
+        ensures kept { OnErr result (SameUnwritten self.old self.new) }
+        ensures area { ChangesForks self.old self.new }
+        ensures cause { HasCause self.old.faults self.new.faults result }
+    {
+        self.disk.make(*fork)?;
+        self.works.remove(0);
+        Ok(())
+    }
+
+    /// Cuts a fork of the disk, which is the first pending work.
+    fn cut_fork(&mut self, fork: &ForkId, count: u32) -> Result<(), AreaFault>
+        requires { IsFirstWork (work.Cut fork.now count) self.old }
+        ensures cut { OnOk result
+            (IsOneWritten (Some (wrote.Cut fork.now count)) self.old self.new) }
+        ensures kept { OnErr result (SameUnwritten self.old self.new) }
+        ensures area { ChangesForks self.old self.new }
+        ensures cause { HasCause self.old.faults self.new.faults result }
+    {
+        self.frames.know();
+        self.disk.cut(*fork, count)?;
+        self.works.remove(0);
+        Ok(())
+    }
+
+    /// Writes the first dirty page of a fork, where no work is pending.
+    fn write_page(&mut self, at: &BlockId) -> Result<(), AreaFault>
+        requires { IsNextPage at.now self.old }
+        ensures written { OnOk result (HasCleaned at.now self.old self.new) }
+        ensures kept { OnErr result (SameUnwritten self.old self.new) }
+        ensures area { ChangesForks self.old self.new }
+        ensures cause { HasCause self.old.faults self.new.faults result }
+    {
+        if at.block == u32::MAX {
+            // a fork of so many pages is held by no memory
+            return Err(AreaFault::NoMemory);
+        }
+        self.frames.know();
+        let Some(page) = self.frames.block(at) else {
+            // no dirty block is missing
+            return Ok(());
+        };
+        self.disk.write_block(*at, page)?;
+        self.frames.clean(at);
+        Ok(())
+    }
+
+    /// Syncs the area of a clean partition, and raises its point to the redo point.
+    fn settle(&mut self, redo: Lsn) -> Result<(), AreaFault>
+        requires { IsClean self.old }
+        ensures settled { OnOk result (IsAllWritten redo.0 self.old self.new) }
+        ensures kept { OnErr result (SameUnwritten self.old self.new) }
+        ensures area { ChangesForks self.old self.new }
+        ensures cause { HasCause self.old.faults self.new.faults result }
+    {
+        self.disk.sync()?;
+        self.point = Lsn(self.point.0.max(redo.0));
+        Ok(())
+    }
+}
