@@ -1,0 +1,9 @@
+pub mod Stands
+pub mod Goes
+pub mod Parting
+pub mod Flushes
+pub mod Ends
+pub mod Tells
+pub mod Begun
+pub mod Good
+pub mod Follows

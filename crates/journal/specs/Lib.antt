@@ -1,0 +1,4 @@
+pub mod Lawful
+pub mod Journal
+pub mod Laws
+pub mod Marks
