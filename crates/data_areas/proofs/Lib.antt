@@ -1,0 +1,6 @@
+pub mod Cleared
+pub mod Marks
+pub mod Turned
+pub mod Exact
+pub mod Causes
+pub mod Since

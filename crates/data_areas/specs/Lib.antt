@@ -1,0 +1,5 @@
+pub mod Areas
+pub mod Filled
+pub mod Inside
+pub mod Marking
+pub mod Rebuilt
