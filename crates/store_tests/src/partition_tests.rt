@@ -1,0 +1,349 @@
+//! A partition of a store over an area in memory: which commands it takes, what it writes and in
+//! which order, and that a call that failed is made good by the next. Places of entries are those
+//! of an independent implementation of the formats, and so is the order of what a flush writes.
+
+ghost use Rattle.std.specs.Prelude.{IfOk};
+ghost use Rattle.page_pool.specs.Ready.{HasItems};
+
+use crate::flushed::{PUT, flushed};
+use history::{Edit, Item, Items, Op};
+use lsn_core::{AreaFault, BlockId, ForkId, ForkLen, Lsn, NoMemory};
+use page_pool::{Frames, OpFault, Partition, Wrote};
+use pg_page::{Frag, Frags, make_page};
+use rel_files::Forks;
+use std::alloc::Global;
+use std::test::Fail;
+use test_areas::{Wrong, main_fork};
+use vault::MemVault;
+use wal_writer::Flushed;
+
+/// The partition of 5/16384.
+type Part = Partition<MemVault, 0>;
+
+/// The start of the first entry, which is the redo point at first.
+const FIRST: Lsn = Lsn(0x100028);
+
+/// Where the entry of a creation of 5/16384 ends, as the second one of a WAL.
+const CREATED: Lsn = Lsn(0x100090);
+
+/// A command on the main fork of 5/16384.
+#[derive(Clone, Copy)]
+enum Does {
+    Creates,
+    /// It puts a page with a hole, filled with this byte, at each of these blocks.
+    Puts(u32, u8),
+    PutsTwo(u32, u32),
+    /// It writes two bytes over those at a place of a page.
+    Patches(u32, u16),
+    Cuts(u32),
+}
+
+/// What is written.
+#[derive(Clone, Copy, PartialEq, Eq)]
+enum Writes {
+    Nothing,
+    /// The fork is made.
+    Made,
+    /// It is cut to so many blocks.
+    Cut(u32),
+    /// A page at this block.
+    Page(u32),
+}
+
+/// What a step does to a partition, and what it shows.
+#[derive(Clone, Copy)]
+enum PartStep {
+    /// This command is done, by an entry that ends there.
+    Takes(Does, Lsn),
+    /// This command is refused.
+    Refuses(Does, OpFault),
+    /// The first and the last end of what isn't written.
+    Unwritten(Option<Lsn>, Option<Lsn>),
+    /// This is written next.
+    Written(Writes),
+    /// All is written, and the point is raised to there.
+    Cleans(Lsn),
+    /// The area has the fork with so many blocks, or none.
+    Lists(Option<u32>),
+    /// The area has a page at a block that was put by the entry that ends there, or none.
+    Reads(u32, Option<Lsn>),
+}
+
+fn fork() -> Result<ForkId, Wrong> {
+    main_fork(16384).ok_or(Wrong::Step(0))
+}
+
+/// The item that puts a page at a block.
+fn put(block: u32, fill: u8) -> Result<Item, Wrong> {
+    let page = make_page(32, 8160, fill).ok_or(Wrong::Step(0))?;
+    Ok(Item {
+        at: BlockId {
+            fork: fork()?,
+            block,
+        },
+        edit: Edit::Put(page),
+    })
+}
+
+/// The item that patches a page of a fork.
+fn patch(alloc: Global, fork: ForkId, block: u32, at: u16) -> Result<Item, AreaFault> {
+    let mut frags = Vec::new(alloc);
+    frags.push(Frag::new(alloc, at, b"zz")?)?;
+    Ok(Item {
+        at: BlockId { fork, block },
+        edit: Edit::Patch(Frags::from_vec(frags)),
+    })
+}
+
+fn change(alloc: Global, item: Item) -> Result<Op, NoMemory>
+    ensures { IfOk result HasItems }
+{
+    let mut items = Vec::new(alloc);
+    items.push(item)?;
+    Ok(Op::Change(Items::from_vec(items)))
+}
+
+fn change_two(alloc: Global, first: Item, second: Item) -> Result<Op, NoMemory>
+    ensures { IfOk result HasItems }
+{
+    let mut items = Vec::new(alloc);
+    items.push(first)?;
+    items.push(second)?;
+    Ok(Op::Change(Items::from_vec(items)))
+}
+
+fn op_of(alloc: Global, does: Does) -> Result<Op, Wrong>
+    ensures { IfOk result HasItems }
+{
+    match does {
+        Does::Creates => Ok(Op::Create(fork()?)),
+        Does::Puts(block, fill) => Ok(change(alloc, put(block, fill)?)?),
+        Does::PutsTwo(first, second) => { Ok(change_two(alloc, put(first, 1)?, put(second, 2)?)?) }
+        Does::Patches(block, at) => Ok(change(alloc, patch(alloc, fork()?, block, at)?)?),
+        Does::Cuts(count) => Ok(Op::Truncate(fork()?.rel, count)),
+    }
+}
+
+/// Does a command, by an entry that ends there, unless it is refused.
+fn take(alloc: Global, part: &mut Part, does: Does, end: Lsn) -> Result<Option<OpFault>, Wrong> {
+    let op = op_of(alloc, does)?;
+    match part.check_op(alloc, &op, FIRST) {
+        Ok(ready) => {
+            part.apply_op(ready, end);
+            Ok(None)
+        }
+        Err(fault) => Ok(Some(fault)),
+    }
+}
+
+fn kind_of_write(wrote: Option<Wrote>) -> Writes {
+    match wrote {
+        None => Writes::Nothing,
+        Some(Wrote::Made(_)) => Writes::Made,
+        Some(Wrote::Cut(_, count)) => Writes::Cut(count),
+        Some(Wrote::Wrote(at)) => Writes::Page(at.block),
+    }
+}
+
+/// Writes what comes first, where the WAL is flushed so far.
+fn write(part: &mut Part, mark: &Flushed) -> Result<Writes, AreaFault> {
+    match part.next_lsn() {
+        Some(next) if next > mark.to() => Err(AreaFault::NoMemory),
+        _ => {
+            let turn = part.write_one(mark)?;
+            if turn.part() == 0 {
+                Ok(kind_of_write(turn.wrote()))
+            } else {
+                Err(AreaFault::NoMemory)
+            }
+        }
+    }
+}
+
+/// Writes all, where the WAL is flushed so far: the redo point behind it.
+fn clean(alloc: Global, part: &mut Part, redo: Lsn, mark: &Flushed) -> Result<Lsn, AreaFault> {
+    match part.newest_lsn() {
+        Some(newest) if newest > mark.to() => Err(AreaFault::NoMemory),
+        _ => {
+            let cleaned = part.clean_all(alloc, redo, mark)?;
+            if cleaned.part() == 0 && cleaned.redo() == redo {
+                Ok(part.redo_point())
+            } else {
+                Err(AreaFault::NoMemory)
+            }
+        }
+    }
+}
+
+fn lists(part: &mut Part, blocks: Option<u32>) -> Result<bool, Wrong> {
+    let list = part.list_forks()?;
+    let fork = fork()?;
+    Ok(match blocks {
+        Some(blocks) => list.as_slice() == [ForkLen { fork, blocks }].as_slice(),
+        None => list.is_empty(),
+    })
+}
+
+/// A page of the area has this LSN, or it is missing and leaves the buffer as it is.
+fn reads(part: &mut Part, block: u32, end: Option<Lsn>) -> Result<bool, Wrong> {
+    let fork = fork()?;
+    let mut page = [b'.'; 8192];
+    let found = part.read_disk(BlockId { fork, block }, &mut page)?;
+    Ok(match end {
+        Some(end) => found && pg_page::lsn_of(&page) == end.0,
+        None => !found && page == [b'.'; 8192],
+    })
+}
+
+/// Takes a step, and says whether it is so.
+fn takes(alloc: Global, part: &mut Part, mark: &Flushed, step: PartStep) -> Result<bool, Wrong> {
+    match step {
+        PartStep::Takes(does, end) => Ok(take(alloc, part, does, end)?.is_none()),
+        PartStep::Refuses(does, fault) => Ok(take(alloc, part, does, PUT)? == Some(fault)),
+        PartStep::Unwritten(next, newest) => {
+            Ok(part.next_lsn() == next && part.newest_lsn() == newest)
+        }
+        PartStep::Written(wanted) => Ok(write(part, mark)? == wanted),
+        PartStep::Cleans(redo) => Ok(clean(alloc, part, redo, mark)? == redo),
+        PartStep::Lists(blocks) => lists(part, blocks),
+        PartStep::Reads(block, end) => reads(part, block, end),
+    }
+}
+
+/// Takes steps in turn. The first one that isn't so is the error.
+fn take_all(
+    alloc: Global,
+    part: &mut Part,
+    mark: &Flushed,
+    steps: &[PartStep],
+) -> Result<(), Wrong> {
+    for at in 0..steps.len() {
+        if !takes(alloc, part, mark, steps[at])? {
+            return Err(Wrong::Step(at));
+        }
+    }
+    Ok(())
+}
+
+/// A new partition over an area of which these calls fail.
+fn partition(alloc: Global, fails: &[u64]) -> Result<Part, AreaFault> {
+    let area = MemVault::new(alloc, fails)?;
+    let forks = Forks::new(alloc, area, 2);
+    Ok(Partition::new(alloc, forks, Frames::new(alloc), FIRST))
+}
+
+/// A fork is created and a page is put: refusals in their order, and what two flushes write.
+static FIRST_PAGE: [PartStep; 24] = [
+    PartStep::Refuses(Does::Puts(0, 65), OpFault::NoFork),
+    PartStep::Refuses(Does::Cuts(0), OpFault::NoFork),
+    PartStep::Unwritten(None, None),
+    PartStep::Written(Writes::Nothing),
+    PartStep::Lists(None),
+    PartStep::Takes(Does::Creates, CREATED),
+    PartStep::Refuses(Does::Creates, OpFault::ForkExists),
+    PartStep::Refuses(Does::Puts(1, 65), OpFault::PastEnd),
+    PartStep::Refuses(Does::Patches(0, 24), OpFault::NoBlock),
+    PartStep::Refuses(Does::Patches(0, 8191), OpFault::BadFragment(0, 0)),
+    PartStep::Refuses(Does::PutsTwo(0, 0), OpFault::SameBlock(1)),
+    PartStep::Refuses(Does::Cuts(1), OpFault::CutPastEnd),
+    PartStep::Takes(Does::Puts(0, 65), PUT),
+    PartStep::Refuses(Does::Patches(0, 12), OpFault::BadPage(0)),
+    PartStep::Lists(None),
+    PartStep::Unwritten(Some(CREATED), Some(PUT)),
+    PartStep::Written(Writes::Made),
+    PartStep::Lists(Some(0)),
+    PartStep::Unwritten(Some(PUT), Some(PUT)),
+    PartStep::Written(Writes::Page(0)),
+    PartStep::Written(Writes::Nothing),
+    PartStep::Lists(Some(1)),
+    PartStep::Reads(0, Some(PUT)),
+    PartStep::Reads(1, None),
+];
+
+/// Pages over two files, of which some are cut off and put again: works come before pages, and the
+/// pages by block.
+static CUT: [PartStep; 17] = [
+    PartStep::Takes(Does::Creates, CREATED),
+    PartStep::Takes(Does::PutsTwo(0, 1), Lsn(0x1000A0)),
+    PartStep::Takes(Does::Puts(2, 3), Lsn(0x1000B0)),
+    PartStep::Takes(Does::Cuts(1), Lsn(0x1000C0)),
+    PartStep::Takes(Does::Puts(1, 4), Lsn(0x1000D0)),
+    PartStep::Takes(Does::Patches(0, 8190), Lsn(0x1000E0)),
+    PartStep::Unwritten(Some(CREATED), Some(Lsn(0x1000E0))),
+    PartStep::Written(Writes::Made),
+    PartStep::Unwritten(Some(Lsn(0x1000C0)), Some(Lsn(0x1000E0))),
+    PartStep::Written(Writes::Cut(1)),
+    PartStep::Written(Writes::Page(0)),
+    PartStep::Unwritten(Some(Lsn(0x1000D0)), Some(Lsn(0x1000D0))),
+    PartStep::Written(Writes::Page(1)),
+    PartStep::Lists(Some(2)),
+    PartStep::Reads(0, Some(Lsn(0x1000E0))),
+    PartStep::Reads(1, Some(Lsn(0x1000D0))),
+    PartStep::Reads(2, None),
+];
+
+/// Three pages, all written at once.
+static CLEANED: [PartStep; 9] = [
+    PartStep::Takes(Does::Creates, CREATED),
+    PartStep::Takes(Does::PutsTwo(0, 1), Lsn(0x1000A0)),
+    PartStep::Takes(Does::Puts(2, 3), PUT),
+    PartStep::Cleans(PUT),
+    PartStep::Unwritten(None, None),
+    PartStep::Written(Writes::Nothing),
+    PartStep::Lists(Some(3)),
+    PartStep::Reads(0, Some(Lsn(0x1000A0))),
+    PartStep::Reads(2, Some(PUT)),
+];
+
+#[test]
+fn the_first_page_is_written_behind_its_fork(rt: HostRuntime) -> Result<(), Fail> {
+    let alloc = rt.alloc();
+    let mark = flushed(alloc)?;
+    let mut part = partition(alloc, &[])?;
+    take_all(alloc, &mut part, &mark, &FIRST_PAGE)?;
+    Ok(())
+}
+
+#[test]
+fn works_are_written_before_pages(rt: HostRuntime) -> Result<(), Fail> {
+    let alloc = rt.alloc();
+    let mark = flushed(alloc)?;
+    let mut part = partition(alloc, &[])?;
+    take_all(alloc, &mut part, &mark, &CUT)?;
+    Ok(())
+}
+
+#[test]
+fn all_is_written_at_once(rt: HostRuntime) -> Result<(), Fail> {
+    let alloc = rt.alloc();
+    let mark = flushed(alloc)?;
+    let mut part = partition(alloc, &[])?;
+    take_all(alloc, &mut part, &mark, &CLEANED)?;
+    Ok(())
+}
+
+/// How many of eight writes failed.
+fn failed(part: &mut Part, mark: &Flushed) -> u32 {
+    let mut failed: u32 = 0;
+    for _ in 0..8 {
+        if write(part, mark).is_err() {
+            failed = failed.saturating_add(1);
+        }
+    }
+    failed
+}
+
+/// Where one of the first four device calls fails, so does one write, and the next one makes it
+/// good: there are four writes, of one call at least.
+#[test]
+fn failed_writes_are_made_good(rt: HostRuntime) -> Result<(), Fail> {
+    let alloc = rt.alloc();
+    let mark = flushed(alloc)?;
+    for call in 1..=4 {
+        let mut part = partition(alloc, &[call])?;
+        take_all(alloc, &mut part, &mark, &CUT[..7])?;
+        assert!(rt; failed(&mut part, &mark) == 1);
+        take_all(alloc, &mut part, &mark, &CUT[13..])?;
+    }
+    Ok(())
+}
