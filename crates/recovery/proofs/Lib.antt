@@ -4,4 +4,5 @@ pub mod Redoing
 pub mod SoFar
 pub mod Stepping
 pub mod Replays
+pub mod Hearing
 pub mod OneWal

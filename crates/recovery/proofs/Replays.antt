@@ -135,12 +135,12 @@ module _ {P : Type 0} (shows : P → Store → Type 0) where
             (subst (λ (p : P). Makes shows before p (taken upto entries) old.bad old.tally) (sym stays.1.1) so.makes));
       }
 
-  redoes_all : (before behind : P) (rs qs : List Record) (tally : Tally) → qs ≡ rs → RedoesCounted shows before behind no_tally tally (λ s. redo_all s rs) → Redoes shows before behind (λ s. redo_all s qs)
+  pub redoes_all : (before behind : P) (rs qs : List Record) (tally : Tally) → qs ≡ rs → RedoesCounted shows before behind no_tally tally (λ s. redo_all s rs) → Redoes shows before behind (λ s. redo_all s qs)
   redoes_all before behind rs qs tally same makes s shown =
       let one = makes s shown in
       (one.next, (ap (redo_all s) same ∙ one.made, one.shown))
 
-  shows_whole : (place forks pages to : ℕ) (before behind : P) (entries rs : List Record) (tally : Tally) → ending_by to entries ≡ rs → AreRising place rs → forks ≡ tally.forks → pages ≡ tally.pages
+  pub shows_whole : (place forks pages to : ℕ) (before behind : P) (entries rs : List Record) (tally : Tally) → ending_by to entries ≡ rs → AreRising place rs → forks ≡ tally.forks → pages ≡ tally.pages
       → RedoesCounted shows before behind no_tally tally (λ s. redo_all s rs) → shows before empty → ShowsWhole (shows behind) entries to forks pages
   shows_whole place forks pages to before behind entries rs tally same rising forks_are pages_are makes fresh =
       let one = makes empty fresh in
@@ -156,7 +156,7 @@ module _ {P : Type 0} (shows : P → Store → Type 0) where
 -- ---- the answers
 
 module _ {V P : Type 0} (g : Ghosts V) (p : PagesGhosts P) where
-  pub replayed_at : (s : StoreSettings) (upto : Option Lsn) (old : V) (before behind : P) (tip : Tip) (entries : List Record) (progress : Progress) (replayed : Replayed)
+  unfoldable pub replayed_at : (s : StoreSettings) (upto : Option Lsn) (old : V) (before behind : P) (tip : Tip) (entries : List Record) (progress : Progress) (replayed : Replayed)
       → IsAllRead g s upto old tip entries → HasReplayed p.shows s upto before behind entries progress → IsFinished upto tip progress replayed → IsReplayed p s (g.files old) upto before behind replayed
   replayed_at s upto old before behind tip entries progress replayed all so done =
       let same : ending_by (replayed_to upto tip) entries ≡ taken upto entries = taken_is upto tip entries all.so_far.below in
@@ -222,7 +222,7 @@ module _ {V P : Type 0} (g : Ghosts V) (p : PagesGhosts P) where
     pub kept : p.keeps before behind
     pub later : p.faults before ≤ p.faults behind
 
-  pub next_kept : (s : StoreSettings) (upto : Option Lsn) (old now later : V) (before mid behind : P) (c new : Cursor) (progress next : Progress) (r : Record) → Keeps s upto old now before mid c progress
+  unfoldable pub next_kept : (s : StoreSettings) (upto : Option Lsn) (old now later : V) (before mid behind : P) (c new : Cursor) (progress next : Progress) (r : Record) → Keeps s upto old now before mid c progress
       → StepsTo g s.segment upto c new now later (Ok (Some r)) → OnlyReads g now later → Takes p.shows upto r mid behind progress next → p.keeps before behind → p.faults mid ≤ p.faults behind
       → Keeps s upto old later before behind new next
   next_kept s upto old now later before mid behind c new progress next r kept answer reads takes keeps more =

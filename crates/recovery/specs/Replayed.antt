@@ -1,6 +1,7 @@
 -- What a replay leaves of pages, and why it comes to no end.
-use Rattle.std.specs.Prelude.{◌≡◌, ℕ, List, Option, Some, Result, Ok, Err, IfSome}
+use Rattle.std.specs.Prelude.{◌≡◌, ℕ, List, ◌++◌, map, Option, Some, Result, Ok, Err, IfSome}
 use Rattle.std.specs.FinMap.{empty, len}
+use Rattle.std.specs.Option.{option_map}
 use Rattle.lsn_core.specs.Causes.{Rose}
 use Rattle.lsn_core.specs.Files.{Files}
 use Rattle.lsn_core.specs.declared.fault.AreaFault.TheVariants.{Failed}
@@ -10,11 +11,13 @@ use Rattle.lsn_core.specs.Segment.{StoreSettings}
 use Rattle.lsn_core.specs.Store.{Store}
 use Rattle.vault.specs.declared.area.Vault.{Ghosts}
 use Rattle.wal_record.specs.declared.record.Record.{Record}
+use Rattle.history.specs.Entry.{Entry}
 use Rattle.history.specs.Pages.{page_count}
 use Rattle.history.specs.Redo.{Redoes, redo_all}
-use Rattle.history.specs.Whole.{whole}
+use Rattle.history.specs.Whole.{entry_of, whole}
 use Rattle.recovery.specs.declared.fault.ReplayFault.{ReplayFault}
 use Rattle.recovery.specs.declared.fault.ReplayFault.TheVariants.{Wal, Out}
+use Rattle.recovery.specs.declared.listener.Listener.{Ghosts as ListenerGhosts}
 use Rattle.recovery.specs.declared.replaying.Replayed.{Replayed}
 use Rattle.recovery.specs.Replay.{replayed_to, ending_by, last_end, HasBadDelta}
 use Rattle.recovery.specs.Reading.{IsReadTo}
@@ -62,3 +65,18 @@ ReplaysInto g p s upto old now before behind (Err (Wal why)) =
     why
 ReplaysInto g p s upto old now before behind (Err (Out why)) =
     why ≡ Failed → Rose (p.faults before) (p.faults behind)
+
+-- a listener heard these entries in turn, behind what it heard before, where it tells
+abbrev pub IsHeard : {L : Type 0} → (L → Option (List Entry)) → List Record → L → L → Type 0
+IsHeard heard entries old new =
+    heard new ≡ option_map (λ es. es ++ map entry_of entries) (heard old)
+
+-- a replay that comes to an end, of which a listener heard each entry that was read, those past the
+-- target too
+abbrev pub HearsReplay : {V P L : Type 0} → Ghosts V → PagesGhosts P → ListenerGhosts L
+    → StoreSettings → Option Lsn → V → V → P → P → L → L → Result Replayed ReplayFault → Type 0
+HearsReplay g p l s upto old now before behind ear later (Ok replayed) =
+    (done : IsReplayed p s (g.files old) upto before behind replayed)
+    × IsHeard l.heard done.entries ear later
+HearsReplay g p l s upto old now before behind ear later (Err fault) =
+    ReplaysInto g p s upto old now before behind (Err fault)

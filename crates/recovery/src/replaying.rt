@@ -1,15 +1,16 @@
 //! Replay of a WAL from its beginning into pages.
 
-ghost use Rattle.std.specs.Prelude.{◌≡◌, ◌≤◌, ◌<◌, ◌↔◌, IsTrue, None, OnOk};
+ghost use Rattle.std.specs.Prelude.{◌≡◌, ◌≤◌, ◌<◌, ◌^◌, ◌↔◌, IsTrue, [], ◌∷◌, length, None, IfSome, OnOk};
 ghost use Rattle.lsn_core.specs.Causes.{HasCause};
 ghost use Rattle.lsn_core.specs.Segment.{segment_bytes};
 ghost use Rattle.vault.specs.Frame.{OnlyReads};
 ghost use Rattle.history.specs.Applied.{IsApplicable};
 ghost use Rattle.recovery.specs.Causes.{Replays};
-ghost use Rattle.recovery.specs.Replayed.{ReplaysInto};
+ghost use Rattle.recovery.specs.Replayed.{ReplaysInto, IsHeard, HearsReplay};
 ghost use Rattle.recovery.specs.Inside.{IsTaken, Adds, Takes, FinishAnswer};
 
 use crate::fault::{RecoveryFault, ReplayFault};
+use crate::listener::{Deaf, Listener};
 use crate::reading::{next_to, whole_to};
 use crate::redo::{Tally, redo_entry};
 use generic_redo::RedoFault;
@@ -99,20 +100,24 @@ impl Progress {
         }
     }
 
-    /// Replays an entry that was read, where it ends at the target or before it.
-    fn take<P: Pages>(
+    /// Tells an entry that was read, and replays it where it ends at the target or before it.
+    fn take<P: Pages, L: Listener>(
         &mut self,
         target: &mut P,
         upto: Option<Lsn>,
         entry: &Record,
+        listener: &mut L,
     ) -> Result<(), AreaFault>
         requires applicable { IsApplicable entry.now.kind }
         requires end { 0 < entry.now.end.0 }
+        requires room { IfSome (L.heard listener.old) (λ es. length es < 2 ^ 50) }
         ensures takes { OnOk result
             (Takes P.shows upto entry.now target.old target.new self.old self.new) }
+        ensures heard { IsHeard L.heard (entry.now ∷ []) listener.old listener.new }
         ensures kept { P.keeps target.old target.new }
         ensures cause { HasCause (P.faults target.old) (P.faults target.new) result }
     {
+        listener.hear(entry);
         if is_taken(upto, entry.end) {
             return self.add(target, entry);
         }
@@ -157,11 +162,31 @@ pub fn replay<V: Vault, P: Pages>(
     ensures kept { P.keeps target.old target.new }
     ensures later { P.faults target.old ≤ P.faults target.new }
 {
+    replay_heard(alloc, wal, settings, upto, target, &mut Deaf)
+}
+
+/// The same, with a listener that heard nothing yet, where it tells: it is told each entry that is
+/// read, in order, before that is replayed, and also the one that ends past the target.
+pub fn replay_heard<V: Vault, P: Pages, L: Listener>(
+    alloc: Global,
+    wal: &mut V,
+    settings: &Settings,
+    upto: Option<Lsn>,
+    target: &mut P,
+    listener: &mut L,
+) -> Result<Replayed, ReplayFault>
+    requires none { IfSome (L.heard listener.old) (λ es. es ≡ []) }
+    ensures answer { HearsReplay V.Vault P.Pages L.Listener settings.now upto wal.old wal.new
+        target.old target.new listener.old listener.new result }
+    ensures reads { OnlyReads V.Vault wal.old wal.new }
+    ensures kept { P.keeps target.old target.new }
+    ensures later { P.faults target.old ≤ P.faults target.new }
+{
     let size = settings.segment();
     let mut cursor = WalCursor::first(settings);
     let mut progress = Progress::new(size);
     while let Some(record) = next_to(alloc, wal, &mut cursor, size, upto)? {
-        progress.take(target, upto, &record)?;
+        progress.take(target, upto, &record, listener)?;
     }
     Ok(progress.finish(upto, cursor.tip())?)
 }
