@@ -28,8 +28,8 @@ get_without [] files q = refl
 get_without (name ∷ names) files q = get_without names (remove files name) q ∙ ap (cond (is_among q names) None) (get-remove nat_list_cmp_total files name q) ∙ both (is_among q names) (eq_by_cmp (slice_cmp nat_cmp) q name) (get files q)
 
 -- the removal of the mark's name is not seen at other names
-apart : (files : Files) (name q : List ℕ) → q ≢ name → get (remove files name) q ≡ get files q
-apart files name q other = by_test (eq_by_cmp (slice_cmp nat_cmp) q name) refl
+pub apart_removed : (files : Files) (name q : List ℕ) → q ≢ name → get (remove files name) q ≡ get files q
+apart_removed files name q other = by_test (eq_by_cmp (slice_cmp nat_cmp) q name) refl
   where
     by_test : (same : Bool) → eq_by_cmp (slice_cmp nat_cmp) q name ≡ same → get (remove files name) q ≡ get files q
     by_test true e = absurd (other (slice_cmp-IsAntisymmetric nat_cmp-IsAntisymmetric q name ((Equal-is _).0 e)))
@@ -39,7 +39,7 @@ get_other : (name : List ℕ) (files : Files) (q : List ℕ) → q ≢ rebuildin
 get_other name files q other = by_test (bytes_eq name rebuilding_name) refl
   where
     by_test : (mark : Bool) → bytes_eq name rebuilding_name ≡ mark → get (cond mark files (remove files name)) q ≡ get (remove files name) q
-    by_test true e = sym (apart files name q (λ same. other (same ∙ (bytes_eq-Decides name rebuilding_name).0 e)))
+    by_test true e = sym (apart_removed files name q (λ same. other (same ∙ (bytes_eq-Decides name rebuilding_name).0 e)))
     by_test false e = refl
 
 -- among other names than the mark's

@@ -11,7 +11,8 @@ use Rattle.lsn_core.specs.declared.ids.ForkId.{ForkId}
 use Rattle.lsn_core.specs.Files.{Files}
 use Rattle.lsn_core.specs.Names.{fork_path_bytes}
 use Rattle.lsn_core.specs.Store.{Store, fork_cmp, files_of}
-use Rattle.vault.specs.Area.{Related}
+use Rattle.vault.specs.Stops.{Event}
+use Rattle.vault.specs.Area.{Related, after_remove}
 use Rattle.vault.specs.Frame.{AgreeBut, LeavesNow}
 use Rattle.rel_files.specs.Forks.{Holds, IsForkPath}
 use Rattle.rel_files.specs.Shown.{AreFilesOf}
@@ -24,9 +25,11 @@ use Rattle.page_pool.proofs.Ends.{all_clean}
 use Rattle.data_areas.specs.Marking.{rebuilding_name, IsMark, HasOnly}
 use Rattle.data_areas.specs.Rebuilt.{IsRebuilt}
 use Rattle.data_areas.specs.Filled.{HasOnlyForksAndMark, IsFilled, IsMarked}
+use Rattle.data_areas.proofs.Cleared.{apart_removed}
+use Rattle.data_areas.proofs.Marks.{gone, left_seen}
 
 -- no fork has a file of the mark's name
-no_mark : (path : List ℕ) → IsForkPath path → path ≢ rebuilding_name
+pub no_mark : (path : List ℕ) → IsForkPath path → path ≢ rebuilding_name
 no_mark path is same =
     let first : get_or (fork_path_bytes is.fork is.seg false) 0 0 ≡ get_or rebuilding_name 0 0 = ap (λ (l : List ℕ). get_or l 0 0) (sym is.path_is ∙ same) in
     let numbers : 98 ≡ 114 = first in
@@ -83,6 +86,7 @@ rebuilt_of_filled relseg from faults told pages part some none filled =
       relseg_is = filled.relseg_is;
       tells = tells_alike (AgreeBut IsForkPath) told part.disk filled.files;
       files = exact relseg part.disk pages some only (held_at relseg pages part filled.relseg_is filled.frames filled.held);
+      only = only;
       settled = filled.settled;
       later = filled.later;
     }
@@ -114,6 +118,28 @@ left_only a b agree only gone path not = go (bytes_eq path rebuilding_name) refl
     go true e = ap (get b) ((bytes_eq-Decides path rebuilding_name).0 e) ∙ gone
     go false e = let other : path ≢ rebuilding_name = λ same. (let t = sym e ∙ (bytes_eq-Decides path rebuilding_name).1 same in cc) in agree path other ∙ only path not other
 
+-- and are but for the mark just those that the pages have
+exact_but_mark : (relseg : ℕ) (pages : Store) (m : Files) → 0 < relseg → HasOnlyForksAndMark m → Holds relseg m pages → AgreeBut IsMark (files_of relseg pages) m
+exact_but_mark relseg pages m some only held =
+    let bare : Files = after_remove rebuilding_name m in
+    let agree : AgreeBut IsMark m bare = λ q not. apart_removed m rebuilding_name q not in
+    let alone : HasOnlyForks bare = left_only m bare agree only (gone rebuilding_name (Some m) (Some bare) (Some bare) refl refl) in
+    let e : bare ≡ files_of relseg pages = files_are_exact relseg bare pages some (apart relseg pages m bare agree held) alone in
+    λ q not. sym (agree q not) ∙ ap (λ (f : Files). get f q) e
+
+left_of_settled : (P : Files → Type 0) (disk : Option Files) (past : Option (List Event)) → IsSome disk → IfSome disk P → IfSome disk (λ files. LeavesNow (λ left. left ≡ files) past) → LeavesNow P past
+left_of_settled P None past some holds settled = absurd (nothing_told some)
+left_of_settled P (Some m) past some holds settled = left_seen P m past holds settled
+
+-- a stop leaves them where an area was filled that had the mark alone
+pub kept_of_filled : (relseg from faults : ℕ) (told : Option Files) (pages : Store) (part : Part) → 0 < relseg → IfSome told (HasOnly rebuilding_name) → IsFilled relseg from faults told pages part
+    → IsSome told → LeavesNow (AgreeBut IsMark (files_of relseg pages)) part.past
+kept_of_filled relseg from faults told pages part some alone filled tells =
+    let held = held_at relseg pages part filled.relseg_is filled.frames filled.held in
+    let only = (marked_of_filled relseg from faults told pages part alone filled).only in
+    let kept = when_both_told part.disk HasOnlyForksAndMark (λ files. Holds relseg files pages) (AgreeBut IsMark (files_of relseg pages)) (λ m o h. exact_but_mark relseg pages m some o h) only held in
+    left_of_settled (AgreeBut IsMark (files_of relseg pages)) part.disk part.past (tells_alike (AgreeBut IsForkPath) told part.disk filled.files ∙ tells) kept filled.settled
+
 pub unmarked_holds : (relseg : ℕ) (pages : Store) (old new : Option Files) → Related (AgreeBut IsMark) old new → IfSome old (λ files. Holds relseg files pages) → IfSome new (λ files. Holds relseg files pages)
 unmarked_holds relseg pages old new agree holds = when_related (AgreeBut IsMark) (λ files. Holds relseg files pages) (λ files. Holds relseg files pages) old new (apart relseg pages) agree holds
 
@@ -139,6 +165,7 @@ rebuilt_of_unmarked relseg from old new told some marked agree gone left at fram
   tells = sym (ap (λ (o : Option Files). is_some o) at) ∙ tells_alike (AgreeBut IsMark) old.disk told agree;
   files = subst (λ (o : Option Files). IfSome o (λ files. files ≡ files_of relseg old.frames)) at
       (exact relseg told old.frames some (unmarked_only old.disk told agree marked.only gone) (unmarked_holds relseg old.frames old.disk told agree (held_at relseg old.frames old marked.relseg_is refl marked.held)));
+  only = subst (λ (o : Option Files). IfSome o HasOnlyForks) at (unmarked_only old.disk told agree marked.only gone);
   settled = subst (λ (o : Option Files). IfSome o (λ files. LeavesNow (λ left. left ≡ files) new.past)) at left;
   later = later;
 }
@@ -186,6 +213,7 @@ rebuilt_since relseg from faults faults' told told' pages part le alike rebuilt 
   relseg_is = rebuilt.relseg_is;
   tells = rebuilt.tells ∙ alike;
   files = rebuilt.files;
+  only = rebuilt.only;
   settled = rebuilt.settled;
   later = omega (arith, rebuilt.later, le);
 }

@@ -1,5 +1,6 @@
 pub mod Cleared
 pub mod Marks
+pub mod Phases
 pub mod Turned
 pub mod Exact
 pub mod Causes

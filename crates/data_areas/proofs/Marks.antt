@@ -81,7 +81,7 @@ gone name None y z made same = subst (λ (o : Option Files). IfSome o (λ m. get
 gone name (Some files) y z made same = subst (λ (o : Option Files). IfSome o (λ m. get m name ≡ None)) (sym (same ∙ made)) (removed_gone name files)
 
 -- where a stop leaves what a read gives, it leaves what is seen of that
-left_seen : (P : Files → Type 0) (m : Files) (past : Option (List Event)) → P m → LeavesNow (λ c. c ≡ m) past → LeavesNow P past
+pub left_seen : (P : Files → Type 0) (m : Files) (past : Option (List Event)) → P m → LeavesNow (λ c. c ≡ m) past → LeavesNow P past
 left_seen P m None holds left = tt
 left_seen P m (Some events) holds left = λ c may. subst P (sym (left c may)) holds
 

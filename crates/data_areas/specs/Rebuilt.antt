@@ -5,6 +5,7 @@ use Rattle.lsn_core.specs.Files.{Files}
 use Rattle.lsn_core.specs.Store.{Store, files_of}
 use Rattle.vault.specs.Frame.{LeavesNow}
 use Rattle.vault.specs.declared.area.Vault.{Ghosts}
+use Rattle.rel_files.specs.Laws.{HasOnlyForks}
 use Rattle.page_pool.specs.Part.{Part}
 use Rattle.page_pool.specs.Steps.{IsClean}
 use Rattle.data_areas.specs.declared.areas.DataAreas.{DataAreas}
@@ -13,8 +14,8 @@ use Rattle.data_areas.specs.declared.store_frames.StoreFrames.{StoreFrames}
 use Rattle.data_areas.specs.declared.rebuilding.Partitions.{Partitions}
 use Rattle.data_areas.specs.declared.rebuilding.Others.{Others}
 
--- a partition was made of these pages, from a place on: its area has just the files of its pages,
--- and a stop leaves them
+-- a partition was made of these pages, from a place on: its area has just the files of its pages, all
+-- of them segment files of forks, and a stop leaves them
 pub record IsRebuilt (relseg from faults : ℕ) (told : Option Files) (pages : Store) (part : Part)
     : Type 0 where
   pub frames : part.frames ≡ pages
@@ -23,6 +24,7 @@ pub record IsRebuilt (relseg from faults : ℕ) (told : Option Files) (pages : S
   pub relseg_is : part.relseg ≡ relseg
   pub tells : is_some part.disk ≡ is_some told
   pub files : IfSome part.disk (λ files. files ≡ files_of relseg pages)
+  pub only : IfSome part.disk HasOnlyForks
   pub settled : IfSome part.disk (λ files. LeavesNow (λ left. left ≡ files) part.past)
   pub later : faults ≤ part.faults
 

@@ -1,14 +1,16 @@
 //! A partition's pages written into its area.
 
-ghost use Rattle.std.specs.Prelude.{◌≡◌, ◌≤◌, IfOk, IfErr, IfSome, OnOk};
+ghost use Rattle.std.specs.Prelude.{◌≡◌, ◌≤◌, IfOk, IfErr, IfSome, IsSome, OnOk};
 ghost use Rattle.std.specs.FinMap.{empty};
 ghost use Rattle.lsn_core.specs.Causes.{HasCause};
 ghost use Rattle.lsn_core.specs.Segment.{IsRelseg};
+ghost use Rattle.vault.specs.Frame.{Adds, IsAmong};
+ghost use Rattle.rel_files.specs.Forks.{IsForkPath};
 ghost use Rattle.rel_files.specs.Laws.{HasNoForks};
 ghost use Rattle.page_pool.specs.Steps.{IsClean};
 ghost use Rattle.data_areas.specs.Rebuilt.{IsRebuilt};
-ghost use Rattle.data_areas.specs.Filled.{FailsWith, IsFilled, IsMarked};
-ghost use Rattle.data_areas.specs.Marking.{rebuilding_name, HasOnly};
+ghost use Rattle.data_areas.specs.Filled.{FailsWith, IsFilled, IsMarked, HasEnded, FilledSoFar};
+ghost use Rattle.data_areas.specs.Marking.{rebuilding_name, HasOnly, IsMark};
 
 use crate::marking::unmark_rebuilding;
 use lsn_core::{AreaFault, Lsn};
@@ -40,6 +42,8 @@ pub(crate) fn fill<V: Vault, const Q: u32>(
     ensures filled { IfOk result
         (IsFilled relseg end.0 (V.faults area) (V.files area) frames.pages) }
     ensures cause { IfErr result (λ f. FailsWith (V.faults area) (V.faults f.area) f.why) }
+    ensures forks { IfOk result (λ part. Adds (IsAmong IsForkPath) (V.past area) part.past) }
+    ensures tried { IfErr result (λ f. Adds (IsAmong IsForkPath) (V.past area) (V.past f.area)) }
 {
     let disk = Forks::new(alloc, area, relseg);
     let mut part = Partition::new(alloc, disk, Frames::new(alloc), end);
@@ -67,6 +71,7 @@ fn write_all<V: Vault, const Q: u32>(
     requires point { part.old.point ≡ end.0 }
     ensures written { OnOk result
         (IsFilled part.old.relseg end.0 part.old.faults part.old.disk frames.pages part.new) }
+    ensures forks { Adds (IsAmong IsForkPath) part.old.past part.new.past }
     ensures cause { HasCause part.old.faults part.new.faults result }
 {
     part.load(alloc, frames, end)?;
@@ -89,6 +94,9 @@ pub(crate) fn fill_marked<V: Vault, const Q: u32>(
     ensures rebuilt { IfOk result
         (IsRebuilt relseg end.0 (V.faults area) (V.files area) frames.pages) }
     ensures cause { IfErr result (λ f. FailsWith (V.faults area) (V.faults f.area) f.why) }
+    ensures ended { IfOk result (λ part.
+        HasEnded (IsSome (V.files area)) relseg frames.pages (V.past area) part.past) }
+    ensures tried { IfErr result (λ f. FilledSoFar V.Vault relseg frames.pages area f.area) }
 {
     let part = fill(alloc, area, relseg, frames, end, mark)?;
     unmark(alloc, part, relseg, end)
@@ -105,6 +113,8 @@ fn unmark<V: Vault, const Q: u32>(
     requires marked { IsMarked relseg from.0 part }
     ensures rebuilt { IfOk result (IsRebuilt relseg from.0 part.faults part.disk part.frames) }
     ensures cause { IfErr result (λ f. FailsWith part.faults (V.faults f.area) f.why) }
+    ensures mark { IfOk result (λ unmarked. Adds (IsAmong IsMark) part.past unmarked.past) }
+    ensures tried { IfErr result (λ f. Adds (IsAmong IsMark) part.past (V.past f.area)) }
 {
     let (area, frames) = part.into_parts();
     let mut area = area;
@@ -119,7 +129,9 @@ fn unmark<V: Vault, const Q: u32>(
 
 /// The area of a partition.
 pub(crate) fn area_of<V: Vault, const Q: u32>(part: Partition<V, Q>) -> V
-    ensures { V.faults result ≡ part.faults }
+    ensures files { V.files result ≡ part.disk }
+    ensures past { V.past result ≡ part.past }
+    ensures faults { V.faults result ≡ part.faults }
 {
     part.into_parts().0
 }

@@ -1,11 +1,13 @@
 //! Data areas rebuilt from pages in frames.
 
-ghost use Rattle.std.specs.Prelude.{◌≡◌, ◌≤◌, IfOk, IfErr, OnOk};
+ghost use Rattle.std.specs.Prelude.{◌≡◌, ◌≤◌, IsSome, IfOk, IfErr, OnOk, OnErr};
 ghost use Rattle.lsn_core.specs.Causes.{HasCause};
 ghost use Rattle.lsn_core.specs.Segment.{IsRelseg};
 ghost use Rattle.data_areas.specs.Areas.{DataCause, FaultsGrow};
 ghost use Rattle.data_areas.specs.Rebuilt.{AreRebuilt, AreOthersFilled};
 ghost use Rattle.data_areas.specs.Filled.{data_fault, AreBare, AreCleared, IsMarkedAlone};
+ghost use Rattle.data_areas.specs.Filled.{HasTried, ClearedSoFar, HaveEnded, AllFilledSoFar};
+ghost use Rattle.data_areas.specs.Phases.{HasMarkSince, HaveMarkSince, WereMarked, CameSoFar};
 
 use crate::areas::DataAreas;
 use crate::boxed::BoxedArea;
@@ -47,7 +49,10 @@ struct Others<V: Vault> {
 /// Rebuilds the data areas from a store's pages: whatever they held is removed, and each has just
 /// the files of its partition's pages afterwards, durably. Meanwhile `data0` has the file
 /// `rebuilding`, by which a store is known that was stopped then. The pages are of entries that end
-/// there at the latest; the WAL is flushed up to the mark. A fault hands the areas back.
+/// there at the latest; the WAL is flushed up to the mark. A fault hands the areas back: either
+/// nothing but that file was touched, or `data0` has it still, durably, since before anything else
+/// of it changed, or the three others have just their files, and it may be gone from `data0`, which
+/// was filled before.
 pub fn rebuild<V: Vault>(
     alloc: Global,
     areas: DataAreas<V>,
@@ -59,6 +64,9 @@ pub fn rebuild<V: Vault>(
     requires relseg { IsRelseg relseg }
     requires flushed { end.0 ≤ mark.now.to.0 }
     ensures parts { IfOk result (AreRebuilt V.Vault relseg end.0 areas frames) }
+    ensures marked { IfOk result
+        (λ parts. WereMarked V.Vault relseg frames areas parts.part0.past) }
+    ensures so_far { IfErr result (λ f. CameSoFar V.Vault relseg frames areas f.areas) }
     ensures cause { IfErr result (λ f. DataCause V.Vault areas f.areas f.why) }
     ensures later { IfErr result (λ f. FaultsGrow V.Vault areas f.areas) }
 {
@@ -82,6 +90,8 @@ fn data_fault(number: u32, why: AreaFault) -> StoreFault
 /// Marks the first data area, and removes all that the four hold but the mark.
 fn clear_areas<V: Vault>(alloc: Global, areas: &mut DataAreas<V>) -> Result<(), StoreFault>
     ensures cleared { OnOk result (AreCleared V.Vault areas.old areas.new) }
+    ensures begun { OnOk result (HaveMarkSince V.Vault areas.old areas.new) }
+    ensures so_far { OnErr result (ClearedSoFar V.Vault areas.old areas.new) }
     ensures cause { IfErr result (DataCause V.Vault areas.old areas.new) }
     ensures later { FaultsGrow V.Vault areas.old areas.new }
 {
@@ -103,6 +113,9 @@ fn clear_areas<V: Vault>(alloc: Global, areas: &mut DataAreas<V>) -> Result<(), 
 /// Marks the first data area, and removes all other files of it.
 fn clear_first<V: Vault>(alloc: Global, area: &mut V) -> Result<(), AreaFault>
     ensures cleared { OnOk result (IsMarkedAlone (V.files area.old) (V.files area.new)) }
+    ensures begun { OnOk result
+        (HasMarkSince (IsSome (V.files area.old)) (V.past area.old) (V.past area.new)) }
+    ensures so_far { OnErr result (HasTried V.Vault area.old area.new) }
     ensures cause { HasCause (V.faults area.old) (V.faults area.new) result }
 {
     mark_rebuilding(area)?;
@@ -122,6 +135,9 @@ fn fill_areas<V: Vault>(
     requires flushed { end.0 ≤ mark.now.to.0 }
     requires bare { AreBare V.Vault areas }
     ensures parts { IfOk result (AreRebuilt V.Vault relseg end.0 areas frames) }
+    ensures ended { IfOk result
+        (λ parts. HaveEnded V.Vault relseg frames areas parts.part0.past) }
+    ensures tried { IfErr result (λ f. AllFilledSoFar V.Vault relseg frames areas f.areas) }
     ensures cause { IfErr result (λ f. DataCause V.Vault areas f.areas f.why) }
     ensures later { IfErr result (λ f. FaultsGrow V.Vault areas f.areas) }
 {
@@ -155,6 +171,7 @@ fn fill_others<V: Vault>(
     requires flushed { end.0 ≤ mark.now.to.0 }
     requires bare { AreBare V.Vault areas }
     ensures filled { IfOk result (AreOthersFilled V.Vault relseg end.0 areas frames) }
+    ensures first { IfErr result (λ f. f.areas.data0 ≡ areas.data0) }
     ensures cause { IfErr result (λ f. DataCause V.Vault areas f.areas f.why) }
     ensures later { IfErr result (λ f. FaultsGrow V.Vault areas f.areas) }
 {
