@@ -1,6 +1,11 @@
-pub mod Entries
-pub mod Items
-pub mod Judged
-pub mod Judging
-pub mod Walk
-pub mod Inserted
+pub mod OfOne
+pub mod Tallies
+pub mod Kept
+pub mod Goes
+pub mod Behind
+pub mod Checked
+pub mod Marked
+pub mod Rounds
+pub mod Closed
+pub mod Found
+pub mod Begun

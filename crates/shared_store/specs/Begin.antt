@@ -1,17 +1,86 @@
--- A store that was begun on a WAL, and why none was.
-use Rattle.std.specs.Prelude.{◌≡◌, ℕ, ◌<◌, ◌⊎◌, [], Option, None, IfSome}
+-- The areas of a store, a store that was begun on them, and why none was.
+use Rattle.std.specs.Prelude.{◌≡◌, ℕ, zero, suc, ◌<◌, ◌==◌, ◌⊎◌, List, [], ◌∷◌, ◌++◌, map, length, Option, None, IsSome, IfSome, if◌then◌else◌, Some}
+use Rattle.lsn_core.specs.Causes.{Rose}
+use Rattle.std.specs.FinMap.{empty}
 use Rattle.lsn_core.specs.Files.{Files}
 use Rattle.lsn_core.specs.Segment.{StoreSettings}
+use Rattle.lsn_core.specs.Store.{Store}
+use Rattle.lsn_core.specs.Tip.{Tip}
+use Rattle.lsn_core.specs.declared.fault.StoreArea.TheVariants.{Data}
+use Rattle.lsn_core.specs.declared.fault.StoreFault.{StoreFault}
+use Rattle.lsn_core.specs.declared.fault.StoreFault.TheVariants as store
 use Rattle.vault.specs.declared.area.Vault.{Ghosts}
-use Rattle.wal_record.specs.Tips.{first_tip}
+use Rattle.wal_record.specs.declared.record.Record.{Record}
+use Rattle.wal_record.specs.Tips.{first_tip, tip_behind}
 use Rattle.wal_reader.specs.Wal.{IsWal}
-use Rattle.wal_writer.specs.Log.{log_at}
-use Rattle.recovery.specs.Replay.{IsReadWal}
+use Rattle.history.specs.Entry.{Entry}
+use Rattle.history.specs.Apply.{apply_all}
+use Rattle.history.specs.Whole.{entry_of}
 use Rattle.recovery.specs.Causes.{RecoveryCauses, CauseOf, HasSettings, wal_causes}
 use Rattle.recovery.specs.declared.fault.RecoveryFault.{RecoveryFault}
-use Rattle.recovery.specs.declared.replaying.ReadWal.{ReadWal}
+use Rattle.shared_store.specs.declared.areas.StoreAreas.{StoreAreas}
+use Rattle.shared_store.specs.declared.begin.BeginWhy.{BeginWhy}
+use Rattle.shared_store.specs.declared.begin.BeginWhy.TheVariants as why
 use Rattle.shared_store.specs.declared.begin.BeginFault.{BeginFault}
-use Rattle.shared_store.specs.State.{State}
+use Rattle.shared_store.specs.Seen.{Seen}
+use Rattle.shared_store.specs.Opened.{Faults, Opened, NoneFell, data_count}
+
+-- ---- areas
+
+-- the data area of a number
+abbrev pub data_area : {V : Type 0} → StoreAreas V → ℕ → V
+data_area areas q =
+    if q == 0 then areas.data0
+    else (if q == 1 then areas.data1 else (if q == 2 then areas.data2 else areas.data3))
+
+-- how often calls of them failed
+abbrev pub faults_of : {V : Type 0} → Ghosts V → StoreAreas V → Faults
+faults_of g areas = record {
+  wal = g.faults areas.wal;
+  data0 = g.faults areas.data0;
+  data1 = g.faults areas.data1;
+  data2 = g.faults areas.data2;
+  data3 = g.faults areas.data3;
+}
+
+-- each of them tells its files
+pub record AllTell {V : Type 0} (g : Ghosts V) (areas : StoreAreas V) : Type 0 where
+  pub wal : IsSome (g.files areas.wal)
+  pub pages : (q : ℕ) → q < 4 → IsSome (g.files (data_area areas q))
+
+-- ---- a store that was begun
+
+-- the passes of so many workers, in order: each has seen the history, and none of its commands was
+-- accepted yet
+abbrev pub fresh_passes : ℕ → List Entry → List Seen
+fresh_passes zero history = []
+fresh_passes (suc worker) history =
+    fresh_passes worker history
+    ++ (record { worker = worker; accepted = 0; list = history } ∷ [])
+
+-- the store's history is the entries that its WAL was found to have, of which there is one at least
+-- and which make a store's pages, and all of it is flushed; every worker has seen it
+pub record HasBegun (files : Option Files) (workers : ℕ) (store : Opened) (crew : List Seen)
+    (tip : Tip) : Type 0 where
+  pub given : HasSettings files store.settings
+  pub found : List Record
+  pub some : 0 < length found
+  pub tip_is : tip ≡ tip_behind (first_tip store.settings.segment) found
+  pub archive : IfSome files (λ m. IsWal store.settings m found tip)
+  pub history : store.history ≡ map entry_of found
+  pub pages : Store
+  pub made : apply_all empty store.history ≡ Some pages
+  pub flushed : store.flushed ≡ tip.end
+  pub wal : store.wal ≡ files
+  pub crew_is : crew ≡ fresh_passes workers store.history
+
+-- so it was begun on these areas, of which none's count of faults fell
+pub record IsBegun {V : Type 0} (g : Ghosts V) (areas : StoreAreas V) (workers : ℕ)
+    (store : Opened) (crew : List Seen) (tip : Tip) : Type 0 where
+  pub has : HasBegun (g.files areas.wal) workers store crew tip
+  pub later : NoneFell (faults_of g areas) store.faults
+
+-- ---- why none was
 
 -- the WAL has settings and no entry
 pub record HasNoEntry (files : Option Files) : Type 0 where
@@ -28,21 +97,30 @@ begin_causes files = record (wal_causes None files) {
 abbrev pub BeginCause : Option Files → ℕ → ℕ → RecoveryFault → Type 0
 BeginCause files before now fault = CauseOf (begin_causes files) before now fault
 
-abbrev pub HasBeginCause : {V : Type 0} → Ghosts V → V → BeginFault V → Type 0
-HasBeginCause g area fault =
-    BeginCause (g.files area) (g.faults area) (g.faults fault.area) fault.why
+-- the data areas are untouched
+pub record SameData {V : Type 0} (old new : StoreAreas V) : Type 0 where
+  pub data0 : new.data0 ≡ old.data0
+  pub data1 : new.data1 ≡ old.data1
+  pub data2 : new.data2 ≡ old.data2
+  pub data3 : new.data3 ≡ old.data3
 
--- the settings and all that the WAL makes, which has an entry
-pub record IsOpen (files : Option Files) (settings : StoreSettings) (read : ReadWal) : Type 0 where
-  pub given : HasSettings files settings
-  pub read_is : IsReadWal settings files None read
-  pub some : 0 < read.tip.count
+-- a data area failed, and only where its count rose, which at its type's end stays; want of memory
+-- may come at any time
+abbrev pub DataFails : Faults → Faults → StoreFault → Type 0
+DataFails old new (store.Failed area) =
+    (q : ℕ) × (q < 4) × (area ≡ Data q) × Rose (data_count q old) (data_count q new)
+DataFails old new store.NoMemory = Unit {0}
 
--- the store's WAL ends where the one that was read does, with nothing to be flushed; its pages are
--- those that were read
-pub record IsBegun (files : Option Files) (s : State) : Type 0 where
-  pub settings : StoreSettings
-  pub read : ReadWal
-  pub open_is : IsOpen files settings read
-  pub log : s.log ≡ log_at settings read.tip
-  pub pages : s.pages ≡ read.store
+-- the WAL can't be begun on, and the data areas are untouched; or a data area failed, or memory ran
+-- out while these were rebuilt
+abbrev pub BeginsNot : {V : Type 0} → Ghosts V → StoreAreas V → StoreAreas V → BeginWhy → Type 0
+BeginsNot g old new (why.Wal fault) =
+    BeginCause (g.files old.wal) (g.faults old.wal) (g.faults new.wal) fault × SameData old new
+BeginsNot g old new (why.Data fault) = DataFails (faults_of g old) (faults_of g new) fault
+
+-- no store was begun on these areas, which are handed back; the WAL has the files that it had
+pub record IsUnbegun {V : Type 0} (g : Ghosts V) (areas : StoreAreas V) (fault : BeginFault V)
+    : Type 0 where
+  pub wal : g.files fault.areas.wal ≡ g.files areas.wal
+  pub later : NoneFell (faults_of g areas) (faults_of g fault.areas)
+  pub cause : BeginsNot g areas fault.areas fault.why

@@ -1,6 +1,9 @@
-pub mod State
+pub mod Seen
 pub mod Refusals
-pub mod Insert
-pub mod Flush
+pub mod Opened
+pub mod OpenedCode
+pub mod Calls
 pub mod Begin
+pub mod Close
 pub mod Inside
+pub mod Found

@@ -1,22 +1,41 @@
-//! The store of a cluster: pages in memory, and the WAL that each change is written to.
+//! An open store: its WAL with the history that it tells, and its pages in four partitions.
 //!
-//! `Store::begin` reads a WAL whole; `insert` judges a command against the pages, changes those
-//! and appends its entry, or refuses it and changes nothing; `flush_wal` makes entries durable.
-//! So the pages are at all times what the entries make. Which refusal comes first is one function,
-//! `specs/Refusals.antt`; contracts see a store as a `State` (`specs/State.antt`).
+//! `Store` judges commands one at a time (`specs/Refusals.antt`), by the pages of the partition that
+//! a command concerns, appends each accepted one to the WAL and the history, and changes the pages
+//! in memory; pages reach the data areas later, behind the WAL. Workers hold a `Pass` each, which
+//! knows what its worker has seen of the history (`specs/Seen.antt`). What the calls answer is said
+//! over the history (`specs/Calls.antt`), and what the store keeps of its parts in
+//! `specs/Opened.antt`: each partition follows the history, also after calls that failed. `begin`
+//! opens a store on its areas (`specs/Begin.antt`), and `close` hands these back with all that the
+//! history makes (`specs/Close.antt`).
 //!
-//! Left to others: reading the WAL (`recovery`) and writing it (`wal_writer`), what an entry does
-//! to pages (`history`), and the area and its failures (`vault`). So far it serves one thread, and
-//! all pages are in memory.
+//! Left to others: the history and the WAL that tells it (`journal`), a partition's pages and its
+//! area (`page_pool`), replay (`recovery`), and how the data areas are rebuilt (`data_areas`).
 #![tactic(auto)]
 
+mod areas;
 mod begin;
+mod boxing;
+mod close;
+mod crew;
 mod fault;
+mod finding;
+mod flush;
 mod form;
-mod judge;
-mod kinds;
+mod insert;
+mod laws;
+mod marks;
+mod naming;
+mod pass;
+mod receipt;
 mod store;
+mod sweep;
 
-pub use begin::BeginFault;
-pub use fault::{InsertFault, Receipt};
+pub use areas::StoreAreas;
+pub use begin::{Began, BeginFault, BeginWhy};
+pub use fault::InsertFault;
+pub use laws::stores_go_on;
+pub use naming::OfCrew;
+pub use pass::Pass;
+pub use receipt::{Receipt, Redo};
 pub use store::Store;

@@ -1,34 +1,30 @@
--- A WAL whose tip counts no entry has none.
-use Rattle.std.proofs.Common.{◌≡◌, ◌<◌, [], None, IfSome, sym, ap, subst, ◌∙◌, inr, arith}
-use Rattle.wal_record.specs.Tips.{first_tip}
-use Rattle.wal_reader.specs.Wal.{IsWal}
-use Rattle.recovery.specs.Replay.{IsReadWal}
-use Rattle.recovery.specs.declared.replaying.ReadWal.{ReadWal}
-use Rattle.shared_store.proofs.Entries.{none_read}
+-- The parts of a store that is opened fit one another, and show that it was begun.
+use Rattle.std.proofs.Common.{◌≡◌, true, sym, ap, subst, ◌∙◌}
+use Rattle.lsn_core.specs.Tip.{Tip}
+use Rattle.shared_store.specs.Opened.{Opened}
+use Rattle.shared_store.specs.Begin.{IsBegun, fresh_passes}
+use Rattle.shared_store.specs.Found.{areas_with}
+use Rattle.shared_store.proofs.Begun.{fits, opens, begun_with, unbegun_at}
 use Rattle.shared_store.proofs.begin.open.Goals as goal
 
-pub returns-then-read-eq0-clause-answer : goal.returns-then-read-eq0-clause-answer
-returns-then-read-eq0-clause-answer g c =
-    let settings = c.in_ok-settings.settings in
-    let read = c.in_ok-read.read in
-    let same = c.in_ok-sync.ensures.same ∙ c.in_ok-settings.ensures.reads.files in
-    let none : read.tip.count ≡ 0 = ap (λ (r : ReadWal). r.tip.count) (sym c.read.view_is) ∙ c.if-read-eq0.true in
-    inr (record {
-      settings = settings;
-      given = c.in_ok-settings.ensures.answer;
-      archive = subst (λ fs. IfSome fs (λ m. IsWal settings m [] (first_tip settings.segment))) same
-          (none_read settings _ read c.in_ok-read.ensures.answer none);
-    })
+pub new-store-requires-after_bounds : goal.new-store-requires-after_bounds
+new-store-requires-after_bounds g c κs within =
+    let tells = g.J.OfStore.tells ≡ true in
+    let journal = c.attach-journal.result.0 in
+    let fit = fits g.V.Vault c.args.areas.wal c.args.areas.pages c.args.found.settings tells c.args.found.frames c.args.found.tip journal c.in-Ok.parts c.args.found.pen c.args.found.pages c.relseg.result c.tip.inside.end.0
+    c.requires.found c.requires.shown c.in-Ok.ensures.parts c.relseg.ensures.value (ap (λ (t : Tip). t.end) c.tip.view_is) c.attach-journal.ensures.pen c.attach-journal.ensures.area c.attach-journal.ensures.log c.attach-journal.ensures.known c.requires.told in
+    opens g.V.Vault c.args.areas.wal c.args.areas.pages c.args.found.settings tells c.args.found.frames c.args.found.tip journal c.in-Ok.parts fit g.J.OfCrew.workers c.args.crew.counts.items c.attach-journal.result.1.to.0 c.requires.counts c.attach-journal.ensures.mark
 
-pub returns-clause-answer : goal.returns-clause-answer
-returns-clause-answer g c =
-    let settings = c.in_ok-settings.settings in
-    let read = c.in_ok-read.read in
-    let same = c.in_ok-sync.ensures.same ∙ c.in_ok-settings.ensures.reads.files in
-    let count : read.tip.count ≡ c.read.inside.0.1.0.count = ap (λ (r : ReadWal). r.tip.count) (sym c.read.view_is) in
-    let some : 0 < read.tip.count = omega (arith, count, c.if-read-eq0.false) in
-    record {
-      given = c.in_ok-settings.ensures.answer;
-      read_is = subst (λ fs. IsReadWal settings fs None read) same c.in_ok-read.ensures.answer;
-      some = some;
-    }
+pub returns-in-Ok-clause-begun : goal.returns-in-Ok-clause-begun
+returns-in-Ok-clause-begun g c =
+    let tells = g.J.OfStore.tells ≡ true in
+    let journal = c.attach-journal.result.0 in
+    let fit = fits g.V.Vault c.args.areas.wal c.args.areas.pages c.args.found.settings tells c.args.found.frames c.args.found.tip journal c.in-Ok.parts c.args.found.pen c.args.found.pages c.relseg.result c.tip.inside.end.0
+    c.requires.found c.requires.shown c.in-Ok.ensures.parts c.relseg.ensures.value (ap (λ (t : Tip). t.end) c.tip.view_is) c.attach-journal.ensures.pen c.attach-journal.ensures.area c.attach-journal.ensures.log c.attach-journal.ensures.known c.requires.told in
+    subst (λ (o : Opened). IsBegun g.V.Vault (areas_with c.args.areas.wal c.args.areas.pages) g.J.OfCrew.workers o c.args.crew.passes.items c.args.found.tip) (sym c.new-store.ensures)
+    (begun_with g.V.Vault c.args.areas.wal c.args.areas.pages c.args.found.settings tells c.args.found.frames c.args.found.tip journal c.in-Ok.parts fit g.J.OfCrew.workers c.args.crew.passes.items
+    (c.requires.passes ∙ ap (fresh_passes g.J.OfCrew.workers) (sym c.attach-journal.ensures.pen)))
+
+pub returns-in-Err-clause-refused : goal.returns-in-Err-clause-refused
+returns-in-Err-clause-refused g c =
+    unbegun_at g.V.Vault c.args.areas.wal c.detach.result c.args.areas.pages c.in-Err.fault.areas c.unboxed.result c.in-Err.fault.why c.unboxed.ensures (c.detach.ensures ∙ c.attach-journal.ensures.area) c.in-Err.ensures.later c.in-Err.ensures.cause

@@ -1,0 +1,103 @@
+//! Flushing the WAL of an open store, and writing what a partition has dirty or pending.
+
+ghost use Rattle.std.specs.Prelude.{◌≡◌, ◌≤◌, true, IfOk, OnOk, IfErr};
+ghost use Rattle.lsn_core.specs.declared.fault.StoreArea.TheVariants.{Wal, Data};
+ghost use Rattle.journal.specs.Journal.{IsEndOf};
+ghost use Rattle.page_pool.specs.Calls.{MayWriteNext};
+ghost use Rattle.shared_store.specs.Opened.{IsPartOf};
+ghost use Rattle.shared_store.specs.Inside.{AreaCause, WriteCause, KeepsWal};
+
+use crate::fault::fault_of;
+use journal::{Journal, OfStore};
+use lsn_core::{Lsn, StoreArea, StoreFault};
+use page_pool::{Partition, Turn};
+use std::alloc::Global;
+use vault::Vault;
+use wal_writer::Flushed;
+
+/// Flushes the WAL up to where an entry of the history ends, and keeps how far it is flushed.
+pub(crate) fn flush<J: OfStore, V: Vault>(
+    alloc: Global,
+    journal: &mut Journal<J, V>,
+    mark: &mut Flushed,
+    to: Lsn,
+) -> Result<(), StoreFault>
+    requires place { IsEndOf journal.old.pen to.0 }
+    requires marked { mark.old.to.0 ≤ journal.old.wal.tail.flushed }
+    ensures wal { KeepsWal V.Vault journal.old journal.new }
+    ensures marked { mark.new.to.0 ≤ journal.new.wal.tail.flushed }
+    ensures reached { OnOk result (to.0 ≤ mark.new.to.0) }
+    ensures cause { IfErr result (AreaCause Wal (V.faults journal.old.wal.area)
+        (V.faults journal.new.wal.area)) }
+{
+    let _tip = journal.tip();
+    match journal.flush_to(alloc, to) {
+        Ok(flushed) => {
+            *mark = flushed;
+            Ok(())
+        }
+        Err(fault) => Err(fault_of(StoreArea::Wal, fault)),
+    }
+}
+
+/// Flushes the WAL up to the entry of what a partition writes next, where there is anything.
+fn flush_next<J: OfStore, V: Vault, W: Vault, const Q: u32>(
+    alloc: Global,
+    journal: &mut Journal<J, V>,
+    part: &Partition<W, Q>,
+    mark: &mut Flushed,
+) -> Result<(), StoreFault>
+    requires part { IsPartOf Q part.now.relseg (J.tells ≡ true) journal.old.pen part.now }
+    requires marked { mark.old.to.0 ≤ journal.old.wal.tail.flushed }
+    ensures wal { KeepsWal V.Vault journal.old journal.new }
+    ensures marked { mark.new.to.0 ≤ journal.new.wal.tail.flushed }
+    ensures reached { OnOk result (MayWriteNext part.now mark.new.to.0) }
+    ensures cause { IfErr result (AreaCause Wal (V.faults journal.old.wal.area)
+        (V.faults journal.new.wal.area)) }
+{
+    let _tip = journal.tip();
+    match part.next_lsn() {
+        Some(to) => flush(alloc, journal, mark, to),
+        None => Ok(()),
+    }
+}
+
+/// Writes what comes next of a partition, before which the WAL is flushed.
+fn write_next<J: OfStore, V: Vault, W: Vault, const Q: u32>(
+    journal: &Journal<J, V>,
+    part: &mut Partition<W, Q>,
+    mark: &Flushed,
+) -> Result<Turn, StoreFault>
+    requires part { IsPartOf Q part.old.relseg (J.tells ≡ true) journal.now.pen part.old }
+    requires next { MayWriteNext part.old mark.now.to.0 }
+    ensures turn { IfOk result (λ turn. turn.part ≡ Q) }
+    ensures part { IsPartOf Q part.old.relseg (J.tells ≡ true) journal.now.pen part.new }
+    ensures later { part.old.faults ≤ part.new.faults }
+    ensures cause { IfErr result (AreaCause (Data Q) part.old.faults part.new.faults) }
+{
+    match part.write_one(mark) {
+        Ok(turn) => Ok(turn),
+        Err(fault) => Err(fault_of(StoreArea::Data(Q), fault)),
+    }
+}
+
+/// Writes one page, creation or cut of a partition to its area, the WAL flushed first.
+pub(crate) fn write_in<J: OfStore, V: Vault, W: Vault, const Q: u32>(
+    alloc: Global,
+    journal: &mut Journal<J, V>,
+    part: &mut Partition<W, Q>,
+    mark: &mut Flushed,
+) -> Result<Turn, StoreFault>
+    requires part { IsPartOf Q part.old.relseg (J.tells ≡ true) journal.old.pen part.old }
+    requires marked { mark.old.to.0 ≤ journal.old.wal.tail.flushed }
+    ensures turn { IfOk result (λ turn. turn.part ≡ Q) }
+    ensures wal { KeepsWal V.Vault journal.old journal.new }
+    ensures marked { mark.new.to.0 ≤ journal.new.wal.tail.flushed }
+    ensures part { IsPartOf Q part.old.relseg (J.tells ≡ true) journal.new.pen part.new }
+    ensures later { part.old.faults ≤ part.new.faults }
+    ensures cause { IfErr result (WriteCause (Data Q) (V.faults journal.old.wal.area)
+        (V.faults journal.new.wal.area) part.old.faults part.new.faults) }
+{
+    flush_next(alloc, journal, part, mark)?;
+    write_next(journal, part, mark)
+}
