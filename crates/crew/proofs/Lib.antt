@@ -1,9 +1,10 @@
-pub mod Histories
-pub mod Nexts
+pub mod Lists
 pub mod Moments
-pub mod Runs
-pub mod ReadAgain
-pub mod OneHistory
+pub mod Steps
+pub mod Growth
+pub mod Marks
+pub mod Ran
+pub mod RunLaws
 pub mod Pieces
 pub mod Each
 pub mod ItemWords

@@ -1,108 +1,86 @@
--- Answers are facts of the beginning of a history: what was seen when they were given. So they hold of every history that goes on
--- from there.
-use Rattle.std.proofs.Common.{◌≡◌, ℕ, ◌≤◌, ◌&&◌, Bool, true, false, List, [], ◌∷◌, ◌++◌, length, take, Option, Some, None, refl, ap, sym, subst, ◌∙◌, arith, length-append}
-use Rattle.std.specs.List.{list_any, slice_get}
-use Rattle.std.specs.Option.{is_some}
-use Rattle.std.specs.FinMap.{empty}
-use Rattle.std.proofs.lemmas.Bool.{or_parts, eq-eqb}
-use Rattle.std.proofs.lemmas.List.{append_assoc, append-nil, take-append-le, take_all}
-use Rattle.std.proofs.lemmas.List.Elements.{filter-append}
-use Rattle.lsn_core.specs.Store.{Store}
+-- Answers are facts of a beginning of a history: what was seen when they were given. So they hold of every history that goes on from
+-- there.
+use Rattle.std.proofs.Common.{◌≡◌, ℕ, ◌+◌, ◌<◌, ◌≤◌, Bool, Some, List, [], ◌∷◌, ◌++◌, length, take, refl, ap, sym, subst, ◌∙◌, arith, append_assoc, append-nil}
+use Rattle.std.proofs.lemmas.Option.{slice_get_within}
+use Rattle.std.proofs.lemmas.List.{take_all}
+use mathlib.Core.List.{IsPrefix}
 use Rattle.history.specs.declared.op.Op.{Op}
-use Rattle.history.specs.Entry.{Entry, is_of_run}
-use Rattle.history.specs.Apply.{apply_all}
-use Rattle.history.specs.Written.{tip_of}
-use Rattle.shared_store.specs.Refusals.{judged_at}
+use Rattle.history.specs.Entry.{Entry}
+use Rattle.shared_store.specs.Seen.{accepted_by}
 use Rattle.crew.specs.declared.script.Line.{Line}
-use Rattle.crew.specs.declared.run.Answer.{Answer}
-use Rattle.crew.specs.Orders.{command_op}
-use Rattle.crew.specs.Run.{is_number, is_by, accepted_by, NoneOfRun, own_entry, IsMade, LineAnswer, IsAnswerAt, Answered, stops_with, is_not_run, InOrder}
+use Rattle.crew.specs.declared.answer.Answer.{Answer}
+use Rattle.crew.specs.Run.{IsMade, IsTakenAt, Made, LineAnswer, Answered, InOrder, is_not_run, stops_with}
+use Rattle.crew.proofs.Lists.{prefix_length, prefix_get, prefix_take}
 
--- ---- whose entries
+-- ---- entries
 
-not_by : (worker : ℕ) (by : Option ℕ) (counted : Bool) → is_some by ≡ false → (is_number worker by && counted) ≡ false
-not_by worker None counted none = refl
-not_by worker (Some m) counted none = absurd cc
+made_there : (tells : Type 0) (mib w : ℕ) (g : List Entry) (i : ℕ) (op : Op) (e : Entry) → IsMade tells mib w g i op e → i < length g
+made_there tells mib w g i op e m = slice_get_within g i e m.there
 
--- entries that were found are no worker's
-pub none_accepted : (worker : ℕ) (found : List Entry) → NoneOfRun found → accepted_by worker found ≡ []
-none_accepted worker [] none = refl
-none_accepted worker (e ∷ found) none =
-    let parts = or_parts (is_of_run e) (list_any is_of_run found) none in
-    rw (not_by worker e.worker (is_some e.seq) parts.0) (none_accepted worker found parts.1)
-
-by_itself : (worker : ℕ) → (is_number worker (Some worker) && true) ≡ true
-by_itself worker = rw (eq-eqb worker worker refl) refl
-
--- the entry of an accepted command is its worker's
-pub is_own : (mib worker : ℕ) (history : List Entry) (store : Store) (command : Op) → is_by worker (own_entry mib worker history store command) ≡ true
-is_own mib worker history store command = by_itself worker
-
--- one more entry of a worker
-pub accepted-push : (worker : ℕ) (history : List Entry) (e : Entry) → is_by worker e ≡ true → accepted_by worker (history ++ (e ∷ [])) ≡ accepted_by worker history ++ (e ∷ [])
-accepted-push worker history e is = filter-append (is_by worker) history (e ∷ []) ∙ ap (λ (es : List Entry). accepted_by worker history ++ es) (rw is refl)
-
--- ---- a command that is accepted
-
-pub last_there : {A : Type 0} (xs : List A) (x : A) → slice_get (xs ++ (x ∷ [])) (length xs) ≡ Some x
-last_there [] x = refl
-last_there (y ∷ xs) x = last_there xs x
-
-pub up_to_here : {A : Type 0} (xs ys : List A) → take (length xs) (xs ++ ys) ≡ xs
-up_to_here xs ys = take-append-le (length xs) xs ys (omega arith) ∙ take_all (length xs) xs (omega arith)
-
--- behind all that was seen
-pub made_last : (mib worker : ℕ) (history : List Entry) (store : Store) (command : Op) → apply_all empty history ≡ Some store → judged_at mib store (tip_of mib history) command ≡ None
-    → let e = own_entry mib worker history store command in IsMade mib worker (history ++ (e ∷ [])) (length history) command e
-made_last mib worker history store command state taken =
-    let e : Entry = own_entry mib worker history store command in
-    let same : take (length history) (history ++ (e ∷ [])) ≡ history = up_to_here history (e ∷ []) in
+one_later : (tells : Type 0) (mib w : ℕ) (g h : List Entry) (i : ℕ) (op : Op) (e : Entry) → IsPrefix g h → IsMade tells mib w g i op e → IsMade tells mib w h i op e
+one_later tells mib w g h i op e p m =
+    let same : take i h ≡ take i g = prefix_take g h i p (omega (arith, made_there tells mib w g i op e m)) in
     record {
-      there = last_there history e;
-      store = store;
-      state = ap (apply_all empty) same ∙ state;
-      taken = ap (λ (h : List Entry). judged_at mib store (tip_of mib h) command) same ∙ taken;
-      is = ap (λ (h : List Entry). own_entry mib worker h store command) (sym same);
+      there = prefix_get g h i e p m.there;
+      act = m.act;
+      by = m.by;
+      seq = m.seq ∙ ap (λ (xs : List Entry). Some (length (accepted_by w xs))) (sym same);
+      told = λ t. subst (λ (xs : List Entry). IsTakenAt mib xs op e) (sym same) (m.told t);
     }
+
+pub made_later : (tells : Type 0) (mib w : ℕ) (g h : List Entry) (from : ℕ) (ops : List Op) (es : List Entry) → IsPrefix g h → Made tells mib w g from ops es → Made tells mib w h from ops es
+made_later tells mib w g h from [] [] p m = omega (arith, m, prefix_length g h p)
+made_later tells mib w g h from [] (e ∷ es) p m = absurd m
+made_later tells mib w g h from (op ∷ ops) [] p m = absurd m
+made_later tells mib w g h from (op ∷ ops) (e ∷ es) p m = (m.0, m.1, one_later tells mib w g h m.0 op e p m.2, made_later tells mib w g h (m.0 + 1) ops es p m.3)
+
+-- one more behind all that were seen
+pub made_on : (tells : Type 0) (mib w : ℕ) (g h : List Entry) (from i : ℕ) (ops : List Op) (es : List Entry) (op : Op) (e : Entry) → IsPrefix g h → length g ≤ i → IsMade tells mib w h i op e → Made tells mib w g from ops es
+    → Made tells mib w h from (ops ++ (op ∷ [])) (es ++ (e ∷ []))
+made_on tells mib w g h from i [] [] op e p past one m = (i, omega (arith, m, past), one, omega (arith, made_there tells mib w h i op e one))
+made_on tells mib w g h from i [] (x ∷ es) op e p past one m = absurd m
+made_on tells mib w g h from i (o ∷ ops) [] op e p past one m = absurd m
+made_on tells mib w g h from i (o ∷ ops) (x ∷ es) op e p past one m = (m.0, m.1, one_later tells mib w g h m.0 o x p m.2, made_on tells mib w g h (m.0 + 1) i ops es op e p past one m.3)
 
 -- ---- lines
 
-pub later_too : (mib worker : ℕ) (history more : List Entry) (from next : ℕ) (command : Op) (answer : Answer) (here : List Entry) → IsAnswerAt mib worker history from next command answer here
-    → IsAnswerAt mib worker (history ++ more) from next command answer here
-later_too mib worker history more from next command answer here at = record {
-  later = at.later;
-  within = omega (arith, at.within, length-append history more);
-  is = subst (λ (h : List Entry). LineAnswer mib worker from h command answer here) (sym (take-append-le next history more at.within)) at.is;
-}
-
--- one more line, answered on all that is seen now
-pub answered_more : (mib worker : ℕ) (history more : List Entry) (from : ℕ) (lines : List Line) (answers : List Answer) (made : List Entry) (line : Line) (answer : Answer) (here : List Entry) → from ≤ length history
-    → ((before : ℕ) → before ≤ length history → LineAnswer mib worker before (history ++ more) (command_op line.command) answer here) → Answered mib worker history from lines answers made
-    → Answered mib worker (history ++ more) from (lines ++ (line ∷ [])) (answers ++ (answer ∷ [])) (made ++ here)
-answered_more mib worker history more from [] [] made line answer here le told a =
-    let seen : List Entry = history ++ more in
-    let all : take (length seen) seen ≡ seen = take_all (length seen) seen (omega arith) in (
-      length seen,
-      here,
-      [],
-      ap (λ (es : List Entry). es ++ here) a ∙ sym (append-nil here),
-      record {
-        later = omega (arith, le, length-append history more);
-        within = omega arith;
-        is = subst (λ (h : List Entry). LineAnswer mib worker from h (command_op line.command) answer here) (sym all) (told from le);
-      },
-      refl,
-    )
-answered_more mib worker history more from [] (x ∷ answers) made line answer here le told a = absurd a
-answered_more mib worker history more from (l ∷ lines) [] made line answer here le told a = absurd a
-answered_more mib worker history more from (l ∷ lines) (x ∷ answers) made line answer here le told a = (
+pub answered_later : (tells : Type 0) (mib w : ℕ) (g h : List Entry) (from : ℕ) (lines : List Line) (answers : List Answer) (es : List Entry) (to : ℕ) → IsPrefix g h → Answered tells mib w g from lines answers es to
+    → Answered tells mib w h from lines answers es to
+answered_later tells mib w g h from [] [] es to p a = a
+answered_later tells mib w g h from [] (x ∷ answers) es to p a = absurd a
+answered_later tells mib w g h from (l ∷ lines) [] es to p a = absurd a
+answered_later tells mib w g h from (l ∷ lines) (x ∷ answers) es to p a = (
   a.0,
   a.1,
-  a.2 ++ here,
-  ap (λ (es : List Entry). es ++ here) a.3 ∙ append_assoc a.1 a.2 here,
-  later_too mib worker history more from a.0 (command_op l.command) x a.1 a.4,
-  answered_more mib worker history more a.0 lines answers a.2 line answer here a.4.within told a.5,
+  a.2,
+  a.3,
+  omega (arith, a.4, prefix_length g h p),
+  a.5,
+  subst (λ (xs : List Entry). LineAnswer tells mib w from xs l.command x a.1) (sym (prefix_take g h a.0 p a.4)) a.6,
+  answered_later tells mib w g h a.0 lines answers a.2 to p a.7,
 )
+
+answered_on : (tells : Type 0) (mib w : ℕ) (h : List Entry) (from : ℕ) (lines : List Line) (answers : List Answer) (es : List Entry) (to next : ℕ) (l : Line) (x : Answer) (here : List Entry) → to ≤ next → next ≤ length h
+    → LineAnswer tells mib w to (take next h) l.command x here → Answered tells mib w h from lines answers es to
+    → Answered tells mib w h from (lines ++ (l ∷ [])) (answers ++ (x ∷ [])) (es ++ here) next
+answered_on tells mib w h from [] [] es to next l x here le within is a =
+    let made : es ++ here ≡ here ++ [] = ap (λ (xs : List Entry). xs ++ here) a.0 ∙ sym (append-nil here) in
+    (next, here, [], omega (arith, a.1, le), within, made, subst (λ (n : ℕ). LineAnswer tells mib w n (take next h) l.command x here) (sym a.1) is, (refl, refl))
+answered_on tells mib w h from [] (y ∷ answers) es to next l x here le within is a = absurd a
+answered_on tells mib w h from (k ∷ lines) [] es to next l x here le within is a = absurd a
+answered_on tells mib w h from (k ∷ lines) (y ∷ answers) es to next l x here le within is a =
+    let made : es ++ here ≡ a.1 ++ (a.2 ++ here) = ap (λ (xs : List Entry). xs ++ here) a.5 ∙ append_assoc a.1 a.2 here in
+    (a.0, a.1, a.2 ++ here, a.3, a.4, made, a.6, answered_on tells mib w h a.0 lines answers a.2 to next l x here le within is a.7)
+
+-- one more line, on all that is seen now
+pub answered_more : (tells : Type 0) (mib w : ℕ) (g h : List Entry) (from : ℕ) (lines : List Line) (answers : List Answer) (es : List Entry) (l : Line) (x : Answer) (here : List Entry) → IsPrefix g h
+    → LineAnswer tells mib w (length g) h l.command x here → Answered tells mib w g from lines answers es (length g)
+    → Answered tells mib w h from (lines ++ (l ∷ [])) (answers ++ (x ∷ [])) (es ++ here) (length h)
+answered_more tells mib w g h from lines answers es l x here p is a =
+    let all : take (length h) h ≡ h = take_all (length h) h (omega arith) in
+    answered_on tells mib w h from lines answers es (length g) (length h) l x here (prefix_length g h p) (omega arith)
+    (subst (λ (xs : List Entry). LineAnswer tells mib w (length g) xs l.command x here) (sym all) is)
+    (answered_later tells mib w g h from lines answers es (length g) p a)
 
 -- ---- which lines are run
 
@@ -111,10 +89,10 @@ abbrev pub stopped_by : Bool → List Answer → Bool
 stopped_by stopped [] = stopped
 stopped_by stopped (answer ∷ answers) = stopped_by (stops_with answer) answers
 
-pub in_order-push : (stopped : Bool) (answers : List Answer) (answer : Answer) → InOrder stopped answers → is_not_run answer ≡ stopped_by stopped answers → InOrder stopped (answers ++ (answer ∷ []))
-in_order-push stopped [] answer order run = (run, tt)
-in_order-push stopped (x ∷ answers) answer order run = (order.0, in_order-push (stops_with x) answers answer order.1 run)
+pub order_more : (stopped : Bool) (answers : List Answer) (x : Answer) → InOrder stopped answers → is_not_run x ≡ stopped_by stopped answers → InOrder stopped (answers ++ (x ∷ []))
+order_more stopped [] x o e = (e, tt)
+order_more stopped (y ∷ answers) x o e = (o.0, order_more (stops_with y) answers x o.1 e)
 
-pub stopped_by-push : (stopped : Bool) (answers : List Answer) (answer : Answer) → stopped_by stopped (answers ++ (answer ∷ [])) ≡ stops_with answer
-stopped_by-push stopped [] answer = refl
-stopped_by-push stopped (x ∷ answers) answer = stopped_by-push (stops_with x) answers answer
+pub stopped_more : (stopped : Bool) (answers : List Answer) (x : Answer) → stopped_by stopped (answers ++ (x ∷ [])) ≡ stops_with x
+stopped_more stopped [] x = refl
+stopped_more stopped (y ∷ answers) x = stopped_more (stops_with y) answers x

@@ -12,6 +12,7 @@ use Rattle.lsn_core.specs.declared.ids.ForkKind.{ForkKind}
 use Rattle.lsn_core.specs.declared.ids.ForkKind.TheVariants.{Main, Init}
 use Rattle.lsn_core.specs.declared.ids.ForkId.{ForkId}
 use Rattle.lsn_core.specs.declared.ids.BlockId.{BlockId}
+use Rattle.lsn_core.specs.Relation.{Relation}
 use Rattle.pg_page.specs.Frags.{Fragment}
 use Rattle.crew.specs.declared.order.OrderItem.{OrderItem}
 use Rattle.crew.specs.declared.order.OrderEdit.{OrderEdit}
@@ -38,6 +39,17 @@ fork_in text =
     let front = length text - 5 in
     let is_init = bytes_eq (drop front text) (codes "_init") in
     if is_init then numbers_in Init (take front text) else numbers_in Main text
+
+-- the relation of a fork, where that is the main fork
+abbrev pub main_rel : ForkKind → Relation → Option Relation
+main_rel Main rel = Some rel
+main_rel Init rel = None
+
+-- a relation, by its main fork
+abbrev pub rel_in : List ℕ → Option Relation
+rel_in text = do
+  fork ← fork_in text
+  main_rel fork.kind fork.rel
 
 -- how a page is made, by its numbers
 abbrev pub shape_of : ℕ → ℕ → ℕ → Option Shape
@@ -121,3 +133,22 @@ abbrev pub items_in : List (List ℕ) → Option (List OrderItem)
 items_in words =
     if nat_le 1 (length words) && nat_le (length words) 16 then each_in item_in words
     else None
+
+-- a count of 1 to this many
+abbrev pub count_in : ℕ → List ℕ → Option ℕ
+count_in most text = do
+  count ← number_of text
+  if nat_le 1 count && nat_le count most then Some count else None
+
+-- by how many blocks a fork grows, and how many pages are written, by one line (profile)
+abbrev pub most_growth : ℕ
+most_growth = 65536
+
+abbrev pub growth_count : List ℕ → Option ℕ
+growth_count text = count_in most_growth text
+
+abbrev pub most_flush : ℕ
+most_flush = 1000000
+
+abbrev pub flush_count : List ℕ → Option ℕ
+flush_count text = count_in most_flush text

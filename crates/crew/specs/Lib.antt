@@ -7,5 +7,5 @@ pub mod Reasons
 pub mod Script
 pub mod Laws
 pub mod Run
-pub mod Running
 pub mod Inside
+pub mod Running

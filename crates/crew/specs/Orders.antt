@@ -1,18 +1,18 @@
 -- What an order asks of the store.
-use Rattle.std.specs.Prelude.{map}
+use Rattle.std.specs.Prelude.{ℕ, zero, suc, ◌+◌, min, List, [], ◌∷◌, ◌++◌, map}
+use Rattle.lsn_core.specs.declared.ids.BlockId.{BlockId}
 use Rattle.pg_page.specs.Header.{made_page}
 use Rattle.history.specs.declared.op.Op.{Op}
 use Rattle.history.specs.declared.op.Op.TheVariants as op
 use Rattle.history.specs.declared.op.Item.{Item}
 use Rattle.history.specs.declared.op.Edit.{Edit}
 use Rattle.history.specs.declared.op.Edit.TheVariants as edit
-use Rattle.crew.specs.declared.script.Command.{Command}
-use Rattle.crew.specs.declared.script.Command.TheVariants.{Insert}
 use Rattle.crew.specs.declared.order.Order.{Order}
-use Rattle.crew.specs.declared.order.Order.TheVariants.{Create, Change}
+use Rattle.crew.specs.declared.order.Order.TheVariants.{Create, Truncate, Change}
 use Rattle.crew.specs.declared.order.OrderItem.{OrderItem}
 use Rattle.crew.specs.declared.order.OrderEdit.{OrderEdit}
 use Rattle.crew.specs.declared.order.OrderEdit.TheVariants.{Put, Patch}
+use Rattle.crew.specs.Shape.{Shape}
 
 abbrev pub edit_asked : OrderEdit → Edit
 edit_asked (Put shape) = edit.Put (made_page shape.lower shape.upper shape.fill)
@@ -23,7 +23,19 @@ item_asked order = record { at = order.at; edit = edit_asked order.edit }
 
 abbrev pub op_asked : Order → Op
 op_asked (Create fork) = op.Create fork
+op_asked (Truncate rel count) = op.Truncate rel count
 op_asked (Change items) = op.Change (map item_asked items)
 
-abbrev pub command_op : Command → Op
-command_op (Insert order) = op_asked order
+-- the block that a growth reaches after so many; behind the last number there is none
+abbrev pub grow_at : BlockId → ℕ → BlockId
+grow_at at k = record { fork = at.fork; block = min (at.block + k) 4294967295 }
+
+-- what a growth from a block on asks for its block of this number, counted from 0: one page that is
+-- made so, put there
+abbrev pub grow_op : BlockId → Shape → ℕ → Op
+grow_op at shape k = op.Change (item_asked (record { at = grow_at at k; edit = Put shape }) ∷ [])
+
+-- and what it asks for the first so many
+abbrev pub grow_ops : BlockId → Shape → ℕ → List Op
+grow_ops at shape zero = []
+grow_ops at shape (suc k) = grow_ops at shape k ++ (grow_op at shape k ∷ [])

@@ -1,25 +1,54 @@
 -- What the crate's private functions answer that run lines: no public contract cites these.
-use Rattle.std.specs.Prelude.{◌≡◌, Bool, true, false, Ok, Err}
-use Rattle.wal_writer.specs.Log.{IsLog}
-use Rattle.shared_store.specs.declared.fault.Receipt.{Receipt}
-use Rattle.shared_store.specs.State.{State}
-use Rattle.shared_store.specs.Insert.{InsertAnswer}
-use Rattle.crew.specs.declared.run.Answer.{Answer}
-use Rattle.crew.specs.declared.run.Answer.TheVariants.{Accepted, Refused, NotRun}
+use Rattle.std.specs.Prelude.{◌≡◌, ◌+◌, ◌≤◌, Bool, List, [], ◌∷◌, ◌++◌, length, Result, Ok, Err}
+use Rattle.std.specs.List.{All}
+use Rattle.lsn_core.specs.declared.lsn.Place.{Place}
+use Rattle.lsn_core.specs.declared.fault.StoreArea.{StoreArea}
+use Rattle.lsn_core.specs.Causes.{Rose}
+use Rattle.history.specs.declared.op.Op.{Op}
+use Rattle.history.specs.Entry.{Entry}
+use Rattle.shared_store.specs.declared.fault.InsertFault.{InsertFault}
+use Rattle.shared_store.specs.Seen.{Seen, StaysBy, accepted_by}
+use Rattle.shared_store.specs.Opened.{Opened, count_of, wal_top}
+use Rattle.shared_store.specs.Calls.{GoesOn}
 use Rattle.crew.specs.declared.script.Command.{Command}
-use Rattle.crew.specs.declared.script.Line.{Line}
-use Rattle.crew.specs.Orders.{command_op}
+use Rattle.crew.specs.declared.answer.Answer.{Answer}
+use Rattle.crew.specs.Run.{IsMade, IsRefusedNow, IsOfWorker, LineAnswer, TellsFault, is_not_run, span_of}
 
--- what a command was answered that was run
-abbrev pub CommandAnswer : Command → State → State → Answer → Type 0
-CommandAnswer command old new (Accepted place) =
-    (r : Receipt) × (place ≡ r.place) × IsLog old.log
-    × InsertAnswer (command_op command) old new (Ok r)
-CommandAnswer command old new (Refused fault) =
-    InsertAnswer (command_op command) old new (Err fault)
-CommandAnswer command old new NotRun = ⊥
+-- a worker has seen the whole history of a store, of whose WAL no more is flushed than there is
+pub record Knows (seen : Seen) (store : Opened) : Type 0 where
+  pub whole : seen.list ≡ store.history
+  pub within : store.flushed ≤ wal_top store
 
--- what a line was answered, where the run was stopped before it or wasn't
-abbrev pub LineRuns : Line → Bool → State → State → Answer → Type 0
-LineRuns line true old new answer = (answer ≡ NotRun) × (new ≡ old)
-LineRuns line false old new answer = CommandAnswer line.command old new answer
+-- the history that a worker has seen goes on with entries of its own, of which those of commands
+-- are these and are counted, and it is the store's history again
+pub record WentOn (old new : Seen) (before behind : Opened) (made : List Entry) : Type 0 where
+  pub stays : StaysBy old new
+  pub own : List Entry
+  pub grown : new.list ≡ old.list ++ own
+  pub by : All (IsOfWorker old.worker) own
+  pub made_is : accepted_by old.worker own ≡ made
+  pub counted : new.accepted ≡ old.accepted + length made
+  pub whole : new.list ≡ behind.history
+  pub goes_on : GoesOn before behind
+
+-- a command's entry stands behind all that was seen, at this place; or nothing was added, and the
+-- command is refused there
+abbrev pub Inserts :
+    Type 0 → Op → Seen → Seen → Opened → Opened → Result Place InsertFault → Type 0
+Inserts tells asked old new before behind (Ok place) =
+    (entry : Entry) × WentOn old new before behind (entry ∷ [])
+    × IsMade tells before.settings.segment old.worker new.list (length old.list) asked entry
+    × (place ≡ span_of (entry ∷ []))
+Inserts tells asked old new before behind (Err why) =
+    WentOn old new before behind [] × IsRefusedNow tells before.settings.segment new.list asked why
+
+-- a line's command was run and answered, or not run where the worker was stopped before it
+pub record LineRuns (tells : Type 0) (line : Command) (stopped : Bool) (old new : Seen)
+    (before behind : Opened) (answer : Answer) : Type 0 where
+  pub made : List Entry
+  pub went : WentOn old new before behind made
+  pub answered : LineAnswer tells before.settings.segment old.worker (length old.list) new.list
+      line answer made
+  pub risen : (area : StoreArea) → TellsFault area answer
+      → Rose (count_of area before.faults) (count_of area behind.faults)
+  pub run : is_not_run answer ≡ stopped

@@ -4,7 +4,8 @@ ghost use Rattle.std.specs.Prelude.{◌≡◌, ◌<◌, length, IfOk, IfSome};
 ghost use Rattle.std.specs.List.{position};
 ghost use Rattle.crew.specs.Cuts.{words_of};
 ghost use Rattle.crew.specs.Items.{fork_of, numbers_in, fork_in, shape_in, block_in, is_sign};
-ghost use Rattle.crew.specs.Items.{edit_in, item_in, items_in};
+ghost use Rattle.crew.specs.Items.{main_rel, rel_in, edit_in, item_in, items_in};
+ghost use Rattle.crew.specs.Items.{count_in, growth_count, flush_count};
 
 use crate::cuts::first_word;
 use crate::frags::frags_in;
@@ -17,6 +18,12 @@ use text_numbers::digits_in;
 
 /// How many items a line has at most (profile).
 const ITEM_LIMIT: usize = 16;
+
+/// By how many blocks a line grows a fork at most (profile).
+const GROWTH_LIMIT: u32 = 65_536;
+
+/// How many pages a line flushes at most (profile).
+const FLUSH_LIMIT: u32 = 1_000_000;
 
 /// The fork of these numbers. None exactly where one of them is 0.
 fn fork_of(kind: ForkKind, db: u32, rel: u32) -> Option<ForkId>
@@ -48,9 +55,27 @@ pub fn fork_in(text: &[u8]) -> Option<ForkId>
     }
 }
 
+/// The relation of a fork. None exactly where that isn't the main fork.
+fn main_rel(kind: ForkKind, rel: Rel) -> Option<Rel>
+    ensures { result ≡ main_rel kind rel }
+{
+    match kind {
+        ForkKind::Main => Some(rel),
+        ForkKind::Init => None,
+    }
+}
+
+/// The relation whose main fork a word names. None exactly where it names none.
+pub fn rel_in(text: &[u8]) -> Option<Rel>
+    ensures { result ≡ rel_in text.now }
+{
+    let fork = fork_in(text)?;
+    main_rel(fork.kind, fork.rel)
+}
+
 /// How a page is made, by three numbers with commas between them. None exactly where they don't
 /// say it.
-fn shape_in(text: &[u8]) -> Option<PageShape>
+pub fn shape_in(text: &[u8]) -> Option<PageShape>
     ensures { result ≡ shape_in text.now }
 {
     let (lower, behind) = cut_at(b',', text)?;
@@ -62,7 +87,7 @@ fn shape_in(text: &[u8]) -> Option<PageShape>
 }
 
 /// The block that a fork, `@` and a number name. None exactly where they name none.
-fn block_in(text: &[u8]) -> Option<BlockId>
+pub fn block_in(text: &[u8]) -> Option<BlockId>
     ensures { result ≡ block_in text.now }
 {
     let (fork, block) = cut_at(b'@', text)?;
@@ -135,4 +160,30 @@ pub fn items_in(alloc: Global, text: &[u8]) -> Result<Option<OrderItems>, NoMemo
         return Ok(None);
     }
     Ok(Some(OrderItems::from_vec(list)))
+}
+
+/// The count that a word writes, from 1 to this many. None exactly where it writes none.
+fn count_in(most: u32, text: &[u8]) -> Option<u32>
+    ensures { result ≡ count_in most text.now }
+{
+    let count = digits_in(text)?;
+    if 1 <= count && count <= most {
+        Some(count)
+    } else {
+        None
+    }
+}
+
+/// By how many blocks a fork grows, 1 to 65,536. None exactly where the text says no such count.
+pub fn growth_count(text: &[u8]) -> Option<u32>
+    ensures { result ≡ growth_count text.now }
+{
+    count_in(GROWTH_LIMIT, text)
+}
+
+/// How many pages are flushed, 1 to 1,000,000. None exactly where the text says no such count.
+pub fn flush_count(text: &[u8]) -> Option<u32>
+    ensures { result ≡ flush_count text.now }
+{
+    count_in(FLUSH_LIMIT, text)
 }

@@ -1,9 +1,26 @@
-//! What holds of every script.
+//! Laws of scripts and of their runs: each is the contract of a function that does nothing.
 
 ghost use Rattle.crew.specs.Laws.{HasOneAnswer};
+ghost use Rattle.crew.specs.Run.{AnswersStay, RunsAreAnswered, TakenOrRefused};
 
 /// The answers on a script shut each other out: it is taken as one list of commands, or refused at
 /// one line for one reason.
 pub fn script_has_one_answer()
     ensures { HasOneAnswer }
+{}
+
+/// Lines that were answered over a beginning of a history are answered so over the history.
+pub fn answers_stay()
+    ensures { AnswersStay }
+{}
+
+/// A worker of whose commands none was found is answered, by its run, over the history that the run
+/// left: its accepted commands there are those that the answers name, in order.
+pub fn runs_are_answered()
+    ensures { RunsAreAnswered }
+{}
+
+/// A command that is taken behind a history is refused there for want of memory alone.
+pub fn taken_or_refused()
+    ensures { TakenOrRefused }
 {}

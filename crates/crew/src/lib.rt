@@ -1,15 +1,17 @@
 //! Scripts of runs: what a worker is told to do, line by line, and what that does to a store.
 //!
 //! `read_script` takes the bytes of a script as one list of commands, or refuses it at its first
-//! bad line with a reason (`specs/Script.antt`). `run_lines` runs commands on a store: each answer
-//! is what the history before it gives, and the entries of those that were accepted stand in order
-//! behind it (`specs/Run.antt`). That a script has one answer is the law `script_has_one_answer`;
-//! that a run, once flushed, is read again as the store that it left, `run_is_read_again`.
+//! bad line with a reason (`specs/Script.antt`). `run_lines` runs a worker's lines on an open
+//! store: each answer is a fact of the beginning of the history that the worker had seen when it
+//! was given, and the entries of its accepted commands are those that its answers name, in order
+//! (`specs/Run.antt`). What holds of every script and of every run are laws (`laws`).
 //!
-//! Left to others: whether a command may be done and its place in the WAL (`shared_store`), where
-//! the bytes of a script come from, and printing answers. So far there is one worker a script.
+//! Left to others: whether a command may be done, its place in the WAL, checkpoints and what is
+//! flushed (`shared_store`), where the bytes of a script come from, and printing answers. So far
+//! there is one worker a script.
 #![tactic(auto)]
 
+mod answer;
 mod cuts;
 mod frags;
 mod items;
@@ -22,11 +24,12 @@ mod script;
 mod shape;
 mod why;
 
+pub use answer::{Answer, Answers};
 pub use cuts::is_name;
-pub use laws::script_has_one_answer;
+pub use laws::{answers_stay, runs_are_answered, script_has_one_answer, taken_or_refused};
 pub use order::{Order, OrderEdit, OrderItem, OrderItems};
 pub use reading::read_script;
-pub use run::{Answer, Answers, run_is_read_again, run_lines};
+pub use run::run_lines;
 pub use script::{Command, Line, Lines, SCRIPT_LIMIT, Script, Task};
 pub use shape::PageShape;
 pub use why::{ScriptFault, Why, why_text};

@@ -3,15 +3,18 @@
 ghost use Rattle.std.specs.Prelude.{◌≡◌, ◌∷◌, IfOk};
 ghost use Rattle.std.specs.Option.{option_map};
 ghost use Rattle.crew.specs.Cuts.{words_of};
-ghost use Rattle.crew.specs.Meaning.{only, worker_says, create_says, change_says, words_say, meaning};
+ghost use Rattle.crew.specs.Meaning.{only, two, three, words_say, meaning};
+ghost use Rattle.crew.specs.Meaning.{worker_says, create_says, truncate_says, change_says};
+ghost use Rattle.crew.specs.Meaning.{grow_says, checkpoint_says, flush_says};
 ghost use Rattle.crew.specs.Inside.{said};
 
 use crate::cuts::{first_word, is_name};
-use crate::items::{fork_in, items_in};
+use crate::items::{block_in, flush_count, fork_in, growth_count, items_in, rel_in, shape_in};
 use crate::order::Order;
 use crate::script::Command;
 use lsn_core::NoMemory;
 use std::alloc::Global;
+use text_numbers::digits_in;
 
 /// What a line says: nothing, that a worker's lines begin, or a command.
 #[derive(Drop)]
@@ -30,6 +33,24 @@ fn only_word(text: &[u8]) -> Option<&[u8]>
         Some(_) => None,
         None => Some(word),
     }
+}
+
+/// The two words of a text. None exactly where it has fewer or more.
+fn two_words(text: &[u8]) -> Option<(&[u8], &[u8])>
+    ensures { option_map (λ x. (x.0.now, x.1.now)) result ≡ two (words_of text.now) }
+{
+    let (first, behind) = first_word(text)?;
+    let second = only_word(behind)?;
+    Some((first, second))
+}
+
+/// The three words of a text. None exactly where it has fewer or more.
+fn three_words(text: &[u8]) -> Option<(&[u8], &[u8], &[u8])>
+    ensures { option_map (λ x. (x.0.now, x.1.now, x.2.now)) result ≡ three (words_of text.now) }
+{
+    let (first, behind) = first_word(text)?;
+    let (second, third) = two_words(behind)?;
+    Some((first, second, third))
 }
 
 /// What a line says that names a worker. None exactly where that is no name.
@@ -52,6 +73,16 @@ fn create_said(text: &[u8]) -> Option<Said<'_>>
     Some(Said::Does(Command::Insert(Order::Create(fork))))
 }
 
+/// What a line says that cuts a relation. None exactly where that is no main fork and count.
+fn truncate_said(text: &[u8]) -> Option<Said<'_>>
+    ensures { option_map said result ≡ truncate_says (words_of text.now) }
+{
+    let (rel, count) = two_words(text)?;
+    let rel = rel_in(rel)?;
+    let count = digits_in(count)?;
+    Some(Said::Does(Command::Insert(Order::Truncate(rel, count))))
+}
+
 /// What a line says that changes blocks. None exactly where that is no items.
 fn change_said(alloc: Global, text: &[u8]) -> Result<Option<Said<'_>>, NoMemory>
     ensures { IfOk result (λ what. option_map said what ≡ change_says (words_of text.now)) }
@@ -60,6 +91,35 @@ fn change_said(alloc: Global, text: &[u8]) -> Result<Option<Said<'_>>, NoMemory>
         Some(items) => Ok(Some(Said::Does(Command::Insert(Order::Change(items))))),
         None => Ok(None),
     }
+}
+
+/// What a line says that grows a fork. None exactly where that is no block, count and shape.
+fn grow_said(text: &[u8]) -> Option<Said<'_>>
+    ensures { option_map said result ≡ grow_says (words_of text.now) }
+{
+    let (at, count, shape) = three_words(text)?;
+    let at = block_in(at)?;
+    let count = growth_count(count)?;
+    let shape = shape_in(shape)?;
+    Some(Said::Does(Command::Grow(at, count, shape)))
+}
+
+/// What a line says that asks for a checkpoint. None exactly where words stand behind the verb.
+fn checkpoint_said(text: &[u8]) -> Option<Said<'_>>
+    ensures { option_map said result ≡ checkpoint_says (words_of text.now) }
+{
+    if first_word(text).is_some() {
+        return None;
+    }
+    Some(Said::Does(Command::Checkpoint))
+}
+
+/// What a line says that flushes pages. None exactly where that is no count.
+fn flush_said(text: &[u8]) -> Option<Said<'_>>
+    ensures { option_map said result ≡ flush_says (words_of text.now) }
+{
+    let count = flush_count(only_word(text)?)?;
+    Some(Said::Does(Command::Flush(count)))
 }
 
 /// What a verb and the words behind it say. None exactly where that is nothing that is taken.
@@ -72,8 +132,20 @@ fn words_said<'a>(alloc: Global, verb: &[u8], text: &'a [u8]) -> Result<Option<S
     if verb == b"create".as_slice() {
         return Ok(create_said(text));
     }
+    if verb == b"truncate".as_slice() {
+        return Ok(truncate_said(text));
+    }
     if verb == b"change".as_slice() {
         return change_said(alloc, text);
+    }
+    if verb == b"grow".as_slice() {
+        return Ok(grow_said(text));
+    }
+    if verb == b"checkpoint".as_slice() {
+        return Ok(checkpoint_said(text));
+    }
+    if verb == b"flush".as_slice() {
+        return Ok(flush_said(text));
     }
     Ok(None)
 }

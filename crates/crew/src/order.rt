@@ -2,11 +2,11 @@
 
 ghost use Rattle.std.specs.Prelude.{◌≡◌, map, IfOk};
 ghost use Rattle.pg_page.specs.Header.{made_page};
-ghost use Rattle.crew.specs.Orders.{edit_asked, item_asked, op_asked};
+ghost use Rattle.crew.specs.Orders.{edit_asked, item_asked, op_asked, grow_op};
 
 use crate::shape::PageShape;
 use history::{Edit, Item, Items, Op};
-use lsn_core::{BlockId, ForkId, NoMemory};
+use lsn_core::{BlockId, ForkId, NoMemory, Rel};
 use pg_page::{Frags, Page, make_page};
 use std::alloc::{AllocError, Global};
 use std::marker::Model;
@@ -17,6 +17,8 @@ use std::marker::Model;
 pub enum Order {
     /// Make a fork.
     Create(ForkId),
+    /// Cut the main fork of a relation to its first blocks, so many.
+    Truncate(Rel, u32),
     /// Change blocks, in turn.
     Change(OrderItems),
 }
@@ -75,9 +77,27 @@ impl Order {
     {
         match self {
             Order::Create(fork) => Ok(Op::Create(*fork)),
+            Order::Truncate(rel, count) => Ok(Op::Truncate(*rel, *count)),
             Order::Change(items) => Ok(Op::Change(items_of(alloc, items.as_slice())?)),
         }
     }
+}
+
+/// The command for the block of this number of a growth, counted from 0, that begins at a block:
+/// a page of the shape is put there. Behind the last block number that one is meant again.
+pub(crate) fn grow_op(alloc: Global, at: BlockId, shape: PageShape, k: u32) -> Result<Op, NoMemory>
+    ensures { IfOk result (λ op. op ≡ grow_op at shape k) }
+{
+    let block = at.block.saturating_add(k);
+    let mut list = Vec::new(alloc);
+    list.push(Item {
+        at: BlockId {
+            fork: at.fork,
+            block,
+        },
+        edit: Edit::Put(page_of(shape)),
+    })?;
+    Ok(Op::Change(Items::from_vec(list)))
 }
 
 /// The items of a command.

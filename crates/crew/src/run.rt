@@ -1,99 +1,178 @@
-//! Lines run on a store.
+//! Lines run on an open store.
 
-ghost use Rattle.std.specs.Prelude.{◌≡◌, ◌+◌, ◌<◌, ◌≤◌, ◌∷◌, ◌++◌};
-ghost use Rattle.std.specs.Prelude.{[], length, IfOk, OnErr};
+ghost use Rattle.std.specs.Prelude.{◌≡◌, ◌+◌, ◌<◌, ◌≤◌, ◌==◌, ◌∷◌, ◌++◌, if◌then◌else◌};
+ghost use Rattle.std.specs.Prelude.{[], true, false, length, IfOk};
 ghost use Rattle.std.specs.Vec.{vec_len, vec_capacity};
-ghost use Rattle.shared_store.specs.State.{state_of};
-ghost use Rattle.crew.specs.Run.{stops_with, RunsLines, IsReadAgain};
-ghost use Rattle.crew.specs.Running.{CommandAnswer, LineRuns};
+ghost use Rattle.history.specs.declared.op.Op.{Op};
+ghost use Rattle.crew.specs.declared.script.Command.TheVariants as command;
+ghost use Rattle.crew.specs.Run.{RunsLines};
+ghost use Rattle.crew.specs.Running.{Knows, Inserts, LineRuns};
 
+use crate::answer::Answer;
+use crate::order::{Order, grow_op};
 use crate::script::{Command, Line};
-use lsn_core::{NoMemory, Place};
-use shared_store::{InsertFault, Store};
+use crate::shape::PageShape;
+use history::Op;
+use lsn_core::{BlockId, Lsn, NoMemory, Place};
+use shared_store::{InsertFault, OfCrew, Pass, Store};
 use std::alloc::Global;
-use std::marker::Model;
 use vault::Vault;
 
-/// What a line was answered.
-#[derive(Clone, Copy, Debug, PartialEq, Eq)]
-pub enum Answer {
-    /// Its entry stands at this place.
-    Accepted(Place),
-    /// It was refused, and changed nothing.
-    Refused(InsertFault),
-    /// Memory ran out before it.
-    NotRun,
-}
-
-impl Answer {
-    /// Whether a run is stopped behind this answer: after want of memory no line is run.
-    pub fn stops(self) -> bool
-        ensures { result ≡ stops_with self }
-    {
-        match self {
-            Answer::Accepted(_) => false,
-            Answer::Refused(InsertFault::NoMemory) => true,
-            Answer::Refused(_) => false,
-            Answer::NotRun => true,
-        }
-    }
-}
-
-/// Answers in the order of their lines. Contracts see the list.
-#[derive(Debug, Drop)]
-pub struct Answers {
-    items: Vec<Answer>,
-}
-
-impl Model for Answers {
-    ghost use Rattle.std.specs.Prelude.{List};
-    ghost use Rattle.crew.specs.declared.run.Answer.{Answer};
-
-    ghost Value = { List Answer };
-
-    ghost view = { λ a. a.items.items };
-}
-
-impl Answers {
-    /// The answers of a vector. Takes no memory.
-    fn from_vec(items: Vec<Answer>) -> Answers
-        ensures { result ≡ items.items }
-    {
-        Answers { items }
-    }
-
-    /// The answers.
-    pub fn as_slice(&self) -> &[Answer]
-        ensures { result.now ≡ self.now }
-    {
-        &self.items
-    }
-}
-
-/// Inserts a command into the store, and gives the answer to it.
-fn answer_to<V: Vault>(alloc: Global, store: &mut Store<V>, command: &Command) -> Answer
-    ensures answer { CommandAnswer command.now (state_of store.old) (state_of store.new) result }
-    ensures area { store.new.wal.area ≡ store.old.wal.area }
+/// Inserts a command, which is refused where there was no memory to make it.
+fn insert_made<J: OfCrew, V: Vault>(
+    alloc: Global,
+    store: &mut Store<J, V>,
+    pass: &mut Pass<J>,
+    made: Result<Op, NoMemory>,
+) -> Result<Place, InsertFault>
+    requires { Knows pass.old store.old }
+    ensures { (asked : Op) → IfOk made (λ op. op ≡ asked)
+        → Inserts (J.tells ≡ true) asked pass.old pass.new store.old store.new result }
 {
-    let Command::Insert(order) = command;
-    let Ok(op) = order.op(alloc) else {
-        return Answer::Refused(InsertFault::NoMemory);
+    let Ok(op) = made else {
+        store.know();
+        return Err(InsertFault::NoMemory);
     };
-    match store.insert(alloc, &op) {
-        Ok(receipt) => Answer::Accepted(receipt.place),
+    match store.insert(alloc, pass, &op) {
+        Ok(receipt) => Ok(receipt.place),
+        Err(fault) => Err(fault),
+    }
+}
+
+/// Inserts the command of an order.
+fn insert<J: OfCrew, V: Vault>(
+    alloc: Global,
+    store: &mut Store<J, V>,
+    pass: &mut Pass<J>,
+    order: &Order,
+) -> Answer
+    requires { Knows pass.old store.old }
+    ensures { LineRuns (J.tells ≡ true) (command.Insert order.now) false pass.old pass.new
+        store.old store.new result }
+{
+    match insert_made(alloc, store, pass, order.op(alloc)) {
+        Ok(place) => Answer::Accepted(place),
         Err(fault) => Answer::Refused(fault),
     }
 }
 
-/// Runs a line, unless the run is stopped, and gives the answer to it.
-fn run_line<V: Vault>(alloc: Global, store: &mut Store<V>, line: &Line, stopped: bool) -> Answer
-    ensures answer { LineRuns line.now stopped (state_of store.old) (state_of store.new) result }
-    ensures area { store.new.wal.area ≡ store.old.wal.area }
+/// Where so many entries and one more behind them stand.
+fn spanned(k: u32, span: Place, place: Place) -> Place
+    ensures { result ≡ (if k == 0 then place
+        else record { start = span.start; end = place.end }) }
+{
+    if k == 0 {
+        place
+    } else {
+        Place {
+            start: span.start,
+            end: place.end,
+        }
+    }
+}
+
+/// Puts pages from a block on, by a command each, up to the first that is refused.
+fn grow<J: OfCrew, V: Vault>(
+    alloc: Global,
+    store: &mut Store<J, V>,
+    pass: &mut Pass<J>,
+    at: &BlockId,
+    count: u32,
+    shape: PageShape,
+) -> Answer
+    requires { Knows pass.old store.old }
+    ensures { LineRuns (J.tells ≡ true) (command.Grow at.now count shape) false pass.old pass.new
+        store.old store.new result }
+{
+    let mut span = Place {
+        start: Lsn(0),
+        end: Lsn(0),
+    };
+    for k in 0..count {
+        match insert_made(alloc, store, pass, grow_op(alloc, *at, shape, k)) {
+            Ok(place) => span = spanned(k, span, place),
+            Err(fault) => return Answer::Stopped(k, fault),
+        }
+    }
+    Answer::Grown(count, span)
+}
+
+/// Does a checkpoint.
+fn checkpoint<J: OfCrew, V: Vault>(
+    alloc: Global,
+    store: &mut Store<J, V>,
+    pass: &mut Pass<J>,
+) -> Answer
+    requires { Knows pass.old store.old }
+    ensures { LineRuns (J.tells ≡ true) command.Checkpoint false pass.old pass.new
+        store.old store.new result }
+{
+    match store.checkpoint(alloc, pass) {
+        Ok((redo, _)) => Answer::Redo(redo.redo),
+        Err(fault) => Answer::CheckpointRefused(fault),
+    }
+}
+
+/// Writes pages back so many times, to the data areas in turn.
+fn flush<J: OfCrew, V: Vault>(
+    alloc: Global,
+    store: &mut Store<J, V>,
+    pass: &mut Pass<J>,
+    count: u32,
+) -> Answer
+    requires { Knows pass.old store.old }
+    ensures { LineRuns (J.tells ≡ true) (command.Flush count) false pass.old pass.new
+        store.old store.new result }
+{
+    let mut wrote = 0;
+    for k in 0..count {
+        match store.write_page(alloc, pass, k % 4) {
+            Ok(turn) => {
+                if turn.wrote().is_some() {
+                    wrote += 1;
+                }
+            }
+            Err(fault) => return Answer::CallFailed(fault),
+        }
+    }
+    Answer::Wrote(wrote)
+}
+
+/// Does what a line says, and gives the answer to it.
+fn answer_to<J: OfCrew, V: Vault>(
+    alloc: Global,
+    store: &mut Store<J, V>,
+    pass: &mut Pass<J>,
+    command: &Command,
+) -> Answer
+    requires { Knows pass.old store.old }
+    ensures { LineRuns (J.tells ≡ true) command.now false pass.old pass.new
+        store.old store.new result }
+{
+    match command {
+        Command::Insert(order) => insert(alloc, store, pass, order),
+        Command::Grow(at, count, shape) => grow(alloc, store, pass, at, *count, *shape),
+        Command::Checkpoint => checkpoint(alloc, store, pass),
+        Command::Flush(count) => flush(alloc, store, pass, *count),
+    }
+}
+
+/// Runs a line, unless the worker is stopped, and gives the answer to it.
+fn run_line<J: OfCrew, V: Vault>(
+    alloc: Global,
+    store: &mut Store<J, V>,
+    pass: &mut Pass<J>,
+    line: &Line,
+    stopped: bool,
+) -> Answer
+    requires { Knows pass.old store.old }
+    ensures { LineRuns (J.tells ≡ true) line.now.command stopped pass.old pass.new
+        store.old store.new result }
 {
     if stopped {
         Answer::NotRun
     } else {
-        answer_to(alloc, store, &line.command)
+        answer_to(alloc, store, pass, &line.command)
     }
 }
 
@@ -109,48 +188,46 @@ fn put(answers: &mut Vec<Answer>, answer: Answer)
     }
 }
 
-/// Runs lines, and puts their answers where there is room for them.
-fn run_into<V: Vault>(
+/// Runs the lines of a worker on an open store, each on what those before it left, and puts their
+/// answers where there is room for them. After a device that failed or want of memory the other lines
+/// aren't run.
+pub fn run_lines<J: OfCrew, V: Vault>(
     alloc: Global,
-    store: &mut Store<V>,
+    store: &mut Store<J, V>,
+    pass: &mut Pass<J>,
     lines: &[Line],
     answers: &mut Vec<Answer>,
 )
+    requires seen { pass.old.list ≡ store.old.history }
     requires none { answers.old.items ≡ [] }
     requires empty { vec_len answers.old ≡ 0 }
     requires room { length lines.now ≤ vec_capacity answers.old }
-    ensures run { RunsLines lines.now (state_of store.old) (state_of store.new) answers.new.items }
-    ensures area { store.new.wal.area ≡ store.old.wal.area }
+    ensures run { RunsLines (J.tells ≡ true) lines.now pass.old pass.new store.old store.new
+        answers.new.items }
+{
+    store.know();
+    run_into(alloc, store, pass, lines, answers);
+}
+
+/// The same, where the pass knows the store.
+fn run_into<J: OfCrew, V: Vault>(
+    alloc: Global,
+    store: &mut Store<J, V>,
+    pass: &mut Pass<J>,
+    lines: &[Line],
+    answers: &mut Vec<Answer>,
+)
+    requires knows { Knows pass.old store.old }
+    requires none { answers.old.items ≡ [] }
+    requires empty { vec_len answers.old ≡ 0 }
+    requires room { length lines.now ≤ vec_capacity answers.old }
+    ensures { RunsLines (J.tells ≡ true) lines.now pass.old pass.new store.old store.new
+        answers.new.items }
 {
     let mut stopped = false;
     for line in lines {
-        let answer = run_line(alloc, store, line, stopped);
+        let answer = run_line(alloc, store, pass, line, stopped);
         stopped = answer.stops();
         put(answers, answer);
     }
 }
-
-/// Runs lines on a store, each on what those before it left: a command is accepted, and its entry
-/// then stands at the end of the WAL, or it is refused and changes nothing. After want of memory
-/// the other lines aren't run. Nothing is flushed. The room for the answers is taken first: where
-/// that is wanting no line was run.
-pub fn run_lines<V: Vault>(
-    alloc: Global,
-    store: &mut Store<V>,
-    lines: &[Line],
-) -> Result<Answers, NoMemory>
-    ensures run { IfOk result (RunsLines lines.now (state_of store.old) (state_of store.new)) }
-    ensures same { OnErr result (store.new ≡ store.old) }
-    ensures area { store.new.wal.area ≡ store.old.wal.area }
-{
-    let mut answers = Vec::with_capacity(alloc, lines.len())?;
-    run_into(alloc, store, lines, &mut answers);
-    Ok(Answers::from_vec(answers))
-}
-
-/// A run on a store that was begun on a WAL, once it is flushed, is read again: behind the entries
-/// that the WAL had stand those of the run's accepted commands, and all of them make the store that
-/// the run left.
-pub fn run_is_read_again()
-    ensures { IsReadAgain }
-{}

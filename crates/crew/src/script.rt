@@ -3,7 +3,8 @@
 ghost use Rattle.std.specs.Prelude.{◌≡◌};
 
 use crate::order::Order;
-use lsn_core::Text;
+use crate::shape::PageShape;
+use lsn_core::{BlockId, Text};
 use std::marker::Model;
 
 /// How many bytes a script has at most (profile).
@@ -14,6 +15,13 @@ pub const SCRIPT_LIMIT: usize = 4_194_304;
 pub enum Command {
     /// Insert a command into the store.
     Insert(Order),
+    /// Put pages of this shape, 1 to 65,536 of them: the first at this block, each further one at
+    /// the next, by a command each.
+    Grow(BlockId, u32, PageShape),
+    /// Write a checkpoint.
+    Checkpoint,
+    /// Write pages that wait back to the data area, at most so many, 1 to 1,000,000.
+    Flush(u32),
 }
 
 /// A command, and the number of its line in the script, counted from 1.

@@ -1,0 +1,50 @@
+-- What holds of every run.
+use Rattle.std.proofs.Common.{◌≡◌, ℕ, true, List, ◌++◌, length, None, refl, ap, sym, subst, ◌∙◌, arith}
+use Rattle.std.proofs.lemmas.List.Elements.{filter-append}
+use Rattle.lsn_core.specs.Store.{Store}
+use Rattle.history.specs.declared.op.Op.{Op}
+use Rattle.history.specs.Entry.{Entry}
+use Rattle.history.specs.Written.{tip_of}
+use Rattle.shared_store.specs.declared.fault.InsertFault.{InsertFault}
+use Rattle.shared_store.specs.declared.fault.InsertFault.TheVariants as insert
+use Rattle.shared_store.specs.Seen.{is_by, accepted_by}
+use Rattle.shared_store.specs.Refusals.{judged_at, IsRefused}
+use Rattle.crew.specs.Run.{Answered, AnswersStay, RunsAreAnswered, TakenOrRefused}
+use Rattle.crew.proofs.Moments.{answered_later}
+
+pub answers_hold : AnswersStay
+answers_hold tells mib worker seen history from to lines answers made p le a = answered_later (tells ≡ true) mib worker seen history from lines answers made to p a
+
+pub runs_answer : RunsAreAnswered
+runs_answer tells mib lines old new answers run none =
+    let all : accepted_by old.worker run.own ≡ accepted_by old.worker new.list =
+    sym (ap (accepted_by old.worker) run.grown ∙ filter-append (is_by old.worker) old.list run.own ∙ ap (λ (es : List Entry). es ++ accepted_by old.worker run.own) none) in
+    record {
+      to = length new.list;
+      within = omega arith;
+      answered = subst (λ (es : List Entry). Answered (tells ≡ true) mib old.worker new.list (length old.list) lines answers es (length new.list)) all run.answered;
+      order = run.order;
+    }
+
+-- a refusal is why it was judged so
+first_refusal : (mib : ℕ) (store : Store) (history : List Entry) (asked : Op) (why : InsertFault) → judged_at mib store (tip_of mib history) asked ≡ None → IsRefused mib store (tip_of mib history) asked why → why ≡ insert.NoMemory
+first_refusal mib store history asked (insert.NoFork n) none is = absurd cc
+first_refusal mib store history asked (insert.ForkExists n) none is = absurd cc
+first_refusal mib store history asked (insert.PastEnd n) none is = absurd cc
+first_refusal mib store history asked (insert.NoBlock n) none is = absurd cc
+first_refusal mib store history asked (insert.BadPage i n) none is = absurd cc
+first_refusal mib store history asked (insert.BadFragment i j) none is = absurd cc
+first_refusal mib store history asked insert.BlockCount none is = absurd cc
+first_refusal mib store history asked insert.TwoRelations none is = absurd cc
+first_refusal mib store history asked (insert.ForkFull n) none is = absurd cc
+first_refusal mib store history asked (insert.StoreFull n) none is = absurd cc
+first_refusal mib store history asked (insert.CutPastEnd n) none is = absurd cc
+first_refusal mib store history asked insert.NoMemory none is = refl
+first_refusal mib store history asked (insert.SameBlock i) none is = absurd cc
+first_refusal mib store history asked (insert.WalFull n) none is = absurd cc
+
+pub refused_by_memory : TakenOrRefused
+refused_by_memory mib before asked entry why t r =
+    let same : t.store ≡ r.store = cc (t.state, r.state) in
+    let none : judged_at mib r.store (tip_of mib before) asked ≡ None = ap (λ (s : Store). judged_at mib s (tip_of mib before) asked) (sym same) ∙ t.taken in
+    first_refusal mib r.store before asked why none r.why

@@ -1,0 +1,7 @@
+use Rattle.std.proofs.Common.{◌≡◌, true}
+use Rattle.crew.proofs.Growth.{IsGrowing}
+use Rattle.crew.proofs.run.grow.Given as goal
+
+-- so many of its commands were accepted
+abbrev pub invariant-loop-k : goal.invariant-loop-k
+invariant-loop-k g l = IsGrowing (g.J.OfStore.tells ≡ true) l.fn.pass l.pass l.fn.store l.store l.at l.shape l.k l.span

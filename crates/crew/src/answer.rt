@@ -1,0 +1,113 @@
+//! What lines were answered.
+
+ghost use Rattle.std.specs.Prelude.{◌≡◌};
+ghost use Rattle.crew.specs.Run.{stops_with, insert_stop, mark_stop, stop_of};
+
+use lsn_core::{Lsn, MarkFault, Place, StoreFault};
+use shared_store::InsertFault;
+use std::marker::Model;
+
+/// What a line was answered (profile).
+#[derive(Clone, Copy, Debug, PartialEq, Eq)]
+pub enum Answer {
+    /// The entry of its command stands at this place.
+    Accepted(Place),
+    /// Its command was refused, and changed nothing.
+    Refused(InsertFault),
+    /// All of its so many blocks were put; their entries stand between the first one's start and the
+    /// last one's end.
+    Grown(u32, Place),
+    /// So many of its blocks were put before this refusal.
+    Stopped(u32, InsertFault),
+    /// The checkpoint of this redo point was done.
+    Redo(Lsn),
+    /// The checkpoint was not done, or not to its end.
+    CheckpointRefused(MarkFault),
+    /// So many of its writes wrote something.
+    Wrote(u32),
+    /// One of its writes failed.
+    CallFailed(StoreFault),
+    /// The worker was stopped before it.
+    NotRun,
+}
+
+/// The fault by which the refusal of a command stops a worker.
+fn insert_stop(why: InsertFault) -> Option<StoreFault>
+    ensures { result ≡ insert_stop why }
+{
+    match why {
+        InsertFault::NoMemory => Some(StoreFault::NoMemory),
+        _ => None,
+    }
+}
+
+/// The fault by which a checkpoint that was not done stops a worker.
+fn mark_stop(why: MarkFault) -> Option<StoreFault>
+    ensures { result ≡ mark_stop why }
+{
+    match why {
+        MarkFault::Failed(area) => Some(StoreFault::Failed(area)),
+        MarkFault::WalFull(_) => None,
+        MarkFault::NoMemory => Some(StoreFault::NoMemory),
+    }
+}
+
+impl Answer {
+    /// The fault by which this answer stops the worker: a device that failed, or want of memory.
+    pub fn stop(self) -> Option<StoreFault>
+        ensures { result ≡ stop_of self }
+    {
+        match self {
+            Answer::Accepted(_) => None,
+            Answer::Refused(why) => insert_stop(why),
+            Answer::Grown(_, _) => None,
+            Answer::Stopped(_, why) => insert_stop(why),
+            Answer::Redo(_) => None,
+            Answer::CheckpointRefused(why) => mark_stop(why),
+            Answer::Wrote(_) => None,
+            Answer::CallFailed(why) => Some(why),
+            Answer::NotRun => None,
+        }
+    }
+
+    /// Whether the lines behind this one aren't run.
+    pub fn stops(self) -> bool
+        ensures { result ≡ stops_with self }
+    {
+        match self {
+            Answer::NotRun => true,
+            answer => answer.stop().is_some(),
+        }
+    }
+}
+
+/// Answers in the order of their lines. Contracts see the list.
+#[derive(Debug, Drop)]
+pub struct Answers {
+    items: Vec<Answer>,
+}
+
+impl Model for Answers {
+    ghost use Rattle.std.specs.Prelude.{List};
+    ghost use Rattle.crew.specs.declared.answer.Answer.{Answer};
+
+    ghost Value = { List Answer };
+
+    ghost view = { λ a. a.items.items };
+}
+
+impl Answers {
+    /// The answers of a vector. Takes no memory.
+    pub fn from_vec(items: Vec<Answer>) -> Answers
+        ensures { result ≡ items.items }
+    {
+        Answers { items }
+    }
+
+    /// The answers.
+    pub fn as_slice(&self) -> &[Answer]
+        ensures { result.now ≡ self.now }
+    {
+        &self.items
+    }
+}
