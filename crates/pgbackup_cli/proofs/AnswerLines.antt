@@ -2,7 +2,7 @@
 use Rattle.std.proofs.Common.{◌≡◌, ℕ, List, [], ◌∷◌, ◌++◌, length, refl, ap, sym, ◌∙◌, arith}
 use Rattle.std.proofs.lemmas.List.{append-nil}
 use Rattle.crew.specs.declared.script.Line.{Line}
-use Rattle.crew.specs.declared.run.Answer.{Answer}
+use Rattle.crew.specs.declared.answer.Answer.{Answer}
 use Rattle.pgbackup_cli.specs.Report.{answer_lines}
 
 no_more_lines : (name : List ℕ) (lines : List Line) (answers : List Answer) → length lines ≡ 0 → answer_lines name lines answers ≡ []

@@ -1,267 +1,297 @@
--- What a run leaves of a WAL: its entries, and those of the run behind them.
-use Rattle.std.proofs.Common.{◌≡◌, ℕ, zero, suc, ◌<◌, ◌≤◌, Bool, true, List, [], ◌∷◌, ◌++◌, map, length, Option, Some, None, Result, Ok, Err, IfSome, IfOk, refl, sym, ap, subst, ◌∙◌, arith, inr}
+-- What a run leaves of the areas of a store, and the history that it came to.
+use Rattle.std.proofs.Common.{◌≡◌, ℕ, zero, suc, ◌-◌, ◌<◌, ◌≤◌, Bool, true, List, [], ◌∷◌, ◌++◌, map, length, Option, Some, None, IsSome, Result, Ok, Err, IfSome, refl, sym, ap, subst, ◌∙◌, arith, inl, inr}
 use Rattle.std.specs.List.{All, slice_get}
-use Rattle.std.specs.Option.{option_map}
-use Rattle.std.specs.FinMap.{empty}
-use Rattle.std.proofs.lemmas.List.{map-append, length-map}
-use Rattle.std.proofs.lemmas.List.Elements.{All-nil, filter-append, filter_passes}
-use Rattle.byte_words.specs.Told.{when_told}
+use Rattle.std.specs.FinMap.{empty, get}
+use Rattle.std.specs.Prelude.{codes}
+use Rattle.std.proofs.lemmas.List.{length-map}
+use Rattle.std.proofs.lemmas.List.Elements.{All-nil}
+use Rattle.lsn_core.specs.Causes.{Rose}
 use Rattle.lsn_core.specs.Files.{Files}
 use Rattle.lsn_core.specs.Store.{Store}
-use Rattle.lsn_core.specs.Segment.{StoreSettings}
+use Rattle.lsn_core.specs.Segment.{StoreSettings, IsSegmentMib}
 use Rattle.lsn_core.specs.Tip.{Tip}
 use Rattle.lsn_core.specs.declared.lsn.Lsn.{Lsn}
-use Rattle.lsn_core.specs.declared.fault.AreaFault.{AreaFault}
-use Rattle.lsn_core.specs.declared.fault.AreaFault.TheVariants as area
-use Rattle.vault.specs.Site.{AreaState}
-use Rattle.wal_pages.specs.Places.{place, start_after}
+use Rattle.lsn_core.specs.declared.fault.StoreArea.{StoreArea}
+use Rattle.lsn_core.specs.declared.fault.StoreFault.{StoreFault}
+use Rattle.vault.specs.Area.{Related}
+use Rattle.vault.specs.Site.{Areas, AreaState}
+use Rattle.vault.specs.declared.area.Vault.{Ghosts as Vaults}
+use Rattle.wal_archive.specs.Archive.{archive_of}
+use Rattle.wal_archive.specs.Writing.{IsLeft}
 use Rattle.wal_record.specs.declared.record.Record.{Record}
-use Rattle.wal_record.specs.Decoding.{record_at}
-use Rattle.wal_record.specs.Tips.{first_tip, tip_after}
-use Rattle.wal_archive.specs.Archive.{Archive, archive_of}
-use Rattle.wal_archive.specs.Laws.{HasNoGap}
-use Rattle.wal_archive.specs.Rules.{lsn, place_behind, Gives, End, next_in, Walks}
-use Rattle.wal_archive.specs.Writing.{laid_out}
-use Rattle.wal_archive.proofs.Judged.{record_is_fair}
-use Rattle.wal_archive.proofs.Chain.{given}
-use Rattle.wal_reader.specs.Wal.{IsWal}
-use Rattle.wal_writer.specs.Log.{Log, IsLog, log_at}
-use Rattle.wal_writer.specs.Laws.{Waits}
+use Rattle.wal_record.specs.Tips.{first_tip}
+use Rattle.wal_reader.specs.Settings.{GivesSettings, IsSettingsOf}
+use Rattle.wal_reader.specs.Wal.{ReadsOn, IsWal}
 use Rattle.history.specs.Entry.{Entry}
 use Rattle.history.specs.Apply.{apply_all}
 use Rattle.history.specs.Whole.{entry_of}
 use Rattle.history.specs.Written.{tip_of, wal_of}
-use Rattle.history.proofs.Histories.{tip_over_read, apply_all-behind}
-use Rattle.recovery.specs.Replay.{IsRead}
-use Rattle.recovery.proofs.SoFar.{all_kept}
-use Rattle.shared_store.specs.State.{State}
-use Rattle.shared_store.specs.Begin.{IsBegun}
-use Rattle.shared_store.proofs.Entries.{whole_wal}
-use Rattle.crew.specs.declared.script.Line.{Line}
-use Rattle.crew.specs.declared.run.Answer.{Answer}
-use Rattle.crew.specs.Run.{is_by, accepted_by, IsAnswered, IsStateOf, run_records, RunFrom, all_written}
-use Rattle.crew.proofs.Runs.{none_run}
-use Rattle.crew.proofs.Histories.{none_of_run_read}
-use Rattle.crew.proofs.ReadAgain.{written_is, flushed, nothing_waits, read_again}
-use Rattle.pgbackup_cli.specs.declared.run.RunReport.{RunReport}
-use Rattle.pgbackup_cli.specs.Areas.{IsWalTorn}
+use Rattle.fuzzy_copies.specs.Logged.{history_of, log_of}
+use Rattle.journal.specs.Lawful.{IsLawful}
+use Rattle.recovery.specs.Causes.{HasSettings}
+use Rattle.timeline.proofs.Prefixes.{prefix_refl}
+use Rattle.shared_store.specs.declared.areas.StoreAreas.{StoreAreas}
+use Rattle.shared_store.specs.Seen.{Seen, accepted_by}
+use Rattle.shared_store.specs.Opened.{Opened, Faults, NoneFell, StoreCause, IsLawfulOf, count_of, wal_top}
+use Rattle.shared_store.specs.Calls.{GoesOn, MayWriteWal}
+use Rattle.shared_store.specs.Begin.{IsBegun, HasBegun, data_area, faults_of}
+use Rattle.shared_store.specs.Close.{IsClosed, CloseAnswer, HoldsHistory, HoldsRecords, HoldsPart}
+use Rattle.shared_store.proofs.Goes.{goes_on}
+use Rattle.crew.specs.declared.answer.Answer.{Answer}
+use Rattle.crew.specs.Run.{HasRun, RunsLines, IsAnswered, IsOfWorker, TellsFault}
+use Rattle.crew.proofs.RunLaws.{runs_answer}
 use Rattle.pgbackup_cli.specs.declared.told.Told.{Told}
-use Rattle.pgbackup_cli.specs.Run.{is_stopped, IsOfRun, HasHistory, IsEnding, HoldsAll, HasFound, IsMadeBy, found_tip, with_run, run_bytes, RunDone}
-use Rattle.pgbackup_cli.specs.Inner.{lines_told, answers_told, RunsTasks, IsAllWritten, FlushAnswer}
+use Rattle.pgbackup_cli.specs.declared.run.RunReport.{RunReport}
+use Rattle.pgbackup_cli.specs.Areas.{wal_name, data_name}
+use Rattle.pgbackup_cli.specs.Run.{AreTold, StoreFails, found_tip, HasFound, IsOfRun, HasHistory, all_records, HoldsRun, LeavesWal, IsClosing, ToldFaultsRose, RunDone}
+use Rattle.pgbackup_cli.specs.Inner.{RunsTasks, IsRunOn}
+use Rattle.pgbackup_cli.proofs.Decided.{some_told, at_told}
+use Rattle.pgbackup_cli.proofs.StoreLent.{AreAt, wal_files, data_files, rose_between, cause_between, none_fell, rose_at, fails_at}
+use Rattle.pgbackup_cli.proofs.ToldLess.{answered_less}
+use Rattle.pgbackup_cli.proofs.OwnEntries.{AreOwn, all_own, written_own, parted, none_by, same_front, held_read, log_makes}
 
--- ---- the store that a run begins on
+-- ---- the areas hold the history
 
--- where the WAL of the state that a run begins on ends
-begun_tip : (files : Option Files) (s : State) (b : IsBegun files s) → s.log.tip ≡ found_tip b.settings b.open_is.read_is.entries
-begun_tip files s b = ap (λ (l : Log). l.tip) b.log ∙ b.open_is.read_is.tip
+segment_is : (o : Option (List ℕ)) (mib relseg : ℕ) → GivesSettings o mib relseg → IsSegmentMib mib
+segment_is None mib relseg given = subst IsSegmentMib (sym given.0) (record { least = omega arith; most = omega arith; divides = refl })
+segment_is (Some bytes) mib relseg given = given.segment
 
--- its settings
-begun_mib : (files : Option Files) (s : State) (b : IsBegun files s) → s.log.mib ≡ b.settings.segment
-begun_mib files s b = ap (λ (l : Log). l.mib) b.log
+some_segment : (files : Option Files) (m : Files) (s : StoreSettings) → files ≡ Some m → HasSettings files s → 1 ≤ s.segment
+some_segment files m s told given =
+    let is : IsSettingsOf m s = at_told files m (λ n. IsSettingsOf n s) told given.given in
+    (segment_is (get m (codes "settings")) s.segment s.relseg is.given).least
 
-begun_log : (files : Option Files) (s : State) (b : IsBegun files s) → s.log ≡ log_at b.settings s.log.tip
-begun_log files s b = b.log ∙ ap (log_at b.settings) (sym (ap (λ (l : Log). l.tip) b.log))
+related_told : (R : Files → Files → Type 0) (old new : Option Files) (m n : Files) → old ≡ Some m → new ≡ Some n → Related R old new → R m n
+related_told R old new m n was is both = subst (λ (o : Option Files). Related R (Some m) o) is (subst (λ (o : Option Files). Related R o new) was both)
 
--- it is the store of the history of the entries that were read
-begun_state : (files : Option Files) (s : State) (b : IsBegun files s) → IsStateOf b.settings.segment (map entry_of b.open_is.read_is.entries) s
-begun_state files s b =
-    let r = b.open_is.read_is in
+-- the records that a WAL holds, where those that were found are read of it still
+held_records : (s : StoreSettings) (files : Files) (found lawful : List Record) (own more : List Entry) (last : ℕ) (end : Tip) → ReadsOn s files (first_tip s.segment) found end → map entry_of lawful ++ more ≡ map entry_of found ++ own → AreOwn more → AreOwn own
+    → (HoldsRecords s (log_of s.segment lawful more) last files) → (lawful ≡ found) × (more ≡ own)
+held_records s files found lawful own more last end read same mores owns holds =
+    let part = parted lawful found more own mores owns same in
+    (sym (same_front s files (first_tip s.segment) found lawful (wal_of s.segment (history_of lawful more)) end holds.tip (sym part.0) read holds.read), part.1)
+
+holds_run : {V : Type 0} (g : Vaults V) (left : Opened) (b : StoreAreas V) (old new : Areas) (found : List Record) (own : List Entry) (base : Store) (m : Files) → AreAt g new b → HoldsHistory g left b → left.history ≡ map entry_of found ++ own → AreOwn own
+    → apply_all empty (map entry_of found) ≡ Some base → (old wal_name).files ≡ Some m → HasSettings (old wal_name).files left.settings → HasFound left.settings found m → LeavesWal left.settings found left.history (old wal_name) (new wal_name) → HoldsRun left.settings found left.history new
+holds_run g left b old new found own base m at holds grown owns begun was given there leaves =
+    let s : StoreSettings = left.settings in
+    let law : IsLawful s.segment left.history = holds.lawful in
+    let told : (new wal_name).files ≡ Some holds.files = wal_files g new b at ∙ holds.wal in
+    let kept = related_told (λ x y. IsLeft (archive_of s.segment x) (archive_of s.segment y) (found_tip s found).end ((tip_of s.segment left.history).end - (found_tip s found).end)) (old wal_name).files (new wal_name).files m holds.files was told leaves.left in
+    let read : ReadsOn s holds.files (first_tip s.segment) found (found_tip s found) = held_read s m holds.files found (found_tip s found) ((tip_of s.segment left.history).end - (found_tip s found).end) (some_segment (old wal_name).files m s was given) there kept in
+    let same : map entry_of law.found ++ law.own ≡ map entry_of found ++ own = sym law.grown ∙ grown in
+    let is = held_records s holds.files found law.found own law.own (wal_top left) (found_tip s found) read same (written_own s.segment _ law.own law.logged.written) owns holds.records in
+    let log : log_of s.segment law.found law.own ≡ all_records s found left.history = ap (λ (rs : List Record). rs ++ wal_of s.segment (history_of law.found law.own)) is.0 ∙ ap (λ (es : List Entry). found ++ wal_of s.segment es) (sym law.grown) in
     record {
-      pages = ap (λ (rs : List Record). apply_all empty (map entry_of rs)) (sym (all_kept r.entries b.read.tip.end r.ends)) ∙ (r.store ∙ ap (λ (t : Store). Some t) (sym b.pages));
-      mib_is = begun_mib files s b;
-      tip = begun_tip files s b ∙ sym (tip_over_read (first_tip b.settings.segment) r.entries);
+      store = law.store;
+      made = law.made;
+      files = holds.files;
+      told = told;
+      records = subst (λ (rs : List Record). HoldsRecords s rs (wal_top left) holds.files) log holds.records;
+      replayed = ap (λ (rs : List Record). apply_all empty (map entry_of rs)) (sym log)
+          ∙ log_makes s.segment law.found law.own base law.store (ap (λ (rs : List Record). apply_all empty (map entry_of rs)) is.0 ∙ begun) (ap (λ (es : List Entry). apply_all empty es) (sym law.grown) ∙ law.made) law.logged.written;
+      parts = λ q lt. let part = holds.parts q lt in record { part = part.part; is = part.is; files_are = data_files g new b at q lt ∙ part.files_are };
     }
 
-some_entries : (s : StoreSettings) (rs : List Record) (tip : Tip) → tip ≡ found_tip s rs → 0 < tip.count → 0 < length rs
-some_entries s [] tip is some = absurd (omega (arith, some, ap (λ (t : Tip). t.count) is))
-some_entries s (r ∷ rs) tip is some = omega arith
+-- ---- the worker's run
 
--- what was read is the whole WAL
-found_whole : (files : Option Files) (s : State) (b : IsBegun files s) → IfSome files (HasFound b.settings b.open_is.read_is.entries)
-found_whole files s b =
-    let r = b.open_is.read_is in
-    when_told files (λ m. IsRead b.settings m None r.entries b.read.tip End) (HasFound b.settings r.entries)
-    (λ m read. subst (λ (t : Tip). IsWal b.settings m r.entries t) r.tip (whole_wal b.settings m r.entries b.read.tip read)) r.archive
+-- what the workers' runs came to
+record CameTo (tells : Bool) (s : StoreSettings) (told : List Told) (found : List Record) (begun left : Opened) : Type 0 where
+  own : List Entry
+  grown : left.history ≡ map entry_of found ++ own
+  owns : AreOwn own
+  of_run : All (IsOfRun (length told)) own
+  answered : (worker : ℕ) (t : Told) → slice_get told worker ≡ Some t → IsAnswered (tells ≡ true) s.segment worker left.history (length found) t.task.lines t.answers
+  wal : (now : Option Files) (faults : Faults) → MayWriteWal left.settings.segment left.flushed (wal_top left) left.wal now → NoneFell left.faults faults → MayWriteWal begun.settings.segment begun.flushed (wal_top left) begun.wal now
+  settings : left.settings ≡ begun.settings
+  later : NoneFell begun.faults left.faults
+  risen : All (λ t. All (λ answer. (area : StoreArea) → TellsFault area answer → Rose (count_of area begun.faults) (count_of area left.faults)) t.answers) told
 
--- no entry starts at 0
-starts_late : (mib : ℕ) (end start : ℕ) → start ≡ start_after mib end → 0 < start
-unfolding start_after place
-starts_late mib end start is = omega (arith, is)
+append-none : {A : Type 0} (xs : List A) → xs ≡ xs ++ []
+append-none [] = refl
+append-none (x ∷ xs) = ap (λ ys. x ∷ ys) (append-none xs)
 
-gives_late : (mib system : ℕ) (a : Archive) (tip : Tip) (r : Record) → next_in record_at mib system a tip ≡ Gives r → 0 < r.start.0
-gives_late mib system a tip r gives =
-    let g = given record_at mib system a tip r gives in
-    starts_late mib tip.end r.start.0 (ap (λ (l : Lsn). l.0) (record_is_fair (place_behind mib tip.end g.bytes) (Some (lsn tip.prev)) g.bytes r g.taken).0)
-
--- so a WAL that has an entry has a link to its last one
-walk_links : (mib system : ℕ) (a : Archive) (tip : Tip) (r : Record) (rs : List Record) (last : Tip) → Walks record_at mib system a tip (r ∷ rs) last → 0 < last.prev
-walk_links mib system a tip r [] last walk = omega (arith, gives_late mib system a tip r walk.0, ap (λ (t : Tip). t.prev) walk.1)
-walk_links mib system a tip r (q ∷ rs) last walk = walk_links mib system a (tip_after tip r) q rs last walk.1
-
-wal_links : (s : StoreSettings) (m : Files) (rs : List Record) (tip : Tip) → 0 < length rs → IsWal s m rs tip → 0 < tip.prev
-wal_links s m [] tip some wal = absurd (omega (arith, some))
-wal_links s m (r ∷ rs) tip some wal = walk_links s.segment s.system (archive_of s.segment m) (first_tip s.segment) r rs tip wal.walk
-
--- ---- what waits to be flushed
-
--- the bytes of the run's entries wait, where the WAL before was told
-pub record HasWaiting (s : StoreSettings) (entries : List Record) (history : List Entry) (log : Log) : Type 0 where
-  pub mib : log.mib ≡ s.segment
-  pub at : log.flushed ≡ (found_tip s entries).end
-  pub bytes : log.pending ≡ run_bytes s entries history
-
-waiting : (s : StoreSettings) (m : Files) (entries : List Record) (lines : List Line) (answers : List Answer) (old new : State) → 0 < length entries → HasFound s entries m → old.log ≡ log_at s old.log.tip → old.log.tip ≡ found_tip s entries
-    → IsStateOf s.segment (map entry_of entries) old → (run : RunFrom s.segment 0 (map entry_of entries) lines answers old new) → HasWaiting s entries (map entry_of entries ++ run.added) new.log
-waiting s m entries lines answers old new some wal at is state run =
-    let mib : ℕ = s.segment in
-    let linked : 0 < old.log.tip.prev = omega (arith, wal_links s m entries (found_tip s entries) some wal, ap (λ (t : Tip). t.prev) is) in
-    let waits : Waits record_at new.log old.log.tip (run_records mib old run.added) = run.waits linked old.log.tip [] (nothing_waits s old.log at) in
-    let system : new.log.system ≡ s.system = run.system ∙ ap (λ (l : Log). l.system) at in
-    let wrote : wal_of mib (map entry_of entries ++ run.added) ≡ run_records mib old run.added = written_is mib entries run.added old state in
-    record {
-      mib = run.state_is.mib_is;
-      at = waits.from ∙ ap (λ (t : Tip). t.end) is;
-      bytes = waits.bytes
-          ∙ (ap (λ (n : ℕ). laid_out n new.log.system old.log.tip.end (run_records mib old run.added)) run.state_is.mib_is
-          ∙ (ap (λ (n : ℕ). laid_out mib n old.log.tip.end (run_records mib old run.added)) system
-          ∙ (ap (λ (t : Tip). laid_out mib s.system t.end (run_records mib old run.added)) is
-          ∙ ap (λ (rs : List Record). laid_out mib s.system (found_tip s entries).end rs) (sym wrote))));
-    }
-
--- once it is flushed, they stand in the archive
-all_with_run : (s : StoreSettings) (entries : List Record) (history : List Entry) (log : Log) (m : Files) → IsLog log → HasWaiting s entries history log → all_written log m ≡ with_run s entries history m
-all_with_run s entries history log m known w = flushed log s.segment s.system (found_tip s entries).end (wal_of s.segment history) m w.mib w.at w.bytes known
-
--- ---- what is told of the area
-
-writes_run : (s : StoreSettings) (entries : List Record) (history : List Entry) (log : Log) (old mid new : Option Files) → IsLog log → mid ≡ old → IfSome old (λ m. HasWaiting s entries history log) → IsAllWritten log mid new
-    → new ≡ option_map (with_run s entries history) old
-writes_run s entries history log None mid new known same w wrote = wrote ∙ ap (option_map (all_written log)) same
-writes_run s entries history log (Some m) mid new known same w wrote = wrote ∙ (ap (option_map (all_written log)) same ∙ ap (λ (n : Files). Some n) (all_with_run s entries history log m known w))
-
-leaves_run : (s : StoreSettings) (entries : List Record) (history : List Entry) (log : Log) (old mid new : Option Files) → mid ≡ old → IfSome old (λ m. HasWaiting s entries history log) → IsWalTorn log.mib log.flushed (length log.pending) mid new
-    → IsWalTorn s.segment (found_tip s entries).end (length (run_bytes s entries history)) old new
-leaves_run s entries history log None mid None same w torn = (tt, tt)
-leaves_run s entries history log None mid (Some n) same w torn = absurd (subst (λ (o : Option Files). IsWalTorn log.mib log.flushed (length log.pending) o (Some n)) same torn).1
-leaves_run s entries history log (Some m) mid new same w torn =
-    subst (λ (k : ℕ). IsWalTorn k (found_tip s entries).end (length (run_bytes s entries history)) (Some m) new) w.mib
-    (subst (λ (k : ℕ). IsWalTorn log.mib k (length (run_bytes s entries history)) (Some m) new) w.at
-    (subst (λ (l : List ℕ). IsWalTorn log.mib log.flushed (length l) (Some m) new) w.bytes
-    (subst (λ (o : Option Files). IsWalTorn log.mib log.flushed (length log.pending) o new) same torn)))
-
--- ---- the archive behind the flush
-
-holds_all : (s : StoreSettings) (entries : List Record) (lines : List Line) (answers : List Answer) (old new : State) (before mid after : Option Files) → 0 < length entries → IfSome before (HasFound s entries) → old.log ≡ log_at s old.log.tip
-    → old.log.tip ≡ found_tip s entries → IsStateOf s.segment (map entry_of entries) old → IsLog new.log → (run : RunFrom s.segment 0 (map entry_of entries) lines answers old new) → mid ≡ before → IsAllWritten new.log mid after
-    → IfSome after (HoldsAll s entries (map entry_of entries ++ run.added))
-holds_all s entries lines answers old new None mid after some wal at is state known run same wrote =
-    subst (λ (o : Option Files). IfSome o (HoldsAll s entries (map entry_of entries ++ run.added))) (sym (wrote ∙ ap (option_map (all_written new.log)) same)) tt
-holds_all s entries lines answers old new (Some m) mid after some wal at is state known run same wrote =
-    let linked : 0 < old.log.tip.prev = omega (arith, wal_links s m entries (found_tip s entries) some wal, ap (λ (t : Tip). t.prev) is) in
-    let there : IsWal s m entries old.log.tip = subst (λ (t : Tip). IsWal s m entries t) (sym is) wal in
-    let tip : new.log.tip ≡ tip_of s.segment (map entry_of entries ++ run.added) = run.state_is.tip in
-    subst (λ (o : Option Files). IfSome o (HoldsAll s entries (map entry_of entries ++ run.added))) (sym (wrote ∙ ap (option_map (all_written new.log)) same))
-    (λ gap. subst (λ (t : Tip). IsWal s (all_written new.log m) (entries ++ wal_of s.segment (map entry_of entries ++ run.added)) t) tip
-    (read_again s m entries lines answers old new there linked at state known run
-    (subst (λ (t : Tip). HasNoGap s.segment (archive_of s.segment (all_written new.log m)) t.end) (sym tip) gap)).archive)
-
--- what all records make is what the run left
-made_by : (s : StoreSettings) (entries : List Record) (lines : List Line) (answers : List Answer) (old new : State) → IsStateOf s.segment (map entry_of entries) old → (run : RunFrom s.segment 0 (map entry_of entries) lines answers old new)
-    → IsMadeBy s entries (map entry_of entries ++ run.added) new.pages
-made_by s entries lines answers old new state run =
-    let mib : ℕ = s.segment in
-    let news : List Record = run_records mib old run.added in
-    let wrote : wal_of mib (map entry_of entries ++ run.added) ≡ news = written_is mib entries run.added old state in
-    subst (λ (ws : List Record). apply_all empty (map entry_of (entries ++ ws)) ≡ Some new.pages) (sym wrote)
-    (ap (λ (es : List Entry). apply_all empty es) (map-append entry_of entries news) ∙ (apply_all-behind empty (map entry_of entries) (map entry_of news) old.pages state.pages ∙ run.says))
-
--- ---- the history
-
--- a script without a worker
-pub tasks_none : (told : List Told) (s : State) → told ≡ [] → RunsTasks told s s
-tasks_none told s none = subst (λ (ts : List Told). RunsTasks ts s s) (sym none) (record { few = omega arith; lines = none_run s })
-
-all_by : (worker workers : ℕ) (es : List Entry) → worker < workers → All (λ e. is_by worker e ≡ true) es → All (IsOfRun workers) es
-all_by worker workers es lt all = λ k d within. (worker, lt, all k d within)
-
-tail_empty : {A : Type 0} (xs ys : List A) → xs ++ ys ≡ [] → ys ≡ []
-tail_empty [] ys none = none
-tail_empty (x ∷ xs) ys none = absurd cc
-
--- no line makes no entry
-none_added : (h added : List Entry) → accepted_by 0 (h ++ added) ≡ [] → accepted_by 0 added ≡ added → added ≡ []
-none_added h added none own = sym own ∙ tail_empty (accepted_by 0 h) (accepted_by 0 added) (sym (filter-append (is_by 0) h added) ∙ none)
+came_none : (tells : Bool) (s : StoreSettings) (found : List Record) (begun left : Opened) → begun.history ≡ map entry_of found → left ≡ begun → CameTo tells s [] found begun left
+came_none tells s found begun left history same = record {
+  own = [];
+  grown = ap (λ (o : Opened). o.history) same ∙ (history ∙ append-none (map entry_of found));
+  owns = tt;
+  of_run = All-nil (IsOfRun 0);
+  answered = λ worker t there. absurd cc;
+  wal = λ now faults may none. subst (λ (o : Opened). MayWriteWal o.settings.segment o.flushed (wal_top left) o.wal now) same may;
+  settings = ap (λ (o : Opened). o.settings) same;
+  later = λ area. omega (arith, ap (λ (o : Opened). count_of area o.faults) same);
+  risen = λ k d within. absurd (omega arith);
+}
 
 -- the one worker is the first
-one_told : (s : StoreSettings) (found : List Record) (t : Told) (history : List Entry) → IsAnswered s.segment 0 history (length found) t.task.lines t.answers
-    → (worker : ℕ) (u : Told) → slice_get (t ∷ []) worker ≡ Some u → IsAnswered s.segment worker history (length found) u.task.lines u.answers
-one_told s found t history is zero u there = subst (λ (v : Told). IsAnswered s.segment 0 history (length found) v.task.lines v.answers) (let e : t ≡ u = cc in e) is
-one_told s found t history is (suc worker) u there = absurd cc
+one_answered : (tells : Bool) (mib : ℕ) (found : ℕ) (t : Told) (history : List Entry) → IsAnswered (tells ≡ true) mib 0 history found t.task.lines t.answers
+    → (worker : ℕ) (u : Told) → slice_get (t ∷ []) worker ≡ Some u → IsAnswered (tells ≡ true) mib worker history found u.task.lines u.answers
+one_answered tells mib found t history is zero u there = subst (λ (v : Told). IsAnswered (tells ≡ true) mib 0 history found v.task.lines v.answers) (let e : t ≡ u = cc in e) is
+one_answered tells mib found t history is (suc worker) u there = absurd cc
 
--- the worker of a script that has one at most ran its lines over this history
-has_history : (s : StoreSettings) (found : List Record) (told : List Told) (old new : State) → length told ≤ 1 → (run : RunFrom s.segment 0 (map entry_of found) (lines_told told) (answers_told told) old new)
-    → HasHistory s found told (map entry_of found ++ run.added)
-has_history s found [] old new few run = record {
-  own = run.added;
-  grown = refl;
-  of_run = subst (λ (es : List Entry). All (IsOfRun 0) es) (sym (none_added (map entry_of found) run.added run.answered.answered run.own)) (All-nil (IsOfRun 0));
-  answered = λ worker t there. absurd cc;
-}
-has_history s found (t ∷ []) old new few run = record {
-  own = run.added;
-  grown = refl;
-  of_run = all_by 0 1 run.added (omega arith) (subst (λ (es : List Entry). All (λ e. is_by 0 e ≡ true) es) run.own (filter_passes (is_by 0) run.added));
-  answered = one_told s found t (map entry_of found ++ run.added) (subst (λ (n : ℕ). IsAnswered s.segment 0 (map entry_of found ++ run.added) n t.task.lines t.answers) (length-map found entry_of) run.answered);
-}
-has_history s found (t ∷ (u ∷ told)) old new few run = absurd (omega (arith, few))
+all_one : {A : Type 0} (P : A → Type 0) (x : A) → P x → All P (x ∷ [])
+all_one P x holds zero d within = holds
+all_one P x holds (suc k) d within = absurd (omega arith)
+
+by_one : (es : List Entry) → All (IsOfWorker 0) es → All (IsOfRun 1) es
+by_one es all = λ k d within. (0, omega arith, all k d within)
+
+-- a store with a later wal
+later_store : Opened → Option Files → Faults → Opened
+later_store left now faults = record left { wal = now; faults = faults }
+
+wal_on : (begun left : Opened) (now : Option Files) (faults : Faults) → GoesOn begun left → MayWriteWal left.settings.segment left.flushed (wal_top left) left.wal now → NoneFell left.faults faults → MayWriteWal begun.settings.segment begun.flushed (wal_top left) begun.wal now
+unfolding later_store
+wal_on begun left now faults first may none =
+    let last : GoesOn left (later_store left now faults) = record {
+      settings = refl;
+      history = prefix_refl left.history;
+      top = omega arith;
+      flushed = omega arith;
+      within = first.within;
+      wal = may;
+      later = none;
+    } in
+    (goes_on begun left (later_store left now faults) first last).wal
+
+came_one : (tells : Bool) (s : StoreSettings) (t : Told) (found : List Record) (begun left : Opened) (pass seen : Seen) → begun.settings ≡ s → begun.history ≡ map entry_of found → pass.worker ≡ 0 → pass.list ≡ begun.history → RunsLines (tells ≡ true) t.task.lines pass seen begun left t.answers
+    → CameTo tells s (t ∷ []) found begun left
+came_one tells s t found begun left pass seen set history first list ran =
+    let run : HasRun (tells ≡ true) begun.settings.segment t.task.lines pass seen t.answers = ran.run in
+    let from : pass.list ≡ map entry_of found = list ∙ history in
+    let by : All (IsOfWorker 0) run.own = subst (λ (w : ℕ). All (IsOfWorker w) run.own) first run.by in
+    let none : accepted_by pass.worker pass.list ≡ [] = ap (accepted_by pass.worker) from ∙ none_by pass.worker found in
+    let is : IsAnswered (tells ≡ true) begun.settings.segment pass.worker seen.list (length pass.list) t.task.lines t.answers = runs_answer tells begun.settings.segment t.task.lines pass seen t.answers run none in
+    let many : length pass.list ≡ length found = ap (λ (es : List Entry). length es) from ∙ length-map found entry_of in
+    let here : IsAnswered (tells ≡ true) s.segment 0 left.history (length found) t.task.lines t.answers =
+    subst (λ (n : ℕ). IsAnswered (tells ≡ true) s.segment 0 left.history n t.task.lines t.answers) many
+    (subst (λ (h : List Entry). IsAnswered (tells ≡ true) s.segment 0 h (length pass.list) t.task.lines t.answers) ran.whole
+    (subst (λ (w : ℕ). IsAnswered (tells ≡ true) s.segment w seen.list (length pass.list) t.task.lines t.answers) first
+    (subst (λ (x : StoreSettings). IsAnswered (tells ≡ true) x.segment pass.worker seen.list (length pass.list) t.task.lines t.answers) set is))) in
+    record {
+      own = run.own;
+      grown = sym ran.whole ∙ (run.grown ∙ ap (λ (es : List Entry). es ++ run.own) from);
+      owns = all_own 0 run.own by;
+      of_run = by_one run.own by;
+      answered = one_answered tells s.segment (length found) t left.history here;
+      wal = λ now faults may none. wal_on begun left now faults ran.goes_on may none;
+      settings = ran.goes_on.settings;
+      later = ran.goes_on.later;
+      risen = all_one (λ u. All (λ answer. (area : StoreArea) → TellsFault area answer → Rose (count_of area begun.faults) (count_of area left.faults)) u.answers) t ran.risen;
+    }
+
+came_to : (tells : Bool) (s : StoreSettings) (told : List Told) (found : List Record) (begun left : Opened) (pass seen : Seen) → begun.settings ≡ s → begun.history ≡ map entry_of found → pass.worker ≡ 0 → pass.list ≡ begun.history → RunsTasks (tells ≡ true) told pass seen begun left
+    → CameTo tells s told found begun left
+came_to tells s [] found begun left pass seen set history first list ran = came_none tells s found begun left history ran
+came_to tells s (t ∷ []) found begun left pass seen set history first list ran = came_one tells s t found begun left pass seen set history first list ran
+came_to tells s (t ∷ (u ∷ told)) found begun left pass seen set history first list ran = absurd ran
 
 -- ---- the whole
 
-ended : (s : StoreSettings) (entries : List Record) (history : List Entry) (report : RunReport) (wal mid now : AreaState) (log : Log) (ending : Result Lsn AreaFault) → FlushAnswer (is_stopped report.told) log mid now ending
-    → wal.faults ≤ mid.faults → log.tip ≡ tip_of s.segment history → (IsAllWritten log mid.files now.files → IfSome now.files (HoldsAll s entries history)) → IsEnding s entries history report wal now ending
-ended s entries history report wal mid now log (Ok end) flushed later tip archive = (flushed.0, flushed.1 ∙ ap (λ (t : Tip). t.end) tip, archive flushed.2)
-ended s entries history report wal mid now log (Err area.Failed) flushed later tip archive = (flushed.0, omega (arith, flushed.1, later))
-ended s entries history report wal mid now log (Err area.NoMemory) flushed later tip archive = (inr refl, tt)
+-- how closing ended, seen from the site
+closing : {V : Type 0} (g : Vaults V) (tells : Bool) (s : StoreSettings) (found : List Record) (left : Opened) (a b : StoreAreas V) (old new : Areas) (closed : Result Lsn StoreFault) → left.settings ≡ s → AreAt g old a → AreAt g new b → (AreTold old → tells ≡ true) → NoneFell (faults_of g a) left.faults
+    → CloseAnswer g (tells ≡ true) left b closed → (AreTold old → HoldsHistory g left b → HoldsRun s found left.history new) → IsClosing s found left.history old new closed
+closing g tells s found left a b old new (Ok end) set was at leads later answer holds =
+    (answer.0 ∙ ap (λ (x : StoreSettings). (tip_of x.segment left.history).end) set, λ told. holds told (answer.1 (leads told)))
+closing g tells s found left a b old new (Err why) set was at leads later answer holds =
+    fails_at g old new a b why was at (cause_between (faults_of g a) left.faults (faults_of g b) (faults_of g b) why later (λ area. omega arith) answer)
 
--- what a flush that succeeded wrote
-flushed_to : (stopped : Bool) (log : Log) (mid now : AreaState) (ending : Result Lsn AreaFault) (W : Type 0) → FlushAnswer stopped log mid now ending → (IsAllWritten log mid.files now.files → W) → IfOk ending (λ end. W)
-flushed_to stopped log mid now (Ok end) W flushed leads = leads flushed.2
-flushed_to stopped log mid now (Err why) W flushed leads = tt
+-- each area that was told to have failed did
+told_rose : {V : Type 0} (g : Vaults V) (a b : StoreAreas V) (old new : Areas) (begun left : Faults) (told : List Told) → AreAt g old a → AreAt g new b → NoneFell (faults_of g a) begun → NoneFell left (faults_of g b)
+    → All (λ t. All (λ answer. (area : StoreArea) → TellsFault area answer → Rose (count_of area begun) (count_of area left)) t.answers) told → ToldFaultsRose old new told
+told_rose g a b old new begun left told was at early late risen =
+    λ k d within. λ j e inside. λ area tells. rose_at g old new a b was at area
+    (rose_between (count_of area (faults_of g a)) (count_of area begun) (count_of area left) (count_of area (faults_of g b)) (early area) (late area) (risen k d within j e inside area tells))
 
-pub run_done : (wal now : AreaState) (report : RunReport) (s t : State) (mid : AreaState) → (b : IsBegun wal.files s) → report.opened.0 ≡ s.log.tip.end → RunsTasks report.told s t → mid.files ≡ wal.files → wal.faults ≤ mid.faults
-    → IsLog t.log → FlushAnswer (is_stopped report.told) t.log mid now report.ending → IsWalTorn t.log.mib t.log.flushed (length t.log.pending) mid.files now.files → RunDone wal now report
-run_done wal now report s t mid b opened runs same later known flushed left =
-    let set : StoreSettings = b.settings in
-    let r = b.open_is.read_is in
-    let found_all : List Entry = map entry_of r.entries in
-    let lines : List Line = lines_told report.told in
-    let answers : List Answer = answers_told report.told in
-    let mib : s.log.mib ≡ set.segment = begun_mib wal.files s b in
-    let tip : s.log.tip ≡ found_tip set r.entries = begun_tip wal.files s b in
-    let at : s.log ≡ log_at set s.log.tip = begun_log wal.files s b in
-    let state : IsStateOf set.segment found_all s = begun_state wal.files s b in
-    let run : RunFrom set.segment 0 found_all lines answers s t =
-    subst (λ (n : ℕ). RunFrom n 0 found_all lines answers s t) mib (runs.lines found_all (subst (λ (n : ℕ). IsStateOf n found_all s) (sym mib) state) (none_of_run_read r.entries)) in
-    let history : List Entry = found_all ++ run.added in
-    let some : 0 < length r.entries = some_entries set r.entries b.read.tip r.tip b.open_is.some in
-    let wal_is : IfSome wal.files (HasFound set r.entries) = found_whole wal.files s b in
-    let waits : IfSome wal.files (λ m. HasWaiting set r.entries history t.log) =
-    when_told wal.files (HasFound set r.entries) (λ m. HasWaiting set r.entries history t.log) (λ m there. waiting set m r.entries lines answers s t some there at tip state run) wal_is in
+pub pass_is : (pass : Seen) (history : List Entry) → pass ∷ [] ≡ record { worker = 0; accepted = 0; list = history } ∷ [] → (pass.worker ≡ 0) × (pass.list ≡ history)
+pass_is pass history is =
+    let e : ◌≡◌ {A = Seen} pass (record { worker = 0; accepted = 0; list = history }) = cc in
+    (ap (λ (p : Seen). p.worker) e, ap (λ (p : Seen). p.list) e)
+
+-- a script without a worker leaves the store, and one with a worker runs its lines
+pub tasks_none : (tells : Bool) (told : List Told) (pass : Seen) (store : Opened) → told ≡ [] → RunsTasks (tells ≡ true) told pass pass store store
+tasks_none tells told pass store none = subst (λ (ts : List Told). RunsTasks (tells ≡ true) ts pass pass store store) (sym none) refl
+
+pub tasks_one : (tells : Bool) (told : List Told) (t : Told) (pass seen : Seen) (store left : Opened) → told ≡ t ∷ [] → RunsLines (tells ≡ true) t.task.lines pass seen store left t.answers → RunsTasks (tells ≡ true) told pass seen store left
+tasks_one tells told t pass seen store left one ran = subst (λ (ts : List Told). RunsTasks (tells ≡ true) ts pass seen store left) (sym one) ran
+
+-- the pass of the only worker has seen the store's history
+pub only_seen : {V : Type 0} (g : Vaults V) (a : StoreAreas V) (begun : Opened) (crew : List Seen) (pass : Seen) (tip : Tip) → IsBegun g a 1 begun crew tip → crew ≡ pass ∷ [] → pass.list ≡ begun.history
+only_seen g a begun crew pass tip is one = (pass_is pass begun.history (sym one ∙ is.has.crew_is)).1
+
+pub one_pass : {V : Type 0} (g : Vaults V) (a : StoreAreas V) (begun : Opened) (crew : List Seen) (tip : Tip) → IsBegun g a 1 begun crew tip → length crew ≡ 1
+one_pass g a begun crew tip is = ap (λ (ps : List Seen). length ps) is.has.crew_is
+
+-- no count fell while tasks were run
+tasks_later : (tells : Bool) (told : List Told) (pass seen : Seen) (begun left : Opened) → RunsTasks (tells ≡ true) told pass seen begun left → NoneFell begun.faults left.faults
+tasks_later tells [] pass seen begun left ran = λ area. omega (arith, ap (λ (o : Opened). count_of area o.faults) ran)
+tasks_later tells (t ∷ []) pass seen begun left ran = ran.goes_on.later
+tasks_later tells (t ∷ (u ∷ told)) pass seen begun left ran = absurd ran
+
+pub run_later : {V : Type 0} (g : Vaults V) (tells : Bool) (a b : StoreAreas V) (report : RunReport) → IsRunOn g tells a b report → NoneFell (faults_of g a) (faults_of g b)
+run_later g tells a b report ran =
+    none_fell (faults_of g a) ran.begun.faults (faults_of g b) ran.begins.later
+    (none_fell ran.begun.faults ran.left.faults (faults_of g b) (tasks_later tells report.told ran.pass ran.seen ran.begun ran.left ran.runs) ran.closes.later)
+
+pub run_on : {V : Type 0} (g : Vaults V) (tells : Bool) (a b : StoreAreas V) (report : RunReport) (begun left : Opened) (crew : List Seen) (pass seen : Seen) (tip : Tip) → IsBegun g a 1 begun crew tip → crew ≡ pass ∷ [] → report.opened.0 ≡ tip.end → RunsTasks (tells ≡ true) report.told pass seen begun left
+    → IsLawfulOf (tells ≡ true) left → IsClosed g (tells ≡ true) left b report.closed → IsRunOn g tells a b report
+run_on g tells a b report begun left crew pass seen tip is one opened ran lawful closed = record {
+  begun = begun;
+  pass = pass;
+  tip = tip;
+  begins = subst (λ (ps : List Seen). IsBegun g a 1 begun ps tip) one is;
+  opened = opened;
+  left = left;
+  seen = seen;
+  runs = ran;
+  lawful = lawful;
+  closes = closed;
+}
+
+pub run_done : {V : Type 0} (g : Vaults V) (tells : Bool) (old new : Areas) (a b : StoreAreas V) (report : RunReport) → AreAt g old a → AreAt g new b → (AreTold old → tells ≡ true) → IsRunOn g tells a b report → RunDone old new report
+run_done g tells old new a b report was at leads ran =
+    let has : HasBegun (g.files a.wal) 1 ran.begun (ran.pass ∷ []) ran.tip = ran.begins.has in
+    let s : StoreSettings = ran.begun.settings in
+    let first = pass_is ran.pass ran.begun.history has.crew_is in
+    let came : CameTo tells s report.told has.found ran.begun ran.left = came_to tells s report.told has.found ran.begun ran.left ran.pass ran.seen refl has.history first.0 first.1 ran.runs in
+    let wal : (old wal_name).files ≡ g.files a.wal = wal_files g old a was in
+    let given : HasSettings (old wal_name).files s = subst (λ (o : Option Files). HasSettings o s) (sym wal) has.given in
+    let there : IfSome (old wal_name).files (HasFound s has.found) =
+    subst (λ (t : Tip). IfSome (old wal_name).files (λ m. IsWal s m has.found t)) has.tip_is
+    (subst (λ (o : Option Files). IfSome o (λ m. IsWal s m has.found ran.tip)) (sym wal) has.archive) in
+    let begun : apply_all empty (map entry_of has.found) ≡ Some has.pages = ap (apply_all empty) (sym has.history) ∙ has.made in
+    let may : MayWriteWal s.segment ran.begun.flushed (wal_top ran.left) ran.begun.wal (g.files b.wal) = came.wal (g.files b.wal) (faults_of g b) ran.closes.wal ran.closes.later in
+    let leaves : LeavesWal s has.found ran.left.history (old wal_name) (new wal_name) =
+    subst (λ (x : StoreSettings). MayWriteWal s.segment (found_tip s has.found).end (tip_of x.segment ran.left.history).end (old wal_name).files (new wal_name).files) came.settings
+    (subst (λ (o : Option Files). MayWriteWal s.segment (found_tip s has.found).end (wal_top ran.left) (old wal_name).files o) (sym (wal_files g new b at))
+    (subst (λ (o : Option Files). MayWriteWal s.segment (found_tip s has.found).end (wal_top ran.left) o (g.files b.wal)) (has.wal ∙ sym wal)
+    (subst (λ (n : ℕ). MayWriteWal s.segment n (wal_top ran.left) ran.begun.wal (g.files b.wal)) (has.flushed ∙ ap (λ (t : Tip). t.end) has.tip_is) may))) in
+    let later : NoneFell (faults_of g a) ran.left.faults = none_fell (faults_of g a) ran.begun.faults ran.left.faults ran.begins.later came.later in
     record {
-      settings = set;
-      given = b.open_is.given;
-      found = r.entries;
-      some = some;
-      archive = wal_is;
-      opened = opened ∙ ap (λ (e : Tip). e.end) tip;
-      history = history;
-      happened = has_history set r.entries report.told s t runs.few run;
-      store = t.pages;
-      state = run.state_is.pages;
-      replayed = made_by set r.entries lines answers s t state run;
-      left = leaves_run set r.entries history t.log wal.files mid.files now.files same waits left;
-      written = flushed_to (is_stopped report.told) t.log mid now report.ending (now.files ≡ option_map (with_run set r.entries history) wal.files) flushed
-          (λ wrote. writes_run set r.entries history t.log wal.files mid.files now.files known same waits wrote);
-      ending = ended set r.entries history report wal mid now t.log report.ending flushed later run.state_is.tip
-          (λ wrote. holds_all set r.entries lines answers s t wal.files mid.files now.files some wal_is at tip state known run same wrote);
+      settings = s;
+      given = given;
+      found = has.found;
+      some = has.some;
+      base = has.pages;
+      made = begun;
+      archive = there;
+      opened = ran.opened ∙ ap (λ (t : Tip). t.end) has.tip_is;
+      history = ran.left.history;
+      happened = record {
+        own = came.own;
+        grown = came.grown;
+        of_run = came.of_run;
+        lawful = λ told. subst (λ (x : StoreSettings). IsLawful x.segment ran.left.history) came.settings (ran.lawful (leads told));
+        answered = λ worker t is. answered_less (tells ≡ true) (AreTold old) s.segment worker ran.left.history (length has.found) t.task.lines t.answers leads (came.answered worker t is);
+      };
+      left = leaves;
+      closing = closing g tells s has.found ran.left a b old new report.closed came.settings was at leads later ran.closes.answer
+          (λ told holds. let files = some_told (old wal_name).files (told wal_name (inl refl)) in
+          subst (λ (x : StoreSettings). HoldsRun x has.found ran.left.history new) came.settings
+          (holds_run g ran.left b old new has.found came.own has.pages files.0 at holds came.grown came.owns begun files.1
+          (subst (λ (x : StoreSettings). HasSettings (old wal_name).files x) (sym came.settings) given)
+          (subst (λ (x : StoreSettings). HasFound x has.found files.0) (sym came.settings) (at_told (old wal_name).files files.0 (HasFound s has.found) files.1 there))
+          (subst (λ (x : StoreSettings). LeavesWal x has.found ran.left.history (old wal_name) (new wal_name)) (sym came.settings) leaves)));
+      risen = told_rose g a b old new ran.begun.faults ran.left.faults report.told was at ran.begins.later ran.closes.later came.risen;
     }

@@ -1,22 +1,32 @@
 -- The areas of a store by their names, whether one holds a file, and why one failed.
-use Rattle.std.specs.Prelude.{◌≡◌, ◌≢◌, List, ◌++◌, ℕ, Option, IfSome, codes}
+use Rattle.std.specs.Prelude.{◌≡◌, ◌≢◌, ◌==◌, List, ◌++◌, ℕ, IfSome, codes, if◌then◌else◌}
 use Rattle.std.specs.FinMap.{empty}
 use Rattle.lsn_core.specs.Causes.{Rose}
 use Rattle.lsn_core.specs.declared.fault.AreaFault.{AreaFault}
 use Rattle.lsn_core.specs.declared.fault.AreaFault.TheVariants.{Failed, NoMemory}
-use Rattle.lsn_core.specs.Files.{Files}
-use Rattle.vault.specs.Area.{Related}
-use Rattle.vault.specs.Frame.{AgreeBut}
+use Rattle.lsn_core.specs.declared.fault.StoreArea.{StoreArea}
+use Rattle.lsn_core.specs.declared.fault.StoreArea.TheVariants.{Wal, Data, Sums}
 use Rattle.vault.specs.Site.{AreaState}
-use Rattle.wal_writer.specs.Stops.{Leaves, IsSegmentFile}
 
 -- the area of the WAL
 abbrev pub wal_name : List ℕ
 wal_name = codes "wal"
 
+-- the data area of a partition, by its number from 0 to 3
+abbrev pub data_name : ℕ → List ℕ
+data_name q =
+    if q == 0 then codes "data0"
+    else (if q == 1 then codes "data1" else (if q == 2 then codes "data2" else codes "data3"))
+
 -- the area of the summaries
 abbrev pub sums_name : List ℕ
 sums_name = codes "sums"
+
+-- an area of a store
+abbrev pub area_name : StoreArea → List ℕ
+area_name Wal = wal_name
+area_name (Data q) = data_name q
+area_name Sums = sums_name
 
 -- the area of an output
 abbrev pub output_name : List ℕ → List ℕ
@@ -40,10 +50,3 @@ AreaCause before now NoMemory = Unit {0}
 -- the same of an area
 abbrev pub AreaFails : AreaState → AreaState → AreaFault → Type 0
 AreaFails old new why = AreaCause old.faults new.faults why
-
--- so many bytes of the WAL were to be written from a place on, and may be there in part: what was
--- held before the place is held still, behind those bytes nothing changed, and no file changed but
--- those of segments that reach behind the place
-abbrev pub IsWalTorn : ℕ → ℕ → ℕ → Option Files → Option Files → Type 0
-IsWalTorn mib at count old new =
-    Leaves mib at count old new × Related (AgreeBut (IsSegmentFile mib at)) old new

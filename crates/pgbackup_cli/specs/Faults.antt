@@ -5,6 +5,8 @@ use Rattle.lsn_core.specs.Names.{lsn_bytes, segment_name_bytes}
 use Rattle.lsn_core.specs.declared.lsn.Lsn.{Lsn}
 use Rattle.lsn_core.specs.declared.fault.AreaFault.{AreaFault}
 use Rattle.lsn_core.specs.declared.fault.AreaFault.TheVariants as area
+use Rattle.lsn_core.specs.declared.fault.StoreFault.{StoreFault}
+use Rattle.lsn_core.specs.declared.fault.StoreFault.TheVariants as store
 use Rattle.vault.specs.declared.lending.TakeFault.{TakeFault}
 use Rattle.wal_pages.specs.declared.heads.HeadFault.{HeadFault}
 use Rattle.wal_pages.specs.declared.heads.HeadFault.TheVariants as head
@@ -18,7 +20,9 @@ use Rattle.recovery.specs.declared.fault.RecoveryFault.{RecoveryFault}
 use Rattle.recovery.specs.declared.fault.RecoveryFault.TheVariants as wal
 use Rattle.pgbackup_cli.specs.declared.answer.Status.{Status}
 use Rattle.pgbackup_cli.specs.declared.answer.Status.TheVariants as status
-use Rattle.pgbackup_cli.specs.Areas.{wal_name}
+use Rattle.shared_store.specs.declared.begin.BeginWhy.{BeginWhy}
+use Rattle.shared_store.specs.declared.begin.BeginWhy.TheVariants as begin
+use Rattle.pgbackup_cli.specs.Areas.{wal_name, area_name}
 
 -- the line of a refusal, by its number, name and arguments
 abbrev pub refused_line : List ℕ → List ℕ
@@ -31,6 +35,11 @@ memory_text = codes "61 NoMemory"
 abbrev pub area_text : List ℕ → AreaFault → List ℕ
 area_text name area.Failed = codes "60 DeviceFault " ++ name
 area_text name area.NoMemory = memory_text
+
+-- the same of an area of a store
+abbrev pub store_text : StoreFault → List ℕ
+store_text (store.Failed which) = area_text (area_name which) area.Failed
+store_text store.NoMemory = memory_text
 
 -- an area that was to be empty holds a file
 abbrev pub full_text : List ℕ → List ℕ
@@ -98,10 +107,19 @@ wal_text wal.NotInit = codes "43 NotInit"
 wal_text wal.Failed = area_text wal_name area.Failed
 wal_text wal.NoMemory = memory_text
 
+-- no store can be begun
+abbrev pub begin_text : BeginWhy → List ℕ
+begin_text (begin.Wal why) = wal_text why
+begin_text (begin.Data why) = store_text why
+
 -- the status of a fault
 abbrev pub area_status : AreaFault → Status
 area_status area.Failed = status.Device
 area_status area.NoMemory = status.Memory
+
+abbrev pub store_status : StoreFault → Status
+store_status (store.Failed which) = status.Device
+store_status store.NoMemory = status.Memory
 
 abbrev pub wal_status : RecoveryFault → Status
 wal_status (wal.Damaged mib damage) = status.Refused
@@ -112,3 +130,7 @@ wal_status (wal.Timeline name) = status.Refused
 wal_status wal.NotInit = status.Refused
 wal_status wal.Failed = status.Device
 wal_status wal.NoMemory = status.Memory
+
+abbrev pub begin_status : BeginWhy → Status
+begin_status (begin.Wal why) = wal_status why
+begin_status (begin.Data why) = store_status why

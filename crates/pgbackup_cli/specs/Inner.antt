@@ -1,48 +1,55 @@
 -- What private functions answer to those that call them. None of it stands in the contract of a
 -- public call.
-use Rattle.std.specs.Prelude.{◌≡◌, ℕ, ◌+◌, ◌-◌, ◌<◌, ◌≤◌, ◌⊎◌, ◌↔◌, IsTrue, Bool, true, false, List, [], ◌∷◌, ◌++◌, length, take, drop, Option, None, Result, Ok, Err, IfSome}
-use Rattle.std.specs.Option.{option_map}
+use Rattle.std.specs.Prelude.{◌≡◌, ℕ, ◌+◌, ◌-◌, ◌<◌, ◌≤◌, ◌↔◌, ◌&&◌, IsTrue, Bool, true, false, List, [], ◌∷◌, ◌++◌, length, take, drop, Option, Some, None, Result, Ok, Err, IfSome}
+use Rattle.std.specs.Option.{option_map, is_some}
+use Rattle.std.specs.Vec.{vec_len, vec_capacity}
 use Rattle.std.specs.FinMap.{empty, insert}
 use Rattle.std.specs.Global.{Vec}
 use Rattle.lsn_core.specs.Files.{Files}
 use Rattle.lsn_core.specs.Names.{segment_name_bytes}
 use Rattle.lsn_core.specs.declared.lsn.Lsn.{Lsn}
 use Rattle.lsn_core.specs.Segment.{StoreSettings, IsSegmentMib, IsRelseg}
+use Rattle.lsn_core.specs.Tip.{Tip}
 use Rattle.lsn_core.specs.declared.fault.AreaFault.{AreaFault}
-use Rattle.lsn_core.specs.declared.fault.AreaFault.TheVariants.{NoMemory}
 use Rattle.vault.specs.declared.area.Vault.{Ghosts as Vaults}
 use Rattle.vault.specs.declared.site.Site.{Ghosts as Sites}
 use Rattle.vault.specs.declared.stream.Source.{Ghosts as Sources}
 use Rattle.vault.specs.declared.stream.Sink.{Ghosts as Sinks}
 use Rattle.vault.specs.declared.stream.Clock.{Ghosts as Clocks}
 use Rattle.vault.specs.Stream.{Tells}
+use Rattle.vault.specs.declared.lending.Held.{Held}
 use Rattle.vault.specs.declared.lending.TakeFault.{TakeFault}
+use Rattle.vault.specs.Lending.{AreTaken, NoneTaken}
 use Rattle.vault.specs.Area.{after_write, after_remove}
 use Rattle.vault.specs.Site.{AreaState, state_in}
-use Rattle.recovery.specs.declared.fault.RecoveryFault.{RecoveryFault}
 use Rattle.recovery.specs.declared.replaying.Replayed.{Replayed}
 use Rattle.recovery.specs.declared.fault.ReplayFault.{ReplayFault as Unreplayed}
 use Rattle.recovery.specs.declared.fault.ReplayFault.TheVariants as unreplayed
 use Rattle.recovery.specs.Causes.{HasSettings}
-use Rattle.wal_writer.specs.declared.state.WalState.{WalState}
-use Rattle.wal_writer.specs.Log.{Log, Ready}
+use Rattle.wal_writer.specs.Log.{Ready}
 use Rattle.pgbackup_cli.specs.declared.init.InitFault.{InitFault}
 use Rattle.crew.specs.declared.script.Task.{Task}
 use Rattle.crew.specs.declared.script.Line.{Line}
-use Rattle.crew.specs.declared.run.Answer.{Answer}
-use Rattle.crew.specs.Run.{all_written, RunsLines}
-use Rattle.shared_store.specs.State.{State}
+use Rattle.crew.specs.Run.{RunsLines}
+use Rattle.shared_store.specs.declared.areas.StoreAreas.{StoreAreas}
+use Rattle.shared_store.specs.declared.begin.BeginWhy.{BeginWhy}
+use Rattle.shared_store.specs.Seen.{Seen}
+use Rattle.shared_store.specs.Opened.{Opened, IsLawfulOf}
+use Rattle.shared_store.specs.Begin.{IsBegun, IsUnbegun}
+use Rattle.shared_store.specs.Close.{IsClosed}
+use Rattle.pgbackup_cli.specs.declared.lending.StoreNames.{StoreNames}
+use Rattle.pgbackup_cli.specs.declared.running.Work.{Work}
 use Rattle.pgbackup_cli.specs.declared.told.Told.{Told}
 use Rattle.pgbackup_cli.specs.declared.replay.ReplayReport.{ReplayReport}
 use Rattle.pgbackup_cli.specs.declared.replay.ReplayFault.{ReplayFault}
 use Rattle.pgbackup_cli.specs.declared.replay.ReplayFault.TheVariants as replay
 use Rattle.pgbackup_cli.specs.declared.run.RunReport.{RunReport}
 use Rattle.pgbackup_cli.specs.declared.run.RunFault.{RunFault}
-use Rattle.pgbackup_cli.specs.Areas.{AreaCause, AreaFails, IsWalTorn}
+use Rattle.pgbackup_cli.specs.Areas.{AreaCause}
 use Rattle.pgbackup_cli.specs.Outside.{Outside}
 use Rattle.pgbackup_cli.specs.Input.{IsInput}
 use Rattle.pgbackup_cli.specs.Init.{InitResult, InitAreas, InitAnswer, IsTornIn, new_wal, first_entry, settings_name, settings_file, segment_name, segment_file}
-use Rattle.pgbackup_cli.specs.Run.{RunResult, HasScript, RunDone, IsUnread, RunAnswer}
+use Rattle.pgbackup_cli.specs.Run.{RunResult, HasScript, run_asks, RunAnswer}
 use Rattle.pgbackup_cli.specs.Replay.{ReplayResult, ReplayAreas, ReplayAnswer}
 
 -- texts behind each other
@@ -169,44 +176,74 @@ IsFirstTorn mib bytes old new = IsTornIn (segment_name_bytes 1 mib) bytes old ne
 
 -- ---- `run`
 
--- the lines of a script's worker, and their answers, where there is one
-abbrev pub lines_told : List Told → List Line
-lines_told [] = []
-lines_told (t ∷ told) = t.task.lines
+-- the names of a store's areas with these areas
+abbrev pub held_of : {V : Type 0} → StoreNames → StoreAreas V → List (Held V)
+held_of names areas =
+    record { name = names.wal; area = areas.wal }
+    ∷ record { name = names.data0; area = areas.data0 }
+    ∷ record { name = names.data1; area = areas.data1 }
+    ∷ record { name = names.data2; area = areas.data2 }
+    ∷ record { name = names.data3; area = areas.data3 }
+    ∷ []
 
-abbrev pub answers_told : List Told → List Answer
-answers_told [] = []
-answers_told (t ∷ told) = t.answers
+-- the areas of a store were taken, or none of them
+abbrev pub TakesStore : {S V : Type 0} → Sites S V → Vaults V → S → S
+    → Result (StoreNames × StoreAreas V) TakeFault → Type 0
+TakesStore sites vaults old new (Ok taken) =
+    AreTaken sites vaults run_asks old new (held_of taken.0 taken.1)
+TakesStore sites vaults old new (Err fault) = NoneTaken sites run_asks old new fault
+
+-- whether each area of a store tells its files
+abbrev pub all_tell : {V : Type 0} → Vaults V → StoreAreas V → Bool
+all_tell vaults areas =
+    is_some (vaults.files areas.wal) && (is_some (vaults.files areas.data0)
+    && (is_some (vaults.files areas.data1) && (is_some (vaults.files areas.data2)
+    && is_some (vaults.files areas.data3))))
+
+-- the workers of a script, which has one at most, and its lines
+abbrev pub task_list : Option Task → List Task
+task_list None = []
+task_list (Some task) = task ∷ []
+
+abbrev pub lines_in : Option Task → List Line
+lines_in None = []
+lines_in (Some task) = task.lines
+
+-- there is room for the answers to a task's lines
+pub record HasRoom (work : Work) : Type 0 where
+  pub none : work.answers.items ≡ []
+  pub empty : vec_len work.answers ≡ 0
+  pub room : length (lines_in work.task) ≤ vec_capacity work.answers
+  pub untold : work.list.items ≡ []
+  pub place : vec_len work.list < vec_capacity work.list
 
 -- the worker of a script, if it has one, ran its lines
-pub record RunsTasks (told : List Told) (old new : State) : Type 0 where
-  pub few : length told ≤ 1
-  pub lines : RunsLines (lines_told told) old new (answers_told told)
+abbrev pub RunsTasks : Type 0 → List Told → Seen → Seen → Opened → Opened → Type 0
+RunsTasks tells [] old new before behind = behind ≡ before
+RunsTasks tells (t ∷ []) old new before behind =
+    RunsLines tells t.task.lines old new before behind t.answers
+RunsTasks tells (t ∷ (u ∷ told)) old new before behind = ⊥
 
--- where the WAL ends, or why it isn't known to be written
-abbrev pub Ending : Type 0
-Ending = Result Lsn AreaFault
+-- a store was begun on areas for one worker, the script was run on it, and it was closed
+pub record IsRunOn {V : Type 0} (vaults : Vaults V) (tells : Bool) (old new : StoreAreas V)
+    (report : RunReport) : Type 0 where
+  pub begun : Opened
+  pub pass : Seen
+  pub tip : Tip
+  pub begins : IsBegun vaults old 1 begun (pass ∷ []) tip
+  pub opened : report.opened.0 ≡ tip.end
+  pub left : Opened
+  pub seen : Seen
+  pub runs : RunsTasks (tells ≡ true) report.told pass seen begun left
+  pub lawful : IsLawfulOf (tells ≡ true) left
+  pub closes : IsClosed vaults (tells ≡ true) left new report.closed
 
--- all that waits of a WAL is written
-abbrev pub IsAllWritten : Log → Option Files → Option Files → Type 0
-IsAllWritten log old new = new ≡ option_map (all_written log) old
-
--- what the last flush of a run answers, where the run stopped or didn't
-abbrev pub FlushAnswer : Bool → Log → AreaState → AreaState → Ending → Type 0
-FlushAnswer stopped log old new (Ok end) =
-    (stopped ≡ false) × (end.0 ≡ log.tip.end) × IsAllWritten log old.files new.files
-FlushAnswer stopped log old new (Err why) =
-    ((stopped ≡ false) ⊎ (why ≡ NoMemory)) × AreaFails old new why
-
-abbrev pub EndsRun : {V : Type 0} → Vaults V → Bool → WalState V → WalState V → Ending → Type 0
-EndsRun vaults stopped old new r =
-    FlushAnswer stopped old.tail (state_in vaults old.area) (state_in vaults new.area) r
-
--- it wrote no more than what waited
-abbrev pub IsFlushLeft : {V : Type 0} → Vaults V → WalState V → WalState V → Type 0
-IsFlushLeft vaults old new =
-    IsWalTorn old.tail.mib old.tail.flushed (length old.tail.pending)
-    (vaults.files old.area) (vaults.files new.area)
+-- so it was, or no store was begun
+abbrev pub RunsOn : {V : Type 0} → Vaults V → Bool → StoreAreas V → StoreAreas V
+    → Result RunReport BeginWhy → Type 0
+RunsOn vaults tells old new (Ok report) = IsRunOn vaults tells old new report
+RunsOn vaults tells old new (Err why) =
+    IsUnbegun vaults old (record { areas = new; why = why })
 
 -- there is no script, whatever the site is
 abbrev pub RefusesScript : {I : Type 0} → Sources I → I → I → RunFault → Type 0
@@ -221,14 +258,6 @@ RunsScript sites script old new r =
     (left rest : Option (List ℕ)) (reads now : ℕ) → HasScript left rest script
     → RunAnswer (with_input (of_site sites old) left reads)
     (with_input (of_site sites new) rest now) r
-
--- what the run of a script comes to, over the area of the WAL
-abbrev pub ScriptAnswer : AreaState → AreaState → Result RunReport RecoveryFault → Type 0
-ScriptAnswer old new (Ok report) = RunDone old new report
-ScriptAnswer old new (Err why) = IsUnread old new why
-
-abbrev pub AnswersScript : {V : Type 0} → Vaults V → V → V → Result RunReport RecoveryFault → Type 0
-AnswersScript vaults wal now r = ScriptAnswer (state_in vaults wal) (state_in vaults now) r
 
 -- ---- `replay`
 

@@ -1,15 +1,15 @@
 -- That a command comes to one answer.
-use Rattle.std.specs.Prelude.{◌≡◌, ℕ, Option, List, [], ◌∷◌, Bool, true, false, Ok}
+use Rattle.std.specs.Prelude.{◌≡◌, ℕ, Option, List, Bool, true, false, Ok, Err}
 use Rattle.lsn_core.specs.declared.lsn.Lsn.{Lsn}
-use Rattle.crew.specs.declared.run.Answer.{Answer}
-use Rattle.crew.specs.Run.{stops_with}
 use Rattle.pgbackup_cli.specs.declared.answer.Status.{Status}
 use Rattle.pgbackup_cli.specs.declared.answer.Status.TheVariants as status
 use Rattle.pgbackup_cli.specs.Outside.{Outside, AllTold}
 use Rattle.pgbackup_cli.specs.Init.{InitDoes, init_status}
-use Rattle.pgbackup_cli.specs.declared.told.Told.{Told}
-use Rattle.pgbackup_cli.specs.declared.run.RunReport.{RunReport}
-use Rattle.pgbackup_cli.specs.Run.{RunDoes, run_status}
+use Rattle.recovery.specs.Causes.{IsOfFiles}
+use Rattle.shared_store.specs.declared.begin.BeginWhy.TheVariants as begin
+use Rattle.pgbackup_cli.specs.declared.run.RunFault.{RunFault}
+use Rattle.pgbackup_cli.specs.declared.run.RunFault.TheVariants as run
+use Rattle.pgbackup_cli.specs.Run.{RunResult, RunDoes, tasks_told}
 use Rattle.pgbackup_cli.specs.Replay.{ReplayDoes, replay_status}
 use Rattle.command_line.specs.declared.options.InitOptions.{InitOptions}
 
@@ -31,31 +31,27 @@ HasOne {T} does status_in =
 abbrev pub HasOneInit : Type 0
 HasOneInit = (options : InitOptions) → HasOne (InitDoes options) init_status
 
-abbrev pub HasOneRun : Type 0
-HasOneRun = HasOne RunDoes run_status
+-- a refusal of `run` that the outside decides, and no failed device and no want of memory
+abbrev pub IsOfOutside : RunFault → Type 0
+IsOfOutside (run.Input why) = ⊥
+IsOfOutside (run.Script line why) = Unit {0}
+IsOfOutside run.NoMemory = ⊥
+IsOfOutside (run.Site fault) = ⊥
+IsOfOutside (run.Begin (begin.Wal why)) = IsOfFiles why
+IsOfOutside (run.Begin (begin.Data why)) = ⊥
 
--- two lists of answers to one list of lines agree up to the first answer that stops a worker
-abbrev pub Agree : List Answer → List Answer → Type 0
-Agree [] [] = Unit {0}
-Agree [] (y ∷ ys) = ⊥
-Agree (x ∷ xs) [] = ⊥
-Agree (x ∷ xs) (y ∷ ys) =
-    stops_with x ≡ false → stops_with y ≡ false → (x ≡ y) × Agree xs ys
+-- two runs were refused for one reason, or both of them began: of one script, where the WAL ended
+abbrev pub BeginAlike : RunResult → RunResult → Type 0
+BeginAlike (Ok a) (Ok b) = (a.opened ≡ b.opened) × (tasks_told a.told ≡ tasks_told b.told)
+BeginAlike (Ok a) (Err fault) = IsOfOutside fault → ⊥
+BeginAlike (Err fault) (Ok b) = IsOfOutside fault → ⊥
+BeginAlike (Err fault) (Err other) = IsOfOutside fault → IsOfOutside other → fault ≡ other
 
--- so do the answers of all workers of one script
-abbrev pub AgreeAll : List Told → List Told → Type 0
-AgreeAll [] [] = Unit {0}
-AgreeAll [] (u ∷ b) = ⊥
-AgreeAll (t ∷ a) [] = ⊥
-AgreeAll (t ∷ a) (u ∷ b) = (t.task ≡ u.task) × Agree t.answers u.answers × AgreeAll a b
-
--- two runs of a script from one outside that tells its contents, however they ended, agree in where
--- the WAL ended before, in the script, and in each worker's answers up to want of memory
-abbrev pub RunsAgree : Type 0
-RunsAgree =
-    (old new other : Outside) (a b : RunReport) → AllTold old
-    → RunDoes old new (Ok a) → RunDoes old other (Ok b)
-    → (a.opened ≡ b.opened) × AgreeAll a.told b.told
+-- two runs from one outside that tells its contents, however they ended, begin alike
+abbrev pub RunsBeginAlike : Type 0
+RunsBeginAlike =
+    (old new other : Outside) (a b : RunResult) → AllTold old → RunDoes old new a
+    → RunDoes old other b → BeginAlike a b
 
 abbrev pub HasOneReplay : Type 0
 HasOneReplay =

@@ -3,13 +3,19 @@
 ghost use Rattle.std.specs.Prelude.{◌≡◌, map, IfOk};
 ghost use Rattle.wal_archive.specs.declared.fault.Damage.TheVariants as damage;
 ghost use Rattle.recovery.specs.declared.fault.RecoveryFault.TheVariants as wal;
-ghost use Rattle.pgbackup_cli.specs.Faults.{refused_line, area_text, full_text, take_text, area_status, wal_status};
-ghost use Rattle.pgbackup_cli.specs.Faults.{head_text, broken_text, content_text, placed, damage_text, wal_text};
+ghost use Rattle.pgbackup_cli.specs.Areas.{area_name};
+ghost use Rattle.pgbackup_cli.specs.Faults.{refused_line, area_text, store_text, full_text, take_text};
+ghost use Rattle.pgbackup_cli.specs.Faults.{head_text, broken_text, content_text, placed, damage_text, wal_text, begin_text};
+ghost use Rattle.pgbackup_cli.specs.Faults.{area_status, store_status, wal_status, begin_status};
 ghost use Rattle.pgbackup_cli.specs.Inner.{joined};
 
 use crate::answer::Status;
-use lsn_core::{AreaFault, Lsn, MOST_SEGMENTS, NoMemory, SegSize, Text, lsn_text, segment_name};
+use lsn_core::{
+    AreaFault, Lsn, MOST_SEGMENTS, NoMemory, SegSize, StoreArea, StoreFault, Text, lsn_text,
+    segment_name,
+};
 use recovery::RecoveryFault;
+use shared_store::BeginWhy;
 use std::alloc::Global;
 use vault::TakeFault;
 use wal_archive::{Broken, Damage};
@@ -41,6 +47,30 @@ pub fn area_text(alloc: Global, name: &[u8], fault: AreaFault) -> Result<Text, N
     match fault {
         AreaFault::Failed => joined(alloc, &[b"60 DeviceFault ", name]),
         AreaFault::NoMemory => joined(alloc, &[b"61 NoMemory"]),
+    }
+}
+
+/// The name of an area of a store.
+fn area_name(area: StoreArea) -> &'static [u8]
+    ensures { result.now ≡ area_name area }
+{
+    match area {
+        StoreArea::Wal => b"wal",
+        StoreArea::Data(0) => b"data0",
+        StoreArea::Data(1) => b"data1",
+        StoreArea::Data(2) => b"data2",
+        StoreArea::Data(_) => b"data3",
+        StoreArea::Sums => b"sums",
+    }
+}
+
+/// The device of this area of a store failed, or memory ran out.
+pub fn store_text(alloc: Global, fault: StoreFault) -> Result<Text, NoMemory>
+    ensures { IfOk result (λ text. text ≡ store_text fault) }
+{
+    match fault {
+        StoreFault::Failed(area) => area_text(alloc, area_name(area), AreaFault::Failed),
+        StoreFault::NoMemory => joined(alloc, &[b"61 NoMemory"]),
     }
 }
 
@@ -177,6 +207,16 @@ pub fn wal_text(alloc: Global, fault: RecoveryFault) -> Result<Text, NoMemory>
     }
 }
 
+/// No store can be begun.
+pub fn begin_text(alloc: Global, why: BeginWhy) -> Result<Text, NoMemory>
+    ensures { IfOk result (λ text. text ≡ begin_text why) }
+{
+    match why {
+        BeginWhy::Wal(fault) => wal_text(alloc, fault),
+        BeginWhy::Data(fault) => store_text(alloc, fault),
+    }
+}
+
 /// The status of a fault of an area.
 pub fn area_status(fault: AreaFault) -> Status
     ensures { result ≡ area_status fault }
@@ -200,5 +240,25 @@ pub fn wal_status(fault: RecoveryFault) -> Status
         RecoveryFault::NotInit => Status::Refused,
         RecoveryFault::Failed => Status::Device,
         RecoveryFault::NoMemory => Status::Memory,
+    }
+}
+
+/// The status of a fault of an area of a store.
+pub fn store_status(fault: StoreFault) -> Status
+    ensures { result ≡ store_status fault }
+{
+    match fault {
+        StoreFault::Failed(_) => Status::Device,
+        StoreFault::NoMemory => Status::Memory,
+    }
+}
+
+/// The status of a store that can't be begun.
+pub fn begin_status(why: BeginWhy) -> Status
+    ensures { result ≡ begin_status why }
+{
+    match why {
+        BeginWhy::Wal(fault) => wal_status(fault),
+        BeginWhy::Data(fault) => store_status(fault),
     }
 }

@@ -17,16 +17,16 @@ mod faults;
 mod init;
 mod input;
 mod laws;
+mod lending;
 mod names;
 mod new_wal;
 mod replay;
 mod report;
 mod run;
+mod running;
 mod told;
 mod top;
 
 pub use answer::Status;
-pub use laws::{
-    init_has_one_answer, replay_has_one_answer, run_has_one_answer, runs_agree_up_to_want_of_memory,
-};
+pub use laws::{init_has_one_answer, replay_has_one_answer, runs_begin_alike};
 pub use top::pgbackup;

@@ -1,14 +1,17 @@
 //! The lines that the run of a script prints.
 
-ghost use Rattle.std.specs.Prelude.{◌≡◌, ◌++◌, codes, IfOk, OnOk};
+ghost use Rattle.std.specs.Prelude.{◌≡◌, ◌∷◌, ◌++◌, codes, IfOk, OnOk};
 ghost use Rattle.std.specs.List.{flat_map};
-ghost use Rattle.pgbackup_cli.specs.Report.{insert_fault_text, accepted_text, answer_text, answer_line, worker_lines, opened_line, last_line, report_text};
+ghost use Rattle.std.specs.Fmt.{decimal};
+ghost use Rattle.lsn_core.specs.Names.{lsn_bytes};
+ghost use Rattle.pgbackup_cli.specs.Report.{insert_fault_text, accepted_text, grown_text, mark_fault_text, answer_text};
+ghost use Rattle.pgbackup_cli.specs.Report.{answer_line, worker_lines, opened_line, last_line, report_text};
 
-use crate::faults::{area_text, joined, refused_line};
+use crate::faults::{joined, refused_line, store_text};
 use crate::run::RunReport;
 use crate::told::Told;
 use crew::{Answer, Line};
-use lsn_core::{AreaFault, Lsn, NoMemory, Place, Text, lsn_text};
+use lsn_core::{Lsn, MarkFault, NoMemory, Place, StoreFault, Text, lsn_text};
 use shared_store::InsertFault;
 use std::alloc::Global;
 
@@ -34,19 +37,79 @@ fn insert_fault_text(alloc: Global, fault: InsertFault) -> Result<Text, NoMemory
     Ok(Text::from_vec(text.into_bytes()))
 }
 
-fn accepted_text(alloc: Global, place: Place) -> Result<Text, NoMemory>
-    ensures { IfOk result (λ text. text ≡ accepted_text place) }
+/// Where entries start, and where they end.
+fn place_text(alloc: Global, place: Place) -> Result<Text, NoMemory>
+    ensures { IfOk result (λ text. text
+        ≡ lsn_bytes place.start.0 ++ (32 ∷ lsn_bytes place.end.0)) }
 {
     let start = lsn_text(alloc, place.start)?;
     let end = lsn_text(alloc, place.end)?;
-    joined(alloc, &[b"ok ", start.as_bytes(), b" ", end.as_bytes()])
+    joined(alloc, &[start.as_bytes(), b" ", end.as_bytes()])
 }
 
-fn refused_text(alloc: Global, fault: InsertFault) -> Result<Text, NoMemory>
-    ensures { IfOk result (λ text. text ≡ codes "refused " ++ insert_fault_text fault) }
+fn accepted_text(alloc: Global, place: Place) -> Result<Text, NoMemory>
+    ensures { IfOk result (λ text. text ≡ accepted_text place) }
 {
+    let place = place_text(alloc, place)?;
+    joined(alloc, &[b"ok ", place.as_bytes()])
+}
+
+/// So many commands were accepted, between these places.
+fn grown_text(alloc: Global, count: u32, place: Place) -> Result<Text, NoMemory>
+    ensures { IfOk result (λ text. text ≡ grown_text count place) }
+{
+    let number = format!(in alloc; "{count}")?;
+    let place = place_text(alloc, place)?;
+    joined(alloc, &[b"ok ", number.as_bytes(), b" ", place.as_bytes()])
+}
+
+/// Why a checkpoint was not done.
+fn mark_fault_text(alloc: Global, fault: MarkFault) -> Result<Text, NoMemory>
+    ensures { IfOk result (λ text. text ≡ mark_fault_text fault) }
+{
+    match fault {
+        MarkFault::Failed(area) => store_text(alloc, StoreFault::Failed(area)),
+        MarkFault::WalFull(n) => {
+            let number = format!(in alloc; "{n}")?;
+            joined(alloc, &[b"17 WalFull ", number.as_bytes()])
+        }
+        MarkFault::NoMemory => store_text(alloc, StoreFault::NoMemory),
+    }
+}
+
+fn refused_text(alloc: Global, text: &[u8]) -> Result<Text, NoMemory>
+    ensures { IfOk result (λ line. line ≡ codes "refused " ++ text.now) }
+{
+    joined(alloc, &[b"refused ", text])
+}
+
+/// So many commands were accepted before this refusal.
+fn stopped_text(alloc: Global, count: u32, fault: InsertFault) -> Result<Text, NoMemory>
+    ensures { IfOk result (λ text. text
+        ≡ codes "stopped " ++ (decimal count ++ (32 ∷ insert_fault_text fault))) }
+{
+    let number = format!(in alloc; "{count}")?;
     let text = insert_fault_text(alloc, fault)?;
-    joined(alloc, &[b"refused ", text.as_bytes()])
+    joined(
+        alloc,
+        &[b"stopped ", number.as_bytes(), b" ", text.as_bytes()],
+    )
+}
+
+/// The checkpoint of this redo point was done.
+fn redone_text(alloc: Global, redo: Lsn) -> Result<Text, NoMemory>
+    ensures { IfOk result (λ text. text ≡ codes "redo " ++ lsn_bytes redo.0) }
+{
+    let redo = lsn_text(alloc, redo)?;
+    joined(alloc, &[b"redo ", redo.as_bytes()])
+}
+
+/// So many writes wrote something.
+fn wrote_text(alloc: Global, count: u32) -> Result<Text, NoMemory>
+    ensures { IfOk result (λ text. text ≡ codes "wrote " ++ decimal count) }
+{
+    let number = format!(in alloc; "{count}")?;
+    joined(alloc, &[b"wrote ", number.as_bytes()])
 }
 
 /// The answer to a line.
@@ -55,7 +118,16 @@ fn answer_text(alloc: Global, answer: &Answer) -> Result<Text, NoMemory>
 {
     match answer {
         Answer::Accepted(place) => accepted_text(alloc, *place),
-        Answer::Refused(fault) => refused_text(alloc, *fault),
+        Answer::Refused(why) => { refused_text(alloc, insert_fault_text(alloc, *why)?.as_bytes()) }
+        Answer::Grown(count, place) => grown_text(alloc, *count, *place),
+        Answer::Stopped(count, why) => stopped_text(alloc, *count, *why),
+        Answer::Redo(redo) => redone_text(alloc, *redo),
+        Answer::CheckpointRefused(why) => refused_text(
+            alloc,
+            mark_fault_text(alloc, *why)?.as_bytes(),
+        ),
+        Answer::Wrote(count) => wrote_text(alloc, *count),
+        Answer::CallFailed(why) => refused_text(alloc, store_text(alloc, *why)?.as_bytes()),
         Answer::NotRun => joined(alloc, &[b"not run"]),
     }
 }
@@ -103,7 +175,7 @@ fn push_told(alloc: Global, text: &mut Vec<u8>, told: &[Told]) -> Result<(), NoM
 }
 
 /// The last line: where the WAL ends, or why it isn't known to be written.
-fn last_line(alloc: Global, ending: &Result<Lsn, AreaFault>) -> Result<Text, NoMemory>
+fn last_line(alloc: Global, ending: &Result<Lsn, StoreFault>) -> Result<Text, NoMemory>
     ensures { IfOk result (λ text. text ≡ last_line ending.now) }
 {
     match ending {
@@ -111,7 +183,7 @@ fn last_line(alloc: Global, ending: &Result<Lsn, AreaFault>) -> Result<Text, NoM
             let end = lsn_text(alloc, *end)?;
             joined(alloc, &[b"wal ", end.as_bytes(), b"\n"])
         }
-        Err(why) => refused_line(alloc, area_text(alloc, b"wal", *why)?.as_bytes()),
+        Err(why) => refused_line(alloc, store_text(alloc, *why)?.as_bytes()),
     }
 }
 
@@ -129,6 +201,6 @@ pub fn report_text(alloc: Global, report: &RunReport) -> Result<Text, NoMemory>
 {
     let mut text = opened_line(alloc, report.opened)?.into_vec();
     push_told(alloc, &mut text, report.told.as_slice())?;
-    text.extend_from_slice(last_line(alloc, &report.ending)?.as_bytes())?;
+    text.extend_from_slice(last_line(alloc, &report.ending())?.as_bytes())?;
     Ok(Text::from_vec(text))
 }

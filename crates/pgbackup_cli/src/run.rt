@@ -1,38 +1,51 @@
 //! `run`: the script of the input, run on a store.
 
-ghost use Rattle.std.specs.Prelude.{◌≡◌, ◌+◌, ◌<◌, ◌≤◌, ◌∷◌, ◌++◌, [], length, IfOk, IfErr};
-ghost use Rattle.std.specs.Vec.{vec_len, vec_capacity};
-ghost use Rattle.vault.specs.Site.{AllHome, state_in};
-ghost use Rattle.wal_writer.specs.Log.{IsLog};
-ghost use Rattle.shared_store.specs.State.{state_of};
+ghost use Rattle.std.specs.Prelude.{◌≡◌, ◌+◌, ◌≤◌, length, IfOk, IfErr};
+ghost use Rattle.vault.specs.Site.{AllHome};
+ghost use Rattle.crew.specs.Reasons.{script_limit};
 ghost use Rattle.pgbackup_cli.specs.declared.run.RunFault.TheVariants as run;
 ghost use Rattle.pgbackup_cli.specs.Outside.{Works};
-ghost use Rattle.crew.specs.Reasons.{script_limit};
 ghost use Rattle.pgbackup_cli.specs.Input.{TakesAtMost};
-ghost use Rattle.pgbackup_cli.specs.Run.{HasScript, tasks_told, run_asks, RunDoes, script_text, run_fault_text, run_text, ending_status, run_status};
-ghost use Rattle.pgbackup_cli.specs.Inner.{of_site, of_site_input, RunsTasks, EndsRun, IsFlushLeft, RefusesScript, RunsScript, AnswersScript};
+ghost use Rattle.pgbackup_cli.specs.Report.{ending_of};
+ghost use Rattle.pgbackup_cli.specs.Run.{HasScript, run_asks, RunDoes, script_text, run_fault_text, run_text, ending_status, run_status};
+ghost use Rattle.pgbackup_cli.specs.Inner.{of_site, of_site_input, RefusesScript, RunsScript};
 
 use crate::answer::Status;
 use crate::faults::{
-    area_status, area_text, joined, refused_line, take_text, wal_status, wal_text,
+    area_status, area_text, begin_status, begin_text, joined, refused_line, store_status, take_text,
 };
 use crate::input::read_input;
+use crate::lending::{give_store, store_names, take_store};
 use crate::report::report_text;
-use crate::told::{Told, ToldTasks};
-use crew::{Script, ScriptFault, Why, read_script, run_lines, why_text};
-use lsn_core::{AreaFault, Lsn, NoMemory, Text};
-use recovery::RecoveryFault;
-use shared_store::Store;
+use crate::running::{new_line, run_areas, work_of};
+use crate::told::ToldTasks;
+use crew::{Script, ScriptFault, Why, read_script, why_text};
+use lsn_core::{AreaFault, Lsn, NoMemory, StoreFault, Text};
+use shared_store::BeginWhy;
 use std::alloc::Global;
-use vault::{Held, Site, Source, TakeFault, Vault, give_one, take_one};
+use vault::{Site, Source, TakeFault};
 
 /// What the run of a script came to: where the WAL ended before, the script with the answers to its
-/// lines, and where the WAL ends now or why it isn't known to be written.
+/// lines, and what closing the store came to: where the WAL ends now, or why not all is known to be
+/// written.
 #[derive(Drop)]
 pub struct RunReport {
     pub opened: Lsn,
     pub told: ToldTasks,
-    pub ending: Result<Lsn, AreaFault>,
+    pub closed: Result<Lsn, StoreFault>,
+}
+
+impl RunReport {
+    /// How the run ended: with the first fault by which a worker was stopped; where there is none, as
+    /// closing the store did.
+    pub fn ending(&self) -> Result<Lsn, StoreFault>
+        ensures { result ≡ ending_of self.now }
+    {
+        match self.told.stop() {
+            Some(fault) => Err(fault),
+            None => self.closed,
+        }
+    }
 }
 
 /// Why no script was run.
@@ -42,11 +55,11 @@ pub enum RunFault {
     Input(AreaFault),
     /// This line of the script is refused.
     Script(u32, Why),
-    /// The site didn't hand out the area of the WAL.
+    /// The site didn't hand out an area of the store.
     Site(TakeFault),
-    /// The WAL can't be replayed, or has no entry, or memory ran out.
-    Wal(RecoveryFault),
-    /// Memory ran out before the WAL was asked for.
+    /// No store can be begun on the areas, or memory ran out.
+    Begin(BeginWhy),
+    /// Memory ran out before an area was asked for.
     NoMemory,
 }
 
@@ -66,95 +79,23 @@ impl From<NoMemory> for RunFault {
     }
 }
 
-/// Puts what a worker was told where there is room for it.
-fn put(list: &mut Vec<Told>, told: Told)
-    requires { vec_len list.old < vec_capacity list.old }
-    ensures { list.new.items ≡ list.old.items ++ (told ∷ []) }
-{
-    if list.push(told).is_err() {
-        unreachable!()
-    }
-}
-
-/// Runs the task of a script, if it has one. The room for the answers is taken first: where that is
-/// wanting no line was run.
-fn run_tasks<V: Vault>(
-    alloc: Global,
-    store: &mut Store<V>,
-    script: Script,
-) -> Result<ToldTasks, NoMemory>
-    requires { length script ≤ 1 }
-    ensures run { IfOk result (λ told. RunsTasks told (state_of store.old) (state_of store.new)) }
-    ensures script { IfOk result (λ told. tasks_told told ≡ script) }
-    ensures area { store.new.wal.area ≡ store.old.wal.area }
-{
-    let mut list = Vec::with_capacity(alloc, 1)?;
-    let mut workers = script.into_workers();
-    let Some(task) = workers.pop() else {
-        return Ok(ToldTasks::from_vec(list));
-    };
-    let answers = run_lines(alloc, store, task.lines.as_slice())?;
-    put(&mut list, Told { task, answers });
-    Ok(ToldTasks::from_vec(list))
-}
-
-/// Flushes all that a run appended. The answer is where the WAL ends; want of memory where the run
-/// stopped for it, whatever the flush came to.
-fn end_run<V: Vault>(alloc: Global, store: &mut Store<V>, stopped: bool) -> Result<Lsn, AreaFault>
-    ensures answer { EndsRun V.Vault stopped store.old.wal store.new.wal result }
-    ensures left { IsFlushLeft V.Vault store.old.wal store.new.wal }
-    ensures known { IsLog store.old.wal.tail }
-    ensures later { V.faults store.old.wal.area ≤ V.faults store.new.wal.area }
-{
-    let end = store.end();
-    let flushed = store.flush_wal(alloc);
-    if stopped {
-        return Err(AreaFault::NoMemory);
-    }
-    match flushed {
-        Ok(_) => Ok(end),
-        Err(fault) => Err(fault),
-    }
-}
-
-/// Runs a script on the WAL of an area: reads it whole, runs the lines, and flushes what they
-/// appended. Nothing is written before all lines are answered.
-fn run_wal<V: Vault>(alloc: Global, wal: V, script: Script) -> (V, Result<RunReport, RecoveryFault>)
-    requires { length script ≤ 1 }
-    ensures answer { AnswersScript V.Vault wal result.0 result.1 }
-    ensures script { IfOk result.1 (λ report. tasks_told report.told ≡ script) }
-    ensures later { V.faults wal ≤ V.faults result.0 }
-{
-    let mut store = match Store::begin(alloc, wal) {
-        Ok(store) => store,
-        Err(fault) => return (fault.area, Err(fault.why)),
-    };
-    let opened = store.end();
-    let Ok(told) = run_tasks(alloc, &mut store, script) else {
-        return (store.close(), Err(RecoveryFault::NoMemory));
-    };
-    let ending = end_run(alloc, &mut store, told.is_stopped());
-    let report = RunReport {
-        opened,
-        told,
-        ending,
-    };
-    (store.close(), Ok(report))
-}
-
-/// Runs a script on the WAL of a site.
+/// Runs a script on the store of a site. All memory that a refusal would need is taken before the
+/// areas are, and these are given back in any case.
 fn run_in<S: Site>(alloc: Global, script: Script, site: &mut S) -> Result<RunReport, RunFault>
     requires few { length script ≤ 1 }
     requires home { AllHome (S.areas site.old) }
     ensures site { Works run_asks (of_site S.Site site.old) (of_site S.Site site.new) }
     ensures answer { RunsScript S.Site script site.old site.new result }
 {
-    let Held { name, area } = take_one(site, joined(alloc, &[b"wal"])?)?;
-    let (area, answer) = run_wal(alloc, area, script);
-    give_one(site, Held { name, area });
+    let work = work_of(alloc, script)?;
+    let names = store_names(alloc)?;
+    let line = new_line(alloc)?;
+    let (names, areas) = take_store(alloc, site, names)?;
+    let (areas, answer) = run_areas(alloc, line, areas, work);
+    give_store(site, names, areas);
     match answer {
         Ok(report) => Ok(report),
-        Err(why) => Err(RunFault::Wal(why)),
+        Err(why) => Err(RunFault::Begin(why)),
     }
 }
 
@@ -177,7 +118,7 @@ fn script_of<I: Source>(alloc: Global, input: &mut I) -> Result<Script, RunFault
     }
 }
 
-/// `run`: reads the script of the input, and runs it on the WAL of a site.
+/// `run`: reads the script of the input, and runs it on the store of a site.
 pub fn run<S: Site, I: Source>(
     alloc: Global,
     site: &mut S,
@@ -209,7 +150,7 @@ fn run_fault_text(alloc: Global, fault: &RunFault) -> Result<Text, NoMemory>
         RunFault::Input(why) => area_text(alloc, b"input", *why),
         RunFault::Script(line, why) => script_text(alloc, *line, *why),
         RunFault::Site(fault) => take_text(alloc, fault),
-        RunFault::Wal(why) => wal_text(alloc, *why),
+        RunFault::Begin(why) => begin_text(alloc, *why),
         RunFault::NoMemory => joined(alloc, &[b"61 NoMemory"]),
     }
 }
@@ -224,12 +165,12 @@ pub fn run_text(alloc: Global, came: &Result<RunReport, RunFault>) -> Result<Tex
     }
 }
 
-fn ending_status(ending: Result<Lsn, AreaFault>) -> Status
+fn ending_status(ending: Result<Lsn, StoreFault>) -> Status
     ensures { result ≡ ending_status ending }
 {
     match ending {
         Ok(_) => Status::Done,
-        Err(why) => area_status(why),
+        Err(why) => store_status(why),
     }
 }
 
@@ -238,11 +179,11 @@ pub fn run_status(came: &Result<RunReport, RunFault>) -> Status
     ensures { result ≡ run_status came.now }
 {
     match came {
-        Ok(report) => ending_status(report.ending),
+        Ok(report) => ending_status(report.ending()),
         Err(RunFault::Input(why)) => area_status(*why),
         Err(RunFault::Script(_, _)) => Status::Usage,
         Err(RunFault::Site(fault)) => area_status(fault.why),
-        Err(RunFault::Wal(why)) => wal_status(*why),
+        Err(RunFault::Begin(why)) => begin_status(*why),
         Err(RunFault::NoMemory) => Status::Memory,
     }
 }

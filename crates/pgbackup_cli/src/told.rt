@@ -1,11 +1,12 @@
 //! A script's workers with what their lines were answered.
 
-ghost use Rattle.std.specs.Prelude.{◌≡◌};
-ghost use Rattle.std.specs.List.{list_any};
-ghost use Rattle.crew.specs.Run.{stops_with};
-ghost use Rattle.pgbackup_cli.specs.Run.{is_stopped};
+ghost use Rattle.std.specs.Prelude.{◌≡◌, slice_get};
+ghost use Rattle.std.specs.List.{filter_map};
+ghost use Rattle.crew.specs.Run.{stop_of};
+ghost use Rattle.pgbackup_cli.specs.Report.{stops_told};
 
 use crew::{Answers, Task};
+use lsn_core::StoreFault;
 use std::marker::Model;
 
 /// A worker's task, and the answers to its lines, one each.
@@ -16,11 +17,16 @@ pub struct Told {
 }
 
 impl Told {
-    /// Whether memory ran out before the worker came to its end.
-    fn is_stopped(&self) -> bool
-        ensures { result ≡ list_any stops_with self.now.answers }
+    /// The first fault by which the worker was stopped.
+    fn stop(&self) -> Option<StoreFault>
+        ensures { result ≡ slice_get (filter_map stop_of self.now.answers) 0 }
     {
-        self.answers.as_slice().iter().any(|answer| answer.stops())
+        for answer in self.answers.as_slice() {
+            if let Some(fault) = answer.stop() {
+                return Some(fault);
+            }
+        }
+        None
     }
 }
 
@@ -54,10 +60,15 @@ impl ToldTasks {
         &self.list
     }
 
-    /// Whether memory ran out before a worker came to its end.
-    pub fn is_stopped(&self) -> bool
-        ensures { result ≡ is_stopped self.now }
+    /// The first fault by which a worker was stopped, in the order of the script.
+    pub fn stop(&self) -> Option<StoreFault>
+        ensures { result ≡ slice_get (stops_told self.now) 0 }
     {
-        self.list.iter().any(|told| told.is_stopped())
+        for told in &self.list {
+            if let Some(fault) = told.stop() {
+                return Some(fault);
+            }
+        }
+        None
     }
 }
