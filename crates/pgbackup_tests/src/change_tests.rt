@@ -37,7 +37,7 @@ change 5/16384@0=24,8192,0
 change 5/16384@0+12:FFFF
 change 5/16384@0+8183:00112233445566778899
 change 5/16384@0+8182:00112233445566778899
-
+truncate 5/16384 2
 change 5/16384@0+24:61 5/16388@0+24:61
 change 5/16384@0+24:61 5/16384@0+25:61
 change 5/16384@0=24,8192,0 5/16384@1=24,8192,0 5/16384@2=24,8192,0 5/16384@3=24,8192,0 5/16384@4=24,8192,0
@@ -52,6 +52,7 @@ w 7 ok 0/100090 0/1000E0
 w 8 refused 5 BadPage 0 3
 w 9 refused 6 BadFragment 0 0
 w 10 ok 0/1000E0 0/100120
+w 11 refused 11 CutPastEnd 4
 w 12 refused 8 TwoRelations
 w 13 refused 14 SameBlock 1
 w 14 refused 7 BlockCount

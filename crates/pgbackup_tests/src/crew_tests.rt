@@ -1,7 +1,9 @@
 //! Scripts as they are read: each line that is taken, and where and why others are refused.
 
-use crew::{Command, Order, OrderEdit, OrderItem, Script, ScriptFault, read_script, why_text};
-use lsn_core::{ForkId, ForkKind, NoMemory};
+use crew::{
+    Command, Order, OrderEdit, OrderItem, PageShape, Script, ScriptFault, read_script, why_text,
+};
+use lsn_core::{BlockId, ForkId, ForkKind, NoMemory};
 use std::alloc::Global;
 
 /// The script of a text, which is shorter than memory is.
@@ -39,12 +41,17 @@ fn fork_text(alloc: Global, fork: &ForkId) -> Result<String, NoMemory> {
     Ok(format!(in alloc; "{kind} {db} {rel}")?)
 }
 
+fn shape_text(alloc: Global, shape: PageShape) -> Result<String, NoMemory> {
+    let (lower, upper, fill) = (shape.lower(), shape.upper(), shape.fill());
+    Ok(format!(in alloc; "{lower} {upper} {fill}")?)
+}
+
 /// What an edit does: a page by its three numbers, or fragments by their places and bytes.
 fn edit_text(alloc: Global, edit: &OrderEdit) -> Result<String, NoMemory> {
     let frags = match edit {
         OrderEdit::Put(shape) => {
-            let (lower, upper, fill) = (shape.lower(), shape.upper(), shape.fill());
-            return Ok(format!(in alloc; "put {lower} {upper} {fill}")?);
+            let shape = shape_text(alloc, *shape)?;
+            return Ok(format!(in alloc; "put {shape}")?);
         }
         OrderEdit::Patch(frags) => frags,
     };
@@ -71,14 +78,37 @@ fn items_text(alloc: Global, items: &[OrderItem]) -> Result<String, NoMemory> {
     Ok(text)
 }
 
-fn command_text(alloc: Global, command: &Command) -> Result<String, NoMemory> {
-    let Command::Insert(order) = command;
+fn order_text(alloc: Global, order: &Order) -> Result<String, NoMemory> {
     match order {
         Order::Create(fork) => {
             let fork = fork_text(alloc, fork)?;
             Ok(format!(in alloc; "create {fork}")?)
         }
+        Order::Truncate(rel, count) => {
+            let (db, rel) = (rel.db(), rel.rel());
+            Ok(format!(in alloc; "truncate {db} {rel} {count}")?)
+        }
         Order::Change(items) => items_text(alloc, items.as_slice()),
+    }
+}
+
+fn grow_text(
+    alloc: Global,
+    at: &BlockId,
+    count: u32,
+    shape: PageShape,
+) -> Result<String, NoMemory> {
+    let (fork, block) = (fork_text(alloc, &at.fork)?, at.block);
+    let shape = shape_text(alloc, shape)?;
+    Ok(format!(in alloc; "grow {fork} {block} {count} {shape}")?)
+}
+
+fn command_text(alloc: Global, command: &Command) -> Result<String, NoMemory> {
+    match command {
+        Command::Insert(order) => order_text(alloc, order),
+        Command::Grow(at, count, shape) => grow_text(alloc, at, *count, *shape),
+        Command::Checkpoint => Ok(format!(in alloc; "checkpoint")?),
+        Command::Flush(count) => Ok(format!(in alloc; "flush {count}")?),
     }
 }
 
@@ -107,7 +137,7 @@ fn is_taken(alloc: Global, line: &str, says: &str) -> Result<bool, NoMemory> {
 }
 
 /// Lines, and what each says.
-static TAKEN: [(&str, &str); 14] = [
+static TAKEN: [(&str, &str); 22] = [
     ("create 1/2", "create main 1 2"),
     ("\tcreate \t 1/2 ", "create main 1 2"),
     ("create 0000000001/0000000002", "create main 1 2"),
@@ -143,6 +173,17 @@ static TAKEN: [(&str, &str); 14] = [
         "change 1/2@0=24,24,0 1/2@0=24,24,1",
         "change main 1 2 0 put 24 24 0; main 1 2 0 put 24 24 1;",
     ),
+    ("truncate 1/2 0", "truncate 1 2 0"),
+    (" truncate\t01/2 4294967295", "truncate 1 2 4294967295"),
+    ("grow 1/2@0 1 24,8192,7", "grow main 1 2 0 1 24 8192 7"),
+    (
+        "grow\t1/2_init@4294967295 65536 24,24,255 ",
+        "grow init 1 2 4294967295 65536 24 24 255",
+    ),
+    ("checkpoint", "checkpoint"),
+    (" checkpoint\t", "checkpoint"),
+    ("flush 0000000001", "flush 1"),
+    ("flush 1000000", "flush 1000000"),
 ];
 
 #[test]
@@ -192,7 +233,7 @@ fn a_line_has_16_items_at_most(rt: HostRuntime) -> Result<(), NoMemory> {
 }
 
 /// Scripts, and where and why each is refused.
-static REFUSED: [(&str, u32, &str); 48] = [
+static REFUSED: [(&str, u32, &str); 67] = [
     ("\n#\u{7f}\n", 2, "Bytes"),
     ("worker a\r\n", 1, "Bytes"),
     ("x\0", 1, "Bytes"),
@@ -236,6 +277,25 @@ static REFUSED: [(&str, u32, &str); 48] = [
     ("worker a\nchange 1/2@0=24:61", 2, "Word"),
     ("worker a\nchange 1/2@0+24:61 1/2@1", 2, "Word"),
     ("worker a\nchange 1/2@0+24:61 1/2@1=24,8192,256", 2, "Word"),
+    ("worker a\ntruncate 1/2", 2, "Word"),
+    ("worker a\ntruncate 1/2 1 1", 2, "Word"),
+    ("worker a\ntruncate 1/0 1", 2, "Word"),
+    ("worker a\ntruncate 1/2_init 1", 2, "Word"),
+    ("worker a\ntruncate 1/2 4294967296", 2, "Word"),
+    ("worker a\ntruncate 1 1/2", 2, "Word"),
+    ("worker a\ngrow 1/2@0 1", 2, "Word"),
+    ("worker a\ngrow 1/2@0 1 24,8192,7 1", 2, "Word"),
+    ("worker a\ngrow 1/2 1 24,8192,7", 2, "Word"),
+    ("worker a\ngrow 1/2@0 0 24,8192,7", 2, "Word"),
+    ("worker a\ngrow 1/2@0 65537 24,8192,7", 2, "Word"),
+    ("worker a\ngrow 1/2@0 1 24,8193,7", 2, "Word"),
+    ("worker a\ncheckpoint 1", 2, "Word"),
+    ("worker a\ncheckpoints", 2, "Word"),
+    ("worker a\nflush", 2, "Word"),
+    ("worker a\nflush 0", 2, "Word"),
+    ("worker a\nflush 1000001", 2, "Word"),
+    ("worker a\nflush 1 1", 2, "Word"),
+    ("checkpoint\nworker a", 1, "NoWorker"),
     ("worker a\nerase 1/2", 2, "Word"),
     ("worker a\nworker B", 2, "Word"),
     ("create 1/2\nworker a", 1, "NoWorker"),

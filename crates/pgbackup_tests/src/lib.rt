@@ -14,16 +14,18 @@ mod calls;
 #[cfg(test)]
 mod change_tests;
 #[cfg(test)]
-mod crew_run_tests;
+mod checkpoint_tests;
 #[cfg(test)]
 mod crew_tests;
 #[cfg(test)]
 mod kinds_tests;
 #[cfg(test)]
+mod limit_tests;
+#[cfg(test)]
 mod replay_files_tests;
 #[cfg(test)]
 mod replay_tests;
 #[cfg(test)]
-mod shared_store_tests;
+mod run_faults_tests;
 #[cfg(test)]
 mod store_tests;

@@ -1,17 +1,14 @@
 //! The commands in turn over one site in memory: a store is made, scripts are run on it, and its
 //! WAL is replayed. The bytes are those of an independent implementation of the formats.
 
-ghost use Rattle.std.specs.Prelude.{IfOk};
 ghost use Rattle.vault.specs.Site.{AllHome};
-ghost use Rattle.vault.specs.MemorySite.{areas_of};
 
-use crate::calls::{Call, Failing, is_answered, make_calls, run};
+use crate::calls::{Call, is_answered, make_calls};
 use lsn_core::{AreaFault, NoMemory};
 use pgbackup_cli::Status;
 use std::alloc::Global;
 use test_areas::{
-    ADDED, Change, NEW_WAL, SEGMENT, SETTINGS, SiteStep, Wrong, holds_in, make_all, put_in,
-    take_site_steps,
+    ADDED, NEW_WAL, SEGMENT, SETTINGS, SiteStep, Wrong, holds_in, put_in, take_site_steps,
 };
 use vault::{MemSite, MemVault, Site, read_in};
 
@@ -292,64 +289,6 @@ fn options_are_taken_at_their_bounds(rt: HostRuntime) -> Result<(), AreaFault> {
             "{words}"
         );
     }
-    Ok(())
-}
-
-/// A site with the new WAL, of whose area one of the calls after its files are there fails; 0 is none.
-fn new_site(alloc: Global, fails: u64) -> Result<MemSite, AreaFault>
-    ensures { IfOk result (λ site. AllHome (areas_of site)) }
-{
-    let call = if fails == 0 {
-        0
-    } else {
-        fails.saturating_add(2)
-    };
-    let mut area = MemVault::new(alloc, &[call])?;
-    let files = [
-        Change::Write(b"settings", 0, SETTINGS),
-        Change::Write(SEGMENT, 0, &NEW_WAL),
-    ];
-    make_all(&mut area, &files)?;
-    let mut site = MemSite::new(alloc, &[])?;
-    site.set(b"wal", area)?;
-    Ok(site)
-}
-
-/// The status of a run in which a call of the area of the WAL or one of the input fails, and
-/// whether what it prints last tells the fault.
-fn failing_run(
-    alloc: Global,
-    wal: u64,
-    input: u64,
-    line: &str,
-) -> Result<(Status, bool), AreaFault> {
-    let mut site = new_site(alloc, wal)?;
-    let failing = Failing { input, sink: 0 };
-    let (status, printed) = run(alloc, &mut site, "run", CREATES, failing)?;
-    Ok((status, printed.ends_with(line.as_bytes())))
-}
-
-#[test]
-fn a_call_of_the_input_fails(rt: HostRuntime) -> Result<(), AreaFault> {
-    let ended = failing_run(rt.alloc(), 0, 1, "refused 60 DeviceFault input\n")?;
-    assert!(rt; ended == (Status::Device, true));
-    Ok(())
-}
-
-#[test]
-fn each_device_call_of_a_run_fails_in_turn(rt: HostRuntime) -> Result<(), AreaFault> {
-    // eleven calls: a sync before the WAL is read and one behind the write are two
-    for k in 1..12u64 {
-        let ended = failing_run(rt.alloc(), k, 0, "refused 60 DeviceFault wal\n")?;
-        assert!(rt; ended == (Status::Device, true), "call {k}");
-    }
-    Ok(())
-}
-
-#[test]
-fn a_run_has_eleven_device_calls(rt: HostRuntime) -> Result<(), AreaFault> {
-    let (status, _) = failing_run(rt.alloc(), 12, 0, "")?;
-    assert!(rt; status == Status::Done);
     Ok(())
 }
 

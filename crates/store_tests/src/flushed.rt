@@ -1,56 +1,80 @@
 //! A WAL that is flushed up to where its third entry ends.
 
-use history::{Edit, Item, Items, Op};
-use lsn_core::{BlockId, Lsn, NoMemory};
-use pg_page::make_page;
-use shared_store::Store;
+ghost use Rattle.std.specs.Prelude.{◌≡◌, IfOk, IfSome};
+ghost use Rattle.wal_record.specs.Spelling.{IsWritable};
+ghost use Rattle.wal_record.specs.Tips.{IsWithin};
+
+use checkpointer::{change_kind, creation_kind};
+use history::{Edit, Item};
+use lsn_core::{BlockId, ForkId, Lsn, NoMemory, SegSize, Settings, WalTip};
+use pg_page::{Page, make_page, zero_page};
 use std::alloc::Global;
-use test_areas::{NEW_WAL, SEGMENT, SETTINGS, Wrong, main_fork};
-use vault::{MemVault, Vault};
-use wal_writer::Flushed;
+use test_areas::{Wrong, main_fork};
+use vault::MemVault;
+use wal_record::Kind;
+use wal_writer::{Flushed, WalState};
 
 /// Where the entry of the first page of 5/16384 ends, behind that of the fork's creation, which is
 /// the second one of the WAL. The place is that of an independent implementation of the formats.
 pub const PUT: Lsn = Lsn(0x100108);
 
-/// The command of one item.
-fn change(alloc: Global, item: Item) -> Result<Op, NoMemory> {
-    let mut items = Vec::new(alloc);
-    items.push(item)?;
-    Ok(Op::Change(Items::from_vec(items)))
+/// The tip behind the first entry of a new WAL.
+const BEHIND_FIRST: WalTip = WalTip {
+    end: Lsn(0x100060),
+    prev: Lsn(0x100028),
+    redo: Lsn(0x100028),
+    count: 1,
+};
+
+/// The settings of that WAL.
+fn settings() -> Option<Settings>
+    ensures { IfSome result (λ s. s.segment ≡ 1) }
+{
+    Settings::new(SegSize::new(1)?, 131_072, 7)
 }
 
-/// The item that puts the page.
-fn put() -> Option<Item> {
-    let fork = main_fork(16384)?;
-    let page = make_page(32, 8160, 65)?;
-    Some(Item {
-        at: BlockId { fork, block: 0 },
-        edit: Edit::Put(page),
-    })
+/// A WAL that ends there.
+fn new_wal(alloc: Global, tip: WalTip) -> Result<WalState<MemVault>, Wrong>
+    requires { IsWithin 1 tip }
+{
+    let settings = settings().ok_or(Wrong::Step(0))?;
+    let area = MemVault::new(alloc, &[])?;
+    Ok(WalState::attach(alloc, area, settings, tip))
 }
 
-/// A store whose WAL has the two entries.
-fn two_entries(alloc: Global) -> Result<Store<MemVault>, Wrong> {
-    let mut area = MemVault::new(alloc, &[])?;
-    area.write_at(b"settings", 0, SETTINGS)?;
-    area.write_at(SEGMENT, 0, &NEW_WAL)?;
-    let Ok(mut store) = Store::begin(alloc, area) else {
-        return Err(Wrong::Step(0));
-    };
-    let create = Op::Create(main_fork(16384).ok_or(Wrong::Step(0))?);
-    let put = change(alloc, put().ok_or(Wrong::Step(0))?)?;
-    if store.insert(alloc, &create).is_ok() && store.insert(alloc, &put).is_ok() {
-        Ok(store)
-    } else {
-        Err(Wrong::Step(1))
+/// The kind of entry that puts this page at the beginning of a fork.
+fn put_kind(alloc: Global, fork: ForkId, page: Page) -> Result<Kind, NoMemory>
+    ensures { IfOk result IsWritable }
+{
+    let at = BlockId { fork, block: 0 };
+    let edit = Edit::Put(page);
+    change_kind(alloc, &[Item { at, edit }], &[zero_page()], Lsn(0))
+}
+
+/// Appends an entry of this kind.
+fn append(alloc: Global, wal: &mut WalState<MemVault>, kind: Kind) -> Result<(), Wrong>
+    requires { IsWritable kind }
+{
+    match wal.append(alloc, kind) {
+        Ok(_) => Ok(()),
+        Err(_) => Err(Wrong::Step(1)),
     }
 }
 
-/// The mark of that flush.
+/// Flushes all that was appended.
+fn flush(alloc: Global, wal: &mut WalState<MemVault>) -> Result<Flushed, Wrong> {
+    let end = wal.end();
+    Ok(wal.flush_to(alloc, end)?)
+}
+
+/// The mark of a flush behind both entries.
 pub fn flushed(alloc: Global) -> Result<Flushed, Wrong> {
-    let mut store = two_entries(alloc)?;
-    let mark = store.flush_wal(alloc)?;
+    let fork = main_fork(16384).ok_or(Wrong::Step(0))?;
+    let page = make_page(32, 8160, 65).ok_or(Wrong::Step(0))?;
+    let mut wal = new_wal(alloc, BEHIND_FIRST)?;
+    append(alloc, &mut wal, creation_kind(fork))?;
+    append(alloc, &mut wal, put_kind(alloc, fork, page)?)?;
+    let mark = flush(alloc, &mut wal)?;
     if mark.to() == PUT {
         Ok(mark)
     } else {

@@ -1,0 +1,47 @@
+//! The limits of a fork and of a store, met by scripts over a site in memory. What is printed is what
+//! the formats say.
+
+use crate::calls::{NONE, run};
+use lsn_core::NoMemory;
+use pgbackup_cli::Status;
+use std::alloc::Global;
+use vault::MemSite;
+
+/// Whether a script on a new store is answered by a line of these words.
+fn is_answered(alloc: Global, script: &str, line: &str) -> Result<bool, NoMemory> {
+    let mut site = MemSite::new(alloc, &[])?;
+    let (_, _) = run(alloc, &mut site, "init --system-id 7", "", NONE)?;
+    let (status, printed) = run(alloc, &mut site, "run", script, NONE)?;
+    let mut lines = printed.split(|byte| *byte == b'\n');
+    Ok(status == Status::Done && lines.any(|one| one == line.as_bytes()))
+}
+
+/// Scripts, and a line that each prints.
+static LIMITS: [(&str, &str); 2] = [
+    (
+        "worker w
+create 5/1
+create 5/2
+create 5/3
+grow 5/1@0 32768 24,8192,0
+grow 5/2@0 32768 24,8192,0
+change 5/3@0=24,8192,0
+",
+        "w 7 refused 10 StoreFull 65540",
+    ),
+    (
+        "worker w
+create 5/1
+grow 5/1@0 32769 24,8192,0
+",
+        "w 3 stopped 32768 9 ForkFull 32770",
+    ),
+];
+
+#[test]
+fn forks_and_stores_have_limits(rt: HostRuntime) -> Result<(), NoMemory> {
+    for (script, line) in &LIMITS {
+        assert!(rt; is_answered(rt.alloc(), script, line)?, "{line}");
+    }
+    Ok(())
+}
