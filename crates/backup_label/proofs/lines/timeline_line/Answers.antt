@@ -1,0 +1,6 @@
+use Rattle.backup_label.specs.Label.{IsTimelineValue}
+use Rattle.backup_label.proofs.LineTexts.{other_value}
+use Rattle.backup_label.proofs.lines.timeline_line.Goals as goal
+
+pub returns-in-None-clause-none : goal.returns-in-None-clause-none
+returns-in-None-clause-none c = λ n. other_value c.args.key.now c.in-Some.value.now c.args.text.now c.in-Some.tail.now (λ v. IsTimelineValue v n) c.in-Some.ensures.found (c.in-None.ensures.none n)

@@ -1,0 +1,4 @@
+pub mod Inside
+pub mod Label
+pub mod Laws
+pub mod Time
