@@ -1,0 +1,9 @@
+use Rattle.serde_json.specs.View.{view}
+use Rattle.manifest.proofs.Parts.{no_parts, passed_on}
+use Rattle.manifest.proofs.reading.judged.Goals as goal
+
+pub returns-in_err-parts : goal.returns-in_err-parts
+returns-in_err-parts c =
+    let d = view c.args.value.now in
+    let fault = c.in_err-parts.field-0.0 in
+    passed_on c.args.wanted d fault c.from_residual-in_err-parts.result c.from_residual-in_err-parts.ensures.1 (no_parts c.args.wanted d fault c.in_ok-check_version.ensures c.in_err-parts.ensures)

@@ -1,0 +1,10 @@
+//! Laws of manifests: the contract of a function that does nothing.
+
+ghost use Rattle.manifest.specs.Laws.{WrittenManifestsAreRead, TextsHaveOneManifest};
+
+/// What `write_manifest` gives is read as the manifest that was written, and what is read as a
+/// manifest is read as no other one, and isn't refused.
+pub fn manifests_are_read_again()
+    ensures written { WrittenManifestsAreRead }
+    ensures one { TextsHaveOneManifest }
+{}
