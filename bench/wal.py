@@ -66,7 +66,8 @@ def images(program, archive, rounds, old):
         script.write("worker w\ncreate 5/16384\n")
         script.writelines("change 5/16384@%d=8192,8192,%d\n" % (block, block % 251) for block in range(PAGES))
     for _ in range(rounds):
-        shutil.rmtree("wal", ignore_errors=True)
+        for name in ("wal", "data0", "data1", "data2", "data3"):
+            shutil.rmtree(name, ignore_errors=True)
         timed([program, "init", "--system-id", "1"])
         with open("script", "rb") as script:
             best.take("run", [program, "run"], script)
@@ -116,31 +117,6 @@ def grown(program, archive):
     print("replay  %.0f MiB of memory" % best.memory["replay"])
 
 
-def accepted(program, rounds, what, lines):
-    """How many commands `run` accepts a second, of a script of these lines on an empty store."""
-    best = Best()
-    with open("script", "w") as script:
-        script.write("worker w\ncreate 5/16384\n")
-        script.writelines(lines)
-    for _ in range(rounds):
-        shutil.rmtree("wal", ignore_errors=True)
-        timed([program, "init", "--system-id", "1"])
-        with open("script", "rb") as script:
-            text = best.take("run", [program, "run"], script)
-    count, took = text.count(" ok "), best.seconds["run"]
-    print("%d %s, %.0f MiB of WAL" % (count, what, size("wal") / MIB))
-    print("run     %.2f s, %.0f commands/s, %.0f MiB of memory" % (took, count / took, best.memory["run"]))
-
-
-def commands(program, rounds):
-    """50,000 patches of 8 bytes over 100 pages, and 20,000 pages that are put."""
-    put = ["change 5/16384@%d=8192,8192,0\n" % block for block in range(100)]
-    patches = ["change 5/16384@%d+%d:%016x\n" % (n % 100, 24 + n % 8160, n) for n in range(50_000)]
-    accepted(program, rounds, "commands, mostly small patches", put + patches)
-    puts = ["change 5/16384@%d=8192,8192,%d\n" % (block, block % 251) for block in range(20_000)]
-    accepted(program, rounds, "commands, mostly puts", puts)
-
-
 def main():
     program, archive = (os.path.abspath(path) for path in sys.argv[1:3])
     rounds = int(sys.argv[3]) if len(sys.argv) > 3 else 3
@@ -153,7 +129,6 @@ def main():
         images(program, archive, rounds, old)
         short(program, archive, rounds)
         grown(program, archive)
-        commands(program, rounds)
     finally:
         os.chdir("/")
         shutil.rmtree(folder)

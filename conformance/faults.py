@@ -94,9 +94,34 @@ def init_in_a_read_only_folder(program):
 def run_on_a_read_only_wal(program):
     program.store()
     os.chmod(program.at("wal", SEGMENT), 0o444)
+    for q in range(4):
+        os.mkdir(program.at("data%d" % q))
+        os.chmod(program.at("data%d" % q), 0o777)
     with read_only(program.at("wal")) as who:
         called = program.call(["run"], CREATIONS, **who)
     return ("wal", "open", "wal/" + SEGMENT, "Permission denied (os error 13)"), called
+
+
+def run_where_a_data_area_is_a_file(program):
+    program.store()
+    with open(program.at("data2"), "wb"):
+        pass
+    called = program.call(["run"], CREATIONS)
+    return ("data2", "readdir", "data2/", "Not a directory (os error 20)"), called
+
+
+def run_where_the_mark_is_a_folder(program):
+    program.store()
+    os.makedirs(program.at("data0", "rebuilding"))
+    called = program.call(["run"], CREATIONS)
+    return ("data0", "open", "data0/rebuilding", "Is a directory (os error 21)"), called
+
+
+def run_over_a_full_data_area(program):
+    program.store(CREATIONS)
+    with mounted(program.at("data1"), "size=4k"):
+        called = program.call(["run"], "worker w\nchange 5/1@0=24,8192,65\ncheckpoint\n")
+    return ("data1", "write", "data1/base/5/1", "No space left on device (os error 28)"), called
 
 
 def replay_into_a_read_only_folder(program):
@@ -172,6 +197,9 @@ def init_where_output_is_full(program):
 CASES = [
     init_in_a_read_only_folder,
     run_on_a_read_only_wal,
+    run_where_a_data_area_is_a_file,
+    run_where_the_mark_is_a_folder,
+    run_over_a_full_data_area,
     replay_into_a_read_only_folder,
     replay_onto_a_read_only_disk,
     replay_onto_a_full_disk,

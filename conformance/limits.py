@@ -2,9 +2,9 @@
 
     python3 conformance/limits.py PROGRAM 1 [SEED]
 
-Two forks get 32,768 pages each, four a line, over several segments of the WAL. Then come lines that
-the limits of a fork and of a store refuse, in any order, with some that they don't. Lines, status
-and the files of `wal` have to be the same.
+Two forks get 32,768 pages each, one of them four a line and one by a growth, over several segments of
+the WAL. Then come lines that the limits of a fork and of a store refuse, in any order, with some that
+they don't. Lines, status and the files of `wal` and of the data areas have to be the same.
 Not part of the gate. Skipped where the independent implementation (PGBACKUP_ORACLE) isn't there.
 """
 import os
@@ -24,15 +24,23 @@ change 5/9@0+24:61
 change 5/1@0=24,8192,1 5/1@1=24,8192,1 5/1@2=24,8192,1 5/1@3=24,8192,1
 create 5/4
 create 5/1
+grow 5/1@32767 3 24,8192,0
+grow 5/1@0 32769 24,8192,0
+grow 5/3@0 5 24,8192,0
+truncate 5/1 32760
+truncate 5/1 32768
+grow 5/3@0 9 24,8192,0
+checkpoint
+flush 100
 """.strip("\n").split("\n")
 
 
 def full_store(rnd):
     """A script that fills a store, and lines behind it."""
     lines = ["worker w", "create 5/1", "create 5/2", "create 5/3", "create 5/2_init"]
-    for fork in ("5/1", "5/2"):
-        for block in range(0, 32768, 4):
-            lines.append("change " + " ".join("%s@%d=24,8192,0" % (fork, block + n) for n in range(4)))
+    for block in range(0, 32768, 4):
+        lines.append("change " + " ".join("5/1@%d=24,8192,0" % (block + n) for n in range(4)))
+    lines.append("grow 5/2@0 32768 24,8192,0")
     return "\n".join(lines + rnd.sample(LAST, len(LAST))).encode()
 
 

@@ -4,9 +4,11 @@
 
 Each run makes a store with random options, runs one to three scripts of one worker on it, and
 replays its WAL, with both, each in a folder of its own. After each call the lines, the status and
-the bytes of `wal` and `o` are compared. Some scripts have one broken line, some stores can't be made.
-Lines change one to four blocks by pages and fragments, or are refused in each way that a small store
-knows. Entries go on over pages; now and then one ends just at a page's end, or a few bytes before it.
+the bytes of `wal`, `o` and the data areas are compared, and at the end what the data areas hold with
+what `replay` wrote. Some scripts have one broken line, some stores can't be made.
+Lines change one to four blocks by pages and fragments, grow and cut forks, or are refused in each way
+that a small store knows; checkpoints and flushes stand between them. Entries go on over pages; now and
+then one ends just at a page's end, or a few bytes before it.
 At times a script is run by the program in one call and in two, which must write the same WAL.
 Not part of the gate. Skipped where the independent implementation (PGBACKUP_ORACLE) isn't there.
 """
@@ -16,6 +18,7 @@ import os
 from common import ROOM, compare, files, oracle, program
 
 TOP = (1 << 32) - 1
+DATA = ("data0", "data1", "data2", "data3")
 NOT_ALLOWED = [0, 1, 8, 11, 12, 13, 27, 31, 127, 128, 195, 255]
 # Lines whose words are not taken.
 BROKEN = """
@@ -96,6 +99,38 @@ change 1/2@0+24:61+24:61
 change 1/2@0+24:61 1/2@1
 change 1/2@0+24:61 create
 change 1/2@0=24,8192,0 1/2@1=24,8192,256
+truncate
+truncate 1/2
+truncate 1/2 1 1
+truncate 1/2_init 0
+truncate 1/2@0 0
+truncate 0/2 0
+truncate 1/2 4294967296
+truncate 1/2 -1
+truncate 1/2 x
+grow
+grow 1/2@0
+grow 1/2@0 1
+grow 1/2@0 1 24,8192,0 1
+grow 1/2@0 0 24,8192,0
+grow 1/2@0 65537 24,8192,0
+grow 1/2@0 1 23,8192,0
+grow 1/2@0 1 24,8192
+grow 1/2 1 24,8192,0
+grow 1/2@ 1 24,8192,0
+grow 1/2@4294967296 1 24,8192,0
+grow 1/2@0=24,8192,0 1
+grow 1/2@0 1 =24,8192,0
+checkpoint 1
+checkpoint checkpoint
+Checkpoint
+flush
+flush 0
+flush 1000001
+flush 1 1
+flush -1
+flush 00000000001
+summarize
 """.strip("\n").split("\n")
 BROKEN.append("change" + 17 * " 1/2@0+24:61")
 BROKEN.append("change 1/2@0+24:" + 8193 * "61")
@@ -250,6 +285,62 @@ def a_change(rnd, store):
     return "change " + " ".join(words)
 
 
+def a_truncation(rnd, store):
+    """A cut in range, or one that is refused."""
+    mains = [fork for fork in sorted(store.blocks) if not fork[2]]
+    if not mains or rnd.random() < 0.1:
+        return "truncate %s %s" % (fork_word(rnd, a_fork(rnd)[:2] + ("",)), digits(rnd, rnd.randrange(4)))
+    fork = rnd.choice(mains)
+    length = store.blocks[fork]
+    to = rnd.choice([0, length, rnd.randrange(length + 1), rnd.randrange(length + 1), length + 1, TOP])
+    if to <= length:
+        store.blocks[fork] = to
+        store.take(48)
+    return "truncate %s %s" % (fork_word(rnd, fork), digits(rnd, to))
+
+
+def a_growth(rnd, store):
+    """Blocks put from a place on, all or none of them."""
+    forks = sorted(store.blocks)
+    if not forks or rnd.random() < 0.1:
+        fork, length = a_fork(rnd), 0
+        there = fork in store.blocks
+        length = store.blocks.get(fork, 0)
+    else:
+        fork = rnd.choice(forks)
+        there, length = True, store.blocks[fork]
+    at = rnd.choice([length, length, rnd.randrange(length + 1), length + 1, TOP])
+    count, (lower, upper) = rnd.choice([1, 2, 3, rnd.randrange(1, 12)]), a_shape(rnd, store.room)
+    if there and at <= length:
+        store.blocks[fork] = max(length, at + count)
+        for _ in range(count):
+            store.take((49 + 8192 - (upper - lower) + 7) // 8 * 8)
+    shape = ",".join(digits(rnd, n) for n in (lower, upper, rnd.randrange(256)))
+    return "grow %s %s %s" % (place_word(rnd, fork, at), digits(rnd, count), shape)
+
+
+def a_write(rnd, store):
+    """A checkpoint, or a flush."""
+    if rnd.random() < 0.5:
+        store.take(32 + 56)
+        return "checkpoint"
+    return "flush " + digits(rnd, rnd.choice([1, 2, 4, 7, rnd.randrange(1, 40), 1000]))
+
+
+def a_line(rnd, store):
+    """A line of a worker, or None where this store knows none of its kind."""
+    kind = rnd.random()
+    if kind < 0.25:
+        return a_creation(rnd, store)
+    if kind < 0.35:
+        return a_truncation(rnd, store)
+    if kind < 0.5:
+        return a_growth(rnd, store)
+    if kind < 0.65:
+        return a_write(rnd, store)
+    return a_change(rnd, store)
+
+
 def a_comment(rnd):
     return "#" + "".join(chr(rnd.choice([9] + list(range(32, 127)))) for _ in range(rnd.randrange(20)))
 
@@ -276,7 +367,7 @@ def good_lines(rnd, store):
         if kind < 0.1:
             lines.append(rnd.choice(["", a_comment(rnd)]))
             continue
-        line = a_creation(rnd, store) if kind < 0.35 else a_change(rnd, store)
+        line = a_line(rnd, store)
         if line is not None:
             lines.append(spaced(rnd, line))
     return lines, at
@@ -331,10 +422,15 @@ def both(path, words, script=b""):
     wanted = oracle(words, script)
     os.chdir("..")
     differences = [] if wanted == got else ["%s, not %s" % (got, wanted)]
-    for folder in ("wal", "o"):
+    for folder in ("wal", "o") + DATA:
         if files("theirs/" + folder) != files("ours/" + folder):
             differences.append("the files of %s differ" % folder)
     return ["%s %s: %s" % (" ".join(words), script, difference) for difference in differences]
+
+
+def held(folders):
+    """The files of several folders, together."""
+    return {name: data for folder in folders for name, data in files(folder).items()}
 
 
 def in_two_calls(path, rnd):
@@ -367,6 +463,9 @@ def one_run(path, rnd):
     good, bad = ["p", "a_9", "x" * 32], ["x" * 33, "P", "a.b", "", "p/q"]
     out = rnd.choice(bad if rnd.random() < 0.1 else good)
     differences += both(path, ["replay", out])
+    if os.path.isdir("ours/data0") and os.path.isdir("ours/o/" + out):
+        if held("ours/" + folder for folder in DATA) != files("ours/o/" + out):
+            differences.append("the data areas and %s differ" % out)
     if rnd.random() < 0.1:
         differences += both(path, ["replay", out])
     if rnd.random() < 0.3:
