@@ -1,5 +1,5 @@
 -- A text has one line with a key at its front.
-use Rattle.std.proofs.Common.{◌≡◌, ℕ, ◌+◌, ◌<◌, ◌==◌, false, List, [], ◌∷◌, ◌++◌, length, get_or, take, drop, Option, Some, None, IfSome, IfNone, zero, suc, refl, sym, ap, subst, ◌∙◌, arith}
+use Rattle.std.proofs.Common.{◌≡◌, ℕ, ◌+◌, ◌<◌, ◌==◌, false, List, [], ◌∷◌, ◌++◌, length, get_or, take, drop, Option, Some, None, IfNone, zero, suc, refl, sym, ap, subst, ◌∙◌, arith}
 use Rattle.std.specs.List.{position}
 use Rattle.std.specs.Option.{option_map}
 use Rattle.std.proofs.lemmas.List.{append_cancel_left, append_assoc}
@@ -10,11 +10,6 @@ use Rattle.backup_label.specs.Label.{HasNoLineEnd, IsKeyLine, HasKeyLine, line_t
 
 pub never_some : {A : Type 0} (x : A) → None ≡ Some x → ⊥
 never_some x e = cc
-
--- what holds of an answer, and of none, under other words
-pub when_some : {A : Type 0} (o : Option A) (P Q : A → Type 0) → ((x : A) → P x → Q x) → IfSome o P → IfSome o Q
-when_some None P Q f is = tt
-when_some (Some x) P Q f is = f x is
 
 pub when_none : {A : Type 0} (o : Option A) (P Q : Type 0) → (P → Q) → IfNone o P → IfNone o Q
 when_none None P Q f is = f is

@@ -16,7 +16,7 @@ use Rattle.shared_store.specs.Seen.{Seen}
 use Rattle.shared_store.specs.Opened.{Opened, count_of}
 use Rattle.crew.specs.declared.script.Command.TheVariants as command
 use Rattle.crew.specs.declared.order.Order.{Order}
-use Rattle.crew.specs.declared.answer.Answer.TheVariants.{Accepted, Refused, Grown, Stopped}
+use Rattle.crew.specs.declared.answer.Answer.TheVariants.{Accepted, Refused, Stopped}
 use Rattle.crew.specs.Orders.{op_asked, grow_op, grow_ops}
 use Rattle.crew.specs.Shape.{Shape}
 use Rattle.crew.specs.Run.{IsMade, Made, IsRefusedNow, span_end, span_of, TellsFault}
@@ -114,16 +114,6 @@ grows_more tells old now new before mid behind at shape k j span next place g i 
           ∙ ap (λ (p : Place). if k == 0 then span_of (one ∷ []) else record { start = p.start; end = (span_of (one ∷ [])).end }) g.span_is ∙ sym (span_more g.made one k g.count_is);
       count_is = omega (arith, length-append g.made (one ∷ []), g.count_is, e);
     }
-
-pub grown : (tells : Type 0) (old now : Seen) (before mid : Opened) (at : BlockId) (shape : Shape) (k : ℕ) (span : Place) → IsGrowing tells old now before mid at shape k span
-    → LineRuns tells (command.Grow at k shape) false old now before mid (Grown k span)
-grown tells old now before mid at shape k span g = record {
-  made = g.made;
-  went = g.went;
-  answered = (at, shape, refl, g.are, g.span_is);
-  risen = λ area t. absurd cc;
-  run = refl;
-}
 
 pub stopped : (tells : Type 0) (old now new : Seen) (before mid behind : Opened) (at : BlockId) (shape : Shape) (k count : ℕ) (span : Place) (why : InsertFault) → IsGrowing tells old now before mid at shape k span
     → Inserts tells (grow_op at shape k) now new mid behind (Err why) → k < count → LineRuns tells (command.Grow at count shape) false old new before behind (Stopped k why)

@@ -1,5 +1,5 @@
 -- Checkpoints and flushes.
-use Rattle.std.proofs.Common.{◌≡◌, ℕ, suc, ◌≤◌, ◌&&◌, Bool, true, false, List, [], ◌∷◌, ◌++◌, length, take, Some, None, Option, refl, ap, sym, subst, ◌∙◌, arith, inl, inr}
+use Rattle.std.proofs.Common.{◌≡◌, ℕ, suc, ◌&&◌, Bool, true, false, List, [], ◌∷◌, ◌++◌, length, take, Some, None, Option, refl, ap, sym, subst, ◌∙◌, arith, inl, inr}
 use Rattle.std.specs.List.{All}
 use Rattle.std.specs.Option.{is_some}
 use Rattle.std.specs.Prelude.{slice_get}
@@ -17,7 +17,7 @@ use Rattle.shared_store.specs.Seen.{Seen, StaysBy, is_by, is_number, accepted_by
 use Rattle.shared_store.specs.Opened.{Opened, StoreCause, count_of}
 use Rattle.shared_store.specs.Calls.{GoesOn, HasCheckpoint, MayHaveMarks, MarkCause, MayBeFull, FindsNoRoom, IsMarkOf}
 use Rattle.crew.specs.declared.script.Command.TheVariants as command
-use Rattle.crew.specs.declared.answer.Answer.TheVariants.{Redo, CheckpointRefused, Wrote, CallFailed}
+use Rattle.crew.specs.declared.answer.Answer.TheVariants.{Redo, CheckpointRefused, CallFailed}
 use Rattle.crew.specs.Run.{IsOfWorker, IsCheckpointRefused, HasCheckpointAt, mark_stop}
 use Rattle.crew.specs.Running.{Knows, WentOn, LineRuns}
 use Rattle.crew.proofs.Lists.{next_there, second_there, up_to_here}
@@ -109,9 +109,6 @@ not_redone tells old new before behind why k m cause full stays whole accepted g
 }
 
 -- ---- flushes
-
-pub wrote : (tells : Type 0) (old now : Seen) (before mid : Opened) (k count : ℕ) → WentOn old now before mid [] → k ≤ count → LineRuns tells (command.Flush count) false old now before mid (Wrote k)
-wrote tells old now before mid k count w le = record { made = []; went = w; answered = (count, refl, refl, le); risen = λ area t. absurd cc; run = refl }
 
 fault_risen : (before behind : Opened) (why : StoreFault) (area : StoreArea) → StoreCause before.faults behind.faults why → Some why ≡ Some (store.Failed area) → Rose (count_of area before.faults) (count_of area behind.faults)
 fault_risen before behind (store.Failed other) area cause e =

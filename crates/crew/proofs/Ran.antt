@@ -6,13 +6,13 @@ use Rattle.lsn_core.specs.declared.fault.StoreArea.{StoreArea}
 use Rattle.lsn_core.specs.Causes.{Rose}
 use Rattle.history.specs.Entry.{Entry}
 use Rattle.history.proofs.Pushes.{all_weaker}
-use Rattle.shared_store.specs.Seen.{Seen, accepted_by}
+use Rattle.shared_store.specs.Seen.{Seen}
 use Rattle.shared_store.specs.Opened.{Opened, count_of}
 use Rattle.crew.specs.declared.script.Command.{Command}
 use Rattle.crew.specs.declared.script.Line.{Line}
 use Rattle.crew.specs.declared.answer.Answer.{Answer}
 use Rattle.crew.specs.declared.answer.Answer.TheVariants.{NotRun}
-use Rattle.crew.specs.Run.{LineAnswer, Answered, InOrder, TellsFault, FaultsRose, RunsLines, stops_with}
+use Rattle.crew.specs.Run.{LineAnswer, Answered, InOrder, TellsFault, FaultsRose, stops_with}
 use Rattle.crew.specs.Running.{Knows, WentOn, LineRuns}
 use Rattle.crew.proofs.Moments.{answered_more, order_more, stopped_by, stopped_more}
 use Rattle.crew.proofs.Steps.{rose_on, rose_from, went_nowhere, went_further}
@@ -74,22 +74,3 @@ runs_more tells old now new before mid behind lines more line answers after answ
     subst (λ (ls : List Line). IsRunning tells old new before behind ls after next) (sym e)
     (subst (λ (xs : List Answer). IsRunning tells old new before behind (lines ++ (line ∷ [])) xs next) (sym f)
     (subst (λ (b : Bool). IsRunning tells old new before behind (lines ++ (line ∷ [])) (answers ++ (answer ∷ [])) b) (sym s) grown))
-
-pub all_run : (tells : Type 0) (old now : Seen) (before behind : Opened) (lines taken : List Line) (answers : List Answer) (stopped : Bool) → taken ≡ lines → IsRunning tells old now before behind taken answers stopped
-    → RunsLines tells lines old now before behind answers
-all_run tells old now before behind lines taken answers stopped e r =
-    record {
-      run = record {
-        stays = r.went.stays;
-        own = r.went.own;
-        grown = r.went.grown;
-        by = r.went.by;
-        answered = subst (λ (ls : List Line). Answered tells before.settings.segment old.worker now.list (length old.list) ls answers (accepted_by old.worker r.went.own) (length now.list)) e
-            (subst (λ (es : List Entry). Answered tells before.settings.segment old.worker now.list (length old.list) taken answers es (length now.list)) (sym r.went.made_is) r.answered);
-        counted = r.went.counted ∙ ap (λ (es : List Entry). old.accepted + length es) (sym r.went.made_is);
-        order = r.order;
-      };
-      whole = r.went.whole;
-      goes_on = r.went.goes_on;
-      risen = r.risen;
-    }

@@ -1,22 +1,18 @@
 -- The block references of a record redone in turn.
-use Rattle.std.proofs.Common.{◌≡◌, ℕ, ◌+◌, ◌<◌, ◌≤◌, List, [], ◌∷◌, ◌++◌, length, take, map, get_or, ◌⊎◌, inl, inr, sym, subst, IfSome, Option, Some, None, refl, ap, ◌∙◌, arith}
+use Rattle.std.proofs.Common.{◌≡◌, ℕ, ◌+◌, ◌<◌, ◌≤◌, List, [], ◌∷◌, ◌++◌, length, take, map, get_or, ◌⊎◌, inl, inr, sym, Option, Some, None, refl, ap, ◌∙◌, arith}
 use Rattle.std.specs.Prelude.{slice_get}
 use Rattle.std.proofs.lemmas.Option.{slice_get_cases}
 use Rattle.wal_record.specs.declared.record.Record.{Record}
-use Rattle.wal_record.specs.declared.record.Kind.{Kind}
-use Rattle.wal_record.specs.declared.record.Kind.TheVariants.{Images, Generic}
 use Rattle.wal_record.specs.declared.record.BlockRef.{BlockRef}
 use Rattle.wal_record.specs.Spelling.{blocks_of}
-use Rattle.history.specs.Whole.{item_of, act_with}
+use Rattle.history.specs.Whole.{item_of}
 use Rattle.history.specs.Redo.{redone, redo}
-use Rattle.std.proofs.Math.Seq.{take-length}
 use Rattle.history.proofs.Pushes.{map_more}
-use Rattle.generic_redo.specs.Redo.{block_ref, ref_redone}
+use Rattle.generic_redo.specs.Redo.{ref_redone}
 use Rattle.byte_words.specs.Numbers.{◌>>=◌}
 use Rattle.lsn_core.specs.Store.{Store}
 use Rattle.history.specs.declared.op.Item.{Item}
-use Rattle.history.specs.Apply.{Rule, item_by, items_by, act_by}
-use Rattle.history.specs.Applied.{IsApplicable, IsApplicableBlock}
+use Rattle.history.specs.Apply.{Rule, item_by, items_by}
 
 last : (o : Option Store) → (o >>= λ t. Some t) ≡ o
 last None = refl
@@ -50,23 +46,3 @@ refs_more r i s within = go (slice_get_cases (blocks_of r.kind) i).1
         one_more r.end.0 s (blocks_of r.kind) i h.0 within (sym h.3)
         ∙ ap (λ (o : Option BlockRef). refs_redone r i s >>= λ t. o >>= λ b. item_by redone r.end.0 t (item_of b)) (sym h.2)
     go (inr h) = absurd (let past = h.0 in omega (arith, past, within))
-
--- all of them, which is what the record's redo is
-pub images_redone : (r : Record) (blocks : List BlockRef) (s : Store) → r.kind ≡ Images blocks → refs_redone r (length blocks) s ≡ redo s r
-images_redone r blocks s is =
-    subst (λ (k : Kind). items_by redone r.end.0 s (map item_of (take (length blocks) (blocks_of k))) ≡ act_by redone r.end.0 s (act_with (map item_of) k)) (sym is)
-    (ap (λ (bs : List BlockRef). items_by redone r.end.0 s (map item_of bs)) (take-length blocks))
-
-pub generic_redone : (r : Record) (blocks : List BlockRef) (s : Store) → r.kind ≡ Generic blocks → refs_redone r (length blocks) s ≡ redo s r
-generic_redone r blocks s is =
-    subst (λ (k : Kind). items_by redone r.end.0 s (map item_of (take (length blocks) (blocks_of k))) ≡ act_by redone r.end.0 s (act_with (map item_of) k)) (sym is)
-    (ap (λ (bs : List BlockRef). items_by redone r.end.0 s (map item_of bs)) (take-length blocks))
-
--- each reference of a record that may be applied can be redone
-pub applicable_ref : (r : Record) (i : ℕ) → IsApplicable r.kind → IfSome (block_ref r i) IsApplicableBlock
-applicable_ref r i all = go (slice_get_cases (blocks_of r.kind) i).1
-  where
-    go : ((b : BlockRef) × (i < length (blocks_of r.kind)) × (slice_get (blocks_of r.kind) i ≡ Some b) × (get_or (blocks_of r.kind) i b ≡ b)) ⊎ ((length (blocks_of r.kind) ≤ i) × (slice_get (blocks_of r.kind) i ≡ None))
-        → IfSome (block_ref r i) IsApplicableBlock
-    go (inl h) = subst (λ (o : Option BlockRef). IfSome o IsApplicableBlock) (sym h.2) (subst IsApplicableBlock h.3 (all i h.0 h.1))
-    go (inr h) = subst (λ (o : Option BlockRef). IfSome o IsApplicableBlock) (sym h.1) tt

@@ -59,9 +59,6 @@ get_filled [] k c z = get_zeros k c z
 get_filled (x ∷ xs) k zero z = refl
 get_filled (x ∷ xs) k (suc c) z = get_filled xs k c z
 
-page_in : List ℕ → ℕ → Option ForkPages → List ℕ
-page_in z block o = get_or (unwrap_or o []) block z
-
 not_same : (c b : ℕ) → (c == b) ≡ false → c ≡ b → ⊥
 not_same c b f e = true≢false (sym (eq-eqb c b e) ∙ f)
 

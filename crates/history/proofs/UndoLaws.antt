@@ -93,22 +93,10 @@ fork_unmade s fork e = go (get s fork) refl e
     go None is e = ap (λ (o : Option ForkPages). remove (cond (is_some o) s (insert s fork [])) fork) is ∙ unmade s fork [] is
     go (Some pages) is e = absurd cc
 
--- a fork that was given its first pages alone, and one that is given its pages back
-pub first_given : (s : Store) (fork : ForkId) (count : ℕ) → with_pages s fork (take count (pages_of s fork)) ≡ with_cut s fork count
-first_given s fork count = go (get s fork)
-  where
-    go : (o : Option ForkPages) → with_pages_found s fork (take count (unwrap_or o [])) o ≡ with_cut_pages s fork count o
-    go None = refl
-    go (Some pages) = refl
-
 pub given_back : (s : Store) (fork : ForkId) (old new : ForkPages) → get s fork ≡ Some old → with_pages (with_pages s fork new) fork old ≡ s
 given_back s fork old new found =
     ap (λ (o : Option ForkPages). with_pages (with_pages_found s fork new o) fork old) found
     ∙ ap (with_pages_found (insert s fork new) fork old) (now_there s fork new) ∙ put_back s fork old new found
-
-pub none_given : (s : Store) (fork : ForkId) (a b : ForkPages) → get s fork ≡ None → with_pages (with_pages s fork a) fork b ≡ s
-none_given s fork a b none =
-    ap (λ (o : Option ForkPages). with_pages (with_pages_found s fork a o) fork b) none ∙ ap (with_pages_found s fork b) none
 
 -- one change more
 pub steps-push : (us : List Step) (u : Step) (s : Store) → undone_steps (us ++ (u ∷ [])) s ≡ undone_steps us (undone_step u s)

@@ -22,7 +22,6 @@ use Rattle.journal.specs.Lawful.{StandInPlace, IsLawful}
 use Rattle.journal.specs.Laws.{HistoriesEndAtAnEntry}
 use Rattle.journal.proofs.Stands.{start_later}
 use Rattle.journal.specs.Journal.{IsEndOf}
-use Rattle.std.proofs.lemmas.List.Folds.{list_any-append}
 
 abbrev pub entry_ends : List Entry → List ℕ
 entry_ends es = map (λ e. e.end) es
@@ -134,10 +133,6 @@ history_some mib history lawful = subst (λ h. 0 < length h) (sym lawful.grown) 
 
 pub ends_at_entry : HistoriesEndAtAnEntry
 ends_at_entry mib history lawful = entries_end (first_tip mib) history (history_some mib history lawful)
-
--- an end of a history is one of a longer one, and so is that of the entry that is added
-pub ends_stay : (history more : List Entry) (at : ℕ) → IsEndOf history at → IsEndOf (history ++ more) at
-ends_stay history more at end = list_any-append (λ (e : Entry). e.end == at) history more ∙ ap (λ b. b || list_any (λ (e : Entry). e.end == at) more) end
 
 pub end_pushed : (history : List Entry) (e : Entry) → IsEndOf (history ++ (e ∷ [])) e.end
 end_pushed [] e = ap (λ b. b || false) (eq-eqb e.end e.end refl)

@@ -206,10 +206,6 @@ mark_follows log o history pages marking told store made = record {
   done = λ end fits. (store, refl, ap page_count (same_store store told.lawful.store (sym made ∙ told.lawful.made)) ∙ told.counted);
 }
 
--- the history has room
-pub room_told : (log : Log) → IsLog log → log.tip.count < 2 ^ 50
-room_told log is = omega (arith, is.within.count, is.within.most, is.segment.most)
-
 -- ---- what a journal keeps
 
 abbrev pub Keeps : {V : Type 0} → Ghosts V → Bool → WalState V → List Entry → ℕ → Type 0

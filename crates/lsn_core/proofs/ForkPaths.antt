@@ -69,10 +69,6 @@ no_folder path behind tail db is at fits none other name small e =
     let same = front_once behind db other tail (47 ∷ name) (omega (arith, fits)) (omega (arith, small)) at (is_front behind other (47 ∷ name) behind-is refl) in
     none name same.1
 
--- the path of a fork whose numbers fit
-pub no_database : (path : List ℕ) → IsInNoDatabase path → NamesNoFork path
-no_database path none fork seg incr named e = none fork.rel.db (file_name incr fork.rel.rel fork.kind seg) named.db_fits e
-
 -- a path leads into one database
 in_once : (path name other : List ℕ) (db n : ℕ) → db < 2 ^ 32 → n < 2 ^ 32 → path ≡ in_database db name → path ≡ in_database n other → (db ≡ n) × (name ≡ other)
 in_once path name other db n fits small is e =

@@ -4,13 +4,12 @@ use Rattle.std.specs.Result.{IsErrAnd}
 use Rattle.serde_json.specs.Data.{Data}
 use Rattle.serde_json.specs.View.{items_view}
 use Rattle.serde_json.specs.declared.value.Value.{Value}
-use Rattle.manifest.specs.Shape.{Top, top_in, only_range, Parts, IsParts, IsRange, IsArranged, version_in}
+use Rattle.manifest.specs.Shape.{Top, top_in, only_range, Parts, IsParts, IsRange, version_in}
 use Rattle.manifest.specs.Answers.{PartsAnswers}
 use Rattle.manifest.specs.Listing.{Listing}
 use Rattle.manifest.specs.Reading.{ValueAnswers}
 use Rattle.manifest.specs.declared.fault.ManifestFault.{ManifestFault}
 use Rattle.manifest.specs.declared.fault.ManifestFault.TheVariants.{Lines, Sum, Json, Version, Shape, SumKind, TimelineIs, NoMemory}
-use Rattle.manifest.specs.declared.shape.RawRow.{RawRow}
 
 abbrev top_or : Top → Option Top → Top
 top_or top None = top
@@ -23,11 +22,6 @@ same_top d top parts e is = ap (top_or top) (sym is.read ∙ e)
 pub no_range : (d : Data) (top : Top) → top_in d ≡ Some top → ((start end : ℕ) → IsRange top.range start end → ⊥) → (parts : Parts) → IsParts d parts → ⊥
 no_range d top e none parts is =
     none parts.start parts.end (subst (λ (t : Top). IsRange t.range parts.start parts.end) (same_top d top parts e is) is.range)
-
--- a path stands twice
-pub no_order : (d : Data) (top : Top) → top_in d ≡ Some top → ((rows : List RawRow) → IsArranged top.rows rows → ⊥) → (parts : Parts) → IsParts d parts → ⊥
-no_order d top e none parts is =
-    none parts.rows (subst (λ (t : Top). IsArranged t.rows parts.rows) (same_top d top parts e is) is.rows)
 
 -- several ranges
 pub several : (list : List Value) → 2 ≤ length list → only_range (items_view list) ≡ None

@@ -11,7 +11,7 @@ use Rattle.manifest.specs.Shape.{is_path, row_in, rows_in, range_in, top_in}
 use Rattle.manifest.specs.declared.listing.FileRow.{FileRow}
 use Rattle.manifest.specs.declared.shape.RawRow.{RawRow}
 use Rattle.manifest.specs.declared.shape.RawRange.{RawRange}
-use Rattle.manifest.proofs.Lexed.{row_tree, rows_tree, top_tree, top_text, Fits64, tokens-top}
+use Rattle.manifest.proofs.Lexed.{rows_tree, top_tree, top_text, Fits64, tokens-top}
 
 abbrev row_data : FileRow → Data
 row_data row =
@@ -42,9 +42,6 @@ top_data system rows start end sum =
 rows-depth : (rows : List FileRow) → tree.items_depth (rows_tree rows) ≤ 1
 rows-depth [] = omega arith
 rows-depth (row ∷ rows) = omega (arith, rows-depth rows)
-
-of-row : (row : FileRow) → row.size < 2 ^ 64 → of_json (row_tree row) ≡ Some (row_data row)
-of-row row fits = rw (number_of-decimal row.size fits) refl
 
 of-rows : (rows : List FileRow) → Fits64 rows → of_items (rows_tree rows) ≡ Some (rows_data rows)
 of-rows [] fits = refl

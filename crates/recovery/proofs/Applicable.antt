@@ -5,11 +5,7 @@ use Rattle.std.proofs.lemmas.List.Elements.{All-nil, All-cons, All-head, All-tai
 use Rattle.wal_record.specs.declared.record.BlockRef.{BlockRef}
 use Rattle.wal_record.specs.declared.record.Body.{Body}
 use Rattle.wal_record.specs.declared.record.Body.TheVariants.{Image, Delta}
-use Rattle.wal_record.specs.declared.record.Kind.{Kind}
-use Rattle.wal_record.specs.declared.record.Kind.TheVariants as kinds
 use Rattle.wal_record.specs.Sound.{IsSound, IsSoundBlock, IsSoundBody}
-use Rattle.wal_record.specs.Spelling.{IsWritable}
-use Rattle.wal_record.proofs.Sounding.{written_sound}
 use Rattle.history.specs.Applied.{IsApplicable, IsApplicableBlock, IsApplicableBody}
 
 body_applies : (body : Body) → IsSoundBody body → IsApplicableBody body
@@ -21,17 +17,3 @@ blocks_apply [] sound = All-nil IsApplicableBlock
 blocks_apply (b ∷ bs) sound =
     let own : IsSoundBlock b = All-head IsSoundBlock b bs sound in
     All-cons IsApplicableBlock b bs (record { number = own.number; body = body_applies b.body own.body }) (blocks_apply bs (All-tail IsSoundBlock b bs sound))
-
-pub sound_applies : (kind : Kind) → IsSound kind → IsApplicable kind
-sound_applies (kinds.Shutdown redo) sound = All-nil IsApplicableBlock
-sound_applies (kinds.Online redo) sound = All-nil IsApplicableBlock
-sound_applies (kinds.RedoMark n) sound = All-nil IsApplicableBlock
-sound_applies kinds.NoOp sound = All-nil IsApplicableBlock
-sound_applies (kinds.BackupEnd start) sound = All-nil IsApplicableBlock
-sound_applies (kinds.Images blocks) sound = blocks_apply blocks sound.0
-sound_applies (kinds.Generic blocks) sound = blocks_apply blocks sound
-sound_applies (kinds.Create fork) sound = All-nil IsApplicableBlock
-sound_applies (kinds.Truncate rel count flags) sound = All-nil IsApplicableBlock
-
-pub written_applies : (kind : Kind) → IsWritable kind → IsApplicable kind
-written_applies kind writable = sound_applies kind (written_sound kind writable)

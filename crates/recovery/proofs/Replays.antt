@@ -2,13 +2,10 @@
 use Rattle.std.proofs.Common.{◌≡◌, ℕ, ◌≤◌, inl, inr, List, [], ◌∷◌, ◌++◌, Option, Some, None, Ok, Err, IfSome, map, sym, ap, subst, ◌∙◌, arith}
 use Rattle.std.specs.FinMap.{empty}
 use Rattle.byte_words.specs.Told.{when_told}
-use Rattle.lsn_core.specs.Causes.{Rose, HasCause}
 use Rattle.lsn_core.specs.Files.{Files}
 use Rattle.lsn_core.specs.Segment.{StoreSettings, segment_bytes}
 use Rattle.lsn_core.specs.Store.{Store}
 use Rattle.lsn_core.specs.Tip.{Tip}
-use Rattle.lsn_core.specs.declared.fault.AreaFault.{AreaFault}
-use Rattle.lsn_core.specs.declared.fault.AreaFault.TheVariants as area
 use Rattle.lsn_core.specs.declared.lsn.Lsn.{Lsn}
 use Rattle.lsn_core.specs.declared.pages.Pages.{Ghosts as PagesGhosts}
 use Rattle.vault.specs.Frame.{OnlyReads}
@@ -25,8 +22,8 @@ use Rattle.recovery.specs.declared.redo.Tally.{Tally}
 use Rattle.recovery.specs.declared.replaying.Replayed.{Replayed}
 use Rattle.recovery.specs.declared.replaying.Progress.{Progress}
 use Rattle.recovery.specs.Replay.{replayed_to, ending_by, last_end, found_to, IsRead, IsReadWal, first_bad, HasBadDelta}
-use Rattle.recovery.specs.Reading.{IsReadTo, read_causes}
-use Rattle.recovery.specs.Causes.{CauseOf, replay_causes}
+use Rattle.recovery.specs.Reading.{IsReadTo}
+use Rattle.recovery.specs.Causes.{CauseOf}
 use Rattle.recovery.specs.Replayed.{ShowsWhole, IsReplayed, into_causes}
 use Rattle.recovery.specs.Inside.{fork_tally, IsTallyOf, RedoesCounted, StepsTo, AddsTo, Takes, IsFinished, FinishAnswer}
 use Rattle.recovery.proofs.Redoing.{nothing_redone, both_redone, redo_all-push}
@@ -40,44 +37,6 @@ no_tally = fork_tally None
 
 tally_is : (t : Tally) → t.forks ≡ 0 → t.pages ≡ 0 → t ≡ no_tally
 tally_is t forks pages = λ i. record { forks = forks i; pages = pages i }
-
--- ---- refusals
-
--- what a reading is refused for, a replay is
-pub cause_into : (s : StoreSettings) (upto : Option Lsn) (files : Option Files) (fresh : Type 0) (before now : ℕ) (f : RecoveryFault) → CauseOf (read_causes s upto files) before now f → CauseOf (into_causes s upto files fresh) before now f
-cause_into s upto files fresh before now (fault.Damaged mib damage) cause = cause
-cause_into s upto files fresh before now (fault.Short end target) cause = cause
-cause_into s upto files fresh before now (fault.BadDelta place) cause = absurd cause
-cause_into s upto files fresh before now fault.SettingsDamaged cause = cause
-cause_into s upto files fresh before now (fault.Timeline name) cause = cause
-cause_into s upto files fresh before now fault.NotInit cause = cause
-cause_into s upto files fresh before now fault.Failed cause = cause
-cause_into s upto files fresh before now fault.NoMemory cause = cause
-
--- and so is a replay from nothing
-pub cause_read : (s : StoreSettings) (upto : Option Lsn) (files : Option Files) (before now : ℕ) (f : RecoveryFault) → CauseOf (read_causes s upto files) before now f → CauseOf (replay_causes s upto files) before now f
-cause_read s upto files before now (fault.Damaged mib damage) cause = cause
-cause_read s upto files before now (fault.Short end target) cause = cause
-cause_read s upto files before now (fault.BadDelta place) cause = absurd cause
-cause_read s upto files before now fault.SettingsDamaged cause = cause
-cause_read s upto files before now (fault.Timeline name) cause = cause
-cause_read s upto files before now fault.NotInit cause = cause
-cause_read s upto files before now fault.Failed cause = cause
-cause_read s upto files before now fault.NoMemory cause = cause
-
--- over pages that show the empty store a replay is refused as one from nothing
-pub cause_fresh : (s : StoreSettings) (upto : Option Lsn) (files : Option Files) (fresh : Type 0) (before now : ℕ) (f : RecoveryFault) → fresh → CauseOf (into_causes s upto files fresh) before now f → CauseOf (replay_causes s upto files) before now f
-cause_fresh s upto files fresh before now (fault.Damaged mib damage) is cause = cause
-cause_fresh s upto files fresh before now (fault.Short end target) is cause = cause
-cause_fresh s upto files fresh before now (fault.BadDelta place) is cause = when_told files (λ m. fresh → HasBadDelta s m upto place) (λ m. HasBadDelta s m upto place) (λ m bad. bad is) cause
-cause_fresh s upto files fresh before now fault.SettingsDamaged is cause = cause
-cause_fresh s upto files fresh before now (fault.Timeline name) is cause = cause
-cause_fresh s upto files fresh before now fault.NotInit is cause = cause
-cause_fresh s upto files fresh before now fault.Failed is cause = cause
-cause_fresh s upto files fresh before now fault.NoMemory is cause = cause
-
-pub out_later : (before now later : ℕ) (why : AreaFault) → before ≤ now → HasCause {T = Unit {0}} now later (Err why) → why ≡ area.Failed → Rose before later
-out_later before now later why le cause is = omega (arith, le, cause.failed (ap (λ (f : AreaFault). Err f) is))
 
 -- ---- entries redone
 

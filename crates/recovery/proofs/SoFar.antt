@@ -78,10 +78,6 @@ abbrev pub taken : Option Lsn → List Record → List Record
 taken None rs = rs
 taken (Some target) rs = ending_by target.0 rs
 
-cond_push : (b : Bool) (r q : Record) (xs ys : List Record) → b ≡ true → ys ≡ xs ++ (q ∷ []) → cond b (r ∷ ys) ys ≡ cond b (r ∷ xs) xs ++ (q ∷ [])
-cond_push true r q xs ys e same = ap (λ (l : List Record). r ∷ l) same
-cond_push false r q xs ys e same = absurd cc
-
 either_push : (b : Bool) (r q : Record) (xs ys : List Record) → ys ≡ xs ++ (q ∷ []) → cond b (r ∷ ys) ys ≡ cond b (r ∷ xs) xs ++ (q ∷ [])
 either_push true r q xs ys same = ap (λ (l : List Record). r ∷ l) same
 either_push false r q xs ys same = same

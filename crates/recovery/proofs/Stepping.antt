@@ -25,8 +25,6 @@ use Rattle.recovery.specs.Replay.{found_to}
 use Rattle.recovery.specs.Reading.{IsReadTo, read_causes, ReadsThrough}
 use Rattle.recovery.specs.Causes.{CauseOf, fault_of}
 use Rattle.recovery.specs.Inside.{IsAtTarget, as_step, StepsTo, EndAnswer}
-use Rattle.history.specs.Applied.{IsApplicable}
-use Rattle.recovery.proofs.Applicable.{sound_applies}
 use Rattle.recovery.proofs.SoFar.{IsReadSoFar, none_read, one_more, at_end, at_damage, ends_short}
 
 -- ---- what is found up to a target
@@ -83,14 +81,6 @@ answered s c new files before now result fresh settings set answer =
 -- the WAL's room is far below 2^64 bytes
 room_fits : (mib place : ℕ) → mib ≤ 1024 → place ≤ wal_limit mib → place < 2 ^ 64
 room_fits mib place most within = omega (arith, most, within)
-
--- an entry that the cursor gave may be applied
-pub given_applies : {mib : ℕ} {tip : Tip} {r : Record} → IsGiven mib tip r → IsApplicable r.kind
-given_applies {mib} {tip} {r} given = sound_applies r.kind given.sound
-
--- an entry ends behind the WAL's beginning
-pub given_ends : {mib : ℕ} {tip : Tip} {r : Record} → IsGiven mib tip r → 0 < r.end.0
-given_ends {mib} {tip} {r} given = omega (arith, given.later)
 
 module _ {V : Type 0} (g : Ghosts V) where
   -- the area was only read, and the cursor gave these entries

@@ -15,7 +15,7 @@ use Rattle.lsn_core.specs.Files.{Files}
 use Rattle.lsn_core.specs.Names.{fork_path_bytes, IsNamed}
 use Rattle.lsn_core.specs.Store.{Store, ForkPages, fork_cmp}
 use Rattle.lsn_core.proofs.ForkOrder.{fork_cmp_total, fork_cmp-IsAntisymmetric}
-use Rattle.lsn_core.proofs.StoreFiles.{same_name, names_tie, name_itself}
+use Rattle.lsn_core.proofs.StoreFiles.{same_name, names_tie}
 use Rattle.rel_files.specs.Forks.{whole_pages, fork_lengths, Holds}
 use Rattle.rel_files.proofs.SegmentFiles.{renamed, first_file_tells}
 
@@ -61,13 +61,6 @@ fork_is_named relseg files store fork some holds there =
     of_some : (o : Option ForkPages) → is_some o ≡ true → ((pages : ForkPages) → o ≡ Some pages → IsNamed fork (length pages)) → IsNamed fork 0
     of_some None e named = absurd cc
     of_some (Some pages) e named = renamed fork (length pages) 0 (named pages refl) (omega arith)
-
-pub named_fork : (relseg : ℕ) (files : Files) (store : Store) (fork : ForkId) (i : ℕ) → 0 < relseg → Holds relseg files store → IsNamed fork 0 → i < length (keys files) → get_or (keys files) i [] ≡ fork_path_bytes fork 0 false
-    → contains_key store fork ≡ true
-named_fork relseg files store fork i some holds named l is =
-    let path = fork_path_bytes fork 0 false in
-    sym (first_file_tells relseg files store fork some holds named) ∙ contains_key-keys files path
-    ∙ any_placed (same_name path) (keys files) i l (subst (λ (name : List ℕ). same_name path name ≡ true) (sym is) (name_itself path))
 
 -- ---- the lengths in a map
 

@@ -88,6 +88,3 @@ mended_block store fork pages b held e l =
 
 pub mended_past : (store : Store) (fork : ForkId) (pages : ForkPages) (b : ℕ) → get store fork ≡ Some pages → length (whole_pages pages) ≤ b → block_of (mended store fork) fork b ≡ None
 mended_past store fork pages b e l = ap (λ (o : Option ForkPages). o >>= λ ps. slice_get ps b) (mended_get store fork pages e) ∙ slice_get_past (whole_pages pages) b l
-
-pub mended_gone : (store : Store) (fork : ForkId) (b : ℕ) → get store fork ≡ None → block_of (mended store fork) fork b ≡ None
-mended_gone store fork b e = ap (λ (o : Option ForkPages). o >>= λ ps. slice_get ps b) (mended_none store fork e)

@@ -57,6 +57,3 @@ noted_learned m n fork v is = record {
       (λ ne. subst (λ (o : Option ℕ). IsSome o) (sym (is.others q ne)) some);
   here = λ some. subst (λ (o : Option ℕ). IsSome o) (sym is.here) refl;
 }
-
-pub none_learned : (m : BTreeMap ForkId ℕ) (fork : ForkId) → Learns fork None m m
-none_learned m fork = record { kept = λ q is. is; here = λ is. absurd cc }

@@ -1,6 +1,5 @@
 -- What reads of segment files and their sizes tell of each store that the files hold.
-use Rattle.std.proofs.Common.{◌≡◌, ℕ, ◌+◌, ◌*◌, ◌/◌, ◌%◌, ◌^◌, ◌<◌, ◌≤◌, ⊎_elim, Bool, false, cond, nat_eq, List, [], length, Option, Some, None, IfSome, option_map, unwrap_or, refl, sym, ap, subst, ◌∙◌, arith}
-use Rattle.std.proofs.lemmas.Bool.{cases_lt, le-ltb, lt-ltb}
+use Rattle.std.proofs.Common.{◌≡◌, ℕ, ◌+◌, ◌*◌, ◌/◌, ◌%◌, ◌^◌, ◌<◌, ◌≤◌, false, nat_eq, List, [], length, Option, Some, None, IfSome, option_map, unwrap_or, refl, sym, ap, subst, ◌∙◌, arith}
 use Rattle.std.specs.FinMap.{get}
 use Rattle.lsn_core.specs.declared.ids.ForkId.{ForkId}
 use Rattle.lsn_core.specs.declared.ids.BlockId.{BlockId}
@@ -12,8 +11,7 @@ use Rattle.vault.specs.Area.{IsRead, ReadsIn, IsSizeIn, bytes_of}
 use Rattle.rel_files.specs.Forks.{whole_pages, mended}
 use Rattle.rel_files.specs.Shown.{AreFilesOf, whole_count}
 use Rattle.rel_files.specs.Inside.{whole_length, FindsLast}
-use Rattle.rel_files.proofs.Segments.{has_segment}
-use Rattle.rel_files.proofs.SegmentFiles.{renamed, page_is_read, file_is_there, length_by_last}
+use Rattle.rel_files.proofs.SegmentFiles.{page_is_read, file_is_there, length_by_last}
 use Rattle.rel_files.proofs.TornPuts.{whole_within}
 use Rattle.rel_files.proofs.ForkStores.{mended_block}
 
@@ -50,55 +48,11 @@ size_in relseg x s fork seg size held named is =
     told_at x (λ m. size ≡ option_map length (get m (fork_path_bytes fork seg false))) held.files held.are_told is
     ∙ ap (λ (o : Option (List ℕ)). option_map length o) (held.hold.segments fork seg named)
 
-in_pages : (relseg seg : ℕ) (pages : ForkPages) (size : ℕ) → Some size ≡ option_map length (segment_in relseg seg (Some pages)) → (seg < segment_count relseg (length pages)) × (size ≡ length (segment_content relseg pages seg))
-in_pages relseg seg pages size e =
-    ⊎_elim
-    (λ less. (less, (let f : Some size ≡ Some (length (segment_content relseg pages seg)) = e ∙ ap (λ (b : Bool). option_map length (cond b (Some (segment_content relseg pages seg)) None)) (lt-ltb seg (segment_count relseg (length pages)) less) in cc)))
-    (λ past. let f : Some size ≡ None = e ∙ ap (λ (b : Bool). option_map length (cond b (Some (segment_content relseg pages seg)) None)) (le-ltb seg (segment_count relseg (length pages)) past) in absurd cc)
-    (cases_lt seg (segment_count relseg (length pages)))
-
-past_pages : (relseg seg : ℕ) (pages : ForkPages) → None ≡ option_map length (segment_in relseg seg (Some pages)) → segment_count relseg (length pages) ≤ seg
-past_pages relseg seg pages e =
-    ⊎_elim
-    (λ less. let f : None ≡ Some (length (segment_content relseg pages seg)) = e ∙ ap (λ (b : Bool). option_map length (cond b (Some (segment_content relseg pages seg)) None)) (lt-ltb seg (segment_count relseg (length pages)) less) in absurd cc)
-    (λ past. past)
-    (cases_lt seg (segment_count relseg (length pages)))
-
 -- no fork that files hold has so many files
 abbrev pub EndsBefore : Option Files → ForkId → ℕ → Type 0
 EndsBefore x fork end = (relseg : ℕ) (s : Store) (pages : ForkPages) → 0 < relseg → AreFilesOf relseg x s → get s fork ≡ Some pages → segment_count relseg (length pages) ≤ end
 
-pub ends_here : (x : Option Files) (fork : ForkId) (seg : ℕ) → IsNamed fork seg → IsSizeIn x (fork_path_bytes fork seg false) None → EndsBefore x fork seg
-ends_here x fork seg named is relseg s pages some held there =
-    past_pages relseg seg pages (subst (λ (o : Option ForkPages). None ≡ option_map length (segment_in relseg seg o)) there (size_in relseg x s fork seg None held named is))
-
--- a fork has fewer files than a segment's number may say
-pub ends_somewhere : (x : Option Files) (fork : ForkId) → EndsBefore x fork 4294967295
-ends_somewhere x fork relseg s pages some held there =
-    let named = held.hold.named fork pages there in
-    ⊎_elim
-    (λ less. absurd (⊎_elim (λ first. omega (arith, first)) (λ within. omega (arith, within, some, named.seg_fits)) (has_segment relseg (length pages) 4294967295 some less)))
-    (λ done. done)
-    (cases_lt 4294967295 (segment_count relseg (length pages)))
-
--- the last file is the one behind which there is none
-pub last_found : (x : Option Files) (fork : ForkId) (last size end : ℕ) → last < end → end ≤ last + 1 → last < 2 ^ 32 → IsSizeIn x (fork_path_bytes fork last false) (Some size) → EndsBefore x fork end → FindsLast x fork (last, size)
-last_found x fork last size end order next fits is ends relseg s pages some held there =
-    let named = renamed fork (length pages) last (held.hold.named fork pages there) fits in
-    let here = in_pages relseg last pages size (subst (λ (o : Option ForkPages). Some size ≡ option_map length (segment_in relseg last o)) there (size_in relseg x s fork last (Some size) held named is)) in
-    let most = ends relseg s pages some held there in
-    record { count = omega (arith, here.0, most); bytes = here.1 }
-
 -- ---- how many whole pages a fork has
-
-pub none_counted : (relseg : ℕ) (x : Option Files) (s : Store) (fork : ForkId) → IsNamed fork 0 → AreFilesOf relseg x s → IsSizeIn x (fork_path_bytes fork 0 false) None → None ≡ whole_count s fork
-none_counted relseg x s fork named held is = by (get s fork) refl
-  where
-    by : (o : Option ForkPages) → get s fork ≡ o → None ≡ whole_count s fork
-    by None e = sym (ap (option_map (λ (pages : ForkPages). length (whole_pages pages))) e)
-    by (Some pages) e =
-        let none : segment_count relseg (length pages) ≤ 0 = past_pages relseg 0 pages (subst (λ (o : Option ForkPages). None ≡ option_map length (segment_in relseg 0 o)) e (size_in relseg x s fork 0 None held named is)) in
-        absurd (omega (arith, none))
 
 pub pages_counted : (relseg : ℕ) (x : Option Files) (s : Store) (fork : ForkId) (first last size n : ℕ) → 0 < relseg → IsNamed fork 0 → AreFilesOf relseg x s → IsSizeIn x (fork_path_bytes fork 0 false) (Some first) → FindsLast x fork (last, size)
     → (last * relseg + size / 8192 < 2 ^ 32 → n ≡ last * relseg + size / 8192) → Some n ≡ whole_count s fork

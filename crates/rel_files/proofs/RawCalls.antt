@@ -1,5 +1,5 @@
 -- The calls of a store in segment files, for every store that the files hold.
-use Rattle.std.proofs.Common.{◌≡◌, ◌==◌, ℕ, zero, suc, ◌+◌, ◌-◌, ◌≤◌, max, min, inl, inr, ⊎_elim, Bool, true, false, cond, List, [], ◌∷◌, ◌++◌, length, take, replicate, Option, Some, None, is_some, option_map, unwrap_or, refl, sym, ap, subst, ◌∙◌, arith}
+use Rattle.std.proofs.Common.{◌≡◌, ◌==◌, ℕ, zero, suc, ◌+◌, ◌-◌, max, min, inl, inr, ⊎_elim, Bool, true, false, cond, List, [], ◌∷◌, ◌++◌, length, take, replicate, Option, Some, None, is_some, option_map, unwrap_or, refl, sym, ap, subst, ◌∙◌, arith}
 use Rattle.std.proofs.lemmas.Bool.{cases_lt}
 use Rattle.std.specs.FinMap.{get, insert, contains_key}
 use Rattle.byte_words.specs.Pieces.{zero_page}
@@ -7,14 +7,13 @@ use Rattle.lsn_core.specs.declared.ids.ForkId.{ForkId}
 use Rattle.lsn_core.specs.declared.ids.BlockId.{BlockId}
 use Rattle.lsn_core.specs.Files.{Files}
 use Rattle.lsn_core.specs.Store.{Store, ForkPages}
-use Rattle.lsn_core.specs.Blocks.{block_count, block_of, pages_of, with_block, with_cut, with_fork}
-use Rattle.lsn_core.specs.Shown.{BlockAnswer}
+use Rattle.lsn_core.specs.Blocks.{block_count, pages_of, with_block, with_cut, with_fork}
 use Rattle.rel_files.specs.Forks.{AreHeld, is_whole, whole_pages, mended, AgreeOnOthers, page_over, IsTornCut, IsTornRemoval}
 use Rattle.rel_files.specs.Shown.{AreFilesOf, whole_count, IsTornMake}
 use Rattle.rel_files.specs.Inside.{whole_length}
 use Rattle.rel_files.proofs.Pages.{put, block_put, held_by, held_least, held_put, count_whole}
 use Rattle.rel_files.proofs.SegmentChanges.{pages_held}
-use Rattle.rel_files.proofs.ForkStores.{get_here, get_there, gone_there, mended_missing, mended_count, missing_count, mended_past, mended_gone, mended_others}
+use Rattle.rel_files.proofs.ForkStores.{get_here, get_there, gone_there, mended_missing, mended_count, missing_count, mended_others}
 use Rattle.rel_files.proofs.ForkCuts.{uncut, cut_missing, cut_get, cut_whole, cut_mended, cut_others}
 use Rattle.rel_files.proofs.ZeroPages.{over_within, over_past, block_behind, mended_pages_are, zero_size}
 
@@ -32,14 +31,6 @@ count_or_none s fork o e = ap (λ (n : Option ℕ). unwrap_or n 0) (e ∙ whole_
     by : (p : Option ForkPages) → unwrap_or (option_map (λ (pages : ForkPages). length (whole_pages pages)) p) 0 ≡ length (whole_pages (unwrap_or p []))
     by None = refl
     by (Some pages) = refl
-
--- there is no whole page from the last one on
-pub none_read : (s : Store) (at : BlockId) (page : List ℕ) → whole_length s at.fork ≤ at.block → BlockAnswer (mended s at.fork) at page page false
-none_read s at page le = (by (get s at.fork) refl, refl)
-  where
-    by : (o : Option ForkPages) → get s at.fork ≡ o → block_of (mended s at.fork) at.fork at.block ≡ None
-    by None e = mended_gone s at.fork at.block e
-    by (Some pages) e = mended_past s at.fork pages at.block e (subst (λ (o : Option ForkPages). length (whole_pages (unwrap_or o [])) ≤ at.block) e le)
 
 counted_is : (s : Store) (fork : ForkId) (o : Option ℕ) (n : ℕ) → o ≡ block_count (mended s fork) fork → o ≡ Some n → whole_count s fork ≡ Some n
 counted_is s fork o n e is = sym (whole_is s fork) ∙ sym e ∙ is

@@ -56,18 +56,6 @@ file_is_missing relseg files store fork pages seg holds there fits l =
 pub fork_has_no_file : (relseg : ℕ) (files : Files) (store : Store) (fork : ForkId) (seg : ℕ) → Holds relseg files store → get store fork ≡ None → IsNamed fork seg → get files (fork_path_bytes fork seg false) ≡ None
 fork_has_no_file relseg files store fork seg holds none named = holds.segments fork seg named ∙ ap (segment_in relseg seg) none
 
--- so a file tells whether its segment is one of the fork
-pub file_tells : (relseg : ℕ) (files : Files) (store : Store) (fork : ForkId) (pages : ForkPages) (seg : ℕ) → Holds relseg files store → get store fork ≡ Some pages → seg < 2 ^ 32
-    → is_some (get files (fork_path_bytes fork seg false)) ≡ nat_lt seg (segment_count relseg (length pages))
-file_tells relseg files store fork pages seg holds there fits =
-    ap (λ (o : Option (List ℕ)). is_some o) (holds.segments fork seg (renamed fork (length pages) seg (holds.named fork pages there) fits)
-    ∙ chosen_in relseg seg (get store fork) pages there (nat_lt seg (segment_count relseg (length pages))) refl)
-    ∙ whether (nat_lt seg (segment_count relseg (length pages))) (segment_content relseg pages seg)
-  where
-    whether : (b : Bool) (x : List ℕ) → is_some (cond b (Some x) None) ≡ b
-    whether true x = refl
-    whether false x = refl
-
 -- and the first one whether the fork is there
 pub first_file_tells : (relseg : ℕ) (files : Files) (store : Store) (fork : ForkId) → 0 < relseg → Holds relseg files store → IsNamed fork 0 → is_some (get files (fork_path_bytes fork 0 false)) ≡ is_some (get store fork)
 first_file_tells relseg files store fork some holds named = ap (λ (o : Option (List ℕ)). is_some o) (holds.segments fork 0 named) ∙ first (get store fork)

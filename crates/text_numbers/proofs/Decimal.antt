@@ -1,13 +1,12 @@
 -- What is written in decimal: its digits, its value and its length.
 use Rattle.std.proofs.Common.{◌≡◌, ◌≢◌, ℕ, ◌<◌, ◌≤◌, ◌^◌, true, false, Option, Some, None, IfNone, IfSome, Result, Ok, Err, List, [], ◌∷◌, length, get_or, zero, suc, refl, ap, sym, subst, arith, rules}
 use Rattle.std.specs.Fmt.{decimal}
-use Rattle.std.specs.Int.{IsInRange}
 use Rattle.std.specs.Str.{IsUtf8}
 use Rattle.std.specs.Str.Parse.{digits_value, ParsesUnsigned}
 use Rattle.std.specs.Result.{result_ok}
 use Rattle.std.proofs.lemmas.Str.{IsUtf8-from_ascii}
-use Rattle.std.proofs.lemmas.Str.Parse.{IsNumeralModel, IsDigitsTest, numerals_by_value, parse_digits, digit_at}
-use Rattle.std.proofs.lemmas.Fmt.{digits_decimal, IsAscii-from_digits, digits_value-decimal, decimal-digits_value, decimal_nonempty, first_decimal, decimal_digit, length-decimal-le}
+use Rattle.std.proofs.lemmas.Str.Parse.{IsNumeralModel, IsDigitsTest, numerals_by_value, parse_digits}
+use Rattle.std.proofs.lemmas.Fmt.{digits_decimal, IsAscii-from_digits, digits_value-decimal, decimal-digits_value, decimal_nonempty, first_decimal, decimal_digit}
 use Rattle.text_numbers.specs.Numbers.{all_digits}
 
 -- texts of decimal digits, in std's words
@@ -21,18 +20,10 @@ own = numerals_by_value _ tells
 pub decimal_is_digits : (n : ℕ) → n < 2 ^ 64 → all_digits (decimal n) ≡ true
 decimal_is_digits n small = digits_decimal own n small
 
--- each of its bytes is a digit
-pub digit_of_decimal : (n i : ℕ) → n < 2 ^ 64 → i < length (decimal n) → IsInRange 48 57 (get_or (decimal n) i 0)
-digit_of_decimal n i small within = digit_at (decimal n) i (own.to (decimal n) (decimal_is_digits n small)) within
-
 -- it has no leading zero
 pub no_leading_zero : (n : ℕ) → n < 2 ^ 64 → 1 < length (decimal n) → get_or (decimal n) 0 0 ≢ 48
 no_leading_zero zero small long first = omega (arith, ap length (decimal_digit 0 (omega arith)), long)
 no_leading_zero (suc n) small long first = omega (arith, first_decimal (suc n) (omega arith) small)
-
--- the text of a number below 2^32 has at most ten digits
-pub length_decimal : (n : ℕ) → n < 2 ^ 32 → length (decimal n) ≤ 10
-length_decimal n small = length-decimal-le 10 n (omega arith) (omega arith) (omega arith)
 
 one_digit : (text : List ℕ) → 0 < length text → (1 < length text → get_or text 0 0 ≢ 48) → get_or text 0 0 ≡ 48 → length text ≡ 1
 one_digit [] some first is_zero = absurd (omega arith)

@@ -257,12 +257,3 @@ zero_ends a mib system e zeros there =
           in
           rw (t, file, m) refl
     ]
-
--- behind a gap the archive doesn't end: why writing up to a segment's end, with later files that
--- hold only zeros, needs a premise
-pub gap_breaks : (a : Archive) (mib system e : ℕ) → e < a.top
-    → a.has_file (e / segment_bytes mib) ≡ false
-    → next_bytes a mib system e ≡ Err (missing (e / segment_bytes mib))
-unfolding next_bytes
-gap_breaks a mib system e some none =
-    (let t : leb a.top e ≡ false = lt-leb _ _ some in rw (t, none) refl)

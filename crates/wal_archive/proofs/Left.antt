@@ -15,15 +15,11 @@ use Rattle.wal_record.specs.declared.record.Record.{Record}
 use Rattle.wal_archive.specs.Archive.{Archive, IsArchive, is_segment, held_in, nth, byte_of, archive_of}
 use Rattle.wal_archive.specs.Rules.{Judge}
 use Rattle.wal_archive.proofs.Files.{nth_held, files_archive}
-use Rattle.wal_archive.proofs.Writes.{IsWritten, nth_past, nth_take, held_old, byte_at, segment_names_differ}
+use Rattle.wal_archive.proofs.Writes.{nth_past, nth_take, held_old, byte_at, segment_names_differ}
 use Rattle.wal_archive.proofs.Chain.{walks_extended}
 use Rattle.wal_archive.specs.Laws.{IsFair, IsKept}
 use Rattle.wal_archive.specs.Writing.{IsLeft}
 use Rattle.wal_archive.proofs.Read.{origin_end}
-
-pub left_of_written : (mib : ℕ) (old new : Archive) (from : ℕ) (piece : List ℕ)
-    → IsWritten mib old new from piece → IsLeft old new from (length piece)
-left_of_written mib old new from piece w = record { before = w.before; behind = w.behind }
 
 pub left_on : (old mid new : Archive) (from count more : ℕ) → IsLeft old mid from count
     → IsLeft mid new (from + count) more → IsLeft old new from (count + more)

@@ -180,27 +180,6 @@ kept_read judge mib system files rs news r tip last segments limit fair some mos
           (zero_ends (archive_of mib new) mib system last.end zeros gap);
     }
 
-pub written_read : (judge : Judge) (mib system : ℕ) (files : Files) (rs news : List Record)
-    (r : Record) (tip last : Tip) (segments : ℕ) → IsFair judge → 1 ≤ mib → mib ≤ 1024
-    → system < 2 ^ 64
-    → IsWal judge mib system files rs tip → IsChain judge mib tip (r ∷ news) last
-    → length (laid_out mib system tip.end (r ∷ news)) ≤ segments
-    → HasNoGap mib (archive_of mib
-    (archive_written mib segments tip.end (laid_out mib system tip.end (r ∷ news)) files))
-    last.end
-    → IsWal judge mib system (archive_written mib segments tip.end
-    (laid_out mib system tip.end (r ∷ news)) files) (rs ++ (r ∷ news)) last
-written_read judge mib system files rs news r tip last segments fair some most known wal chain
-    enough gap =
-    let kept = wal_kept judge mib system files rs tip fair some wal in
-    let reach = walk_reach judge mib system (archive_of mib files) (first_tip mib) rs tip some fair
-    (origin_end mib) wal.walk in
-    let room = room_of judge mib system tip r some reach.is_end chain.0 in
-    let later = (chain_reach judge mib system (tip_after tip r) news last some room.behind.is_end
-    chain.1).later in
-    kept_read judge mib system files rs news r tip last segments (start_after mib tip.end) fair some
-    most known kept (omega (arith, room.behind.start, later)) chain enough gap
-
 -- where nothing was held at or behind the new end, there is no gap
 pub no_gap : (mib : ℕ) (a new : Archive) (from e : ℕ) (piece : List ℕ) → IsArchive mib a
     → IsArchive mib new → IsWritten mib a new from piece → from + length piece ≤ e → a.top ≤ e

@@ -23,7 +23,7 @@ use Rattle.wal_archive.specs.Reading.{Says}
 use Rattle.byte_words.specs.Told.{when_told, when_both_told}
 use Rattle.wal_archive.proofs.Files.{nth_held}
 use Rattle.wal_archive.proofs.Runs.{bytes_held}
-use Rattle.wal_pages.proofs.Splits.{split, byte_split, mod_split}
+use Rattle.wal_pages.proofs.Splits.{split}
 use Rattle.wal_archive.proofs.Writes.{nth_past, nth_take, held_old, byte_at, at_split}
 
 pub run_read : (mib : ℕ) (m : Files) (x : ℕ) (before now : List ℕ) (count : ℕ) → 1 ≤ mib
@@ -89,10 +89,6 @@ ok_told (Ok n) None P Q step held = held
 ok_told (Ok n) (Some m) P Q step held = step m n held
 ok_told (Err e) o P Q step held = tt
 
--- the size of a segment is at least 1 MiB
-pub size_some : (mib : ℕ) → 1 ≤ mib → 0 < segment_bytes mib
-size_some mib some = omega (arith, some)
-
 -- a read at a segment's name tells a run of the archive
 pub run_told : (r : Result ℕ AreaFault) (o : Option Files) (mib x s off : ℕ)
     (name before now : List ℕ) → 1 ≤ mib → s ≡ x / segment_bytes mib → off ≡ x % segment_bytes mib
@@ -116,16 +112,6 @@ pub outside_told : (o : Option Files) (mib x s : ℕ) (now : List ℕ) → s ≡
 outside_told o mib x s now s_is out =
     all_told o (λ m. IsRunOf (archive_of mib m) x now 0)
     (λ m. run_outside mib m x now (subst (λ k. is_segment k ≡ false) s_is out))
-
--- a page lies in one segment
-pub page_in_segment : (mib x n : ℕ) → 1 ≤ mib → x % 8192 + n ≤ 8192
-    → x % segment_bytes mib + n ≤ segment_bytes mib
-page_in_segment mib x n some fits =
-    let c = split mib x some in
-    let o = byte_split mib x c.s c.p c.o c.split in
-    let m = mod_split mib x c.s c.p c.o c.split in
-    let page = c.split.page in
-    omega (arith, o, m, page, fits)
 
 -- bytes of which one isn't held
 pub bytes_missing : (a : Archive) (mib begin x n count : ℕ) → count < n
@@ -241,17 +227,3 @@ run_part a mib begin x bytes count d n run within fits =
     ∙ run.held (d + i) (omega (arith, less, lt, fits))
     ∙ ap Some (sym (get_or-take n (drop d bytes) i 0 (omega (arith, less, lt))
     ∙ get_or-drop d bytes i 0)))
-
-pub run_cut : (a : Archive) (mib begin x : ℕ) (bytes : List ℕ) (count d n : ℕ)
-    → IsRunOf a x bytes count → d ≤ count → count < d + n → d + n ≤ length bytes
-    → bytes_at a mib begin (x + d) n ≡ Err (not_held a mib begin (x + count))
-run_cut a mib begin x bytes count d n run from less within =
-    let at : x + d + (count - d) ≡ x + count = omega (arith, from) in
-    bytes_missing a mib begin (x + d) n (count - d) (omega (arith, from, less))
-    (λ i lt. (
-      get_or bytes (d + i) 0,
-      ap a.byte (let e : x + d + i ≡ x + (d + i) = omega arith in e)
-          ∙ run.held (d + i) (omega (arith, lt)),
-    ))
-    (ap a.byte at ∙ run.short (omega (arith, less, within)))
-    ∙ ap (λ k. let r : Result (List ℕ) Damage = Err (not_held a mib begin k) in r) at

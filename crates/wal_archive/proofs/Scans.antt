@@ -89,12 +89,6 @@ held_none_told o mib s name size is own size_is told =
 
 -- ---- one file
 
--- a name that no segment has tells of none
-pub past_unnamed : (o : Option Files) (ends : Files → ℕ → ℕ) (mib x : ℕ) (name : List ℕ)
-    → TellsSegment mib name None → IfSome o (λ m. TellsPast (ends m) mib x name false)
-past_unnamed o ends mib x name none =
-    all_told o (λ m. TellsPast (ends m) mib x name false) (λ m s is own. absurd (none s is own))
-
 -- of a segment's file its own end tells
 past_own : (ends : ℕ → ℕ) (mib x number : ℕ) (name : List ℕ) (b : Bool) → is_segment number ≡ true
     → name ≡ segment_name_bytes number mib → (b ≡ true → x < ends number)
@@ -336,29 +330,6 @@ abbrev pub ScannedTo : (ℕ → ℕ) → ℕ → ℕ → List (List ℕ) → ℕ
 ScannedTo ends mib x names count =
     (i : ℕ) → i < count → IsScanned ends mib x (get_or names i [])
 
-pub scanned_first : (o : Option Files) (ends : Files → ℕ → ℕ) (mib x : ℕ) (names : List (List ℕ))
-    (count : ℕ) → count ≡ 0
-    → IfSome o (λ m. ScannedTo (ends m) mib x names count)
-scanned_first o ends mib x names count none =
-    all_told o (λ m. ScannedTo (ends m) mib x names count)
-    (λ m i lt. absurd (omega (arith, lt, none)))
-
-pub scanned_more : (o : Option Files) (ends : Files → ℕ → ℕ) (mib x : ℕ) (names : List (List ℕ))
-    (count next : ℕ) (name : List ℕ)
-    → next ≡ count + 1 → name ≡ get_or names count []
-    → IfSome o (λ m. ScannedTo (ends m) mib x names count)
-    → IfSome o (λ m. TellsPast (ends m) mib x name false)
-    → IfSome o (λ m. ScannedTo (ends m) mib x names next)
-scanned_more o ends mib x names count next name more is so_far told =
-    when_both_told o (λ m. ScannedTo (ends m) mib x names count)
-    (λ m. TellsPast (ends m) mib x name false) (λ m. ScannedTo (ends m) mib x names next)
-    (λ m before here i lt. elim (cases_lt i count) [
-      | inl less ↦ before i less
-      | inr le ↦ subst (IsScanned (ends m) mib x)
-          (is ∙ ap (λ n. get_or names n []) (let e : count ≡ i = omega (arith, le, lt, more) in e))
-          here
-    ]) so_far told
-
 pub held_scanned : (o : Option Files) (mib x : ℕ) (names : List (List ℕ)) (count : ℕ)
     → length names ≤ count
     → IfSome o (λ m. names ≡ keys m) → IfSome o (λ m. ScannedTo (held_end mib m) mib x names count)
@@ -421,17 +392,6 @@ marked_reached_by o now mib x name b same is told =
     marked_reached o mib x name (subst
     (λ (k : Option Files). IfSome k (λ m. TellsPast (marked_end mib m) mib x name true)) same
     (subst (λ (k : Bool). IfSome now (λ m. TellsPast (marked_end mib m) mib x name k)) is told))
-
-pub scanned_on : (o now : Option Files) (ends : Files → ℕ → ℕ) (mib x : ℕ) (names : List (List ℕ))
-    (count next : ℕ) (name : List ℕ) (b : Bool)
-    → now ≡ o → b ≡ false → next ≡ count + 1 → name ≡ get_or names count []
-    → IfSome o (λ m. ScannedTo (ends m) mib x names count)
-    → IfSome now (λ m. TellsPast (ends m) mib x name b)
-    → IfSome o (λ m. ScannedTo (ends m) mib x names next)
-scanned_on o now ends mib x names count next name b same is more named so_far told =
-    scanned_more o ends mib x names count next name more named so_far
-    (subst (λ (k : Option Files). IfSome k (λ m. TellsPast (ends m) mib x name false)) same
-    (subst (λ (k : Bool). IfSome now (λ m. TellsPast (ends m) mib x name k)) is told))
 
 -- ---- why a byte isn't held
 

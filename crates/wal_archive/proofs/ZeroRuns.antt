@@ -1,6 +1,6 @@
 -- Reading a file piece by piece, and looking through it for bytes other than zero.
-use Rattle.std.proofs.Common.{◌≡◌, ℕ, ◌+◌, ◌-◌, ◌≤◌, true, false, List, [], ◌++◌, length, take, drop, refl, ap, subst, ◌∙◌, arith}
-use Rattle.std.proofs.lemmas.List.{drop-take, length-take, take_all, append-nil, drop-drop}
+use Rattle.std.proofs.Common.{◌≡◌, ℕ, ◌+◌, ◌-◌, ◌≤◌, true, false, List, [], ◌++◌, length, take, drop, refl, ap, subst, arith}
+use Rattle.std.proofs.lemmas.List.{drop-take, take_all, append-nil, drop-drop}
 use Rattle.std.proofs.lemmas.List.Folds.{list_all-append}
 use Rattle.std.proofs.Math.ListN.{drop_of_length-le}
 use Rattle.std.proofs.Math.Seq.{take-add}
@@ -48,11 +48,3 @@ pub run_stops : (file : List ℕ) (at limit count : ℕ) → at + count ≤ limi
     → all_zero (take count (drop at file)) ≡ false → all_zero (drop at (take limit file)) ≡ false
 run_stops file at limit count within zero =
     rw (split file at limit count within, list_all-append, zero) refl
-
--- a piece that the file's end cuts short
-pub run_ends : (file : List ℕ) (at limit count : ℕ) → length file ≤ at + count → at + count ≤ limit
-    → all_zero (take count (drop at file)) ≡ true → all_zero (drop at (take limit file)) ≡ true
-run_ends file at limit count short within zero =
-    let none : drop (at + count) (take limit file) ≡ [] =
-    drop_of_length-le (take limit file) (omega (arith, length-take limit file)) in
-    run_goes_on file at limit count within zero ∙ ap all_zero none

@@ -31,10 +31,6 @@ end_far mib e total some long =
     let same : place mib (f + (aligned total - 1)) ≡ place mib (f + aligned total - 1) = ap (place mib) (let z : f + (aligned total - 1) ≡ f + aligned total - 1 = omega (arith, long) in z) in
     omega (arith, end_is mib e total some, same, far mib f (aligned total - 1) some, place_after mib e some, long)
 
-pub start_far : (mib e : ℕ) → 1 ≤ mib → e ≤ start_after mib e
-unfolding start_after
-start_far mib e some = place_after mib e some
-
 pub start_bound : (mib e : ℕ) → 1 ≤ mib → e ≤ 2 ^ 51 → start_after mib e ≤ 2 ^ 52
 unfolding start_after
 start_bound mib e some most = omega (arith, flat_bound mib e, place_bound mib (flat_before mib e) some, most)
@@ -94,7 +90,3 @@ first_reached mib size = record {
   within = record { aligned = omega arith; least = omega arith; most = omega (arith, size.least); prev = omega arith; redo = omega arith; count = omega (arith, size.least) };
   ends = (omega arith, inr (omega arith));
 }
-
--- so far a tip lies
-pub tip_bound : (mib : ℕ) (tip : Tip) → IsSegmentMib mib → IsReached mib tip → tip.end ≤ 2 ^ 51
-tip_bound mib tip size is = omega (arith, is.within.most, size.most)

@@ -3,4 +3,3 @@ pub mod Tears
 pub mod WritesOn
 pub mod Waiting
 pub mod NextRead
-pub mod Whole

@@ -1,8 +1,7 @@
 -- What writes of the archive leave: in its files, and at a stop.
-use Rattle.std.proofs.Common.{◌≡◌, ℕ, ◌+◌, ◌-◌, ◌*◌, ◌/◌, ◌%◌, ◌<◌, ◌≤◌, true, List, [], ◌∷◌, length, Option, Some, None, option_map, Result, Ok, Err, OnOk, OnErr, refl, sym, ap, subst, ◌∙◌, arith, inl, inr}
+use Rattle.std.proofs.Common.{◌≡◌, ℕ, ◌+◌, ◌-◌, ◌*◌, ◌/◌, ◌%◌, ◌<◌, ◌≤◌, true, List, [], ◌∷◌, length, Option, Some, None, Result, Ok, Err, OnOk, OnErr, refl, sym, ap, subst, ◌∙◌, arith, inl, inr}
 use Rattle.std.proofs.lemmas.Nat.{div-add-mod', mod_below, le-div, div_below}
-use Rattle.std.proofs.Math.Nat.{add-mul, mul_assoc}
-use Rattle.std.specs.FinMap.{get}
+use Rattle.std.proofs.Math.Nat.{add-mul}
 use Rattle.lsn_core.specs.Files.{Files}
 use Rattle.lsn_core.specs.Segment.{segment_bytes}
 use Rattle.lsn_core.specs.Sizes.{most_segments}
@@ -12,19 +11,19 @@ use Rattle.lsn_core.specs.declared.fault.AreaFault.TheVariants.{Failed, NoMemory
 use Rattle.vault.specs.Area.{Related, IsTorn, Writes, MayTear}
 use Rattle.byte_words.specs.Told.{when_told}
 use Rattle.vault.specs.Stops.{Event, Made, MayLeave, wrote, synced, noted, Notes, Tries}
-use Rattle.vault.specs.Frame.{Each, Adds, AgreeBut, LeavesNow, LeavesOnly}
+use Rattle.vault.specs.Frame.{Each, Adds, AgreeBut, LeavesOnly}
 use Rattle.vault.specs.declared.area.Vault.{Ghosts}
 use Rattle.vault.proofs.Torn.{written_is_related, same_is_related}
-use Rattle.vault.proofs.Through.{adds_none, adds_by, adds_on, adds_sync, leaves_only}
+use Rattle.vault.proofs.Through.{adds_by, adds_on, adds_sync, leaves_only}
 use Rattle.wal_record.specs.Tips.{first_tip, wal_limit}
-use Rattle.wal_archive.specs.Archive.{Archive, Extends, is_segment, archive_of}
+use Rattle.wal_archive.specs.Archive.{Archive, is_segment, archive_of}
 use Rattle.wal_archive.specs.Writing.{IsLeft}
 use Rattle.wal_archive.proofs.Left.{torn_left, left_on}
 use Rattle.wal_archive.proofs.Chain.{walks_extended}
 use Rattle.wal_archive.proofs.Files.{files_archive}
 use Rattle.wal_archive.proofs.Read.{origin_end}
 use Rattle.wal_archive.proofs.Writes.{segment_by}
-use Rattle.wal_writer.specs.Stops.{IsSegmentFile, IsPieceBehind, IsBehind, WritesBehind, Leaves, Holds, Reads, KeepsArchive, StopsKeepEntries, SettledIsHeld}
+use Rattle.wal_writer.specs.Stops.{IsSegmentFile, IsBehind, WritesBehind, Leaves, Holds, Reads, KeepsArchive, StopsKeepEntries, SettledIsHeld}
 
 -- ---- files that are related
 
@@ -64,19 +63,12 @@ torn_by name at piece old new (Err Failed) ok memory failed = failed refl
 
 -- ---- the archive
 
-left_none : (a : Archive) (from : ℕ) → IsLeft a a from 0
-left_none a from = record { before = λ x b lt held. held; behind = λ x le. refl }
-
 left_longer : (a new : Archive) (from fewer count : ℕ) → fewer ≤ count → IsLeft a new from fewer
     → IsLeft a new from count
 left_longer a new from fewer count le left = record {
   before = left.before;
   behind = λ x far. left.behind x (omega (arith, far, le));
 }
-
-pub leaves_none : (mib at : ℕ) (old new : Option Files) → new ≡ old → Leaves mib at 0 old new
-leaves_none mib at old new e = related_same (λ m n. IsLeft (archive_of mib m) (archive_of mib n) at
-    0) old new (λ m. left_none (archive_of mib m) at) e
 
 pub leaves_longer : (mib at fewer count : ℕ) (old new : Option Files) → fewer ≤ count
     → Leaves mib at fewer old new → Leaves mib at count old new
@@ -140,15 +132,6 @@ frame_on g mib at from x y z le one two = record {
       each = each_wider a.events a.each;
       past = a.past;
     }
-
-pub frame_none : {V : Type 0} (g : Ghosts V) (mib at : ℕ) (x y : V) → g.files y ≡ g.files x
-    → g.past y ≡ g.past x → g.faults x ≤ g.faults y → WritesBehind g mib at x y
-frame_none g mib at x y files past faults = record {
-  files = related_same (AgreeBut (IsSegmentFile mib at)) (g.files x) (g.files y) (λ m q out. refl)
-      files;
-  past = adds_none (IsBehind mib at) (g.past x) (g.past y) past;
-  faults = faults;
-}
 
 pub frame_sync : {T : Type 0} {V : Type 0} (g : Ghosts V) (mib at : ℕ) (x y : V)
     (result : Result T AreaFault) → g.files y ≡ g.files x

@@ -1,10 +1,9 @@
 -- Entries that wait: one more, some of them flushed, and read then.
-use Rattle.std.proofs.Common.{◌≡◌, ℕ, ◌+◌, ◌-◌, ◌<◌, ◌≤◌, max, ◌⊎◌, List, [], ◌∷◌, ◌++◌, length, take, drop, refl, sym, ap, subst, ◌∙◌, arith, append_assoc, inl, inr}
+use Rattle.std.proofs.Common.{◌≡◌, ℕ, ◌+◌, ◌-◌, ◌<◌, ◌≤◌, max, List, [], ◌∷◌, ◌++◌, length, take, drop, refl, sym, ap, subst, ◌∙◌, arith, append_assoc, inl, inr}
 use Rattle.std.proofs.lemmas.Bool.{cases_lt}
 use Rattle.std.proofs.lemmas.List.{append-nil, take_at, drop_at}
 use Rattle.lsn_core.specs.Files.{Files}
 use Rattle.lsn_core.specs.Tip.{Tip}
-use Rattle.wal_pages.specs.Places.{start_after}
 use Rattle.wal_pages.specs.Spread.{spread}
 use Rattle.wal_record.specs.Spelling.{sealed}
 use Rattle.wal_record.specs.Tips.{first_tip, tip_after}
@@ -13,7 +12,7 @@ use Rattle.wal_archive.specs.Archive.{archive_of}
 use Rattle.wal_archive.specs.Rules.{Judge, IsWal}
 use Rattle.wal_archive.specs.Stands.{IsEnd}
 use Rattle.wal_archive.specs.Writing.{IsNext, IsChain, laid_out, archive_written}
-use Rattle.wal_archive.specs.Laws.{IsFair, IsKept, HasNoGap, entries_written}
+use Rattle.wal_archive.specs.Laws.{IsFair, HasNoGap, entries_written}
 use Rattle.wal_archive.proofs.Chain.{ending_of, walk_reach}
 use Rattle.wal_archive.proofs.Read.{chain_reach, origin_end, written_is_read}
 use Rattle.wal_writer.specs.Log.{Log, IsLog, appended, flush_end, to_flush, flushed_to, touched_to}
@@ -51,10 +50,6 @@ chain_behind judge mib tip [] qs mid last chain whole = subst (λ t. IsChain jud
     (sym chain) whole
 chain_behind judge mib tip (r ∷ rs) qs mid last chain whole = chain_behind judge mib
     (tip_after tip r) rs qs mid last chain.1 whole.1
-
-among_first : (tip : Tip) (rs : List Record) → IsEndAmong tip rs tip.end
-among_first tip [] = refl
-among_first tip (r ∷ rs) = inl refl
 
 among_more : (tip : Tip) (rs : List Record) (r : Record) (at : ℕ) → IsEndAmong tip rs at
     → IsEndAmong tip (rs ++ (r ∷ [])) at

@@ -1,5 +1,5 @@
 -- Writing piece by piece is writing of the archive.
-use Rattle.std.proofs.Common.{◌≡◌, ℕ, zero, suc, ◌+◌, ◌-◌, ◌*◌, ◌/◌, ◌%◌, ◌<◌, ◌≤◌, List, [], ◌∷◌, length, take, drop, Option, Some, None, option_map, refl, sym, ap, subst, ◌∙◌, arith}
+use Rattle.std.proofs.Common.{◌≡◌, ℕ, zero, suc, ◌+◌, ◌-◌, ◌<◌, ◌≤◌, List, [], length, take, drop, Option, Some, None, option_map, refl, sym, ap, subst, ◌∙◌, arith}
 use Rattle.std.proofs.lemmas.List.{length-drop, nil_from_length}
 use Rattle.lsn_core.specs.Files.{Files}
 use Rattle.wal_archive.specs.Writing.{room_in, piece_written, archive_written}
@@ -12,10 +12,6 @@ pub record WritesOn (mib at : ℕ) (bytes : List ℕ) (from : ℕ) (left : List 
   pub enough : length left ≤ n
   pub same : option_map (archive_written mib n from left) now ≡ option_map (archive_written mib
       (length bytes) at bytes) old
-
-pub writes_first : (mib at : ℕ) (bytes : List ℕ) (old : Option Files)
-    → WritesOn mib at bytes at bytes old old
-writes_first mib at bytes old = record { n = length bytes; enough = omega arith; same = refl }
 
 one_more : (mib n from : ℕ) (left : List ℕ) (now : Option Files) → 0 < length left
     → option_map (archive_written mib n (from + room_in from) (drop (room_in from) left))
