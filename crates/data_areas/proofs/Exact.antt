@@ -18,10 +18,10 @@ use Rattle.rel_files.specs.Forks.{Holds, IsForkPath}
 use Rattle.rel_files.specs.Shown.{AreFilesOf}
 use Rattle.rel_files.specs.Laws.{HasOnlyForks, HasNoForks}
 use Rattle.rel_files.proofs.WholeStores.{files_are_exact, nothing_is_held}
-use Rattle.page_pool.specs.Part.{Part, DirtyMarks, fork_marks, is_dirty, dirty_ends}
-use Rattle.page_pool.specs.Framed.{all_dirty_ends}
-use Rattle.page_pool.specs.Calls.{SameDisk, IsAllWritten, ChangesForks, HoldsFrames}
-use Rattle.page_pool.proofs.Ends.{all_clean}
+use Rattle.page_frames.specs.Marks.{DirtyMarks, fork_marks, is_dirty, dirty_ends, all_dirty_ends}
+use Rattle.page_frames.proofs.Ends.{all_clean}
+use Rattle.page_pool.specs.Part.{Part}
+use Rattle.page_pool.specs.Calls.{HoldsFrames}
 use Rattle.data_areas.specs.Marking.{rebuilding_name, IsMark, HasOnly}
 use Rattle.data_areas.specs.Rebuilt.{IsRebuilt}
 use Rattle.data_areas.specs.Filled.{HasOnlyForksAndMark, IsFilled, IsMarked}
@@ -34,10 +34,6 @@ no_mark path is same =
     let first : get_or (fork_path_bytes is.fork is.seg false) 0 0 ≡ get_or rebuilding_name 0 0 = ap (λ (l : List ℕ). get_or l 0 0) (sym is.path_is ∙ same) in
     let numbers : 98 ≡ 114 = first in
     omega (arith, numbers)
-
--- an area that has the mark alone, or nothing, has no forks
-pub bare_marked : (told : Option Files) → IfSome told (HasOnly rebuilding_name) → IfSome told HasNoForks
-bare_marked told only = when_told told (HasOnly rebuilding_name) HasNoForks (λ m alone path is. alone path (no_mark path is)) only
 
 empty_none : (m : Files) (path : List ℕ) → m ≡ empty → get m path ≡ None
 empty_none m path none = ap (λ (f : Files). get f path) none ∙ get-empty (slice_cmp nat_cmp) path
@@ -181,28 +177,6 @@ none_dirty marks clean = go (keys marks)
 pub no_marks_dirty : all_dirty_ends empty ≡ []
 no_marks_dirty =
     none_dirty empty (λ fork block. ap (λ (o : Option (List (Option ℕ))). is_some (get_or (unwrap_or o []) block None)) (get-empty fork_cmp fork))
-
--- pages that were put in the place of none, and written
-pub filled_of : (old middle new : Part) (pages : Store) (end : ℕ) → middle.frames ≡ pages → middle.point ≡ old.point → SameDisk old middle → IsAllWritten end middle new → ChangesForks middle new → old.point ≡ end
-    → IsFilled old.relseg end old.faults old.disk pages new
-filled_of old middle new pages end frames point same written changes at = record {
-  frames = written.frames ∙ frames;
-  clean = written.clean;
-  point = written.point ∙ ap (λ n. max n end) (point ∙ at) ∙ highest end;
-  relseg_is = changes.relseg ∙ same.relseg;
-  files = subst (λ (o : Option Files). Related (AgreeBut IsForkPath) o new.disk) same.files changes.files;
-  held = written.held;
-  settled = written.settled;
-  later = omega (arith, same.faults, changes.faults);
-}
-  where
-    highest : (n : ℕ) → max n n ≡ n
-    highest n = omega arith
-
-pub filled_at : (relseg relseg' from faults faults' : ℕ) (told told' : Option Files) (pages : Store) (part : Part) → relseg ≡ relseg' → faults ≡ faults' → told ≡ told' → IsFilled relseg from faults told pages part → IsFilled relseg' from faults' told' pages part
-filled_at relseg relseg' from faults faults' told told' pages part er ef et filled =
-    subst (λ (o : Option Files). IsFilled relseg' from faults' o pages part) et
-    (subst (λ (n : ℕ). IsFilled relseg' from n told pages part) ef (subst (λ (r : ℕ). IsFilled r from faults told pages part) er filled))
 
 -- a partition that was rebuilt since an earlier moment
 pub rebuilt_since : (relseg from faults faults' : ℕ) (told told' : Option Files) (pages : Store) (part : Part) → faults' ≤ faults → is_some told ≡ is_some told' → IsRebuilt relseg from faults told pages part → IsRebuilt relseg from faults' told' pages part

@@ -1,5 +1,5 @@
 -- The phases of an area that is rebuilt, joined.
-use Rattle.std.proofs.Common.{◌≡◌, ℕ, ◌<◌, is_some, inl, inr, true≢false, ◌⊎◌, List, [], ◌∷◌, Option, Some, None, IfSome, IsSome, Result, Ok, Err, OnErr, sym, ap, subst, ◌∙◌}
+use Rattle.std.proofs.Common.{◌≡◌, ℕ, ◌<◌, is_some, inl, inr, true≢false, List, [], ◌∷◌, Option, Some, None, IfSome, IsSome, Result, Ok, Err, sym, ap, subst, ◌∙◌}
 use Rattle.std.specs.Prelude.{IfErr, box_value}
 use Rattle.lsn_core.specs.Files.{Files}
 use Rattle.lsn_core.specs.Store.{Store, files_of}
@@ -14,7 +14,7 @@ use Rattle.data_areas.specs.Areas.{area_of}
 use Rattle.data_areas.specs.Marking.{rebuilding_name, IsMark, IsOther, HasOnly}
 use Rattle.data_areas.specs.Phases.{WasMarked, WereMarked, CameSoFar, HasMarkSince, HaveMarkSince, HasFilesOf, AreOthersRebuilt, first_past}
 use Rattle.data_areas.specs.Rebuilt.{IsRebuilt, AreOthersFilled}
-use Rattle.data_areas.specs.Filled.{IsFilled, TellAlike, HasEnded, HaveEnded, FilledSoFar, AllFilledSoFar, ClearedSoFar}
+use Rattle.data_areas.specs.Filled.{IsFilled, TellAlike, HasEnded, HaveEnded, FilledSoFar, AllFilledSoFar}
 use Rattle.data_areas.specs.declared.store_frames.StoreFrames.{StoreFrames}
 use Rattle.data_areas.specs.declared.rebuilding.Others.{Others}
 use Rattle.data_areas.proofs.Exact.{no_mark, tells_alike, kept_of_filled}
@@ -33,10 +33,6 @@ each_other (event ∷ events) each = (other_event event each.0, each_other event
 pub forks_are_others : (x y : Option (List Event)) → Adds (IsAmong IsForkPath) x y → Adds (IsAmong IsOther) x y
 forks_are_others x y adds = record { events = adds.events; each = each_other adds.events adds.each; past = adds.past }
 
--- events that were added from one past to another, where these are known under other names
-pub adds_at : (P : Event → Type 0) (x x' y y' : Option (List Event)) → x' ≡ x → y' ≡ y → Adds P x y → Adds P x' y'
-adds_at P x x' y y' ex ey adds = subst (λ (o : Option (List Event)). Adds P o y') (sym ex) (subst (Adds P x) (sym ey) adds)
-
 -- an area that was marked, and that tells its files, has the mark durably
 told_now : (P : Type 0) (told : Option Files) → IfSome told (λ m. P) → IsSome told → P
 told_now P None there some = absurd (true≢false (sym some))
@@ -50,10 +46,6 @@ begun g x y z first there others = record {
   there = λ some. told_now (LeavesNow (Has rebuilding_name) (g.past y)) (g.files y) there (tells_alike (AgreeBut IsMark) (g.files x) (g.files y) first.files ∙ some);
   others = others.past;
 }
-
-pub on_err : {T E : Type 0} (result : Result T E) (P : Type 0) → P → OnErr result P
-on_err (Ok done) P holds = tt
-on_err (Err fault) P holds = holds
 
 -- what has begun and ended; the area that was cleared meanwhile tells its files where it did
 pub joined : (told told' : Option Files) (relseg : ℕ) (pages : Store) (x y z : Option (List Event)) → is_some told' ≡ is_some told → HasMarkSince (IsSome told) x y → HasEnded (IsSome told') relseg pages y z
@@ -76,12 +68,6 @@ begun_on tells x y z first more = record {
   there = first.there;
   others = adds_on (IsAmong IsOther) first.marked y z first.others more;
 }
-
--- the first of four areas has begun, or its mark alone was touched
-pub first_tried : {V : Type 0} (g : Ghosts V) (old new : DataAreas V) → new.data1 ≡ old.data1 → new.data2 ≡ old.data2 → new.data3 ≡ old.data3
-    → ChangesOnly g IsMark (area_of old 0) (area_of new 0) ⊎ HaveMarkSince g old new → ClearedSoFar g old new
-first_tried g old new e1 e2 e3 (inl touched) = inl (record { data0 = touched; data1 = e1; data2 = e2; data3 = e3 })
-first_tried g old new e1 e2 e3 (inr first) = inr first
 
 -- what others were written, durably, and what was then done with the mark
 pub ended : (relseg from faults : ℕ) (told : Option Files) (pages : Store) (part : Part) (x z : Option (List Event)) → 0 < relseg → IfSome told (HasOnly rebuilding_name) → IsFilled relseg from faults told pages part
@@ -154,10 +140,6 @@ were_marked g relseg frames x y past tell begins done =
 pub came_so_far : {V : Type 0} (g : Ghosts V) (relseg : ℕ) (frames : StoreFrames) (x y z : DataAreas V) → TellAlike g x y → HaveMarkSince g x y → AllFilledSoFar g relseg frames y z → CameSoFar g relseg frames x z
 came_so_far g relseg frames x y z tell begins (inl more) = inr (inl (begun_on (IsSome (g.files (area_of x 0))) (first_past g x) (first_past g y) (first_past g z) begins more))
 came_so_far g relseg frames x y z tell begins (inr done) = inr (inr (others_since g relseg frames x y z tell done.0, were_marked g relseg frames x y (first_past g z) tell begins done.1))
-
-pub cleared_so_far : {V : Type 0} (g : Ghosts V) (relseg : ℕ) (frames : StoreFrames) (x y : DataAreas V) → ClearedSoFar g x y → CameSoFar g relseg frames x y
-cleared_so_far g relseg frames x y (inl touched) = inl touched
-cleared_so_far g relseg frames x y (inr begins) = inr (inl begins)
 
 pub if_err : {T E : Type 0} (result : Result T E) (P Q : E → Type 0) → ((x : E) → P x → Q x) → IfErr result P → IfErr result Q
 if_err (Ok done) P Q leads holds = tt

@@ -1,5 +1,5 @@
 -- A change of a fork in the part of its partition is that of the store.
-use Rattle.std.proofs.Common.{◌≡◌, ℕ, ◌<◌, Bool, true, false, cond, List, Option, None, Result, Ok, Err, OnOk, refl, ap, sym, subst, ◌∙◌, arith}
+use Rattle.std.proofs.Common.{◌≡◌, ℕ, Bool, true, false, cond, List, Option, None, Result, Ok, Err, OnOk, refl, ap, sym, subst, ◌∙◌, arith}
 use Rattle.std.specs.Prelude.{◌==◌, slice_get, IfOk}
 use Rattle.std.proofs.lemmas.Bool.{eq-eqb}
 use Rattle.byte_words.specs.Numbers.{◌>>=◌}
@@ -22,9 +22,6 @@ use Rattle.data_areas.specs.Areas.{ShowsParts}
 pub record IsChange (fork : ForkId) (changed : Store → Store) : Type 0 where
   pub own : (q : ℕ) (store part : Store) → IsPart q store part → is_of q fork ≡ true → IsPart q (changed store) (changed part)
   pub other : (q : ℕ) (store part : Store) → IsPart q store part → is_of q fork ≡ false → IsPart q (changed store) part
-
-pub nothing_changes : (fork : ForkId) → IsChange fork (λ s. s)
-nothing_changes fork = record { own = λ q store part is mine. is; other = λ q store part is not. is }
 
 pub put_changes : (at : BlockId) (page : List ℕ) → IsChange at.fork (page_put at page)
 put_changes at page = record {
@@ -143,10 +140,6 @@ shown_empty f e0 e1 e2 e3 = record {
 pub on_success : {T E : Type 0} (result : Result T E) (P Q : Type 0) → (P → Q) → OnOk result P → OnOk result Q
 on_success (Ok done) P Q leads holds = leads holds
 on_success (Err fault) P Q leads holds = tt
-
--- the number of the last of four
-pub last_of : (n p : ℕ) → n ≡ p → n < 4 → (n ≡ 0 → ⊥) → (n ≡ 1 → ⊥) → (n ≡ 2 → ⊥) → p ≡ 3
-last_of n p is below e0 e1 e2 = omega (arith, is, below, e0, e1, e2)
 
 -- a block of a fork is read in the part that has the fork
 pub read_of : (q : ℕ) (s part : Store) (at : BlockId) (old new : List ℕ) (there : Bool) → partition_of at.fork.rel ≡ q → IsPart q s part → BlockAnswer part at old new there → BlockAnswer s at old new there

@@ -14,7 +14,8 @@ ghost use Rattle.data_areas.specs.Marking.{rebuilding_name, HasOnly, IsMark};
 
 use crate::marking::unmark_rebuilding;
 use lsn_core::{AreaFault, Lsn};
-use page_pool::{Frames, Partition};
+use page_frames::Frames;
+use page_pool::Partition;
 use rel_files::Forks;
 use std::alloc::Global;
 use vault::Vault;

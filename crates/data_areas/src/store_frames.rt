@@ -4,7 +4,7 @@ ghost use Rattle.std.specs.FinMap.{empty};
 ghost use Rattle.data_areas.specs.Areas.{ShowsParts};
 
 use lsn_core::{AreaFault, BlockId, ForkId, Pages};
-use page_pool::Frames;
+use page_frames::Frames;
 use partitions::partition_of;
 use std::alloc::Global;
 

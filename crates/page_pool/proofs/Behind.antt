@@ -22,13 +22,15 @@ use Rattle.fuzzy_copies.proofs.View.{act_forks}
 use Rattle.fuzzy_copies.proofs.Completed.{either_none}
 use Rattle.fuzzy_copies.proofs.Taken.{listed_blocks}
 use Rattle.fuzzy_copies.proofs.Kept.{entries_keep, forks_keep}
+use Rattle.page_frames.specs.Marks.{touch_end}
+use Rattle.page_frames.proofs.Marks.{mark_set}
 use Rattle.page_pool.specs.declared.work.Work.{Work}
 use Rattle.page_pool.specs.declared.work.Work.TheVariants.{Make, Cut}
 use Rattle.page_pool.specs.declared.work.Pending.{Pending}
-use Rattle.page_pool.specs.Part.{touch_end, work_makes, work_cuts, is_to_make, is_to_cut, if_whole}
+use Rattle.page_pool.specs.Part.{work_makes, work_cuts, is_to_make, is_to_cut, if_whole}
 use Rattle.page_pool.specs.Steps.{works_after, work_done}
 use Rattle.page_pool.specs.Laws.{ActsAreEntered, WorksAreDone, PagesAreWritten, TornWritesStayUnwritten, MendedDisksLackNoMore, CleanDisksAreFrames, FramesLackNothing}
-use Rattle.page_pool.proofs.Marks.{mark_set, clean_before}
+use Rattle.page_pool.proofs.Marks.{clean_before}
 
 -- what is pending after an act
 pub to_cut_after : (end : ℕ) (works : List Pending) (act : Act) (fork : ForkId) (b : ℕ) → is_to_cut (works_after end works act) fork b ≡ (is_to_cut works fork b || act_cuts fork b act)

@@ -17,8 +17,9 @@ use Rattle.partitions.proofs.Folds.{parts_fold}
 use Rattle.fuzzy_copies.specs.Touches.{act_cuts, touches, resets, creates}
 use Rattle.fuzzy_copies.specs.Taken.{since}
 use Rattle.fuzzy_copies.proofs.Covering.{lagging}
+use Rattle.page_frames.specs.Marks.{DirtyMarks, touch_end, is_dirty}
 use Rattle.page_pool.specs.declared.work.Pending.{Pending}
-use Rattle.page_pool.specs.Part.{DirtyMarks, touch_end, is_dirty, is_to_make, is_to_cut}
+use Rattle.page_pool.specs.Part.{is_to_make, is_to_cut}
 use Rattle.page_pool.specs.Facts.{is_entered, IsSince}
 use Rattle.page_pool.specs.Laws.{FollowersCover}
 use Rattle.page_pool.proofs.Windows.{any_part, part_touches, touches_to, touch_in, entered_cuts, entered_makes}

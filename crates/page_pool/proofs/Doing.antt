@@ -18,14 +18,15 @@ use Rattle.history.specs.declared.op.Item.{Item}
 use Rattle.history.specs.Apply.{is_same_fork, main_fork, page_at, edited, apply_item, apply_items, apply_act}
 use Rattle.history.specs.Op.{act_of_op, IsReached, IsTidy, AreTidyItems}
 use Rattle.history.proofs.Pushes.{all_first, all_rest, all_weaker}
+use Rattle.page_frames.specs.Marks.{DirtyMarks, touched}
+use Rattle.page_frames.specs.Framed.{PageRoom, Framed, HasRoom, TakesRoom, HasPlace}
 use Rattle.page_pool.specs.declared.ready.Done.{Done}
 use Rattle.page_pool.specs.declared.ready.Done.TheVariants as done
 use Rattle.page_pool.specs.declared.ready.NewPage.{NewPage}
 use Rattle.page_pool.specs.declared.ready.Ready.{Ready}
 use Rattle.page_pool.specs.declared.work.Pending.{Pending}
-use Rattle.page_pool.specs.Part.{DirtyMarks, Part, PageRoom}
-use Rattle.page_pool.specs.Steps.{touched, items_touched, marks_after, works_after, HasApplied}
-use Rattle.page_pool.specs.Framed.{Framed, HasRoom, TakesRoom, HasPlace}
+use Rattle.page_pool.specs.Part.{Part}
+use Rattle.page_pool.specs.Steps.{items_touched, marks_after, works_after, HasApplied}
 use Rattle.page_pool.specs.Ready.{IsOfOp, IsReady, HasRoomFor, done_at}
 use Rattle.page_pool.specs.Inside.{IsPlace, ArePlaces, pages_touched, marks_done, works_done, MayBeDone}
 use Rattle.page_pool.proofs.Items.{blocks_put}

@@ -9,12 +9,13 @@ use Rattle.lsn_core.specs.declared.ids.ForkId.{ForkId}
 use Rattle.lsn_core.specs.Store.{Store, ForkPages, fork_cmp}
 use Rattle.lsn_core.specs.Blocks.{block_of}
 use Rattle.history.specs.Apply.{is_same_fork}
+use Rattle.page_frames.specs.Marks.{DirtyMarks, touch_end, is_dirty, fork_marks, dirty_ends, all_dirty_ends, IsAllMarked}
+use Rattle.page_frames.proofs.Ends.{both_all, marks_all, forks_all}
 use Rattle.page_pool.specs.declared.work.Pending.{Pending}
-use Rattle.page_pool.specs.Part.{Part, DirtyMarks, LacksUnwritten, touch_end, is_dirty, is_to_make, is_to_cut, fork_marks, dirty_ends, newest_end}
-use Rattle.page_pool.specs.Framed.{all_dirty_ends, IsAllMarked}
+use Rattle.page_pool.specs.Part.{Part, LacksUnwritten, is_to_make, is_to_cut, newest_end}
 use Rattle.page_pool.specs.Writing.{later_end, works_making}
 use Rattle.page_pool.proofs.Behind.{clean_disks}
-use Rattle.page_pool.proofs.Ends.{no_marks, fork_ends_none, both_all, marks_all, forks_all, newest_all}
+use Rattle.page_pool.proofs.Ends.{newest_all}
 
 -- ---- the greatest of some ends
 
@@ -30,11 +31,6 @@ pub later_append : (xs ys : List ℕ) → reduce max (xs ++ ys) ≡ later_end (r
 later_append [] ys = refl
 later_append (x ∷ xs) [] = ap (reduce max) (append-nil (x ∷ xs))
 later_append (x ∷ xs) (y ∷ ys) = ap (λ (k : ℕ). Some k) (fold_split x xs y ys ∙ fold_max (fold max x xs) y ys)
-
--- ---- nothing is dirty
-
-pub none_dirty : (marks : DirtyMarks) → all_dirty_ends marks ≡ [] → (fork : ForkId) (block : ℕ) → is_dirty marks fork block ≡ false
-none_dirty marks none fork block = no_marks (fork_marks marks fork) (fork_ends_none marks fork none) block
 
 -- ---- pages in the place of none
 

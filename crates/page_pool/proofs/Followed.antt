@@ -23,16 +23,18 @@ use Rattle.partitions.proofs.OwnActs.{own_fork, OfNoOther, first_own, others_own
 use Rattle.fuzzy_copies.specs.Touches.{act_touches, act_cuts}
 use Rattle.fuzzy_copies.specs.Taken.{since}
 use Rattle.fuzzy_copies.proofs.Replay.{applied_in_two}
+use Rattle.page_frames.specs.Marks.{DirtyMarks, touch_end}
+use Rattle.page_frames.proofs.Marks.{mark_set}
 use Rattle.page_pool.specs.declared.work.Work.{Work}
 use Rattle.page_pool.specs.declared.work.Work.TheVariants.{Make, Cut}
 use Rattle.page_pool.specs.declared.turn.Wrote.TheVariants as wrote
 use Rattle.page_pool.specs.declared.work.Pending.{Pending}
-use Rattle.page_pool.specs.Part.{DirtyMarks, Part, touch_end}
+use Rattle.page_pool.specs.Part.{Part}
 use Rattle.page_pool.specs.Steps.{marks_after, works_after, HasApplied, HasWritten, IsClean}
 use Rattle.page_pool.specs.Facts.{history_end, touch_over, last_touch, enters, is_entered, IsSince, own_since}
 use Rattle.page_pool.specs.Calls.{HasDone}
 use Rattle.page_pool.specs.Laws.{OwnEntriesAreFollowed, OtherEntriesAreFollowed, OneWrittenIsWritten, WritesAreFollowed, CleaningIsFollowed, CleanPartsFollow}
-use Rattle.page_pool.proofs.Marks.{mark_set, mark_after}
+use Rattle.page_pool.proofs.Marks.{mark_after}
 use Rattle.page_pool.proofs.Windows.{or_true, any_filtered, others_touch, entered_by}
 
 -- where a history ends that has one entry more

@@ -16,16 +16,17 @@ use Rattle.rel_files.specs.Forks.{IsForkPath}
 use Rattle.history.specs.Apply.{is_same_fork, is_same_block}
 use Rattle.history.proofs.Stores.{by_test, fork_is, block_self}
 use Rattle.fuzzy_copies.proofs.Completed.{or_second}
+use Rattle.page_frames.specs.Marks.{DirtyMarks, touch_end, is_dirty, cleaned}
+use Rattle.page_frames.specs.Framed.{AreFramed}
+use Rattle.page_frames.proofs.Marks.{mark_set}
+use Rattle.page_frames.proofs.There.{dirty_there}
 use Rattle.page_pool.specs.declared.work.Pending.{Pending}
 use Rattle.page_pool.specs.declared.turn.Wrote.{Wrote}
 use Rattle.page_pool.specs.declared.turn.Wrote.TheVariants as wrote
-use Rattle.page_pool.specs.Part.{Part, DirtyMarks, touch_end, is_dirty}
-use Rattle.page_pool.specs.Steps.{cleaned, HasWritten}
-use Rattle.page_pool.specs.Framed.{AreFramed}
+use Rattle.page_pool.specs.Part.{Part}
+use Rattle.page_pool.specs.Steps.{HasWritten}
 use Rattle.page_pool.specs.Calls.{SameUnwritten, ChangesForks, IsOneWritten, IsAllWritten}
 use Rattle.page_pool.specs.Writing.{framed_of, HasCleaned, IsForkClean}
-use Rattle.page_pool.proofs.Marks.{mark_set}
-use Rattle.page_pool.proofs.OnDisk.{dirty_there}
 
 -- ---- of the area only forks' files change
 

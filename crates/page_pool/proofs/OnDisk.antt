@@ -1,18 +1,12 @@
 -- What a partition holds after its disk was written, or a write of it failed.
-use Rattle.std.proofs.Common.{◌≡◌, ℕ, ◌<◌, true, false, List, [], ◌∷◌, length, get_or, Option, Some, None, IsSome, IfSome, is_some, unwrap_or, option_map, inl, inr, refl, ap, sym, subst, ◌∙◌, arith, true≢false}
-use Rattle.std.specs.Prelude.{slice_get}
+use Rattle.std.proofs.Common.{◌≡◌, ℕ, true, false, List, [], ◌∷◌, Option, Some, None, IsSome, IfSome, is_some, option_map, refl, ap, sym, subst, ◌∙◌, true≢false}
 use Rattle.std.specs.List.{remove}
 use Rattle.std.specs.Global.{Vec}
-use Rattle.std.specs.FinMap.{get}
-use Rattle.std.proofs.lemmas.Bool.{cases_lt}
-use Rattle.std.proofs.lemmas.List.{get_or_past}
-use Rattle.std.proofs.lemmas.Option.{slice_get-get_or}
-use Rattle.byte_words.specs.Numbers.{◌>>=◌}
 use Rattle.lsn_core.specs.declared.lsn.Lsn.{Lsn}
 use Rattle.lsn_core.specs.declared.ids.ForkId.{ForkId}
 use Rattle.lsn_core.specs.declared.ids.BlockId.{BlockId}
 use Rattle.lsn_core.specs.Files.{Files}
-use Rattle.lsn_core.specs.Store.{Store, ForkPages}
+use Rattle.lsn_core.specs.Store.{Store}
 use Rattle.lsn_core.specs.Blocks.{block_of, with_fork, with_cut}
 use Rattle.lsn_core.specs.Shown.{Turns}
 use Rattle.vault.specs.declared.area.Vault.{Ghosts}
@@ -22,48 +16,19 @@ use Rattle.vault.specs.Frame.{LeavesNow}
 use Rattle.rel_files.specs.Forks.{Holds, mended, page_over, IsTornPut, IsTornCut}
 use Rattle.rel_files.specs.Shown.{HoldsStore, KeepsOthers, Leaves, IsTornMake}
 use Rattle.rel_files.specs.declared.forks.Forks.{Forks}
+use Rattle.page_frames.specs.Marks.{DirtyMarks, is_dirty, cleaned, NoneDirtyBefore}
+use Rattle.page_frames.specs.Framed.{Framed, AreFramed}
 use Rattle.page_pool.specs.declared.work.Work.{Work}
 use Rattle.page_pool.specs.declared.work.Work.TheVariants.{Make, Cut}
 use Rattle.page_pool.specs.declared.work.Pending.{Pending}
 use Rattle.page_pool.specs.declared.partition.Partition.TheInside.{Inside}
-use Rattle.page_pool.specs.Part.{Part, DirtyMarks, LacksUnwritten, is_dirty}
-use Rattle.page_pool.specs.Steps.{cleaned, NoneDirtyBefore, IsClean}
-use Rattle.page_pool.specs.Framed.{Framed, AreFramed}
+use Rattle.page_pool.specs.Part.{Part, LacksUnwritten}
+use Rattle.page_pool.specs.Steps.{IsClean}
 use Rattle.page_pool.specs.Calls.{HoldsFrames}
 use Rattle.page_pool.specs.Partition.{part_in, HoldsLacking, IsPartition}
 use Rattle.page_pool.specs.Writing.{IsFirstWork, IsNextPage}
 use Rattle.page_pool.proofs.Behind.{clean_disks}
 use Rattle.page_pool.proofs.Torn.{made_lacks, cut_lacks, put_lacks, torn_make_lacks, torn_cut_lacks, torn_put_lacks}
-
--- ---- a dirty block is there, and its number fits
-
-pub record IsThere (pages : Store) (fork : ForkId) (b : ℕ) : Type 0 where
-  pub of_fork : ForkPages
-  pub there : get pages fork ≡ Some of_fork
-  pub within : b < length of_fork
-
-pub dirty_there : (f : Framed) (fork : ForkId) (b : ℕ) → AreFramed f → is_dirty f.marks fork b ≡ true → IsThere f.pages fork b
-dirty_there f fork b framed dirty = by (get f.marks fork) (get f.pages fork) refl refl
-  where
-    at : (o : Option (List (Option ℕ))) → get f.marks fork ≡ o → is_some (get_or (unwrap_or o []) b None) ≡ true
-    at o e = sym (ap (λ (x : Option (List (Option ℕ))). is_some (get_or (unwrap_or x []) b None)) e) ∙ dirty
-
-    lengths : (o : Option (List (Option ℕ))) (p : Option ForkPages) → get f.marks fork ≡ o → get f.pages fork ≡ p → option_map length o ≡ option_map length p
-    lengths o p e h = sym (ap (λ (x : Option (List (Option ℕ))). option_map length x) e) ∙ framed.marked fork ∙ ap (λ (x : Option ForkPages). option_map length x) h
-
-    by : (o : Option (List (Option ℕ))) (p : Option ForkPages) → get f.marks fork ≡ o → get f.pages fork ≡ p → IsThere f.pages fork b
-    by None p e h = absurd (true≢false (sym (at None e)))
-    by (Some ms) None e h = let no : Some (length ms) ≡ None = lengths (Some ms) None e h in absurd cc
-    by (Some ms) (Some ps) e h =
-        let same : length ms ≡ length ps = let both : Some (length ms) ≡ Some (length ps) = lengths (Some ms) (Some ps) e h in cc in
-        elim (cases_lt b (length ms)) [
-          | inl less ↦ record { of_fork = ps; there = h; within = omega (arith, less, same) }
-          | inr past ↦ absurd (true≢false (sym (at (Some ms) e) ∙ ap (λ (x : Option ℕ). is_some x) (get_or_past ms b None past)))
-        ]
-
-pub there_block : (pages : Store) (fork : ForkId) (b : ℕ) → IsThere pages fork b → IsSome (block_of pages fork b)
-there_block pages fork b t =
-    ap (λ (o : Option (List ℕ)). is_some o) (ap (λ (o : Option ForkPages). o >>= λ ps. slice_get ps b) t.there ∙ slice_get-get_or t.of_fork b [] t.within)
 
 -- ---- the disk was written
 

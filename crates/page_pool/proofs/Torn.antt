@@ -18,11 +18,12 @@ use Rattle.history.specs.Apply.{is_same_fork}
 use Rattle.history.proofs.Stores.{by_test, fork_is}
 use Rattle.fuzzy_copies.specs.Sound.{Agree}
 use Rattle.fuzzy_copies.proofs.Pages.{block_by_pages, fork_view, contains_key-with_fork, contains_key-with_cut}
+use Rattle.page_frames.specs.Marks.{DirtyMarks, is_dirty, NoneDirtyBefore, cleaned}
 use Rattle.page_pool.specs.declared.work.Work.{Work}
 use Rattle.page_pool.specs.declared.work.Work.TheVariants.{Make, Cut}
 use Rattle.page_pool.specs.declared.work.Pending.{Pending}
-use Rattle.page_pool.specs.Part.{DirtyMarks, LacksUnwritten, IsMended, if_whole, is_dirty, is_to_make, is_to_cut, work_cuts, work_makes}
-use Rattle.page_pool.specs.Steps.{ChangedWhereUnwritten, NoneDirtyBefore, cleaned, work_done}
+use Rattle.page_pool.specs.Part.{LacksUnwritten, IsMended, if_whole, is_to_make, is_to_cut, work_cuts, work_makes}
+use Rattle.page_pool.specs.Steps.{ChangedWhereUnwritten, work_done}
 use Rattle.page_pool.proofs.Behind.{cut_block, has_before, has_fork, works_done, pages_written, torn_writes, mended as mended_lacks}
 
 -- ---- a short page is left out

@@ -5,11 +5,12 @@ use Rattle.lsn_core.specs.Store.{Store}
 use Rattle.history.specs.Entry.{Act}
 use Rattle.history.specs.Op.{act_of_op}
 use Rattle.history.specs.declared.op.Op.{Op}
+use Rattle.page_frames.specs.Marks.{DirtyMarks}
+use Rattle.page_frames.specs.Framed.{Framed}
 use Rattle.page_pool.specs.declared.ready.Ready.{Ready}
 use Rattle.page_pool.specs.declared.work.Pending.{Pending}
-use Rattle.page_pool.specs.Part.{Part, DirtyMarks, LacksUnwritten}
+use Rattle.page_pool.specs.Part.{Part, LacksUnwritten}
 use Rattle.page_pool.specs.Steps.{HasApplied, marks_after, works_after}
-use Rattle.page_pool.specs.Framed.{Framed}
 use Rattle.page_pool.specs.Ready.{IsReady}
 use Rattle.page_pool.specs.Inside.{bare}
 use Rattle.page_pool.proofs.Behind.{acts_entered}

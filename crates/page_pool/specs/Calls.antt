@@ -8,14 +8,14 @@ use Rattle.lsn_core.specs.Store.{Store}
 use Rattle.vault.specs.Area.{Related}
 use Rattle.vault.specs.Frame.{AgreeBut, IsAmong, Adds, LeavesNow}
 use Rattle.rel_files.specs.Forks.{Holds, IsForkPath}
+use Rattle.page_frames.specs.Marks.{cleaned, IsFirstDirty}
 use Rattle.page_pool.specs.declared.work.Work.{Work}
 use Rattle.page_pool.specs.declared.work.Work.TheVariants as work
 use Rattle.page_pool.specs.declared.work.Pending.{Pending}
 use Rattle.page_pool.specs.declared.turn.Wrote.{Wrote}
 use Rattle.page_pool.specs.declared.turn.Wrote.TheVariants as wrote
 use Rattle.page_pool.specs.Part.{Part, LacksUnwritten, next_end, newest_end}
-use Rattle.page_pool.specs.Steps.{cleaned, IsClean}
-use Rattle.page_pool.specs.Framed.{IsFirstDirty}
+use Rattle.page_pool.specs.Steps.{IsClean}
 
 -- ---- what a partition is known to be
 

@@ -10,10 +10,11 @@ use Rattle.history.specs.Written.{tip_over}
 use Rattle.partitions.specs.Parts.{part_of}
 use Rattle.fuzzy_copies.specs.Touches.{touches}
 use Rattle.fuzzy_copies.specs.Taken.{since}
+use Rattle.page_frames.specs.Marks.{DirtyMarks, touch_end}
 use Rattle.page_pool.specs.declared.work.Work.{Work}
 use Rattle.page_pool.specs.declared.work.Work.TheVariants.{Make, Cut}
 use Rattle.page_pool.specs.declared.work.Pending.{Pending}
-use Rattle.page_pool.specs.Part.{DirtyMarks, Part, touch_end}
+use Rattle.page_pool.specs.Part.{Part}
 
 -- where the last entry of a history ends; 0 where there is none
 abbrev pub history_end : List Entry → ℕ

@@ -1,5 +1,5 @@
 -- What the crate's private functions answer: no public contract cites these.
-use Rattle.std.specs.Prelude.{◌≡◌, ℕ, ◌+◌, ◌-◌, ◌≤◌, ◌==◌, ◌&&◌, Bool, max, false, List, [], ◌∷◌, ◌++◌, map, take, length, get_or, nat_le, nat_lt, Some, None, IsSome, if◌then◌else◌, vec_len, vec_capacity, box_value}
+use Rattle.std.specs.Prelude.{◌≡◌, ℕ, ◌+◌, ◌-◌, ◌≤◌, max, false, List, [], ◌∷◌, ◌++◌, map, take, length, Some, None, IsSome, if◌then◌else◌, vec_len, vec_capacity, box_value}
 use Rattle.std.specs.Option.{option_map}
 use Rattle.std.specs.Global.{Vec}
 use Rattle.std.specs.List.{All}
@@ -9,7 +9,7 @@ use Rattle.lsn_core.specs.declared.ids.BlockId.{BlockId}
 use Rattle.lsn_core.specs.Blocks.{block_count, pages_of, page_put}
 use Rattle.lsn_core.specs.Store.{Store, ForkPages}
 use Rattle.pg_page.specs.Header.{hole_zeroed, with_lsn}
-use Rattle.pg_page.specs.Frags.{Fragment, bad_frag, written_frags}
+use Rattle.pg_page.specs.Frags.{bad_frag, written_frags}
 use Rattle.history.specs.declared.op.Op.{Op}
 use Rattle.history.specs.declared.op.Op.TheVariants as op
 use Rattle.history.specs.declared.op.Edit.{Edit}
@@ -19,34 +19,17 @@ use Rattle.history.specs.Apply.{is_same_fork, main_fork, page_at, apply_act}
 use Rattle.history.specs.Op.{act_of_op}
 use Rattle.history.specs.Pages.{page_count}
 use Rattle.history.specs.Whole.{is_named}
+use Rattle.page_frames.specs.Marks.{DirtyMarks, fork_marks, touched}
+use Rattle.page_frames.specs.Framed.{Framed, HasRoom}
 use Rattle.page_pool.specs.declared.ready.Done.{Done}
 use Rattle.page_pool.specs.declared.ready.Done.TheVariants as done
 use Rattle.page_pool.specs.declared.ready.NewPage.{NewPage}
 use Rattle.page_pool.specs.declared.work.Work.TheVariants as work
 use Rattle.page_pool.specs.declared.work.Pending.{Pending}
-use Rattle.page_pool.specs.Part.{DirtyMarks, Part, fork_marks}
-use Rattle.page_pool.specs.Steps.{touched}
-use Rattle.page_pool.specs.Framed.{Framed, HasRoom}
+use Rattle.page_pool.specs.Part.{Part}
 use Rattle.page_pool.specs.Refusals.{most_items, judged_blocks, judged_edits}
 
 -- ---- judging
-
--- the byte at a place behind one fragment, where it was this one
-abbrev pub byte_over : Fragment → ℕ → ℕ → ℕ
-byte_over frag at byte =
-    if nat_le frag.at at && nat_lt (at - frag.at) (length frag.bytes)
-    then get_or frag.bytes (at - frag.at) 0 else byte
-
--- and behind some in turn
-abbrev pub byte_over_all : List Fragment → ℕ → ℕ → ℕ
-byte_over_all [] at byte = byte
-byte_over_all (frag ∷ frags) at byte = byte_over_all frags at (byte_over frag at byte)
-
--- these are the places of a good header
-abbrev pub is_header : ℕ → ℕ → ℕ → ℕ → Bool
-is_header version lower upper special =
-    (version == 8196) && (nat_le 24 lower && (nat_le lower upper
-    && (nat_le upper special && nat_le special 8192)))
 
 -- how many blocks a fork has behind items, where it had so many before them
 abbrev pub grown : List Item → ForkId → ℕ → ℕ

@@ -14,10 +14,11 @@ use Rattle.history.specs.Pages.{page_count}
 use Rattle.partitions.specs.Parts.{is_of, part_of, IsPart, concerns, ConcernsNoOther}
 use Rattle.fuzzy_copies.specs.Covers.{Covers}
 use Rattle.fuzzy_copies.specs.CoverLaws.{MakesTidily}
+use Rattle.page_frames.specs.Marks.{DirtyMarks, is_dirty, cleaned, NoneDirtyBefore}
 use Rattle.page_pool.specs.declared.work.Pending.{Pending}
 use Rattle.page_pool.specs.declared.turn.Wrote.{Wrote}
-use Rattle.page_pool.specs.Part.{DirtyMarks, Part, is_dirty, LacksUnwritten, IsMended, next_end, newest_end}
-use Rattle.page_pool.specs.Steps.{marks_after, works_after, HasApplied, work_done, cleaned, NoneDirtyBefore, ChangedWhereUnwritten, HasWritten, IsClean}
+use Rattle.page_pool.specs.Part.{Part, LacksUnwritten, IsMended, next_end, newest_end}
+use Rattle.page_pool.specs.Steps.{marks_after, works_after, HasApplied, work_done, ChangedWhereUnwritten, HasWritten, IsClean}
 use Rattle.page_pool.specs.Facts.{history_end, Follows}
 use Rattle.page_pool.specs.Calls.{IsOneWritten}
 use Rattle.page_pool.specs.Refusals.{judged_op}

@@ -2,8 +2,6 @@ pub mod Part
 pub mod Steps
 pub mod Facts
 pub mod Laws
-pub mod Framed
-pub mod Dirty
 pub mod Refusals
 pub mod Ready
 pub mod Calls

@@ -1,27 +1,19 @@
 -- A partition of a store: its pages in frames, and what of them isn't written to its disk yet.
-use Rattle.std.specs.Prelude.{◌≡◌, ℕ, ◌==◌, ◌&&◌, max, Bool, true, false, List, [], ◌++◌, ◌⊎◌, map, length, get_or, slice_get, nat_le, Option, Some, None, if◌then◌else◌}
-use Rattle.std.specs.List.{list_any, flat_map, filter_map, reduce}
-use Rattle.std.specs.Option.{unwrap_or, is_some}
-use Rattle.std.specs.FinMap.{FinMap, get, keys, contains_key}
+use Rattle.std.specs.Prelude.{◌≡◌, ℕ, ◌==◌, ◌&&◌, max, Bool, true, false, List, ◌++◌, ◌⊎◌, map, length, slice_get, nat_le, Option, Some, None, if◌then◌else◌}
+use Rattle.std.specs.List.{list_any, flat_map, reduce}
+use Rattle.std.specs.FinMap.{keys, contains_key}
 use Rattle.lsn_core.specs.declared.ids.ForkId.{ForkId}
 use Rattle.lsn_core.specs.Files.{Files}
-use Rattle.lsn_core.specs.Store.{Store, fork_cmp}
+use Rattle.lsn_core.specs.Store.{Store}
 use Rattle.lsn_core.specs.Blocks.{block_of}
 use Rattle.vault.specs.Stops.{Event}
 use Rattle.history.specs.Apply.{is_same_fork}
 use Rattle.fuzzy_copies.specs.Sound.{Agree}
+use Rattle.page_frames.specs.Marks.{DirtyMarks, is_dirty, dirty_ends}
+use Rattle.page_frames.specs.Framed.{PageRoom}
 use Rattle.page_pool.specs.declared.work.Work.{Work}
 use Rattle.page_pool.specs.declared.work.Work.TheVariants.{Make, Cut}
 use Rattle.page_pool.specs.declared.work.Pending.{Pending}
-
--- beside each page, where the last entry ends that touched it since it was written; None where the
--- page is clean
-abbrev pub DirtyMarks : Type 0
-DirtyMarks = FinMap fork_cmp (List (Option ℕ))
-
--- how many pages may be added to a fork without memory; a fork that isn't there may have room too
-abbrev pub PageRoom : Type 0
-PageRoom = FinMap fork_cmp ℕ
 
 -- what a partition holds
 pub record Part : Type 0 where
@@ -35,18 +27,6 @@ pub record Part : Type 0 where
   pub disk : Option Files  -- the files of its area, where that tells them
   pub past : Option (List Event)  -- what happened to the area, where that tells it
   pub faults : ℕ  -- how often a call of the area failed
-
--- the marks of a fork's pages
-abbrev pub fork_marks : DirtyMarks → ForkId → List (Option ℕ)
-fork_marks marks fork = unwrap_or (get marks fork) []
-
--- where the last entry ends that touched a block since it was written; None where it is clean
-abbrev pub touch_end : DirtyMarks → ForkId → ℕ → Option ℕ
-touch_end marks fork block = get_or (fork_marks marks fork) block None
-
--- a block is dirty
-abbrev pub is_dirty : DirtyMarks → ForkId → ℕ → Bool
-is_dirty marks fork block = is_some (touch_end marks fork block)
 
 -- a work makes the fork; it cuts the block off
 abbrev pub work_makes : ForkId → Work → Bool
@@ -90,10 +70,6 @@ pub record IsMended (raw disk : Store) : Type 0 where
   pub blocks : (fork : ForkId) (block : ℕ) → Agree disk raw fork block
       ⊎ (block_of disk fork block ≡ if_whole (block_of raw fork block))
   pub forks : (fork : ForkId) → contains_key disk fork ≡ contains_key raw fork
-
--- where the entries end that touched the dirty pages of a fork, by block
-abbrev pub dirty_ends : DirtyMarks → ForkId → List ℕ
-dirty_ends marks fork = filter_map (λ mark. mark) (fork_marks marks fork)
 
 -- where the entries end of all that isn't written, in the order in which it is written: of the
 -- pending works, then of the dirty pages, by fork and block

@@ -6,10 +6,11 @@ use mathlib.Core.Path.{refl}
 use Rattle.lsn_core.specs.Files.{Files}
 use Rattle.lsn_core.specs.Store.{Store}
 use Rattle.vault.specs.Stops.{Event}
+use Rattle.page_frames.specs.Marks.{DirtyMarks}
+use Rattle.page_frames.specs.Framed.{PageRoom, store_code, marks_code, room_code}
 use Rattle.page_pool.specs.declared.work.Pending.{Pending}
 use Rattle.page_pool.specs.contracts.work.Pending.{the_row}
-use Rattle.page_pool.specs.Part.{Part, DirtyMarks, PageRoom}
-use Rattle.page_pool.specs.Framed.{store_code, marks_code, room_code}
+use Rattle.page_pool.specs.Part.{Part}
 
 abbrev pub files_code : Coded Files
 files_code = code (coded_list coded_ℕ) (coded_list coded_ℕ)

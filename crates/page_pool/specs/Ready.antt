@@ -11,13 +11,13 @@ use Rattle.history.specs.Apply.{main_fork, apply_act}
 use Rattle.history.specs.Op.{act_of_op, IsTidy}
 use Rattle.history.specs.Pages.{page_count}
 use Rattle.history.specs.Written.{kind_of}
+use Rattle.page_frames.specs.Framed.{HasRoom}
 use Rattle.page_pool.specs.declared.fault.OpFault.{OpFault}
 use Rattle.page_pool.specs.declared.ready.Ready.{Ready}
 use Rattle.page_pool.specs.declared.ready.Done.{Done}
 use Rattle.page_pool.specs.declared.ready.Done.TheVariants.{Created, Cut, Put}
 use Rattle.page_pool.specs.declared.ready.NewPage.{NewPage}
 use Rattle.page_pool.specs.Part.{Part}
-use Rattle.page_pool.specs.Framed.{HasRoom}
 use Rattle.page_pool.specs.Refusals.{judged_op, IsRefusedOp, most_items}
 
 -- pages put in turn, by an entry that ends at a place

@@ -1,28 +1,18 @@
 -- What entries and writes leave of a partition.
-use Rattle.std.specs.Prelude.{◌≡◌, ℕ, ◌+◌, ◌-◌, ◌<◌, false, List, [], ◌∷◌, ◌++◌, length, take, drop, replicate, slice_set, Option, Some, None, IsSome}
+use Rattle.std.specs.Prelude.{◌≡◌, ℕ, false, List, [], ◌∷◌, ◌++◌, take, drop, Some, IsSome}
 use Rattle.std.specs.FinMap.{insert, contains_key}
 use Rattle.lsn_core.specs.declared.ids.ForkId.{ForkId}
-use Rattle.lsn_core.specs.declared.ids.BlockId.{BlockId}
 use Rattle.lsn_core.specs.Store.{Store}
 use Rattle.lsn_core.specs.Blocks.{with_fork, with_cut}
 use Rattle.history.specs.declared.op.Item.{Item}
 use Rattle.history.specs.Entry.{Act, Create, Truncate, Change, Mark}
 use Rattle.history.specs.Apply.{main_fork, apply_act}
 use Rattle.fuzzy_copies.specs.Sound.{Agree}
+use Rattle.page_frames.specs.Marks.{DirtyMarks, fork_marks, touch_end, is_dirty, touched}
 use Rattle.page_pool.specs.declared.work.Work.{Work}
 use Rattle.page_pool.specs.declared.work.Work.TheVariants.{Make, Cut}
 use Rattle.page_pool.specs.declared.work.Pending.{Pending}
-use Rattle.page_pool.specs.Part.{DirtyMarks, Part, fork_marks, touch_end, is_dirty, is_to_make, is_to_cut}
-
--- marks with another one at a block; missing ones up to the block are clean
-abbrev pub with_mark : List (Option ℕ) → ℕ → Option ℕ → List (Option ℕ)
-with_mark marks block mark =
-    slice_set (marks ++ replicate (block + 1 - length marks) None) block mark
-
--- a block was touched by an entry that ends at a place
-abbrev pub touched : ℕ → DirtyMarks → BlockId → DirtyMarks
-touched end marks at =
-    insert marks at.fork (with_mark (fork_marks marks at.fork) at.block (Some end))
+use Rattle.page_pool.specs.Part.{Part, is_to_make, is_to_cut}
 
 abbrev pub items_touched : ℕ → DirtyMarks → List Item → DirtyMarks
 items_touched end marks [] = marks
@@ -57,14 +47,6 @@ pub record HasApplied (end : ℕ) (act : Act) (old new : Part) : Type 0 where
 abbrev pub work_done : Work → Store → Store
 work_done (Make fork) disk = with_fork disk fork
 work_done (Cut fork count) disk = with_cut disk fork count
-
--- a block's page was written
-abbrev pub cleaned : DirtyMarks → BlockId → DirtyMarks
-cleaned marks at = insert marks at.fork (with_mark (fork_marks marks at.fork) at.block None)
-
--- no block of the fork before this one is dirty
-abbrev pub NoneDirtyBefore : DirtyMarks → BlockId → Type 0
-NoneDirtyBefore marks at = (block : ℕ) → block < at.block → is_dirty marks at.fork block ≡ false
 
 -- a disk after writes that may have failed: it changed nowhere but where something is dirty or
 -- pending, and there it may be anything, as after a torn write

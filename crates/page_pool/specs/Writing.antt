@@ -4,12 +4,12 @@ use Rattle.std.specs.Prelude.{◌≡◌, ℕ, ◌≤◌, max, true, false, List,
 use Rattle.lsn_core.specs.declared.lsn.Lsn.{Lsn}
 use Rattle.lsn_core.specs.declared.ids.ForkId.{ForkId}
 use Rattle.lsn_core.specs.declared.ids.BlockId.{BlockId}
+use Rattle.page_frames.specs.Marks.{is_dirty, cleaned, NoneDirtyBefore, IsFirstDirty}
+use Rattle.page_frames.specs.Framed.{Framed}
 use Rattle.page_pool.specs.declared.work.Work.{Work}
 use Rattle.page_pool.specs.declared.work.Work.TheVariants.{Make}
 use Rattle.page_pool.specs.declared.work.Pending.{Pending}
-use Rattle.page_pool.specs.Part.{Part, is_dirty}
-use Rattle.page_pool.specs.Steps.{cleaned, NoneDirtyBefore}
-use Rattle.page_pool.specs.Framed.{Framed, IsFirstDirty}
+use Rattle.page_pool.specs.Part.{Part}
 
 -- the frames of a partition
 abbrev pub framed_of : Part → Framed

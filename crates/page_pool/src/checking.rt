@@ -6,15 +6,14 @@ ghost use Rattle.history.specs.declared.op.Op.{Op};
 ghost use Rattle.history.specs.Op.{act_of_op};
 ghost use Rattle.lsn_core.specs.Blocks.{page_put};
 ghost use Rattle.pg_page.specs.Header.{with_lsn};
-ghost use Rattle.page_pool.specs.Framed.{HasRoom, HasPlace, TakesRoom};
+ghost use Rattle.page_frames.specs.Framed.{HasRoom, HasPlace, TakesRoom};
+ghost use Rattle.page_frames.specs.Marks.{touched};
 ghost use Rattle.page_pool.specs.Ready.{HasItems, HasRoomFor, CheckAnswer, IsReady, pages_put, done_at};
-ghost use Rattle.page_pool.specs.Steps.{HasApplied, touched};
+ghost use Rattle.page_pool.specs.Steps.{HasApplied};
 ghost use Rattle.page_pool.specs.Calls.{SameUnwritten, SameDisk};
 ghost use Rattle.page_pool.specs.Inside.{bare, MayBeDone, marks_done, works_done, ArePlaces, pages_touched};
 
-use crate::edits::set_lsn;
 use crate::fault::OpFault;
-use crate::frames::Frames;
 use crate::judge::judge;
 use crate::kinds::make;
 use crate::partition::Partition;
@@ -22,6 +21,7 @@ use crate::ready::{Done, NewPage, Ready};
 use crate::work::{Pending, Work};
 use history::{Op, main_fork};
 use lsn_core::{Lsn, NoMemory};
+use page_frames::{Frames, set_lsn};
 use std::alloc::Global;
 use vault::Vault;
 

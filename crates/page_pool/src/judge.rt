@@ -13,12 +13,11 @@ ghost use Rattle.page_pool.specs.Refusals.{most_items, judged_edit, judged_found
 ghost use Rattle.page_pool.specs.Ready.{HasItems};
 ghost use Rattle.page_pool.specs.Inside.{grown, IsBehind, HasGoodFrags, IsFormed, IsCounted, item_adds};
 
-use crate::edits::keeps_header;
 use crate::fault::OpFault;
 use crate::form::{judge_blocks, judge_edits};
-use crate::frames::Frames;
 use history::{Edit, Item, Op, is_same_fork, main_fork};
 use lsn_core::{BlockId, ForkId, MOST_BLOCKS, Rel};
+use page_frames::{Frames, keeps_header};
 use pg_page::{Frag, zero_page};
 
 /// How many pages a command adds, and how many it takes away.

@@ -11,12 +11,11 @@ ghost use Rattle.history.specs.Op.{act_of_op, IsFitItem, AreFit, IsFit};
 ghost use Rattle.history.specs.Written.{kind_of, body_of, block_of_item};
 ghost use Rattle.page_pool.specs.Inside.{page_of_edit, IsDoneBy};
 
-use crate::edits::{write_frags, zero_hole};
-use crate::frames::Frames;
 use crate::ready::{Done, NewPage};
 use checkpointer::{creation_kind, needs_image, truncation_kind};
 use history::{Edit, Item, Op};
 use lsn_core::{BlockId, Lsn, NoMemory, Rel};
+use page_frames::{Frames, write_frags, zero_hole};
 use pg_page::{Frags, Page, lsn_of};
 use std::alloc::Global;
 use std::boxed::Box;

@@ -6,15 +6,15 @@ ghost use Rattle.std.specs.FinMap.{empty};
 ghost use Rattle.std.specs.Option.{option_map};
 ghost use Rattle.lsn_core.specs.Causes.{HasCause};
 ghost use Rattle.rel_files.specs.Shown.{HoldsStore, AreFilesOf, ListsForks, ReadsWhole};
+ghost use Rattle.page_frames.specs.Marks.{all_dirty_ends};
 ghost use Rattle.page_pool.specs.Part.{next_end, newest_end};
 ghost use Rattle.page_pool.specs.Steps.{IsClean};
-ghost use Rattle.page_pool.specs.Framed.{all_dirty_ends};
 ghost use Rattle.page_pool.specs.Calls.{AreWholePages, IsHeld, SameUnwritten, SameDisk, ReadsDisk, MayWriteAll};
 ghost use Rattle.page_pool.specs.Writing.{later_end, works_making};
 
-use crate::frames::Frames;
 use crate::work::{Pending, Work};
 use lsn_core::{AreaFault, BlockId, ForkId, ForkLen, Lsn, NoMemory, Pages};
+use page_frames::Frames;
 use rel_files::Forks;
 use std::alloc::Global;
 use std::marker::Model;

@@ -3,11 +3,11 @@
 ghost use Rattle.std.specs.Prelude.{◌≡◌, ◌<◌, ◌^◌, [], None, Some, IfOk, OnOk, OnErr, IfSome};
 ghost use Rattle.std.specs.FinMap.{keys};
 ghost use Rattle.lsn_core.specs.Causes.{HasCause};
+ghost use Rattle.page_frames.specs.Marks.{is_dirty, all_dirty_ends};
+ghost use Rattle.page_frames.specs.Framed.{AreFramed};
 ghost use Rattle.page_pool.specs.declared.work.Work.TheVariants as work;
 ghost use Rattle.page_pool.specs.declared.turn.Wrote.TheVariants as wrote;
-ghost use Rattle.page_pool.specs.Part.{is_dirty};
 ghost use Rattle.page_pool.specs.Steps.{HasWritten, IsClean};
-ghost use Rattle.page_pool.specs.Framed.{AreFramed, all_dirty_ends};
 ghost use Rattle.page_pool.specs.Calls.{SameUnwritten, ChangesForks, IsOneWritten, IsAllWritten};
 ghost use Rattle.page_pool.specs.Calls.{MayWriteNext, MayWriteAll};
 ghost use Rattle.page_pool.specs.Writing.{framed_of, IsFirstWork, IsFirstPage};

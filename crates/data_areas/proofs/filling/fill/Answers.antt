@@ -3,7 +3,7 @@ use Rattle.std.proofs.Common.{rules, ap, sym, subst, IsSome, ◌∙◌}
 use Rattle.std.specs.FinMap.{empty}
 use Rattle.lsn_core.specs.Store.{Store}
 use Rattle.rel_files.specs.Shown.{HoldsStore}
-use Rattle.page_pool.specs.Framed.{all_dirty_ends}
+use Rattle.page_frames.specs.Marks.{all_dirty_ends}
 use Rattle.data_areas.proofs.Exact.{bare_holds, no_marks_dirty}
 use Rattle.data_areas.proofs.filling.fill.Goals as goal
 

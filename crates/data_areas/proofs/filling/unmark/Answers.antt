@@ -5,7 +5,7 @@ use Rattle.lsn_core.specs.Store.{Store}
 use Rattle.vault.specs.Area.{Related}
 use Rattle.vault.specs.Frame.{AgreeBut, LeavesNow}
 use Rattle.rel_files.specs.Shown.{HoldsStore}
-use Rattle.page_pool.specs.Part.{DirtyMarks, is_dirty}
+use Rattle.page_frames.specs.Marks.{DirtyMarks, is_dirty}
 use Rattle.data_areas.specs.Marking.{IsMark}
 use Rattle.data_areas.proofs.Exact.{held_at, told_holds, unmarked_holds, none_dirty, rebuilt_of_unmarked}
 use Rattle.data_areas.proofs.filling.unmark.Goals as goal

@@ -2,8 +2,8 @@
 use Rattle.std.proofs.Common.{◌≡◌, ◌∷◌, List, sym, ap, ◌∙◌, length, arith}
 use Rattle.std.specs.Vec.Iter.{into_iter_items}
 use Rattle.lsn_core.specs.Store.{Store}
+use Rattle.page_frames.specs.Marks.{DirtyMarks}
 use Rattle.page_pool.specs.declared.ready.NewPage.{NewPage}
-use Rattle.page_pool.specs.Part.{DirtyMarks}
 use Rattle.page_pool.specs.Ready.{pages_put}
 use Rattle.page_pool.specs.Inside.{pages_touched}
 use Rattle.page_pool.proofs.Doing.{place_next, places_on, rooms_on}

@@ -1,7 +1,7 @@
 use Rattle.std.proofs.Common.{◌≡◌, length}
 use Rattle.std.specs.List.{All}
 use Rattle.std.specs.Vec.Iter.{into_iter_items, into_iter_len}
-use Rattle.page_pool.specs.Framed.{HasRoom}
+use Rattle.page_frames.specs.Framed.{HasRoom}
 use Rattle.page_pool.specs.Ready.{pages_put}
 use Rattle.page_pool.specs.Inside.{ArePlaces, pages_touched}
 use Rattle.page_pool.proofs.checking.put_pages.Given as goal

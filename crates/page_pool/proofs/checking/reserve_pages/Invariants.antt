@@ -1,6 +1,6 @@
 use Rattle.std.proofs.Common.{◌≡◌, take, length}
 use Rattle.std.specs.List.{All}
-use Rattle.page_pool.specs.Framed.{HasRoom}
+use Rattle.page_frames.specs.Framed.{HasRoom}
 use Rattle.page_pool.proofs.checking.reserve_pages.Given as goal
 
 abbrev pub invariant-loop-new : goal.invariant-loop-new

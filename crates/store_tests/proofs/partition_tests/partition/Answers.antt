@@ -5,8 +5,7 @@ use Rattle.rel_files.specs.Shown.{HoldsStore}
 use Rattle.rel_files.proofs.WholeStores.{nothing_is_held}
 use Rattle.vault.specs.declared.memory.MemVault.{MemVault}
 use Rattle.vault.specs.contracts.memory.MemVaultVault.TheImpl as memory
-use Rattle.page_pool.specs.Part.{DirtyMarks}
-use Rattle.page_pool.specs.Framed.{all_dirty_ends}
+use Rattle.page_frames.specs.Marks.{DirtyMarks, all_dirty_ends}
 use Rattle.store_tests.proofs.NoMarks.{no_marks_dirty}
 use Rattle.store_tests.proofs.partition_tests.partition.Goals as goal
 

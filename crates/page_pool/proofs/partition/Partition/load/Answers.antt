@@ -3,8 +3,9 @@ use Rattle.std.specs.List.{reduce, flat_map}
 use Rattle.std.specs.FinMap.{keys}
 use Rattle.lsn_core.specs.declared.ids.ForkId.{ForkId}
 use Rattle.lsn_core.specs.Store.{Store}
+use Rattle.page_frames.specs.Marks.{is_dirty, dirty_ends}
 use Rattle.page_pool.specs.declared.work.Pending.{Pending}
-use Rattle.page_pool.specs.Part.{Part, LacksUnwritten, is_dirty, dirty_ends}
+use Rattle.page_pool.specs.Part.{Part, LacksUnwritten}
 use Rattle.page_pool.specs.Writing.{works_making}
 use Rattle.page_pool.proofs.Ended.{loaded_lacks, loaded_newest}
 use Rattle.page_pool.proofs.partition.Partition.load.Goals as goal

@@ -1,8 +1,8 @@
 use Rattle.std.proofs.Common.{List, sym, subst}
+use Rattle.page_frames.proofs.Ends.{none_dirty}
 use Rattle.page_pool.specs.declared.work.Pending.{Pending}
 use Rattle.page_pool.specs.Part.{LacksUnwritten}
 use Rattle.page_pool.proofs.Behind.{lack_nothing}
-use Rattle.page_pool.proofs.Ended.{none_dirty}
 use Rattle.page_pool.proofs.partition.Partition.new.Goals as goal
 
 pub invariant_of-result : goal.invariant_of-result

@@ -1,6 +1,6 @@
 use Rattle.std.proofs.Common.{subst}
+use Rattle.page_frames.specs.Marks.{IsFirstDirty}
 use Rattle.page_pool.specs.Part.{Part}
-use Rattle.page_pool.specs.Framed.{IsFirstDirty}
 use Rattle.page_pool.proofs.partition.Partition.next_page.Goals as goal
 
 pub returns-clause-first : goal.returns-clause-first

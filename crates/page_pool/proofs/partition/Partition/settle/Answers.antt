@@ -1,7 +1,8 @@
 use Rattle.std.proofs.Common.{◌≡◌, max, Option, ap, sym, subst, ◌∙◌}
 use Rattle.lsn_core.specs.Files.{Files}
 use Rattle.vault.specs.Stops.{synced, noted}
-use Rattle.page_pool.specs.Part.{Part, is_dirty}
+use Rattle.page_frames.specs.Marks.{is_dirty}
+use Rattle.page_pool.specs.Part.{Part}
 use Rattle.page_pool.proofs.OnDisk.{same_done, frames_held, settled_now}
 use Rattle.page_pool.proofs.partition.Partition.settle.Goals as goal
 

@@ -1,6 +1,7 @@
 use Rattle.std.proofs.Common.{◌≡◌, ℕ, ◌+◌, ◌<◌, false, [], inl, inr, sym, subst, ◌∙◌, arith}
 use Rattle.std.proofs.lemmas.Bool.{cases_lt}
-use Rattle.page_pool.specs.Part.{Part, is_dirty}
+use Rattle.page_frames.specs.Marks.{is_dirty}
+use Rattle.page_pool.specs.Part.{Part}
 use Rattle.page_pool.specs.Steps.{HasWritten}
 use Rattle.page_pool.specs.Calls.{ChangesForks}
 use Rattle.page_pool.proofs.InTurn.{changes_on, written_none, written_on, same_written, page_written, cleaned_here, stays_clean, block_cleaned}

@@ -1,5 +1,5 @@
 use Rattle.std.proofs.Common.{◌≡◌, ℕ, ◌<◌, false, []}
-use Rattle.page_pool.specs.Part.{is_dirty}
+use Rattle.page_frames.specs.Marks.{is_dirty}
 use Rattle.page_pool.specs.Steps.{HasWritten}
 use Rattle.page_pool.specs.Calls.{ChangesForks}
 use Rattle.page_pool.proofs.partition.Partition.write_fork.Given as goal

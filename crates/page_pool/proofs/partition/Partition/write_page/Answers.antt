@@ -1,7 +1,9 @@
 use Rattle.std.proofs.Common.{◌≡◌, true, ap, sym, ◌∙◌}
 use Rattle.lsn_core.specs.Blocks.{block_of}
-use Rattle.page_pool.specs.Part.{Part, is_dirty}
-use Rattle.page_pool.proofs.OnDisk.{dirty_there, there_block, no_block, put_failed, put_done}
+use Rattle.page_frames.specs.Marks.{is_dirty}
+use Rattle.page_frames.proofs.There.{dirty_there, there_block}
+use Rattle.page_pool.specs.Part.{Part}
+use Rattle.page_pool.proofs.OnDisk.{no_block, put_failed, put_done}
 use Rattle.page_pool.proofs.partition.Partition.write_page.Goals as goal
 
 pub returns-in_default-clause-written : goal.returns-in_default-clause-written

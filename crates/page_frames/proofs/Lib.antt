@@ -1,0 +1,11 @@
+pub mod Marks
+pub mod Ends
+pub mod There
+pub mod SeenBy
+pub mod Slots
+pub mod Headers
+pub mod Framing
+pub mod DirtyEnds
+pub mod MarkAll
+pub mod Listed
+pub mod Fills
