@@ -100,9 +100,6 @@ form_refuses log o history pages command f is e =
 pub memory_refuses : (log : Log) (history : List Entry) (store : Store) (command : Op) → apply_all empty history ≡ Some store → log.tip ≡ tip_of log.mib history → IsRefusedBehind log.mib history command fault.NoMemory
 memory_refuses log history store command state tip = refused_behind log history store command fault.NoMemory state tip tt
 
-pub without_memory : (log : Log) (o : Option Files) (history : List Entry) (pages : ℕ) (command : Op) → IsTold log o history pages → IsRefusedBehind log.mib history command fault.NoMemory
-without_memory log o history pages command is = memory_refuses log history is.lawful.store command is.lawful.made is.tip
-
 second_is : (a : Option InsertFault) (b : Option OpFault) (c : Option InsertFault) (g : OpFault → InsertFault) (f : OpFault) → a ≡ None → b ≡ Some f → option_or a (option_or (option_map g b) c) ≡ Some (g f)
 second_is a b c g f e d = rw (e, d) refl
 

@@ -166,15 +166,6 @@ passed q relseg tells part files faults P (Err why) s answer before = subst (λ 
 passed q relseg tells part files faults P (Ok mark) (Ok same) answer before = (subst P (sym answer.0) before, answer.1)
 passed q relseg tells part files faults P (Ok mark) (Err why) answer before = tt
 
-pub reached_on : (q relseg at : ℕ) (tells : Type 0) (part : Part) (files : Option Files) (faults : ℕ) (r s : Result Flushed StoreFault) → PartAnswer q relseg tells part files faults r s → IfOk r (λ mark. at ≤ mark.to.0) → IfOk s (λ mark. at ≤ mark.to.0)
-reached_on q relseg at tells part files faults (Err why) s answer before = subst (λ x. IfOk x (λ mark. at ≤ mark.to.0)) (sym answer) tt
-reached_on q relseg at tells part files faults (Ok mark) (Ok same) answer before = subst (λ (m : Flushed). at ≤ m.to.0) (sym answer.0) before
-reached_on q relseg at tells part files faults (Ok mark) (Err why) answer before = tt
-
-pub first_reached : {V : Type 0} (old new : Written V) (r : Result Flushed StoreFault) → IfOk r (IsAllFlushed old new) → IfOk r (λ mark. new.wal.tail.tip.end ≤ mark.to.0)
-first_reached old new (Ok mark) is = omega (arith, is.place)
-first_reached old new (Err why) is = tt
-
 -- ---- the answer
 
 history_of : {V : Type 0} (g : Ghosts V) (store : Opened) (areas : StoreAreas V) (files : Files) → (h : IsHeld store.settings.segment store.settings.system store.history files) → g.files areas.wal ≡ Some files

@@ -1,5 +1,5 @@
 -- A WAL that was read whole, and the history that it tells.
-use Rattle.std.proofs.Common.{◌≡◌, ℕ, zero, suc, ◌+◌, ◌<◌, ◌≤◌, true, List, [], ◌∷◌, ◌++◌, map, length, replicate, Option, Some, None, IfSome, is_some, refl, sym, ap, subst, ◌∙◌, add-one, arith}
+use Rattle.std.proofs.Common.{◌≡◌, ℕ, zero, suc, ◌+◌, ◌<◌, ◌≤◌, true, List, [], ◌∷◌, ◌++◌, map, length, replicate, Option, Some, None, IfSome, is_some, refl, sym, ap, subst, ◌∙◌, arith}
 use Rattle.std.specs.Option.{option_map}
 use Rattle.std.specs.FinMap.{empty}
 use Rattle.std.proofs.lemmas.List.{get_or-replicate, length-map, length-replicate}
@@ -29,7 +29,6 @@ use Rattle.data_areas.specs.Areas.{ShowsParts}
 use Rattle.data_areas.specs.declared.store_frames.StoreFrames.{StoreFrames}
 use Rattle.shared_store.specs.Seen.{accepted_by}
 use Rattle.shared_store.specs.Opened.{AreCounts}
-use Rattle.shared_store.specs.Begin.{fresh_passes}
 use Rattle.shared_store.specs.Found.{HasRead, ShowsHistory, IsFound}
 
 -- ---- what is read without a target is the whole WAL
@@ -128,12 +127,6 @@ none_counted workers rs worker below =
 
 -- ---- one worker more
 
-pub fresh_more : (worker : ℕ) (history : List Entry) → fresh_passes (worker + 1) history ≡ fresh_passes worker history ++ (record { worker = worker; accepted = 0; list = history } ∷ [])
-fresh_more worker history = ap (λ (n : ℕ). fresh_passes n history) (add-one worker)
-
 zeros-push : (n : ℕ) → replicate {A = ℕ} (suc n) 0 ≡ replicate n 0 ++ (0 ∷ [])
 zeros-push zero = refl
 zeros-push (suc n) = ap (λ (ns : List ℕ). 0 ∷ ns) (zeros-push n)
-
-pub zeros_more : (n : ℕ) → replicate {A = ℕ} (n + 1) 0 ≡ replicate n 0 ++ (0 ∷ [])
-zeros_more n = ap (λ (k : ℕ). replicate {A = ℕ} k 0) (add-one n) ∙ zeros-push n

@@ -9,3 +9,5 @@ pub mod Rounds
 pub mod Closed
 pub mod Found
 pub mod Begun
+pub mod RedoPoints
+pub mod Copies

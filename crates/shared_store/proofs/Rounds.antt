@@ -6,11 +6,14 @@ use Rattle.lsn_core.specs.declared.fault.StoreFault.{StoreFault}
 use Rattle.lsn_core.specs.declared.fault.StoreFault.TheVariants as store
 use Rattle.lsn_core.specs.declared.fault.MarkFault.{MarkFault}
 use Rattle.lsn_core.specs.declared.fault.MarkFault.TheVariants as mark
-use Rattle.history.specs.Entry.{Act, Entry, Marking, Mark, RedoMark, Online}
+use Rattle.history.specs.Entry.{Act, Entry, Marking, Mark, RedoMark, Online, BackupEnd}
 use Rattle.wal_writer.specs.declared.state.Flushed.{Flushed}
+use Rattle.page_pool.specs.Facts.{history_end}
 use Rattle.shared_store.specs.Opened.{Opened, StoreCause}
-use Rattle.shared_store.specs.Calls.{GoesOn, HasCheckpoint, HasNoRoom, IsMarkOf, MayHaveMarks, MarkCause, MayBeFull}
-use Rattle.shared_store.specs.Inside.{HasMark, MayHaveMark, MayBeFullFor, IsFullFor, mark_fault}
+use Rattle.shared_store.specs.Calls.{GoesOn, HasCheckpoint, HasNoRoom, IsMarkOf, MayHaveMark, MayHaveMarks, MarkCause, MayBeFull, MayBeFullFor}
+use Rattle.shared_store.specs.Copied.{HasBackupEnd}
+use Rattle.shared_store.specs.Inside.{HasMark, IsFullFor, mark_fault}
+use Rattle.shared_store.proofs.Kept.{history_ends}
 
 -- ---- faults
 
@@ -95,5 +98,9 @@ checkpoint_of worker old mid new start end flushed m n reached = record {
   ends = n.is;
   redo_is = m.start;
   at_is = n.start;
+  rises = omega (arith, m.start, m.long, n.late, history_ends old m.entry, ap history_end m.grown);
   reached = subst (λ e. e ≤ flushed.to.0) n.end reached;
 }
+
+pub backup_end_of : (worker start : ℕ) (old new : List Entry) (place : Place) (flushed : Flushed) → HasMark worker (BackupEnd start) old new place → place.end.0 ≤ flushed.to.0 → HasBackupEnd worker start old new place.end flushed
+backup_end_of worker start old new place flushed m reached = record { entry = m.entry; grown = m.grown; is = m.is; end_is = m.end; reached = reached }

@@ -1,5 +1,5 @@
 -- What the crate's private functions answer: no public contract cites these.
-use Rattle.std.specs.Prelude.{◌≡◌, ℕ, ◌+◌, ◌-◌, ◌^◌, ◌≤◌, min, ◌&&◌, ◌⊎◌, Bool, true, false, List, [], ◌∷◌, ◌++◌, map, length, nat_lt, Option, Some, None, IsSome, Result, Ok, Err}
+use Rattle.std.specs.Prelude.{◌≡◌, ℕ, ◌+◌, ◌-◌, ◌^◌, ◌<◌, ◌≤◌, min, ◌&&◌, ◌⊎◌, Bool, true, false, List, [], ◌∷◌, ◌++◌, map, length, nat_lt, Option, Some, None, IsSome, Result, Ok, Err}
 use mathlib.Core.List.{IsPrefix}
 use Rattle.std.specs.List.{All}
 use Rattle.std.specs.FinMap.{empty}
@@ -148,7 +148,7 @@ pub record HasMark (worker : ℕ) (marking : Marking) (old new : List Entry) (pl
   pub is : IsMarkOf worker marking entry
   pub start : place.start.0 ≡ entry.start
   pub end : place.end.0 ≡ entry.end
-  pub long : entry.start ≤ entry.end
+  pub long : entry.start < entry.end
   pub late : history_end old ≤ entry.end
 
 -- a mark finds no room behind so many entries; want of memory may come at any time
@@ -156,18 +156,6 @@ abbrev pub IsFullFor : Act → ℕ → List Entry → MarkFault → Type 0
 IsFullFor act mib history (fault.Failed which) = ⊥
 IsFullFor act mib history (fault.WalFull n) = (n ≡ length history) × HasNoRoom mib history act
 IsFullFor act mib history fault.NoMemory = Unit {0}
-
--- a history goes on with the entry of a mark by a worker, or stays
-pub record MayHaveMark (worker : ℕ) (marking : Marking) (old new : List Entry) : Type 0 where
-  pub entry : Entry
-  pub is : IsMarkOf worker marking entry
-  pub grown : (new ≡ old) ⊎ (new ≡ old ++ (entry ∷ []))
-
--- where a mark failed for want of room, the history stays, and the mark finds none behind it
-abbrev pub MayBeFullFor : Act → ℕ → List Entry → List Entry → MarkFault → Type 0
-MayBeFullFor act mib old new (fault.Failed which) = Unit {0}
-MayBeFullFor act mib old new (fault.WalFull n) = (new ≡ old) × HasNoRoom mib old act
-MayBeFullFor act mib old new fault.NoMemory = Unit {0}
 
 -- the fault of a mark that a call on an area had
 abbrev pub mark_fault : StoreFault → MarkFault

@@ -3,6 +3,7 @@ pub mod Refusals
 pub mod Opened
 pub mod OpenedCode
 pub mod Calls
+pub mod Copied
 pub mod Begin
 pub mod Close
 pub mod Inside

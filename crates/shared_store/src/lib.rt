@@ -14,9 +14,12 @@
 #![tactic(auto)]
 
 mod areas;
+mod backup;
 mod begin;
 mod boxing;
+mod checkpoint;
 mod close;
+mod copying;
 mod crew;
 mod fault;
 mod finding;
@@ -34,7 +37,7 @@ mod sweep;
 pub use areas::StoreAreas;
 pub use begin::{Began, BeginFault, BeginWhy};
 pub use fault::InsertFault;
-pub use laws::stores_go_on;
+pub use laws::{copies_start_at_redo_points, stores_go_on};
 pub use naming::OfCrew;
 pub use pass::Pass;
 pub use receipt::{Receipt, Redo};

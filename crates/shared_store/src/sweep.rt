@@ -51,6 +51,7 @@ fn write_all<J: OfStore, V: Vault, W: Vault, const Q: u32>(
     requires all { MayWriteAll part.old mark.now.to.0 }
     requires late { redo.0 ≤ history_end journal.now.pen }
     ensures cleaned { IfOk result (IsCleaned Q redo) }
+    ensures raised { OnOk result (redo.0 ≤ part.new.point) }
     ensures part { IsPartOf Q part.old.relseg (J.tells ≡ true) journal.now.pen part.new }
     ensures later { part.old.faults ≤ part.new.faults }
     ensures cause { IfErr result (AreaCause (Data Q) part.old.faults part.new.faults) }
@@ -74,6 +75,7 @@ pub(crate) fn clean_in<J: OfStore, V: Vault, W: Vault, const Q: u32>(
     requires marked { mark.old.to.0 ≤ journal.old.wal.tail.flushed }
     requires late { redo.0 ≤ history_end journal.old.pen }
     ensures cleaned { IfOk result (IsCleaned Q redo) }
+    ensures raised { OnOk result (redo.0 ≤ part.new.point) }
     ensures wal { KeepsWal V.Vault journal.old journal.new }
     ensures marked { mark.new.to.0 ≤ journal.new.wal.tail.flushed }
     ensures part { IsPartOf Q part.old.relseg (J.tells ≡ true) journal.new.pen part.new }

@@ -1,0 +1,191 @@
+-- What a partition's area answers a copier.
+use Rattle.std.proofs.Common.{◌≡◌, ℕ, ◌≤◌, ◌&&◌, ◌||◌, Bool, true, false, T, cond, List, [], ◌∷◌, map, length, Option, Some, None, IfSome, IsSome, is_some, option_map, refl, sym, ap, subst, ◌∙◌, arith, true≢false, is_lt}
+use Rattle.std.specs.List.{list_any, find, AllByRecursion}
+use Rattle.std.specs.List.Sorted.{IsStrictlySortedBy}
+use Rattle.std.specs.declared.cmp.Ordering.{Ordering}
+use Rattle.std.specs.declared.cmp.Ordering.TheVariants.{Less, Equal, Greater}
+use Rattle.std.specs.FinMap.{get, entries, entries_sorted, contains_key, contains_key-keys, get-entries}
+use Rattle.std.specs.FinMap.Entries as list
+use Rattle.std.proofs.lemmas.List.Elements.{All-from_recursion}
+use Rattle.lsn_core.specs.declared.ids.BlockId.{BlockId}
+use Rattle.lsn_core.specs.declared.ids.ForkId.{ForkId}
+use Rattle.lsn_core.specs.declared.ids.ForkLen.{ForkLen}
+use Rattle.lsn_core.specs.Blocks.{block_of, block_count}
+use Rattle.lsn_core.specs.Files.{Files}
+use Rattle.lsn_core.specs.Shown.{BlockAnswer}
+use Rattle.lsn_core.specs.Store.{Store, ForkPages, fork_cmp}
+use Rattle.lsn_core.proofs.StoreFiles.{same_fork, fork_itself}
+use Rattle.rel_files.specs.Forks.{whole_pages, mended, fork_lengths}
+use Rattle.rel_files.specs.Shown.{AreFilesOf, ListsForks, ReadsWhole}
+use Rattle.rel_files.proofs.ForkStores.{mended_get, mended_none}
+use Rattle.history.specs.Entry.{Entry}
+use Rattle.history.specs.Apply.{is_same_fork}
+use Rattle.partitions.specs.Parts.{is_of, IsPart}
+use Rattle.fuzzy_copies.specs.Taken.{IsBlockCopied, IsListed}
+use Rattle.fuzzy_copies.specs.CoverLaws.{AnswersCopier}
+use Rattle.fuzzy_copies.proofs.Covering.{answers}
+use Rattle.wal_writer.specs.Log.{Log}
+use Rattle.journal.specs.Journal.{IsTold}
+use Rattle.journal.proofs.Stands.{lawful_orderly, own_is_tidy}
+use Rattle.page_pool.specs.Part.{Part, LacksUnwritten, is_to_make}
+use Rattle.page_pool.specs.Calls.{HoldsPart, IsHeld, AreWholePages, SameUnwritten, ReadsDisk}
+use Rattle.page_pool.proofs.Covering.{followers_cover}
+use Rattle.page_pool.proofs.Torn.{lacks_mended}
+use Rattle.shared_store.specs.Opened.{IsPartOf}
+use Rattle.shared_store.specs.Copied.{HasRedoPoint, listed_length, ListsPart}
+use Rattle.shared_store.proofs.Behind.{known_of, part_made}
+use Rattle.shared_store.proofs.Kept.{part_read}
+use Rattle.shared_store.proofs.RedoPoints.{own_since}
+
+-- ---- the store that an area holds
+
+record HasRaw (part : Part) : Type 0 where
+  raw : Store
+  files : AreFilesOf part.relseg part.disk raw
+  lacks : LacksUnwritten raw part.frames part.marks part.works
+
+raw_of : (part : Part) → IsSome part.disk → IsHeld part → HasRaw part
+raw_of part some held = by part.disk refl some held
+  where
+    by : (o : Option Files) → part.disk ≡ o → IsSome o → IfSome o (HoldsPart part) → HasRaw part
+    by None e some held = absurd cc
+    by (Some m) e some held = record { raw = held.raw; files = record { files = m; are_told = e; hold = held.held }; lacks = held.lacks }
+
+-- ---- the forks of a list
+
+abbrev Entries : Type 0
+Entries = List (ForkId × ForkPages)
+
+abbrev length_of : ForkId × ForkPages → ForkLen
+length_of e = record { fork = e.0; blocks = length (whole_pages e.1) }
+
+first : (a b : Bool) → T (a && b) → T a
+first true b p = tt
+first false b p = p
+
+second : (a b : Bool) → T (a && b) → T b
+second true b p = p
+second false b p = absurd p
+
+less : (k q : ForkId) (r : Ordering) → fork_cmp k q ≡ r → T (is_lt r) → fork_cmp k q ≡ Less
+less k q Less e t = e
+less k q Equal e t = absurd t
+less k q Greater e t = absurd t
+
+below_sorted : (k : ForkId) (es : Entries) → T (list.below_all fork_cmp k es) → AllByRecursion (λ q. fork_cmp k q ≡ Less) (map (λ l. l.fork) (map length_of es))
+below_sorted k [] h = tt
+below_sorted k (e ∷ es) h = (less k e.0 (fork_cmp k e.0) refl (first _ _ h), below_sorted k es (second _ _ h))
+
+sorted : (es : Entries) → T (list.is_sorted fork_cmp es) → IsStrictlySortedBy fork_cmp (map (λ l. l.fork) (map length_of es))
+unfolding IsStrictlySortedBy
+sorted [] h = tt
+sorted (e ∷ es) h = (below_sorted e.0 es (first _ _ h), sorted es (second _ _ h))
+
+or_here : (a b : Bool) → a ≡ true → (a || b) ≡ true
+or_here a b e = rw e refl
+
+or_there : (a b : Bool) → b ≡ true → (a || b) ≡ true
+or_there true b e = refl
+or_there false b e = e
+
+ours_in : (q : ℕ) (es : Entries) → ((fork : ForkId) → list_any (same_fork fork) (map (λ e. e.0) es) ≡ true → is_of q fork ≡ true) → AllByRecursion (λ l. is_of q l.fork ≡ true) (map length_of es)
+ours_in q [] ours = tt
+ours_in q (e ∷ es) ours =
+    (ours e.0 (or_here (same_fork e.0 e.0) _ (fork_itself e.0)), ours_in q es (λ fork there. ours fork (or_there (same_fork fork e.0) _ there)))
+
+found_in : (fork : ForkId) (es : Entries) → listed_length (map length_of es) fork ≡ option_map (λ pages. length (whole_pages pages)) (list.find fork_cmp fork es)
+unfolding is_same_fork
+found_in fork [] = refl
+found_in fork (e ∷ es) =
+    elim (same_fork fork e.0) as (λ b. option_map (λ (l : ForkLen). l.blocks) (cond b (Some (length_of e)) (find (λ (l : ForkLen). same_fork fork l.fork) (map length_of es))) ≡ option_map (λ pages. length (whole_pages pages)) (cond b (Some e.1) (list.find fork_cmp fork es))) [
+      | true ↦ refl
+      | false ↦ found_in fork es
+    ]
+
+counted : (raw : Store) (fork : ForkId) → listed_length (fork_lengths raw) fork ≡ block_count (mended raw fork) fork
+counted raw fork = found_in fork (entries raw) ∙ ap (option_map (λ (pages : ForkPages). length (whole_pages pages))) (sym (get-entries raw fork)) ∙ by (get raw fork) refl
+  where
+    by : (o : Option ForkPages) → get raw fork ≡ o → option_map (λ pages. length (whole_pages pages)) (get raw fork) ≡ block_count (mended raw fork) fork
+    by None e = ap (option_map (λ (pages : ForkPages). length (whole_pages pages))) e ∙ sym (ap (λ (o : Option ForkPages). option_map length o) (mended_none raw fork e))
+    by (Some pages) e = ap (option_map (λ (pages : ForkPages). length (whole_pages pages))) e ∙ sym (ap (λ (o : Option ForkPages). option_map length o) (mended_get raw fork pages e))
+
+-- ---- what is answered
+
+copies : (seen : List Entry) (from : ℕ) (at : BlockId) (old new : List ℕ) (there : Bool) (disk : Store) → BlockAnswer disk at old new there → IsBlockCopied seen from at.fork at.block (block_of disk at.fork at.block) → IsBlockCopied seen from at.fork at.block (cond there (Some new) None)
+copies seen from at old new true disk answer copied = subst (IsBlockCopied seen from at.fork at.block) answer copied
+copies seen from at old new false disk answer copied = subst (IsBlockCopied seen from at.fork at.block) answer.0 copied
+
+of_part : (q : ℕ) (now frames : Store) (fork : ForkId) → IsPart q now frames → contains_key frames fork ≡ true → is_of q fork ≡ true
+of_part q now frames fork is there = by (is_of q fork) refl
+  where
+    by : (b : Bool) → is_of q fork ≡ b → is_of q fork ≡ true
+    by true e = e
+    by false e =
+        let none : get frames fork ≡ None = is fork ∙ ap (λ c. cond c (get now fork) None) e in
+        absurd (true≢false (sym there ∙ ap (λ (o : Option ForkPages). is_some o) none))
+
+-- a partition's area has no forks but its own
+disk_of : (q : ℕ) (now raw : Store) (part : Part) (fork : ForkId) → IsPart q now part.frames → LacksUnwritten raw part.frames part.marks part.works → contains_key raw fork ≡ true → is_of q fork ≡ true
+disk_of q now raw part fork is lacks there =
+    of_part q now part.frames fork is
+    (elim (is_to_make part.works fork) as (λ b. is_to_make part.works fork ≡ b → contains_key part.frames fork ≡ true) [
+      | true ↦ λ make. lacks.made fork make
+      | false ↦ λ none. sym (lacks.forks fork none) ∙ there
+    ] refl)
+
+-- a partition, whose area was read, follows a history in which its point is at a redo point or past it
+pub record IsRead (q from : ℕ) (tells : Type 0) (log : Log) (told : Option Files) (history : List Entry) (pages : ℕ) (old new : Part) : Type 0 where
+  pub part : IsPartOf q old.relseg tells history new
+  pub journal : IsTold log told history pages
+  pub redo : HasRedoPoint history from
+  pub raised : from ≤ new.point
+  pub held : IsHeld new
+  pub whole : AreWholePages new.frames
+  pub reads : ReadsDisk old new
+
+pub read_of : (q from : ℕ) (tells : Type 0) (log : Log) (told : Option Files) (history : List Entry) (pages : ℕ) (old new : Part) → IsPartOf q old.relseg tells history old → IsTold log told history pages → HasRedoPoint history from → from ≤ old.point
+    → IsHeld new → AreWholePages new.frames → SameUnwritten old new → ReadsDisk old new → IsRead q from tells log told history pages old new
+read_of q from tells log told history pages old new part journal redo raised held whole same reads = record {
+  part = part_read q old.relseg tells history old new same reads part;
+  journal = journal;
+  redo = redo;
+  raised = omega (arith, raised, same.point);
+  held = held;
+  whole = whole;
+  reads = reads;
+}
+
+module _ (q from : ℕ) (tells : Type 0) (log : Log) (told : Option Files) (history : List Entry) (pages : ℕ) (old new : Part) (tell : tells) (r : IsRead q from tells log told history pages old new) where
+  held_raw : HasRaw new
+  held_raw = raw_of new (r.part.told tell) r.held
+
+  answered : (fork : ForkId) → is_of q fork ≡ true → AnswersCopier history from fork (mended held_raw.raw fork)
+  answered fork mine =
+      let lawful = r.journal.lawful in
+      let raw = held_raw in
+      let orderly = lawful_orderly log.mib history lawful in
+      answers (is_of q) (mended raw.raw fork) history from new.point fork orderly (own_since log.mib from history lawful r.redo).1 r.raised
+      (followers_cover q history new (mended raw.raw fork) lawful.store (record { orderly = orderly; made = lawful.made; tidy = own_is_tidy log.mib new.point history lawful (r.part.own tell) })
+      (r.part.told tell) r.part.follows (lacks_mended raw.raw new.frames new.marks new.works fork raw.files.hold.held r.whole raw.lacks)) mine
+
+  raw_before : AreFilesOf old.relseg old.disk held_raw.raw
+  raw_before =
+      subst (λ (n : ℕ). AreFilesOf n old.disk held_raw.raw) r.reads.relseg
+      (subst (λ (o : Option Files). AreFilesOf new.relseg o held_raw.raw) r.reads.files held_raw.files)
+
+  pub copied : (at : BlockId) (before now : List ℕ) (there : Bool) → is_of q at.fork ≡ true → ReadsWhole (AreFilesOf old.relseg old.disk) at before now there → IsBlockCopied history from at.fork at.block (cond there (Some now) None)
+  copied at before now there mine read = copies history from at before now there (mended held_raw.raw at.fork) (read held_raw.raw raw_before) ((answered at.fork mine).copied at.block)
+
+  lists : ListsPart q history from (fork_lengths held_raw.raw)
+  lists =
+      let raw = held_raw.raw in
+      let known = known_of q log told history pages new.frames r.journal (part_made q old.relseg tells history new r.part tell) in
+      record {
+        order = sorted (entries raw) (entries_sorted raw);
+        ours = All-from_recursion (λ (l : ForkLen). is_of q l.fork ≡ true) (fork_lengths raw)
+            (ours_in q (entries raw) (λ fork there. disk_of q known.store raw new fork known.is held_raw.lacks (contains_key-keys raw fork ∙ there)));
+        listed = λ fork mine. subst (IsListed history from fork) (sym (counted raw fork)) (answered fork mine).listed;
+      }
+
+  pub listed : (list : List ForkLen) → ListsForks (AreFilesOf old.relseg old.disk) list → ListsPart q history from list
+  listed list is = subst (ListsPart q history from) (sym (is held_raw.raw raw_before)) lists

@@ -1,0 +1,21 @@
+use Rattle.std.proofs.Common.{sym, subst}
+use Rattle.fuzzy_copies.specs.Taken.{IsBlockCopied}
+use Rattle.shared_store.proofs.Kept.{part_read}
+use Rattle.shared_store.proofs.Copies.{read_of, copied}
+use Rattle.shared_store.proofs.copying.copy_area.Goals as goal
+
+pub returns-in-Ok-clause-copied : goal.returns-in-Ok-clause-copied
+returns-in-Ok-clause-copied g c =
+    let journal = c.args.journal.now in
+    let old = c.args.part.now in
+    let new = c.read_disk.new.self in
+    λ tell. subst (IsBlockCopied journal.pen c.args.from.0 c.args.at.now.fork c.args.at.now.block) (sym c.page_if.ensures)
+    (copied g.row.Q c.args.from.0 _ journal.wal.tail (g.V.Vault.files journal.wal.area) journal.pen journal.pages old new tell
+    (read_of g.row.Q c.args.from.0 _ journal.wal.tail (g.V.Vault.files journal.wal.area) journal.pen journal.pages old new c.requires.part (c.know.ensures tell) c.requires.redo (c.requires.raised tell)
+    c.in-Ok.ensures.known c.in-Ok.ensures.whole c.in-Ok.ensures.same c.in-Ok.ensures.reads) c.args.at.now c.zero_page-page.result c.read_disk.new.into c.in-Ok.there c.requires.ours c.in-Ok.ensures.read)
+
+pub returns-in-Ok-clause-part : goal.returns-in-Ok-clause-part
+returns-in-Ok-clause-part g c = part_read g.row.Q c.args.part.now.relseg _ c.args.journal.now.pen c.args.part.now c.read_disk.new.self c.in-Ok.ensures.same c.in-Ok.ensures.reads c.requires.part
+
+pub returns-in-Err-clause-part : goal.returns-in-Err-clause-part
+returns-in-Err-clause-part g c = part_read g.row.Q c.args.part.now.relseg _ c.args.journal.now.pen c.args.part.now c.read_disk.new.self c.in-Err.ensures.same c.in-Err.ensures.reads c.requires.part
