@@ -1,0 +1,9 @@
+mod Pieces
+mod Searched
+mod Sorted
+mod Others
+mod ForkFiles
+mod Manifests
+mod Listed
+mod OneText
+mod Once

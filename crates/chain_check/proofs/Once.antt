@@ -1,0 +1,209 @@
+-- A directory has one answer.
+use Rattle.std.proofs.Common.{◌≡◌, ◌≢◌, ℕ, List, [], ◌∷◌, Option, Some, None, Result, Ok, Err, refl, sym, ap, subst, ◌∙◌, inl, inr, ◌⊎◌}
+use Rattle.std.specs.FinMap.{get}
+use Rattle.std.specs.List.{AllByRecursion}
+use Rattle.lsn_core.specs.Files.{Files}
+use Rattle.vault.specs.Area.{bytes_of}
+use Rattle.backup_label.specs.declared.label.Label.{Label}
+use Rattle.backup_label.proofs.OneReading.{one_label, one_refused, not_refused}
+use Rattle.manifest.specs.Laws.{TextsHaveOneManifest}
+use Rattle.manifest.specs.Listing.{Listing}
+use Rattle.manifest.specs.Reading.{ReadAnswers}
+use Rattle.manifest.specs.declared.fault.ManifestFault.{ManifestFault}
+use Rattle.manifest.specs.declared.fault.ManifestFault.TheVariants as manifest
+use Rattle.manifest.specs.declared.listing.FileRow.{FileRow}
+use Rattle.chain_check.specs.Directory.{manifest_path, label_path, HasManifest, HasForm, IsLabelFrom, IsAsListed}
+use Rattle.chain_check.specs.Refusals.{fault_of, chain_fault_read, RefusesManifest, RefusesLine, HasFormFault, IsFirstForm, listing_fault, RefusedFor, IsOfFiles}
+use Rattle.chain_check.specs.declared.fault.ManifestWhy.{ManifestWhy}
+use Rattle.chain_check.specs.declared.fault.ManifestWhy.TheVariants.{Lines, Sum, Json, Shape, SumKind}
+use Rattle.chain_check.specs.declared.fault.FileWhy.{FileWhy}
+use Rattle.chain_check.specs.declared.fault.FileWhy.TheVariants.{Form, PageLength}
+use Rattle.chain_check.specs.declared.fault.ChainFault.{ChainFault}
+use Rattle.chain_check.specs.declared.fault.ChainFault.TheVariants.{NoManifest, ManifestDamaged, ManifestVersion, TimelineDiffers, FileMissing, FileSize, FileSum, FileExtra, LabelDamaged, FileDamaged, Failed, NoMemory}
+use Rattle.chain_check.specs.declared.member.Member.{Member}
+use Rattle.chain_check.proofs.ForkFiles.{one_form}
+use Rattle.chain_check.proofs.Listed.{no_listing_fault}
+use Rattle.chain_check.proofs.OneText.{one_value, refused_once}
+
+-- ---- manifests
+
+abbrev Reads : Listing → Result Listing ManifestFault → Type 0
+Reads m r = (r ≡ Ok m) ⊎ (r ≡ Err manifest.NoMemory)
+
+same_ok : (m n : Listing) → Reads m (Ok n) → m ≡ n
+same_ok m n (inl e) = cc
+same_ok m n (inr e) = absurd (cc)
+
+not_ok : (m : Listing) (f : ManifestFault) → f ≢ manifest.NoMemory → Reads m (Err f) → ⊥
+not_ok m f nf (inl e) = cc
+not_ok m f nf (inr e) = let same : f ≡ manifest.NoMemory = cc in nf same
+
+module _ (law : TextsHaveOneManifest) where
+  pub manifest_once : (files : Files) (m n : Listing) → HasManifest files m → HasManifest files n → m ≡ n
+  manifest_once files m n is was =
+      let same = one_value (get files manifest_path) was.0 is.0 was.1 is.1 in
+      same_ok m n (law 2 is.0 m (Ok n) is.2 (subst (λ (b : List ℕ). ReadAnswers 2 b (Ok n)) same was.2))
+
+  pub read_or_refused : (files : Files) (m : Listing) (f : ManifestFault) → f ≢ manifest.NoMemory → HasManifest files m → RefusesManifest files f → ⊥
+  read_or_refused files m f nf is was =
+      let same = one_value (get files manifest_path) was.0 is.0 was.1 is.1 in
+      not_ok m f nf (law 2 is.0 m (Err f) is.2 (subst (λ (b : List ℕ). ReadAnswers 2 b (Err f)) same was.2))
+
+refusal_once : (files : Files) (f g : ManifestFault) → f ≢ manifest.NoMemory → g ≢ manifest.NoMemory → RefusesManifest files f → RefusesManifest files g → f ≡ g
+refusal_once files f g nf ng is was =
+    let same = one_value (get files manifest_path) is.0 was.0 is.1 was.1 in
+    refused_once was.0 f g nf ng (subst (λ (b : List ℕ). ReadAnswers 2 b (Err f)) same is.2) was.2
+
+-- ---- labels
+
+line_or_label : (start : ℕ) (text : List ℕ) (label : Label) (line : ℕ) → IsLabelFrom start text label → RefusesLine start text line → ⊥
+line_or_label start text label line is (inl refused) = not_refused text label line is.0 refused
+line_or_label start text label line is (inr other) =
+    other.2 (ap (λ (l : Label). l.start.0) (one_label text other.0 label other.1 is.0) ∙ is.1)
+
+line_once : (start : ℕ) (text : List ℕ) (line more : ℕ) → RefusesLine start text line → RefusesLine start text more → line ≡ more
+line_once start text line more (inl is) (inl was) = one_refused text line more is was
+line_once start text line more (inl is) (inr was) = absurd (not_refused text was.0 line was.1 is)
+line_once start text line more (inr is) (inl was) = absurd (not_refused text is.0 more is.1 was)
+line_once start text line more (inr is) (inr was) = is.3 ∙ sym was.3
+
+-- ---- forms
+
+form_or_fault : (row : FileRow) (why : FileWhy) → HasForm row → HasFormFault row why → ⊥
+form_or_fault row Form has fault = has.plain fault
+form_or_fault row PageLength has fault = fault.1 (has.pages fault.0)
+
+why_once : (row : FileRow) (why more : FileWhy) → HasFormFault row why → HasFormFault row more → why ≡ more
+why_once row Form Form is was = refl
+why_once row Form PageLength is was = absurd (one_form row was.0 is)
+why_once row PageLength Form is was = absurd (one_form row is.0 was)
+why_once row PageLength PageLength is was = refl
+
+form_once : (rows : List FileRow) (path more : List ℕ) (why other : FileWhy) → IsFirstForm rows path why → IsFirstForm rows more other → FileDamaged path why ≡ FileDamaged more other
+form_once [] path more why other is was = absurd is
+form_once (row ∷ rows) path more why other (inl is) (inl was) =
+    ap (λ (p : List ℕ). FileDamaged p why) (sym is.0 ∙ was.0) ∙ ap (λ (w : FileWhy). FileDamaged more w) (why_once row why other is.1 was.1)
+form_once (row ∷ rows) path more why other (inl is) (inr was) = absurd (form_or_fault row why was.0 is.1)
+form_once (row ∷ rows) path more why other (inr is) (inl was) = absurd (form_or_fault row other is.0 was.1)
+form_once (row ∷ rows) path more why other (inr is) (inr was) = form_once rows path more why other is.1 was.1
+
+forms_or_fault : (rows : List FileRow) (path : List ℕ) (why : FileWhy) → AllByRecursion HasForm rows → IsFirstForm rows path why → ⊥
+forms_or_fault [] path why all is = is
+forms_or_fault (row ∷ rows) path why all (inl is) = form_or_fault row why all.0 is.1
+forms_or_fault (row ∷ rows) path why all (inr is) = forms_or_fault rows path why all.1 is.1
+
+-- ---- a directory as listed
+
+abbrev member_with : List ℕ → Label → Listing → Member
+member_with name label m = record { name = name; label = label; manifest = m }
+
+same_member : (a b : Member) → a.name ≡ b.name → a.label ≡ b.label → a.manifest ≡ b.manifest → a ≡ b
+same_member a b n l m =
+    let same : member_with a.name a.label a.manifest ≡ member_with b.name b.label b.manifest = rw (n, l, m) refl in
+    same
+
+read_fault : (why : ManifestWhy) → fault_of why ≢ manifest.NoMemory
+read_fault Lines e = cc
+read_fault Sum e = cc
+read_fault Json e = cc
+read_fault Shape e = cc
+read_fault SumKind e = cc
+
+some_none : (o : Option ChainFault) (fault : ChainFault) → o ≡ None → o ≡ Some fault → ⊥
+some_none o fault e f = let never : None ≡ Some fault = sym e ∙ f in cc
+
+-- ---- refusals, part by part
+
+-- behind the manifest: among the files, of the label, of the forms
+abbrev Behind : Files → Listing → ChainFault → Type 0
+Behind files m fault =
+    (listing_fault files m.files ≡ Some fault)
+    ⊎ ((listing_fault files m.files ≡ None)
+    × (((line : ℕ) × RefusesLine m.start (bytes_of files label_path) line × (fault ≡ LabelDamaged line))
+    ⊎ ((label : Label) × (path : List ℕ) × (why : FileWhy) × IsLabelFrom m.start (bytes_of files label_path) label × IsFirstForm m.files path why × (fault ≡ FileDamaged path why))))
+
+abbrev Stage : Files → ChainFault → Type 0
+Stage files fault =
+    ((get files manifest_path ≡ None) × (fault ≡ NoManifest))
+    ⊎ (((f : ManifestFault) × (f ≢ manifest.NoMemory) × RefusesManifest files f × (fault ≡ chain_fault_read f))
+    ⊎ ((m : Listing) × HasManifest files m × Behind files m fault))
+
+why_read : (why : ManifestWhy) → ManifestDamaged why ≡ chain_fault_read (fault_of why)
+why_read Lines = refl
+why_read Sum = refl
+why_read Json = refl
+why_read Shape = refl
+why_read SumKind = refl
+
+version_read : (v : ℕ) → manifest.Version v ≢ manifest.NoMemory
+version_read v e = cc
+
+timeline_read : (v : ℕ) → manifest.TimelineIs v ≢ manifest.NoMemory
+timeline_read v e = cc
+
+stage_of : (files : Files) (fault : ChainFault) → IsOfFiles fault → RefusedFor files fault → Stage files fault
+stage_of files NoManifest of is = inl (is, refl)
+stage_of files (ManifestDamaged why) of is = inr (inl (fault_of why, read_fault why, is, why_read why))
+stage_of files (ManifestVersion v) of is = inr (inl (manifest.Version v, version_read v, is, refl))
+stage_of files (TimelineDiffers v) of is = inr (inl (manifest.TimelineIs v, timeline_read v, is, refl))
+stage_of files (FileMissing path) of is = inr (inr (is.0, is.1.0, inl is.1.1))
+stage_of files (FileSize path have listed) of is = inr (inr (is.0, is.1.0, inl is.1.1))
+stage_of files (FileSum path) of is = inr (inr (is.0, is.1.0, inl is.1.1))
+stage_of files (FileExtra path) of is = inr (inr (is.0, is.1.0, inl is.1.1))
+stage_of files (LabelDamaged line) of is = inr (inr (is.0, is.1.0, inr (is.1.1, inl (line, is.2, refl))))
+stage_of files (FileDamaged path why) of is = inr (inr (is.0, is.2.0.0, inr (is.2.0.1, inr (is.1, path, why, is.2.1, is.3, refl))))
+stage_of files Failed of is = absurd (of.0 refl)
+stage_of files NoMemory of is = absurd (of.1 refl)
+
+behind_once : (files : Files) (m : Listing) (f g : ChainFault) → Behind files m f → Behind files m g → f ≡ g
+behind_once files m f g (inl is) (inl was) = one_value (listing_fault files m.files) f g is was
+behind_once files m f g (inl is) (inr was) = absurd (some_none (listing_fault files m.files) f was.0 is)
+behind_once files m f g (inr is) (inl was) = absurd (some_none (listing_fault files m.files) g is.0 was)
+behind_once files m f g (inr (none, inl is)) (inr (also, inl was)) =
+    is.2 ∙ (ap (λ (n : ℕ). LabelDamaged n) (line_once m.start (bytes_of files label_path) is.0 was.0 is.1 was.1) ∙ sym was.2)
+behind_once files m f g (inr (none, inl is)) (inr (also, inr was)) = absurd (line_or_label m.start (bytes_of files label_path) was.0 is.0 was.3 is.1)
+behind_once files m f g (inr (none, inr is)) (inr (also, inl was)) = absurd (line_or_label m.start (bytes_of files label_path) is.0 was.0 is.3 was.1)
+behind_once files m f g (inr (none, inr is)) (inr (also, inr was)) =
+    is.5 ∙ (form_once m.files is.1 was.1 is.2 was.2 is.4 was.4 ∙ sym was.5)
+
+missing_text : (files : Files) (bytes : List ℕ) → get files manifest_path ≡ None → get files manifest_path ≡ Some bytes → ⊥
+missing_text files bytes e f = let never : None ≡ Some bytes = sym e ∙ f in cc
+
+not_behind : (files : Files) (member : Member) (fault : ChainFault) → IsAsListed files member → Behind files member.manifest fault → ⊥
+not_behind files member fault is (inl was) = some_none (listing_fault files member.manifest.files) fault (no_listing_fault files member is) was
+not_behind files member fault is (inr (none, inl was)) = line_or_label member.manifest.start (bytes_of files label_path) member.label was.0 is.label was.1
+not_behind files member fault is (inr (none, inr was)) = forms_or_fault member.manifest.files was.1 was.2 is.forms was.4
+
+module _ (law : TextsHaveOneManifest) where
+  stage_once : (files : Files) (f g : ChainFault) → Stage files f → Stage files g → f ≡ g
+  stage_once files f g (inl is) (inl was) = is.1 ∙ sym was.1
+  stage_once files f g (inl is) (inr (inl was)) = absurd (missing_text files was.2.0 is.0 was.2.1)
+  stage_once files f g (inl is) (inr (inr was)) = absurd (missing_text files was.1.0 is.0 was.1.1)
+  stage_once files f g (inr (inl is)) (inl was) = absurd (missing_text files is.2.0 was.0 is.2.1)
+  stage_once files f g (inr (inl is)) (inr (inl was)) =
+      is.3 ∙ (ap chain_fault_read (refusal_once files is.0 was.0 is.1 was.1 is.2 was.2) ∙ sym was.3)
+  stage_once files f g (inr (inl is)) (inr (inr was)) = absurd (read_or_refused law files was.0 is.0 is.1 was.1 is.2)
+  stage_once files f g (inr (inr is)) (inl was) = absurd (missing_text files is.1.0 was.0 is.1.1)
+  stage_once files f g (inr (inr is)) (inr (inl was)) = absurd (read_or_refused law files is.0 was.0 was.1 is.1 was.2)
+  stage_once files f g (inr (inr is)) (inr (inr was)) =
+      let same = manifest_once law files is.0 was.0 is.1 was.1 in
+      behind_once files was.0 f g (subst (λ (m : Listing). Behind files m f) same is.2) was.2
+
+  -- ---- the laws
+
+  pub one_member : (files : Files) (one other : Member) → one.name ≡ other.name → IsAsListed files one → IsAsListed files other → one ≡ other
+  one_member files one other name is was =
+      same_member one other name (one_label (bytes_of files label_path) one.label other.label is.label.0 was.label.0)
+      (manifest_once law files one.manifest other.manifest is.manifest was.manifest)
+
+  listed_stage : (files : Files) (member : Member) (fault : ChainFault) → IsAsListed files member → Stage files fault → ⊥
+  listed_stage files member fault is (inl was) = missing_text files is.manifest.0 was.0 is.manifest.1
+  listed_stage files member fault is (inr (inl was)) = read_or_refused law files member.manifest was.0 was.1 is.manifest was.2
+  listed_stage files member fault is (inr (inr was)) =
+      not_behind files member fault is (subst (λ (m : Listing). Behind files m fault) (manifest_once law files was.0 member.manifest was.1 is.manifest) was.2)
+
+  pub not_both : (files : Files) (member : Member) (fault : ChainFault) → IsOfFiles fault → IsAsListed files member → RefusedFor files fault → ⊥
+  not_both files member fault of is was = listed_stage files member fault is (stage_of files fault of was)
+
+  pub one_refusal : (files : Files) (fault other : ChainFault) → IsOfFiles fault → IsOfFiles other → RefusedFor files fault → RefusedFor files other → fault ≡ other
+  one_refusal files fault other of on is was = stage_once files fault other (stage_of files fault of is) (stage_of files other on was)

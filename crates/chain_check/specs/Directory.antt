@@ -1,0 +1,84 @@
+-- The directory of a backup that is as its manifest lists it (PostgreSQL manual, pg_verifybackup).
+use Rattle.std.specs.Prelude.{◌≡◌, ℕ, ◌%◌, Bool, true, false, List, length, codes, nat_eq, ◌||◌, Some, None, Ok}
+use Rattle.std.specs.Str.{bytes_eq}
+use Rattle.std.specs.List.{AllByRecursion, list_any, starts_with}
+use Rattle.std.specs.FinMap.{get}
+use Rattle.lsn_core.specs.Files.{Files}
+use Rattle.lsn_core.specs.Names.{fork_path_bytes, IsNamed}
+use Rattle.lsn_core.specs.declared.ids.ForkId.{ForkId}
+use Rattle.vault.specs.Area.{bytes_of}
+use Rattle.backup_label.specs.Label.{IsLabel}
+use Rattle.backup_label.specs.declared.label.Label.{Label}
+use Rattle.manifest.specs.Listing.{Listing}
+use Rattle.manifest.specs.Reading.{ReadAnswers}
+use Rattle.manifest.specs.declared.listing.FileRow.{FileRow}
+use Rattle.chain_check.specs.Sums.{HasSum}
+use Rattle.chain_check.specs.declared.member.Member.{Member}
+
+-- the file that lists the others, and the label
+abbrev pub manifest_path : List ℕ
+manifest_path = codes "backup_manifest"
+
+abbrev pub label_path : List ℕ
+label_path = codes "backup_label"
+
+-- ---- what the manifest lists
+
+-- the directory's manifest is of version 2 and of its grammar, and says this
+abbrev pub HasManifest : Files → Listing → Type 0
+HasManifest files m =
+    (bytes : List ℕ) × (get files manifest_path ≡ Some bytes) × ReadAnswers 2 bytes (Ok m)
+
+-- the file of a row is there, and has the row's size and sum
+pub record IsRowAsListed (files : Files) (row : FileRow) : Type 0 where
+  pub bytes : List ℕ
+  pub there : get files row.path ≡ Some bytes
+  pub size : length bytes ≡ row.size
+  pub summed : HasSum row bytes
+
+-- whether a row has this path
+abbrev pub is_listed : List FileRow → List ℕ → Bool
+is_listed rows path = list_any (λ row. bytes_eq row.path path) rows
+
+-- whether a file may stand beside those of the rows: it is one of these, the manifest itself, or
+-- in the folder of the WAL, whose files need no row
+abbrev pub may_stand : List FileRow → List ℕ → Bool
+may_stand rows name =
+    bytes_eq name manifest_path
+    || (starts_with nat_eq name (codes "pg_wal/") || is_listed rows name)
+
+-- no other file stands there
+abbrev pub HasNoOther : Files → List FileRow → Type 0
+HasNoOther files rows = (name : List ℕ) → may_stand rows name ≡ false → get files name ≡ None
+
+-- ---- the label
+
+-- the text is that of a label, and the start that it tells is this place
+abbrev pub IsLabelFrom : ℕ → List ℕ → Label → Type 0
+IsLabelFrom start text label = IsLabel text label × (label.start.0 ≡ start)
+
+-- ---- the files of forks
+
+-- a path is that of a segment of a fork, in its incremental form or its plain one
+pub record IsForkFile (path : List ℕ) (incr : Bool) : Type 0 where
+  pub fork : ForkId
+  pub seg : ℕ
+  pub named : IsNamed fork seg
+  pub spelled : path ≡ fork_path_bytes fork seg incr
+
+-- the file of a row isn't incremental, and that of a fork is of whole pages
+pub record HasForm (row : FileRow) : Type 0 where
+  pub plain : ¬ IsForkFile row.path true
+  pub pages : IsForkFile row.path false → row.size % 8192 ≡ 0
+
+-- ---- the whole
+
+-- the files of a directory are those of a backup as its manifest lists them: what its label and
+-- its manifest tell, the member has
+pub record IsAsListed (files : Files) (member : Member) : Type 0 where
+  pub manifest : HasManifest files member.manifest
+  pub rows : AllByRecursion (IsRowAsListed files) member.manifest.files
+  pub label_row : is_listed member.manifest.files label_path ≡ true
+  pub others : HasNoOther files member.manifest.files
+  pub label : IsLabelFrom member.manifest.start (bytes_of files label_path) member.label
+  pub forms : AllByRecursion HasForm member.manifest.files

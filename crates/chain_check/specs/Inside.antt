@@ -1,0 +1,90 @@
+-- What the crate's private functions answer: no public contract cites these.
+use Rattle.std.specs.Prelude.{◌≡◌, ℕ, List, Option, Some, None, Result, Ok, Err}
+use Rattle.std.specs.Global.{Vec}
+use Rattle.std.specs.List.{AllByRecursion}
+use Rattle.std.specs.Option.{option_map}
+use Rattle.std.specs.FinMap.{get}
+use Rattle.lsn_core.specs.Files.{Files}
+use Rattle.vault.specs.Area.{bytes_of}
+use Rattle.backup_label.specs.declared.label.Label.{Label}
+use Rattle.manifest.specs.Listing.{Listing}
+use Rattle.manifest.specs.Reading.{ReadAnswers}
+use Rattle.manifest.specs.declared.fault.ManifestFault.TheVariants as manifest
+use Rattle.manifest.specs.declared.listing.FileRow.{FileRow}
+use Rattle.chain_check.specs.Directory.{manifest_path, label_path, HasManifest, HasForm, IsLabelFrom}
+use Rattle.chain_check.specs.Refusals.{fault_of, RefusesManifest, RefusesLine, IsFirstForm, listing_fault}
+use Rattle.chain_check.specs.declared.fault.ChainFault.{ChainFault}
+use Rattle.chain_check.specs.declared.fault.ChainFault.TheVariants.{NoManifest, ManifestDamaged, ManifestVersion, TimelineDiffers, FileMissing, FileSize, FileSum, FileExtra, LabelDamaged, FileDamaged, Failed, NoMemory}
+
+-- the path of a row
+abbrev pub path_of : FileRow → List ℕ
+path_of row = row.path
+
+-- no device has failed
+abbrev pub NeverFails : {T : Type 0} → Result T ChainFault → Type 0
+NeverFails result = result ≡ Err Failed → ⊥
+
+-- the fault of a file that there is, or none
+abbrev pub Answers : Option ChainFault → Result (Unit {0}) ChainFault → Type 0
+Answers found (Ok done) = found ≡ None
+Answers found (Err (FileMissing path)) = found ≡ Some (FileMissing path)
+Answers found (Err (FileSize path have listed)) = found ≡ Some (FileSize path have listed)
+Answers found (Err (FileSum path)) = found ≡ Some (FileSum path)
+Answers found (Err (FileExtra path)) = found ≡ Some (FileExtra path)
+Answers found (Err Failed) = Unit {0}
+Answers found (Err NoMemory) = Unit {0}
+Answers found (Err fault) = ⊥
+
+-- what a text is read as, or refused for
+abbrev pub TextAnswer : List ℕ → Result Listing ChainFault → Type 0
+TextAnswer bytes (Ok m) = ReadAnswers 2 bytes (Ok m)
+TextAnswer bytes (Err (ManifestDamaged why)) = ReadAnswers 2 bytes (Err (fault_of why))
+TextAnswer bytes (Err (ManifestVersion v)) = ReadAnswers 2 bytes (Err (manifest.Version v))
+TextAnswer bytes (Err (TimelineDiffers v)) = ReadAnswers 2 bytes (Err (manifest.TimelineIs v))
+TextAnswer bytes (Err NoMemory) = Unit {0}
+TextAnswer bytes (Err fault) = ⊥
+
+-- the bytes of a file, where it is there
+abbrev pub IsFile : Files → List ℕ → Option (Vec ℕ) → Type 0
+IsFile files name found = option_map (λ v. v.items) found ≡ get files name
+
+-- the manifest, or why there is none
+abbrev pub ManifestAnswer : Files → Result Listing ChainFault → Type 0
+ManifestAnswer files (Ok m) = HasManifest files m
+ManifestAnswer files (Err NoManifest) = get files manifest_path ≡ None
+ManifestAnswer files (Err (ManifestDamaged why)) = RefusesManifest files (fault_of why)
+ManifestAnswer files (Err (ManifestVersion v)) = RefusesManifest files (manifest.Version v)
+ManifestAnswer files (Err (TimelineDiffers v)) = RefusesManifest files (manifest.TimelineIs v)
+ManifestAnswer files (Err Failed) = Unit {0}
+ManifestAnswer files (Err NoMemory) = Unit {0}
+ManifestAnswer files (Err fault) = ⊥
+
+-- the label of a text that tells this start, or which line is refused
+abbrev pub LabelAnswer : ℕ → List ℕ → Result Label ChainFault → Type 0
+LabelAnswer start text (Ok label) = IsLabelFrom start text label
+LabelAnswer start text (Err (LabelDamaged line)) = RefusesLine start text line
+LabelAnswer start text (Err Failed) = Unit {0}
+LabelAnswer start text (Err NoMemory) = Unit {0}
+LabelAnswer start text (Err fault) = ⊥
+
+-- whether each row's file has its form
+abbrev pub FormsAnswer : List FileRow → Result (Unit {0}) ChainFault → Type 0
+FormsAnswer rows (Ok done) = AllByRecursion HasForm rows
+FormsAnswer rows (Err (FileDamaged path why)) = IsFirstForm rows path why
+FormsAnswer rows (Err Failed) = Unit {0}
+FormsAnswer rows (Err NoMemory) = Unit {0}
+FormsAnswer rows (Err fault) = ⊥
+
+-- what is judged behind the manifest: the label where nothing is wrong, or the first fault
+abbrev pub ListedAnswer : Files → Listing → Result Label ChainFault → Type 0
+ListedAnswer files m (Ok label) =
+    (listing_fault files m.files ≡ None)
+    × IsLabelFrom m.start (bytes_of files label_path) label
+    × AllByRecursion HasForm m.files
+ListedAnswer files m (Err (LabelDamaged line)) =
+    (listing_fault files m.files ≡ None) × RefusesLine m.start (bytes_of files label_path) line
+ListedAnswer files m (Err (FileDamaged path why)) =
+    (label : Label) × (listing_fault files m.files ≡ None)
+    × IsLabelFrom m.start (bytes_of files label_path) label
+    × IsFirstForm m.files path why
+ListedAnswer files m (Err fault) = Answers (listing_fault files m.files) (Err fault)

@@ -1,0 +1,5 @@
+pub mod Sums
+pub mod Directory
+pub mod Refusals
+pub mod Inside
+pub mod Laws

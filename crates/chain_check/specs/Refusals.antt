@@ -1,0 +1,157 @@
+-- What a directory of a backup is refused for: the first fault, in the order in which the parts of
+-- a directory are judged.
+use Rattle.std.specs.Prelude.{◌≡◌, ◌≢◌, ◌⊎◌, ℕ, ◌%◌, true, false, List, [], ◌∷◌, length, not, ◌==◌, Option, Some, None, Result, Ok, Err, if◌then◌else◌}
+use Rattle.std.specs.List.{find}
+use Rattle.std.specs.Option.{option_map, option_or}
+use Rattle.std.specs.FinMap.{get, keys}
+use Rattle.lsn_core.specs.Files.{Files}
+use Rattle.lsn_core.specs.Causes.{Rose}
+use Rattle.lsn_core.specs.declared.fault.AreaFault.{AreaFault}
+use Rattle.lsn_core.specs.declared.fault.AreaFault.TheVariants as area
+use Rattle.vault.specs.Area.{bytes_of}
+use Rattle.backup_label.specs.Label.{IsLabel, IsLabelRefusedAt}
+use Rattle.backup_label.specs.declared.label.Label.{Label}
+use Rattle.manifest.specs.Listing.{Listing}
+use Rattle.manifest.specs.Reading.{ReadAnswers}
+use Rattle.manifest.specs.declared.fault.ManifestFault.{ManifestFault}
+use Rattle.manifest.specs.declared.fault.ManifestFault.TheVariants as manifest
+use Rattle.manifest.specs.declared.listing.FileRow.{FileRow}
+use Rattle.chain_check.specs.Sums.{has_sum}
+use Rattle.chain_check.specs.Directory.{manifest_path, label_path, HasManifest, is_listed, may_stand, IsLabelFrom, IsForkFile, HasForm, IsAsListed}
+use Rattle.chain_check.specs.declared.member.Member.{Member}
+use Rattle.chain_check.specs.declared.fault.ManifestWhy.{ManifestWhy}
+use Rattle.chain_check.specs.declared.fault.ManifestWhy.TheVariants.{Lines, Sum, Json, Shape, SumKind}
+use Rattle.chain_check.specs.declared.fault.FileWhy.{FileWhy}
+use Rattle.chain_check.specs.declared.fault.FileWhy.TheVariants.{Form, PageLength}
+use Rattle.chain_check.specs.declared.fault.ChainFault.{ChainFault}
+use Rattle.chain_check.specs.declared.fault.ChainFault.TheVariants.{NoManifest, ManifestDamaged, ManifestVersion, TimelineDiffers, FileMissing, FileSize, FileSum, FileExtra, LabelDamaged, FileDamaged, Failed, NoMemory}
+
+-- ---- the manifest
+
+-- what the reader of a manifest refuses so
+abbrev pub fault_of : ManifestWhy → ManifestFault
+fault_of Lines = manifest.Lines
+fault_of Sum = manifest.Sum
+fault_of Json = manifest.Json
+fault_of Shape = manifest.Shape
+fault_of SumKind = manifest.SumKind
+
+-- the directory's manifest is refused so
+abbrev pub RefusesManifest : Files → ManifestFault → Type 0
+RefusesManifest files fault =
+    (bytes : List ℕ) × (get files manifest_path ≡ Some bytes) × ReadAnswers 2 bytes (Err fault)
+
+-- ---- the files that it lists
+
+-- what is wrong with the file of a row: its size is judged before its sum
+abbrev pub file_fault : FileRow → Option (List ℕ) → Option ChainFault
+file_fault row None = Some (FileMissing row.path)
+file_fault row (Some bytes) =
+    if not (length bytes == row.size) then Some (FileSize row.path (length bytes) row.size)
+    else if has_sum row bytes then None
+    else Some (FileSum row.path)
+
+abbrev pub row_fault : Files → FileRow → Option ChainFault
+row_fault files row = file_fault row (get files row.path)
+
+-- with the first of the rows, in their order, whose file isn't as listed
+abbrev pub rows_fault : Files → List FileRow → Option ChainFault
+rows_fault files [] = None
+rows_fault files (row ∷ rows) = option_or (row_fault files row) (rows_fault files rows)
+
+-- a label that isn't listed is missing
+abbrev pub label_row_fault : List FileRow → Option ChainFault
+label_row_fault rows = if is_listed rows label_path then None else Some (FileMissing label_path)
+
+-- the first file, in byte order, that may not stand beside those of the rows
+abbrev pub extra_fault : Files → List FileRow → Option ChainFault
+extra_fault files rows =
+    option_map (λ name. FileExtra name) (find (λ name. not (may_stand rows name)) (keys files))
+
+-- the first fault of the rows, of the label's row, of the other files, in this order
+abbrev pub listing_fault : Files → List FileRow → Option ChainFault
+listing_fault files rows =
+    option_or (rows_fault files rows) (option_or (label_row_fault rows) (extra_fault files rows))
+
+-- ---- the label
+
+-- this line of the label is refused: the first outside the grammar, or, where none is, line 1,
+-- which tells another start
+abbrev pub RefusesLine : ℕ → List ℕ → ℕ → Type 0
+RefusesLine start text line =
+    IsLabelRefusedAt text line
+    ⊎ ((label : Label) × IsLabel text label × (label.start.0 ≢ start) × (line ≡ 1))
+
+-- ---- the files of forks
+
+-- what is wrong with the form of a row's file
+abbrev pub HasFormFault : FileRow → FileWhy → Type 0
+HasFormFault row Form = IsForkFile row.path true
+HasFormFault row PageLength = IsForkFile row.path false × (row.size % 8192 ≢ 0)
+
+-- the first row, in their order, of which something is
+abbrev pub IsFirstForm : List FileRow → List ℕ → FileWhy → Type 0
+IsFirstForm [] path why = ⊥
+IsFirstForm (row ∷ rows) path why =
+    ((row.path ≡ path) × HasFormFault row why) ⊎ (HasForm row × IsFirstForm rows path why)
+
+-- ---- the whole
+
+-- the directory's manifest is read, and among the files this is the first fault, or none
+abbrev pub HasListingFault : Files → Listing → Option ChainFault → Type 0
+HasListingFault files m fault =
+    HasManifest files m × (listing_fault files m.files ≡ fault)
+
+-- the files are as the manifest lists them, and the label is its label
+abbrev pub HasLabel : Files → Listing → Label → Type 0
+HasLabel files m label =
+    HasListingFault files m None × IsLabelFrom m.start (bytes_of files label_path) label
+
+-- the cause of each fault; a device that failed and want of memory have theirs elsewhere
+abbrev pub RefusedFor : Files → ChainFault → Type 0
+RefusedFor files NoManifest = get files manifest_path ≡ None
+RefusedFor files (ManifestDamaged why) = RefusesManifest files (fault_of why)
+RefusedFor files (ManifestVersion v) = RefusesManifest files (manifest.Version v)
+RefusedFor files (TimelineDiffers v) = RefusesManifest files (manifest.TimelineIs v)
+RefusedFor files (FileMissing path) =
+    (m : Listing) × HasListingFault files m (Some (FileMissing path))
+RefusedFor files (FileSize path have listed) =
+    (m : Listing) × HasListingFault files m (Some (FileSize path have listed))
+RefusedFor files (FileSum path) = (m : Listing) × HasListingFault files m (Some (FileSum path))
+RefusedFor files (FileExtra path) = (m : Listing) × HasListingFault files m (Some (FileExtra path))
+RefusedFor files (LabelDamaged line) =
+    (m : Listing) × HasListingFault files m None
+    × RefusesLine m.start (bytes_of files label_path) line
+RefusedFor files (FileDamaged path why) =
+    (m : Listing) × (label : Label) × HasLabel files m label × IsFirstForm m.files path why
+RefusedFor files Failed = Unit {0}
+RefusedFor files NoMemory = Unit {0}
+
+-- what a check of a directory answers: the member of that name that it is, or its first fault
+abbrev pub DirAnswer : Files → List ℕ → Result Member ChainFault → Type 0
+DirAnswer files name (Ok member) = (member.name ≡ name) × IsAsListed files member
+DirAnswer files name (Err fault) = RefusedFor files fault
+
+-- a fault that the files decide, and not a device that failed or want of memory
+abbrev pub IsOfFiles : ChainFault → Type 0
+IsOfFiles fault = (fault ≢ Failed) × (fault ≢ NoMemory)
+
+-- a failed device is answered only where the area's count of faults rose
+abbrev pub FailsRisen : {T : Type 0} → ℕ → ℕ → Result T ChainFault → Type 0
+FailsRisen before now result = result ≡ Err Failed → Rose before now
+
+-- ---- the faults of what is called
+
+abbrev pub chain_fault_of : AreaFault → ChainFault
+chain_fault_of area.Failed = Failed
+chain_fault_of area.NoMemory = NoMemory
+
+abbrev pub chain_fault_read : ManifestFault → ChainFault
+chain_fault_read manifest.Lines = ManifestDamaged Lines
+chain_fault_read manifest.Sum = ManifestDamaged Sum
+chain_fault_read manifest.Json = ManifestDamaged Json
+chain_fault_read (manifest.Version v) = ManifestVersion v
+chain_fault_read manifest.Shape = ManifestDamaged Shape
+chain_fault_read manifest.SumKind = ManifestDamaged SumKind
+chain_fault_read (manifest.TimelineIs v) = TimelineDiffers v
+chain_fault_read manifest.NoMemory = NoMemory
