@@ -11,12 +11,13 @@ use Rattle.command_line.specs.declared.words.Command.{Command}
 use Rattle.command_line.specs.declared.words.Command.TheVariants as command
 use Rattle.command_line.specs.Options.{none_given, options_in, IsInRange}
 
--- a new store, a script to be run, or a replay to an output of that name, up to a target where one
--- is given
+-- a new store, a script to be run, a replay to an output of that name, up to a target where one is
+-- given, or the check of the backup of a name
 pub data Asked : Type 0 where
   Init : InitOptions → Asked
   Run : Asked
   Replay : Option Lsn → List ℕ → Asked
+  Verify : List ℕ → Asked
 
 -- what the words behind the command's name ask
 abbrev pub init_asked : List (List ℕ) → Option Asked
@@ -59,22 +60,33 @@ replay_asked (first ∷ (second ∷ [])) = None
 replay_asked (first ∷ (second ∷ (third ∷ []))) = replay_with first second third
 replay_asked (first ∷ (second ∷ (third ∷ (more ∷ words)))) = None
 
+abbrev pub verify_name : List ℕ → Option Asked
+verify_name name = if is_name name then Some (Verify name) else None
+
+abbrev pub verify_asked : List (List ℕ) → Option Asked
+verify_asked [] = None
+verify_asked (name ∷ []) = verify_name name
+verify_asked (name ∷ (more ∷ words)) = None
+
 -- what the words ask, None where they aren't taken
 abbrev pub asked : List (List ℕ) → Option Asked
 asked [] = None
 asked (word ∷ words) =
     if bytes_eq word (codes "init") then init_asked words
     else (if bytes_eq word (codes "run") then run_asked words
-    else (if bytes_eq word (codes "replay") then replay_asked words else None))
+    else (if bytes_eq word (codes "replay") then replay_asked words
+    else (if bytes_eq word (codes "verify") then verify_asked words else None)))
 
 -- a command asks for this
 abbrev pub asks : Command → Asked
 asks (command.Init options) = Init options
 asks command.Run = Run
 asks (command.Replay upto name) = Replay upto name.now
+asks (command.Verify name) = Verify name.now
 
 -- the options of a command are in their ranges
 abbrev pub HasRange : Command → Type 0
 HasRange (command.Init options) = IsInRange options
 HasRange command.Run = Unit {0}
 HasRange (command.Replay upto name) = Unit {0}
+HasRange (command.Verify name) = Unit {0}

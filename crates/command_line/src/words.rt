@@ -2,7 +2,7 @@
 
 ghost use Rattle.std.specs.Prelude.{◌≡◌, IfSome};
 ghost use Rattle.std.specs.Option.{option_map};
-ghost use Rattle.command_line.specs.Words.{init_asked, run_asked, lsn_value, replay_to, replay_up_to, is_target, replay_with, replay_asked, asked};
+ghost use Rattle.command_line.specs.Words.{init_asked, run_asked, lsn_value, replay_to, replay_up_to, is_target, replay_with, replay_asked, verify_name, verify_asked, asked};
 ghost use Rattle.command_line.specs.Words.{asks, HasRange};
 
 use crate::options::{InitOptions, options_of};
@@ -19,6 +19,8 @@ pub enum Command<'a> {
     /// The WAL replayed from its beginning up to the target, where one is given, to an output of
     /// this name.
     Replay(Option<Lsn>, &'a [u8]),
+    /// The directory of the backup of this name checked.
+    Verify(&'a [u8]),
 }
 
 fn init_of(words: &[Text]) -> Option<Command<'_>>
@@ -97,6 +99,26 @@ fn replay_of(words: &[Text]) -> Option<Command<'_>>
     }
 }
 
+fn verify_name(name: &[u8]) -> Option<Command<'_>>
+    ensures asked { option_map asks result ≡ verify_name name.now }
+    ensures range { IfSome result HasRange }
+{
+    if is_name(name) {
+        return Some(Command::Verify(name));
+    }
+    None
+}
+
+fn verify_of(words: &[Text]) -> Option<Command<'_>>
+    ensures asked { option_map asks result ≡ verify_asked words.now }
+    ensures range { IfSome result HasRange }
+{
+    match words {
+        [name] => verify_name(name.as_bytes()),
+        _ => None,
+    }
+}
+
 /// The command that the words ask for. None exactly where they aren't taken.
 pub fn command_of(words: &[Text]) -> Option<Command<'_>>
     ensures asked { option_map asks result ≡ asked words.now }
@@ -112,6 +134,9 @@ pub fn command_of(words: &[Text]) -> Option<Command<'_>>
     }
     if word == b"replay".as_slice() {
         return replay_of(others);
+    }
+    if word == b"verify".as_slice() {
+        return verify_of(others);
     }
     None
 }

@@ -24,7 +24,7 @@ use Rattle.wal_pages.proofs.Pieces.{spread_head}
 use Rattle.wal_record.specs.declared.record.Record.{Record}
 use Rattle.wal_record.specs.declared.record.Kind.TheVariants.{Shutdown}
 use Rattle.wal_record.specs.Decoding.{may_come, record_at}
-use Rattle.wal_record.specs.Spelling.{total_of, sealed}
+use Rattle.wal_record.specs.Spelling.{sealed}
 use Rattle.wal_record.specs.Tips.{first_tip, record_at_tip, IsWithin}
 use Rattle.wal_archive.specs.Archive.{is_segment, held_in, nth, byte_of, has_segment, archive_of}
 use Rattle.wal_archive.specs.Laws.{HasNoGap, IsKept, entries_written}
@@ -38,7 +38,7 @@ use Rattle.wal_reader.proofs.StoreFiles.{HasStoreFiles, store_settings}
 use Rattle.wal_writer.specs.Log.{Log, Ready, IsLog, log_at, next_record}
 use Rattle.wal_writer.proofs.NextRead.{next_comes}
 use Rattle.wal_writer.proofs.Ready.{comes}
-use Rattle.pgbackup_cli.specs.Areas.{IsClear}
+use Rattle.command_base.specs.Areas.{IsClear}
 use Rattle.pgbackup_cli.specs.Init.{InitAreas, InitDone, settings_name, segment_name, settings_file, segment_file, first_start, first_entry, new_tip, begun_wal, new_wal, HasFirstAlone, IsNewWal, HoldsPart}
 use Rattle.pgbackup_cli.specs.Inner.{with_settings, with_segment, IsSegmentTorn, IsFirstEntry, with_first, IsFirstTorn}
 
@@ -110,9 +110,6 @@ long_head : (mib : ℕ) → 1 ≤ mib → start_after mib (segment_bytes mib) �
 long_head mib some =
     start_page mib (segment_bytes mib) some (omega arith)
     ∙ ap (λ (n : ℕ). segment_bytes mib + n) (head_first mib (segment_bytes mib) 1 0 (record { is = omega arith; page = omega (arith, some); byte = omega arith }))
-
-checkpoint_total : (redo : Lsn) → total_of (Shutdown redo) ≡ 50
-checkpoint_total redo = refl
 
 -- it ends on the first page
 first_ends : (mib : ℕ) → 1 ≤ mib → (first_entry mib).end.0 ≡ segment_bytes mib + 96

@@ -5,7 +5,7 @@ use Rattle.lsn_core.specs.Segment.{StoreSettings}
 use Rattle.vault.specs.declared.lending.TakeFault.{TakeFault}
 use Rattle.pgbackup_cli.specs.declared.init.InitFault.{InitFault}
 use Rattle.pgbackup_cli.specs.declared.init.InitFault.TheVariants as init
-use Rattle.pgbackup_cli.specs.Areas.{wal_name, sums_name}
+use Rattle.command_base.specs.Areas.{wal_name, sums_name}
 use Rattle.pgbackup_cli.specs.Init.{first_entry, InitAreas, InitAnswer, init_status}
 use Rattle.pgbackup_cli.specs.Laws.{is_decided, HasOneInit}
 use Rattle.pgbackup_cli.proofs.Decided.{clear_or_not, undecided}

@@ -14,10 +14,11 @@ use Rattle.recovery.proofs.OneWal.{one_wal}
 use Rattle.pgbackup_cli.specs.declared.replay.ReplayReport.{ReplayReport}
 use Rattle.pgbackup_cli.specs.declared.replay.ReplayFault.{ReplayFault}
 use Rattle.pgbackup_cli.specs.declared.replay.ReplayFault.TheVariants as replay
-use Rattle.pgbackup_cli.specs.Areas.{wal_name, output_name}
+use Rattle.command_base.specs.Areas.{wal_name, output_name}
 use Rattle.pgbackup_cli.specs.Replay.{ReplayAreas, ReplayDone, ReplayAnswer, replay_status}
 use Rattle.pgbackup_cli.specs.Laws.{is_decided, HasOneReplay}
-use Rattle.pgbackup_cli.proofs.Decided.{some_told, clear_or_not, undecided, of_files}
+use Rattle.command_base.proofs.Told.{some_told}
+use Rattle.pgbackup_cli.proofs.Decided.{clear_or_not, undecided, of_files}
 
 -- ---- what was read, and why it could not be
 

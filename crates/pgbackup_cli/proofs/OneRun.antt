@@ -28,7 +28,6 @@ use Rattle.recovery.specs.Replay.{AllEndBy, ending_by, last_end, Reads, IsRead, 
 use Rattle.recovery.proofs.SoFar.{all_kept}
 use Rattle.recovery.proofs.OneWal.{same_lsn, one_wal}
 use Rattle.shared_store.specs.Begin.{BeginCause, HasNoEntry}
-use Rattle.shared_store.specs.declared.begin.BeginWhy.{BeginWhy}
 use Rattle.shared_store.specs.declared.begin.BeginWhy.TheVariants as begin
 use Rattle.crew.specs.declared.script.Task.{Task}
 use Rattle.crew.specs.declared.why.Why.{Why}
@@ -37,15 +36,15 @@ use Rattle.crew.specs.declared.why.ScriptFault.TheVariants as script_fault
 use Rattle.crew.specs.Script.{IsScript, IsRefusedAt}
 use Rattle.crew.specs.Reasons.{script_limit}
 use Rattle.crew.proofs.OneAnswer.{one_answer}
-use Rattle.pgbackup_cli.specs.declared.run.RunReport.{RunReport}
-use Rattle.pgbackup_cli.specs.declared.run.RunFault.{RunFault}
-use Rattle.pgbackup_cli.specs.declared.run.RunFault.TheVariants as run
-use Rattle.pgbackup_cli.specs.Run.{RunResult, tasks_told, HasFound, found_tip, RunDone, HasScript, HasRefusedLine, RunAnswer}
-use Rattle.pgbackup_cli.specs.Input.{IsInput}
-use Rattle.pgbackup_cli.specs.Areas.{wal_name}
-use Rattle.pgbackup_cli.specs.Outside.{Outside}
+use Rattle.run_command.specs.declared.command.RunReport.{RunReport}
+use Rattle.run_command.specs.declared.command.RunFault.{RunFault}
+use Rattle.run_command.specs.declared.command.RunFault.TheVariants as run
+use Rattle.run_command.specs.Run.{RunResult, tasks_told, HasFound, found_tip, RunDone, HasScript, HasRefusedLine, RunAnswer}
+use Rattle.run_command.specs.Input.{IsInput}
+use Rattle.command_base.specs.Areas.{wal_name}
+use Rattle.command_base.specs.Outside.{Outside}
 use Rattle.pgbackup_cli.specs.Laws.{IsOfOutside, BeginAlike, RunsBeginAlike}
-use Rattle.pgbackup_cli.proofs.Decided.{some_told, at_told}
+use Rattle.command_base.proofs.Told.{some_told, at_told}
 
 -- ---- what was begun
 

@@ -9,25 +9,13 @@ use Rattle.wal_reader.specs.Settings.{IsSettingsOf}
 use Rattle.recovery.specs.declared.fault.RecoveryFault.{RecoveryFault}
 use Rattle.recovery.specs.declared.fault.RecoveryFault.TheVariants.{Damaged, Short, BadDelta, SettingsDamaged, Timeline, NotInit, Failed, NoMemory}
 use Rattle.recovery.specs.Replay.{IsDamagedBefore, HasBadDelta}
-use Rattle.recovery.specs.Causes.{CauseOf, IsShort, HasSettings, settings_causes, HasDamage, HasEnd, HasBadEntry, WalCause}
-use Rattle.recovery.specs.Reading.{read_causes}
+use Rattle.recovery.specs.Causes.{CauseOf, IsShort, HasSettings, HasDamage, HasEnd, HasBadEntry, WalCause}
 use Rattle.recovery.specs.Replayed.{into_causes}
 use Rattle.pgbackup_cli.specs.Replay.{is_of_pages}
 
 -- a count that rose meanwhile
 pub rises : (start before now end : ℕ) → start ≤ before → now ≤ end → Rose before now → Rose start end
 rises start before now end low high rose = omega (arith, low, high, rose)
-
-pub settings_told : (upto : Option Lsn) (files : Option Files) (start before now end : ℕ) (why : RecoveryFault) → start ≤ before → now ≤ end
-    → CauseOf (settings_causes files) before now why → WalCause upto files start end why
-settings_told upto files start before now end (Damaged mib damage) low high cause = elim cause [ ]
-settings_told upto files start before now end (Short at target) low high cause = elim cause [ ]
-settings_told upto files start before now end (BadDelta place) low high cause = elim cause [ ]
-settings_told upto files start before now end SettingsDamaged low high cause = cause
-settings_told upto files start before now end (Timeline name) low high cause = cause
-settings_told upto files start before now end NotInit low high cause = cause
-settings_told upto files start before now end Failed low high cause = rises start before now end low high cause
-settings_told upto files start before now end NoMemory low high cause = tt
 
 is_damaged : (upto : Option Lsn) (s : StoreSettings) (files : Option Files) (mib : ℕ) (damage : _) → HasSettings files s → mib ≡ s.segment
     → IfSome files (λ m. IsDamagedBefore s m upto damage) → IfSome files (λ m. HasDamage m upto mib damage)
@@ -37,18 +25,6 @@ is_damaged upto s files mib damage given size held =
 is_short : (upto : Option Lsn) (s : StoreSettings) (files : Option Files) (at target : Lsn) → HasSettings files s → IfSome files (λ m. IsShort s m upto at target) → IfSome files (λ m. HasEnd m upto at target)
 is_short upto s files at target given held =
     when_both_told files (λ m. IsSettingsOf m s) (λ m. IsShort s m upto at target) (λ m. HasEnd m upto at target) (λ m set found. (s, (set, found))) given.given held
-
--- what a first reading was refused for
-pub reading_told : (upto : Option Lsn) (s : StoreSettings) (files : Option Files) (start before now end : ℕ) (why : RecoveryFault) → HasSettings files s → start ≤ before → now ≤ end
-    → CauseOf (read_causes s upto files) before now why → WalCause upto files start end why
-reading_told upto s files start before now end (Damaged mib damage) given low high cause = is_damaged upto s files mib damage given cause.0 cause.1
-reading_told upto s files start before now end (Short at target) given low high cause = is_short upto s files at target given cause
-reading_told upto s files start before now end (BadDelta place) given low high cause = elim cause [ ]
-reading_told upto s files start before now end SettingsDamaged given low high cause = elim cause [ ]
-reading_told upto s files start before now end (Timeline name) given low high cause = elim cause [ ]
-reading_told upto s files start before now end NotInit given low high cause = elim cause [ ]
-reading_told upto s files start before now end Failed given low high cause = rises start before now end low high cause
-reading_told upto s files start before now end NoMemory given low high cause = tt
 
 -- what a replay was refused for, where what the pages decide is of an empty output
 pub replay_told : (upto : Option Lsn) (s : StoreSettings) (files : Option Files) (fresh : Type 0) (start before now end : ℕ) (why : RecoveryFault) → HasSettings files s → start ≤ before → now ≤ end → (is_of_pages why ≡ true → fresh)

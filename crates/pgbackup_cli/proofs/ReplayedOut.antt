@@ -29,7 +29,7 @@ use Rattle.recovery.specs.Causes.{CauseOf, HasSettings, WalCause}
 use Rattle.recovery.specs.Replayed.{into_causes, ReplaysInto}
 use Rattle.pgbackup_cli.specs.declared.replay.ReplayReport.{ReplayReport}
 use Rattle.pgbackup_cli.specs.declared.replay.ReplayFault.TheVariants as replay
-use Rattle.pgbackup_cli.specs.Areas.{AreaCause}
+use Rattle.command_base.specs.Areas.{AreaCause}
 use Rattle.pgbackup_cli.specs.Replay.{ReplayResult, ReplayAreas, ReplayRead, ReplayDone, ReplayAnswer, is_of_pages}
 use Rattle.pgbackup_cli.specs.Inner.{Never, replay_areas_in, AnswersReplay, FinishAnswer}
 use Rattle.pgbackup_cli.proofs.ReplayCauses.{rises, replay_told}

@@ -1,8 +1,8 @@
 -- What a command does is nothing to a sink.
 use Rattle.std.proofs.Common.{ℕ, List, Option, Some, None}
 use Rattle.pgbackup_cli.specs.declared.answer.Answer.{Answer}
-use Rattle.command_line.specs.Words.{Asked, Init, Run, Replay}
-use Rattle.pgbackup_cli.specs.Outside.{Outside}
+use Rattle.command_line.specs.Words.{Asked, Init, Run, Replay, Verify}
+use Rattle.command_base.specs.Outside.{Outside}
 use Rattle.pgbackup_cli.specs.Top.{DoesAsked}
 
 pub whatever_is_printed : (words : Option Asked) (old new : Outside) (printed after : Option (List ℕ)) (prints now : ℕ) (came : Answer) → DoesAsked words old new came
@@ -11,3 +11,4 @@ whatever_is_printed None old new printed after prints now came does = does
 whatever_is_printed (Some (Init options)) old new printed after prints now came does = does
 whatever_is_printed (Some Run) old new printed after prints now came does = does
 whatever_is_printed (Some (Replay upto name)) old new printed after prints now came does = does
+whatever_is_printed (Some (Verify name)) old new printed after prints now came does = does

@@ -18,14 +18,14 @@ use Rattle.wal_record.specs.Spelling.{sealed}
 use Rattle.wal_record.specs.Tips.{first_tip, tip_after, record_at_tip}
 use Rattle.wal_reader.specs.Settings.{settings_text, IsSettingsOf}
 use Rattle.wal_reader.specs.Wal.{IsWal}
-use Rattle.pgbackup_cli.specs.declared.answer.Status.{Status}
-use Rattle.pgbackup_cli.specs.declared.answer.Status.TheVariants as status
+use Rattle.command_base.specs.declared.status.Status.{Status}
+use Rattle.command_base.specs.declared.status.Status.TheVariants as status
 use Rattle.command_line.specs.declared.options.InitOptions.{InitOptions}
 use Rattle.pgbackup_cli.specs.declared.init.InitFault.{InitFault}
 use Rattle.pgbackup_cli.specs.declared.init.InitFault.TheVariants as init
-use Rattle.pgbackup_cli.specs.Areas.{wal_name, sums_name, IsClear, IsFull, Keeps, AreaFails}
-use Rattle.pgbackup_cli.specs.Outside.{Outside, Works, Untakens, IsUntaken}
-use Rattle.pgbackup_cli.specs.Faults.{refused_line, area_text, full_text, take_text, area_status}
+use Rattle.command_base.specs.Areas.{wal_name, sums_name, IsClear, IsFull, Keeps, AreaFails}
+use Rattle.command_base.specs.Outside.{Outside, Works, Untakens, IsUntaken}
+use Rattle.command_base.specs.Faults.{refused_line, area_text, full_text, take_text, area_status}
 
 abbrev pub InitResult : Type 0
 InitResult = Result Lsn InitFault

@@ -1,16 +1,17 @@
 -- That a command comes to one answer.
 use Rattle.std.specs.Prelude.{◌≡◌, ℕ, Option, List, Bool, true, false, Ok, Err}
 use Rattle.lsn_core.specs.declared.lsn.Lsn.{Lsn}
-use Rattle.pgbackup_cli.specs.declared.answer.Status.{Status}
-use Rattle.pgbackup_cli.specs.declared.answer.Status.TheVariants as status
-use Rattle.pgbackup_cli.specs.Outside.{Outside, AllTold}
+use Rattle.command_base.specs.declared.status.Status.{Status}
+use Rattle.command_base.specs.declared.status.Status.TheVariants as status
+use Rattle.command_base.specs.Outside.{Outside, AllTold}
 use Rattle.pgbackup_cli.specs.Init.{InitDoes, init_status}
 use Rattle.recovery.specs.Causes.{IsOfFiles}
 use Rattle.shared_store.specs.declared.begin.BeginWhy.TheVariants as begin
-use Rattle.pgbackup_cli.specs.declared.run.RunFault.{RunFault}
-use Rattle.pgbackup_cli.specs.declared.run.RunFault.TheVariants as run
-use Rattle.pgbackup_cli.specs.Run.{RunResult, RunDoes, tasks_told}
+use Rattle.run_command.specs.declared.command.RunFault.{RunFault}
+use Rattle.run_command.specs.declared.command.RunFault.TheVariants as run
+use Rattle.run_command.specs.Run.{RunResult, RunDoes, tasks_told}
 use Rattle.pgbackup_cli.specs.Replay.{ReplayDoes, replay_status}
+use Rattle.pgbackup_cli.specs.Verify.{VerifyDoes, verify_status}
 use Rattle.command_line.specs.declared.options.InitOptions.{InitOptions}
 
 -- what is outside decided an answer of this status, and no failed device and no want of memory
@@ -56,3 +57,6 @@ RunsBeginAlike =
 abbrev pub HasOneReplay : Type 0
 HasOneReplay =
     (upto : Option Lsn) (name : List ℕ) → HasOne (ReplayDoes upto name) replay_status
+
+abbrev pub HasOneVerify : Type 0
+HasOneVerify = (name : List ℕ) → HasOne (VerifyDoes name) verify_status

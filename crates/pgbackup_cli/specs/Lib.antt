@@ -1,11 +1,7 @@
-pub mod Areas
-pub mod Outside
-pub mod Faults
-pub mod Input
 pub mod Init
-pub mod Report
-pub mod Run
 pub mod Replay
+pub mod Directory
+pub mod Verify
 pub mod Top
 pub mod Laws
 pub mod Inner

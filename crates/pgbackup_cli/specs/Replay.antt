@@ -19,14 +19,14 @@ use Rattle.recovery.specs.Reading.{IsReadTo}
 use Rattle.recovery.specs.Replay.{IsReadWal, replayed_to, ending_by, last_end}
 use Rattle.recovery.specs.Causes.{HasSettings, WalCause}
 use Rattle.recovery.specs.declared.replaying.ReadWal.{ReadWal}
-use Rattle.pgbackup_cli.specs.declared.answer.Status.{Status}
-use Rattle.pgbackup_cli.specs.declared.answer.Status.TheVariants as status
+use Rattle.command_base.specs.declared.status.Status.{Status}
+use Rattle.command_base.specs.declared.status.Status.TheVariants as status
 use Rattle.pgbackup_cli.specs.declared.replay.ReplayReport.{ReplayReport}
 use Rattle.pgbackup_cli.specs.declared.replay.ReplayFault.{ReplayFault}
 use Rattle.pgbackup_cli.specs.declared.replay.ReplayFault.TheVariants as replay
-use Rattle.pgbackup_cli.specs.Areas.{wal_name, output_name, IsClear, IsFull, Keeps, AreaFails}
-use Rattle.pgbackup_cli.specs.Outside.{Outside, Works, Untakens, IsUntaken}
-use Rattle.pgbackup_cli.specs.Faults.{refused_line, area_text, full_text, take_text, wal_text, area_status, wal_status}
+use Rattle.command_base.specs.Areas.{wal_name, output_name, IsClear, IsFull, Keeps, AreaFails}
+use Rattle.command_base.specs.Outside.{Outside, Works, Untakens, IsUntaken}
+use Rattle.command_base.specs.Faults.{refused_line, area_text, full_text, take_text, wal_text, area_status, wal_status}
 
 abbrev pub ReplayResult : Type 0
 ReplayResult = Result ReplayReport ReplayFault

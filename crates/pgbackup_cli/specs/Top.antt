@@ -4,16 +4,17 @@ use Rattle.std.specs.Prelude.{◌≡◌, ℕ, List, [], Option, Some, None, Resu
 use Rattle.lsn_core.specs.declared.fault.AreaFault.{AreaFault}
 use Rattle.pgbackup_cli.specs.declared.answer.Answer.{Answer}
 use Rattle.pgbackup_cli.specs.declared.answer.Answer.TheVariants as answer
-use Rattle.pgbackup_cli.specs.declared.answer.Status.{Status}
-use Rattle.pgbackup_cli.specs.declared.answer.Status.TheVariants as status
+use Rattle.command_base.specs.declared.status.Status.{Status}
+use Rattle.command_base.specs.declared.status.Status.TheVariants as status
 use Rattle.command_line.specs.declared.options.InitOptions.{InitOptions}
-use Rattle.command_line.specs.Words.{Asked, Init, Run, Replay, asked}
-use Rattle.pgbackup_cli.specs.Areas.{output_name}
-use Rattle.pgbackup_cli.specs.Outside.{Outside, LeavesSite, Prints}
-use Rattle.pgbackup_cli.specs.Faults.{refused_line, area_status}
+use Rattle.command_line.specs.Words.{Asked, Init, Run, Replay, Verify, asked}
+use Rattle.command_base.specs.Areas.{output_name}
+use Rattle.command_base.specs.Outside.{Outside, LeavesSite, Prints}
+use Rattle.command_base.specs.Faults.{refused_line, area_status}
 use Rattle.pgbackup_cli.specs.Init.{InitResult, InitDoes, init_text, init_status}
-use Rattle.pgbackup_cli.specs.Run.{RunResult, RunDoes, run_text, run_status}
+use Rattle.run_command.specs.Run.{RunResult, RunDoes, run_text, run_status}
 use Rattle.pgbackup_cli.specs.Replay.{ReplayResult, ReplayDoes, replay_text, replay_status}
+use Rattle.pgbackup_cli.specs.Verify.{VerifyResult, VerifyDoes, verify_text, verify_status}
 
 -- what was asked was done, and this is the answer
 abbrev pub DoesAsked : Option Asked → Outside → Outside → Answer → Type 0
@@ -23,11 +24,18 @@ DoesAsked (Some (Init options)) old new came =
 DoesAsked (Some Run) old new came = (r : RunResult) × (came ≡ answer.Run r) × RunDoes old new r
 DoesAsked (Some (Replay upto name)) old new came =
     (r : ReplayResult) × (came ≡ answer.Replay r) × ReplayDoes upto name old new r
+DoesAsked (Some (Verify name)) old new came =
+    (r : VerifyResult) × (came ≡ answer.Verify r) × VerifyDoes name old new r
 
 -- the area of the output that is asked for
 abbrev pub output_asked : Option Asked → List ℕ
 output_asked (Some (Replay upto name)) = output_name name
 output_asked words = []
+
+-- the name of the backup that is asked for
+abbrev pub backup_asked : Option Asked → List ℕ
+backup_asked (Some (Verify name)) = name
+backup_asked words = []
 
 -- the lines of an answer
 abbrev pub text_of : Option Asked → Answer → List ℕ
@@ -35,6 +43,7 @@ text_of words answer.Usage = refused_line (codes "1 Usage")
 text_of words (answer.Init r) = init_text r
 text_of words (answer.Run r) = run_text r
 text_of words (answer.Replay r) = replay_text (output_asked words) r
+text_of words (answer.Verify r) = verify_text (backup_asked words) r
 
 -- the status of an answer
 abbrev pub answer_status : Answer → Status
@@ -42,20 +51,13 @@ answer_status answer.Usage = status.Usage
 answer_status (answer.Init r) = init_status r
 answer_status (answer.Run r) = run_status r
 answer_status (answer.Replay r) = replay_status r
+answer_status (answer.Verify r) = verify_status r
 
 -- the status of an answer and of its printing: a sink that fails gives Device whatever else
 -- happened
 abbrev pub status_of : Answer → Result (Unit {0}) AreaFault → Status
 status_of came (Ok told) = answer_status came
 status_of came (Err why) = area_status why
-
--- the number that the process ends with
-abbrev pub code_of : Status → ℕ
-code_of status.Done = 0
-code_of status.Refused = 1
-code_of status.Usage = 2
-code_of status.Device = 3
-code_of status.Memory = 4
 
 -- `run` alone reads the input
 abbrev pub ReadsInput : Option Asked → Type 0
@@ -64,6 +66,14 @@ ReadsInput words = words ≡ Some Run
 -- `init` alone, where no system identifier is given, reads the clock
 abbrev pub ReadsClock : Option Asked → Type 0
 ReadsClock words = (options : InitOptions) × (words ≡ Some (Init options)) × (options.system ≡ None)
+
+-- a run of the program on these words that comes to this answer, and ends so
+pub record ComesTo (words : List (List ℕ)) (old new : Outside) (answer : Answer)
+    (status : Status) : Type 0 where
+  pub telling : Result (Unit {0}) AreaFault
+  pub work : DoesAsked (asked words) old new answer
+  pub line : Prints (text_of (asked words) answer) old new telling
+  pub ended : status ≡ status_of answer telling
 
 -- a run of the program on these words
 pub record Ran (words : List (List ℕ)) (old new : Outside) (status : Status) : Type 0 where

@@ -2,15 +2,15 @@
 
 ghost use Rattle.std.specs.Prelude.{◌≡◌, IfOk};
 ghost use Rattle.command_line.specs.Words.{asked};
-ghost use Rattle.pgbackup_cli.specs.Top.{output_asked, text_of, answer_status, status_of, code_of};
+ghost use Rattle.pgbackup_cli.specs.Top.{output_asked, backup_asked, text_of, answer_status, status_of};
 
-use crate::faults::{area_status, refused_line};
 use crate::init::{InitFault, init_status, init_text};
-use crate::names::output_name;
 use crate::replay::{ReplayFault, ReplayReport, replay_status, replay_text};
-use crate::run::{RunFault, RunReport, run_status, run_text};
+use crate::verify::{VerifyFault, VerifyReport, verify_status, verify_text};
+use command_base::{Status, area_status, output_name, refused_line};
 use command_line::{Command, command_of};
 use lsn_core::{AreaFault, Lsn, NoMemory, Text};
+use run_command::{RunFault, RunReport, run_status, run_text};
 use std::alloc::Global;
 
 /// What the program comes to: one variant a command, and one where the words aren't taken.
@@ -24,36 +24,8 @@ pub enum Answer {
     Run(Result<RunReport, RunFault>),
     /// The WAL was replayed.
     Replay(Result<ReplayReport, ReplayFault>),
-}
-
-/// The exit status.
-#[derive(Clone, Copy, Debug, PartialEq, Eq)]
-pub enum Status {
-    /// All that was asked is done.
-    Done,
-    /// The command was refused by what it found.
-    Refused,
-    /// The words or the script aren't taken.
-    Usage,
-    /// A device failed.
-    Device,
-    /// Memory ran out.
-    Memory,
-}
-
-impl Status {
-    /// The number that the process ends with.
-    pub fn code(self) -> u8
-        ensures { result ≡ code_of self }
-    {
-        match self {
-            Status::Done => 0,
-            Status::Refused => 1,
-            Status::Usage => 2,
-            Status::Device => 3,
-            Status::Memory => 4,
-        }
-    }
+    /// A backup was checked.
+    Verify(Result<VerifyReport, VerifyFault>),
 }
 
 /// The area of the output that is asked for, empty where none is.
@@ -62,7 +34,19 @@ fn output_asked(alloc: Global, words: &[Text]) -> Result<Text, NoMemory>
 {
     match command_of(words) {
         Some(Command::Replay(_, name)) => output_name(alloc, name),
-        Some(Command::Init(_) | Command::Run) | None => Ok(Text::from_vec(Vec::new(alloc))),
+        Some(Command::Init(_) | Command::Run | Command::Verify(_)) | None => {
+            Ok(Text::from_vec(Vec::new(alloc)))
+        }
+    }
+}
+
+/// The name of the backup that is asked for, empty where none is.
+fn backup_asked(words: &[Text]) -> &[u8]
+    ensures { result.now ≡ backup_asked (asked words.now) }
+{
+    match command_of(words) {
+        Some(Command::Verify(name)) => name,
+        Some(Command::Init(_) | Command::Run | Command::Replay(_, _)) | None => b"",
     }
 }
 
@@ -75,6 +59,7 @@ pub fn text_of(alloc: Global, words: &[Text], answer: &Answer) -> Result<Text, N
         Answer::Init(came) => init_text(alloc, came),
         Answer::Run(came) => run_text(alloc, came),
         Answer::Replay(came) => replay_text(alloc, output_asked(alloc, words)?.as_bytes(), came),
+        Answer::Verify(came) => verify_text(alloc, backup_asked(words), came),
     }
 }
 
@@ -86,6 +71,7 @@ fn answer_status(answer: &Answer) -> Status
         Answer::Init(came) => init_status(came),
         Answer::Run(came) => run_status(came),
         Answer::Replay(came) => replay_status(came),
+        Answer::Verify(came) => verify_status(came),
     }
 }
 

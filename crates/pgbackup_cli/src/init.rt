@@ -1,22 +1,19 @@
 //! `init`: a new store, of its settings and a WAL of one entry.
 
 ghost use Rattle.std.specs.Prelude.{◌≡◌, ◌≤◌, ◌⊎◌, None, IfOk, IfSome, IfErr, OnOk};
-ghost use Rattle.lsn_core.specs.Segment.{IsSegmentMib};
 ghost use Rattle.lsn_core.specs.declared.fault.AreaFault.TheVariants as area;
 ghost use Rattle.vault.specs.Site.{AllHome, state_in};
-ghost use Rattle.vault.specs.Lending.{WritesAmong};
 ghost use Rattle.pgbackup_cli.specs.declared.init.InitFault.TheVariants as init;
-ghost use Rattle.pgbackup_cli.specs.Areas.{IsClear};
+ghost use Rattle.command_base.specs.Areas.{IsClear};
 ghost use Rattle.command_line.specs.Options.{IsInRange};
-ghost use Rattle.pgbackup_cli.specs.Outside.{Works};
+ghost use Rattle.command_base.specs.Outside.{of_site, Works};
 ghost use Rattle.pgbackup_cli.specs.Init.{new_settings, init_writes, InitRan, InitDoes, init_fault_text, init_text, init_status};
-ghost use Rattle.pgbackup_cli.specs.Inner.{AnswersInit, RefusesInit, of_site, of_site_clock};
+ghost use Rattle.pgbackup_cli.specs.Inner.{AnswersInit, RefusesInit, of_site_clock};
 
-use crate::answer::Status;
-use crate::clear::is_clear;
-use crate::faults::{area_status, area_text, full_text, joined, refused_line, take_text};
-use crate::names::names_of;
 use crate::new_wal::write_wal;
+use command_base::{
+    Status, area_status, area_text, full_text, is_clear, joined, names_of, refused_line, take_text,
+};
 use command_line::InitOptions;
 use lsn_core::{AreaFault, Lsn, MOST_RELSEG, NoMemory, SegSize, Settings, Text, lsn_text};
 use std::alloc::Global;

@@ -1,6 +1,8 @@
 //! What holds of every run of a command.
 
-ghost use Rattle.pgbackup_cli.specs.Laws.{HasOneInit, RunsBeginAlike, HasOneReplay};
+ghost use Rattle.pgbackup_cli.specs.Laws.{HasOneInit, RunsBeginAlike, HasOneReplay, HasOneVerify};
+
+use chain_check::directories_have_one_answer;
 
 /// A new store is made, or refused for one reason: from one outside, with the same options, `init`
 /// comes to one answer, but for devices that fail and want of memory. So each refusal comes exactly
@@ -11,7 +13,7 @@ pub fn init_has_one_answer()
 
 /// `run` is refused for one reason, or runs one script from where the WAL ended: from one outside,
 /// but for devices that fail and want of memory. What its lines are answered is told over the history
-/// (`specs/Run.antt`), over which a command is taken or refused, and never both.
+/// (`run_command`), over which a command is taken or refused, and never both.
 pub fn runs_begin_alike()
     ensures { RunsBeginAlike }
 {}
@@ -20,3 +22,10 @@ pub fn runs_begin_alike()
 pub fn replay_has_one_answer()
     ensures { HasOneReplay }
 {}
+
+/// `verify` of one backup comes to one answer, too.
+pub fn verify_has_one_answer()
+    ensures { HasOneVerify }
+{
+    directories_have_one_answer();
+}

@@ -3,30 +3,28 @@
 //! status.
 //!
 //! Its clause (`specs/Top.antt`) says of each command what it changes, why it comes to its answer,
-//! what it prints and how it ends; each command's part stands in a file of its own
-//! (`specs/Init.antt`, `Run.antt`, `Replay.antt`). Laws say that a command comes to one answer.
+//! what it prints and how it ends; each command's part stands in a file of its own (`specs/Init.antt`,
+//! `Replay.antt`, `Verify.antt`). Laws say that a command comes to one answer.
 //!
-//! Left to others: the words (`command_line`), what a script, a store, a replay and a WAL are
-//! (`crew`, `shared_store`, `recovery`, `wal_archive`), the system's areas and streams
-//! (`vault_os`), and the process that hands them over (`pgbackup`).
+//! Left to others: the words (`command_line`), the command `run` (`run_command`), what a replay, a WAL
+//! and a backup's directory are (`recovery`, `wal_archive`, `chain_check`), and the system's objects.
 #![tactic(auto)]
 
 mod answer;
-mod clear;
-mod faults;
+mod directory;
 mod init;
-mod input;
 mod laws;
-mod lending;
-mod names;
 mod new_wal;
 mod replay;
-mod report;
-mod run;
-mod running;
-mod told;
 mod top;
+mod verify;
 
-pub use answer::Status;
-pub use laws::{init_has_one_answer, replay_has_one_answer, runs_begin_alike};
-pub use top::pgbackup;
+pub use answer::Answer;
+pub use command_base::Status;
+pub use init::InitFault;
+pub use laws::{
+    init_has_one_answer, replay_has_one_answer, runs_begin_alike, verify_has_one_answer,
+};
+pub use replay::ReplayFault;
+pub use top::{answered, pgbackup};
+pub use verify::VerifyFault;

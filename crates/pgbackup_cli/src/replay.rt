@@ -5,17 +5,15 @@ ghost use Rattle.lsn_core.specs.declared.fault.AreaFault.TheVariants as area;
 ghost use Rattle.vault.specs.Frame.{OnlyReads};
 ghost use Rattle.vault.specs.Site.{AllHome};
 ghost use Rattle.pgbackup_cli.specs.declared.replay.ReplayFault.TheVariants as replay;
-ghost use Rattle.pgbackup_cli.specs.Areas.{wal_name};
-ghost use Rattle.pgbackup_cli.specs.Outside.{Works};
+ghost use Rattle.command_base.specs.Areas.{wal_name};
+ghost use Rattle.command_base.specs.Outside.{of_site, Works};
 ghost use Rattle.pgbackup_cli.specs.Replay.{ReplayRan, ReplayDoes, replay_fault_text, replayed_line, replay_text, replay_status};
-ghost use Rattle.pgbackup_cli.specs.Inner.{of_site, AnswersPrepared, AnswersReplay, FinishAnswer};
+ghost use Rattle.pgbackup_cli.specs.Inner.{AnswersPrepared, AnswersReplay, FinishAnswer};
 
-use crate::answer::Status;
-use crate::clear::{empty_area, is_clear};
-use crate::faults::{
-    area_status, area_text, full_text, joined, refused_line, take_text, wal_status, wal_text,
+use command_base::{
+    Status, area_status, area_text, empty_area, full_text, is_clear, joined, names_of, output_name,
+    refused_line, take_text, wal_status, wal_text,
 };
-use crate::names::{names_of, output_name};
 use lsn_core::{AreaFault, Lsn, NoMemory, Settings, Text, lsn_text};
 use recovery::{
     RecoveryFault, ReplayFault as Unreplayed, Replayed, read_through, replay as replay_into,

@@ -3,16 +3,18 @@
 ghost use Rattle.std.specs.Prelude.{◌≡◌, ◌⊎◌};
 ghost use Rattle.vault.specs.Site.{AllHome};
 ghost use Rattle.command_line.specs.Words.{asked};
-ghost use Rattle.pgbackup_cli.specs.Outside.{outside};
-ghost use Rattle.pgbackup_cli.specs.Top.{DoesAsked, ReadsInput, ReadsClock, text_of, Ran};
+ghost use Rattle.command_base.specs.Outside.{outside};
+ghost use Rattle.pgbackup_cli.specs.Top.{DoesAsked, ReadsInput, ReadsClock, text_of, ComesTo, Ran};
 ghost use Rattle.pgbackup_cli.specs.Inner.{of_all, TellsIn};
 
-use crate::answer::{Answer, Status, exit_status, text_of};
+use crate::answer::{Answer, exit_status, text_of};
 use crate::init::init;
 use crate::replay::replay;
-use crate::run::run;
+use crate::verify::verify;
+use command_base::Status;
 use command_line::{Command, command_of};
 use lsn_core::{AreaFault, Text};
+use run_command::run;
 use std::alloc::Global;
 use vault::{Clock, Sink, Site, Source, print};
 
@@ -38,6 +40,7 @@ fn work<S: Site, I: Source, C: Clock>(
         Some(Command::Init(options)) => Answer::Init(init(alloc, options, site, clock)),
         Some(Command::Run) => Answer::Run(run(alloc, site, input)),
         Some(Command::Replay(upto, name)) => Answer::Replay(replay(alloc, upto, name, site)),
+        Some(Command::Verify(name)) => Answer::Verify(verify(alloc, name, site)),
     }
 }
 
@@ -52,6 +55,31 @@ fn tell<O: Sink>(
 {
     let text = text_of(alloc, words, answer)?;
     print(out, text.as_bytes())
+}
+
+/// Does what the words ask, prints its lines, and answers what it came to, and the exit status: for
+/// who has more to tell of it than these lines. All else is as `pgbackup` has it.
+pub fn answered<S: Site, I: Source, O: Sink, C: Clock>(
+    alloc: Global,
+    words: &[Text],
+    site: &mut S,
+    input: &mut I,
+    out: &mut O,
+    clock: &mut C,
+) -> (Answer, Status)
+    requires { AllHome (S.areas site.old) }
+    ensures comes { ComesTo words.now
+        (outside S.Site I.Source O.Sink C.Clock site.old input.old out.old clock.old)
+        (outside S.Site I.Source O.Sink C.Clock site.new input.new out.new clock.new)
+        result.0 result.1 }
+    ensures home { AllHome (S.areas site.new) }
+    ensures input { ReadsInput (asked words.now) ⊎ (input.new ≡ input.old) }
+    ensures clock { ReadsClock (asked words.now) ⊎ (clock.new ≡ clock.old) }
+{
+    let answer = work(alloc, words, site, input, clock);
+    let telling = tell(alloc, words, &answer, out);
+    let status = exit_status(&answer, telling);
+    (answer, status)
 }
 
 /// All that the program does: it takes the words of the command line, does what they ask over the
@@ -74,7 +102,6 @@ pub fn pgbackup<S: Site, I: Source, O: Sink, C: Clock>(
     ensures input { ReadsInput (asked words.now) ⊎ (input.new ≡ input.old) }
     ensures clock { ReadsClock (asked words.now) ⊎ (clock.new ≡ clock.old) }
 {
-    let answer = work(alloc, words, site, input, clock);
-    let telling = tell(alloc, words, &answer, out);
-    exit_status(&answer, telling)
+    let (_, status) = answered(alloc, words, site, input, out, clock);
+    status
 }

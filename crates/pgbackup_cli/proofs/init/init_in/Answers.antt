@@ -1,8 +1,8 @@
 -- Of the two areas that come back one was only read.
 use Rattle.std.proofs.Common.{ap, ◌∙◌, sym}
 use Rattle.vault.specs.Site.{AreaState}
-use Rattle.pgbackup_cli.specs.Areas.{wal_name, sums_name}
-use Rattle.pgbackup_cli.proofs.Lent.{taken_as, two_back, first_writes}
+use Rattle.command_base.specs.Areas.{wal_name, sums_name}
+use Rattle.command_base.proofs.Lent.{taken_as, two_back, first_writes}
 use Rattle.pgbackup_cli.proofs.init.init_in.Goals as goal
 
 pub returns-clause-site : goal.returns-clause-site

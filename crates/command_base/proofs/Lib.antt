@@ -1,0 +1,4 @@
+pub mod Told
+pub mod NoFile
+pub mod Emptied
+pub mod Lent

@@ -1,0 +1,72 @@
+-- Why `run` comes to its answer, seen from the site.
+use Rattle.std.proofs.Common.{◌≡◌, ℕ, List, [], ◌∷◌, Option, Result, Ok, Err, sym, ap, subst, ◌∙◌, inl, inr}
+use Rattle.std.specs.Result.{IsErrAnd}
+use Rattle.lsn_core.specs.Files.{Files}
+use Rattle.vault.specs.declared.area.Vault.{Ghosts as Vaults}
+use Rattle.vault.specs.declared.site.Site.{Ghosts as Sites}
+use Rattle.vault.specs.Site.{Areas, AreaState, state_in}
+use Rattle.vault.specs.Lending.{Names, IsOneOf}
+use Rattle.shared_store.specs.declared.areas.StoreAreas.{StoreAreas}
+use Rattle.shared_store.specs.declared.begin.BeginWhy.{BeginWhy}
+use Rattle.shared_store.specs.declared.begin.BeginWhy.TheVariants as begin
+use Rattle.lsn_core.specs.declared.fault.StoreArea.TheVariants.{Data}
+use Rattle.lsn_core.specs.declared.fault.StoreFault.{StoreFault}
+use Rattle.lsn_core.specs.declared.fault.StoreFault.TheVariants as store
+use Rattle.shared_store.specs.Begin.{IsUnbegun, BeginCause, DataFails, SameData, faults_of}
+use Rattle.crew.specs.declared.script.Task.{Task}
+use Rattle.run_command.specs.declared.command.RunReport.{RunReport}
+use Rattle.run_command.specs.declared.command.RunFault.TheVariants as run
+use Rattle.command_base.specs.Areas.{wal_name, data_name, Keeps}
+use Rattle.run_command.specs.Run.{run_asks, tasks_told, HasScript, DataAreaFails, CantBegin}
+use Rattle.run_command.specs.Inner.{all_tell, IsRunOn, RunsScript}
+use Rattle.run_command.proofs.StoreLent.{AreAt, StoreBack, wal_files, wal_faults, all_told, rose_at}
+use Rattle.run_command.proofs.RunDone.{run_done}
+
+-- ---- areas that are as they were
+
+abbrev AllKeep : Areas → Areas → Names → Type 0
+AllKeep old new [] = Unit {0}
+AllKeep old new (n ∷ ns) = Keeps (old n) (new n) × AllKeep old new ns
+
+keeps_one : (old new : Areas) (names : Names) → AllKeep old new names → (name : List ℕ) → IsOneOf name names → Keeps (old name) (new name)
+keeps_one old new [] all name one = absurd one
+keeps_one old new (n ∷ names) all name (inl is) = subst (λ (x : List ℕ). Keeps (old x) (new x)) (sym is) all.0
+keeps_one old new (n ∷ names) all name (inr one) = keeps_one old new names all.1 name one
+
+same_area : {V : Type 0} (g : Vaults V) (x y : AreaState) (a b : V) → x ≡ state_in g a → y ≡ state_in g b → b ≡ a → y.files ≡ x.files
+same_area g x y a b was is same = ap (λ (s : AreaState). s.files) is ∙ (ap (λ v. g.files v) same ∙ sym (ap (λ (s : AreaState). s.files) was))
+
+data_fails : {V : Type 0} (g : Vaults V) (old new : Areas) (a b : StoreAreas V) (why : StoreFault) → AreAt g old a → AreAt g new b → DataFails (faults_of g a) (faults_of g b) why → DataAreaFails old new why
+data_fails g old new a b (store.Failed area) was at (q, below, is, rose) = (q, below, is, rose_at g old new a b was at (Data q) rose)
+data_fails g old new a b store.NoMemory was at cause = tt
+
+-- where no store was begun
+pub cant_begin : {V : Type 0} (g : Vaults V) (old new : Areas) (a b : StoreAreas V) (why : BeginWhy) → AreAt g old a → AreAt g new b → IsUnbegun g a (record { areas = b; why = why }) → CantBegin old new why
+cant_begin g old new a b (begin.Wal fault) was at un =
+    let wal : (new wal_name).files ≡ (old wal_name).files = wal_files g new b at ∙ (un.wal ∙ sym (wal_files g old a was)) in
+    let same : SameData a b = un.cause.1 in
+    let cause : BeginCause (old wal_name).files (old wal_name).faults (new wal_name).faults fault =
+    subst (λ (n : ℕ). BeginCause (old wal_name).files (old wal_name).faults n fault) (sym (wal_faults g new b at))
+    (subst (λ (n : ℕ). BeginCause (old wal_name).files n (g.faults b.wal) fault) (sym (wal_faults g old a was))
+    (subst (λ (f : Option Files). BeginCause f (g.faults a.wal) (g.faults b.wal) fault) (sym (wal_files g old a was)) un.cause.0)) in
+    (keeps_one old new run_asks (wal, (same_area g (old (data_name 0)) (new (data_name 0)) a.data0 b.data0 was.data0 at.data0 same.data0, (same_area g (old (data_name 1)) (new (data_name 1)) a.data1 b.data1 was.data1 at.data1 same.data1, (same_area g (old (data_name 2)) (new (data_name 2)) a.data2 b.data2 was.data2 at.data2 same.data2, (same_area g (old (data_name 3)) (new (data_name 3)) a.data3 b.data3 was.data3 at.data3 same.data3, tt))))), cause)
+cant_begin g old new a b (begin.Data fault) was at un =
+    (wal_files g new b at ∙ (un.wal ∙ sym (wal_files g old a was)), data_fails g old new a b fault was at un.cause)
+
+-- ---- the answers
+
+pub ran_ok : {S V : Type 0} (s : Sites S V) (g : Vaults V) (script : List Task) (old new : S) (a b : StoreAreas V) (report : RunReport) → StoreBack s g old new a b → IsRunOn g (all_tell g a) a b report → tasks_told report.told ≡ script → RunsScript s script old new (Ok report)
+ran_ok s g script old new a b report back ran same = λ left rest reads now has. (
+  subst (λ (ts : List Task). HasScript left rest ts) (sym same) has,
+  run_done g (all_tell g a) (s.areas old) (s.areas new) a b report back.was back.is (λ told. all_told g (s.areas old) a back.was told) ran,
+)
+
+pub ran_err : {S V : Type 0} (s : Sites S V) (g : Vaults V) (script : List Task) (old new : S) (a b : StoreAreas V) (why : BeginWhy) → StoreBack s g old new a b → IsUnbegun g a (record { areas = b; why = why }) → RunsScript s script old new (Err (run.Begin why))
+ran_err s g script old new a b why back un = λ left rest reads now has. (script, has, cant_begin g (s.areas old) (s.areas new) a b why back.was back.is un)
+
+-- ---- no script
+
+-- what holds of an error, of what is that error
+pub err_as : {T E : Type 0} (r : Result T E) (e : E) (P : Result T E → Type 0) → IsErrAnd r (λ x. x ≡ e) → P (Err e) → P r
+err_as {T = T} {E = E} (Ok x) e P is holds = absurd is
+err_as {T = T} {E = E} (Err x) e P is holds = subst (λ (y : E). P (Err y)) (sym is) holds

@@ -1,0 +1,296 @@
+-- What a run leaves of the areas of a store, and the history that it came to.
+use Rattle.std.proofs.Common.{◌≡◌, ℕ, zero, suc, ◌-◌, ◌≤◌, Bool, true, List, [], ◌∷◌, ◌++◌, map, length, Option, Some, None, Result, Ok, Err, IfSome, refl, sym, ap, subst, ◌∙◌, arith, inl}
+use Rattle.std.specs.List.{All, slice_get}
+use Rattle.std.specs.FinMap.{empty, get}
+use Rattle.std.specs.Prelude.{codes}
+use Rattle.std.proofs.lemmas.List.{length-map}
+use Rattle.std.proofs.lemmas.List.Elements.{All-nil}
+use Rattle.lsn_core.specs.Causes.{Rose}
+use Rattle.lsn_core.specs.Files.{Files}
+use Rattle.lsn_core.specs.Store.{Store}
+use Rattle.lsn_core.specs.Segment.{StoreSettings, IsSegmentMib}
+use Rattle.lsn_core.specs.Tip.{Tip}
+use Rattle.lsn_core.specs.declared.lsn.Lsn.{Lsn}
+use Rattle.lsn_core.specs.declared.fault.StoreArea.{StoreArea}
+use Rattle.lsn_core.specs.declared.fault.StoreFault.{StoreFault}
+use Rattle.vault.specs.Area.{Related}
+use Rattle.vault.specs.Site.{Areas}
+use Rattle.vault.specs.declared.area.Vault.{Ghosts as Vaults}
+use Rattle.wal_archive.specs.Archive.{archive_of}
+use Rattle.wal_archive.specs.Writing.{IsLeft}
+use Rattle.wal_record.specs.declared.record.Record.{Record}
+use Rattle.wal_record.specs.Tips.{first_tip}
+use Rattle.wal_reader.specs.Settings.{GivesSettings, IsSettingsOf}
+use Rattle.wal_reader.specs.Wal.{ReadsOn, IsWal}
+use Rattle.history.specs.Entry.{Entry}
+use Rattle.history.specs.Apply.{apply_all}
+use Rattle.history.specs.Whole.{entry_of}
+use Rattle.history.specs.Written.{tip_of, wal_of}
+use Rattle.fuzzy_copies.specs.Logged.{history_of, log_of}
+use Rattle.journal.specs.Lawful.{IsLawful}
+use Rattle.recovery.specs.Causes.{HasSettings}
+use Rattle.timeline.proofs.Prefixes.{prefix_refl}
+use Rattle.shared_store.specs.declared.areas.StoreAreas.{StoreAreas}
+use Rattle.shared_store.specs.Seen.{Seen, accepted_by}
+use Rattle.shared_store.specs.Opened.{Opened, Faults, NoneFell, IsLawfulOf, count_of, wal_top}
+use Rattle.shared_store.specs.Calls.{GoesOn, MayWriteWal}
+use Rattle.shared_store.specs.Begin.{IsBegun, HasBegun, faults_of}
+use Rattle.shared_store.specs.Close.{IsClosed, CloseAnswer, HoldsHistory, HoldsRecords}
+use Rattle.shared_store.proofs.Goes.{goes_on}
+use Rattle.crew.specs.Run.{HasRun, RunsLines, IsAnswered, IsOfWorker, TellsFault}
+use Rattle.crew.proofs.RunLaws.{runs_answer}
+use Rattle.run_command.specs.declared.told.Told.{Told}
+use Rattle.run_command.specs.declared.command.RunReport.{RunReport}
+use Rattle.command_base.specs.Areas.{wal_name}
+use Rattle.run_command.specs.Run.{AreTold, found_tip, HasFound, IsOfRun, all_records, HoldsRun, LeavesWal, IsClosing, ToldFaultsRose, RunDone}
+use Rattle.run_command.specs.Inner.{RunsTasks, IsRunOn}
+use Rattle.command_base.proofs.Told.{some_told, at_told}
+use Rattle.run_command.proofs.StoreLent.{AreAt, wal_files, data_files, rose_between, cause_between, none_fell, rose_at, fails_at}
+use Rattle.run_command.proofs.ToldLess.{answered_less}
+use Rattle.run_command.proofs.OwnEntries.{AreOwn, all_own, written_own, parted, none_by, same_front, held_read, log_makes}
+
+-- ---- the areas hold the history
+
+segment_is : (o : Option (List ℕ)) (mib relseg : ℕ) → GivesSettings o mib relseg → IsSegmentMib mib
+segment_is None mib relseg given = subst IsSegmentMib (sym given.0) (record { least = omega arith; most = omega arith; divides = refl })
+segment_is (Some bytes) mib relseg given = given.segment
+
+some_segment : (files : Option Files) (m : Files) (s : StoreSettings) → files ≡ Some m → HasSettings files s → 1 ≤ s.segment
+some_segment files m s told given =
+    let is : IsSettingsOf m s = at_told files m (λ n. IsSettingsOf n s) told given.given in
+    (segment_is (get m (codes "settings")) s.segment s.relseg is.given).least
+
+related_told : (R : Files → Files → Type 0) (old new : Option Files) (m n : Files) → old ≡ Some m → new ≡ Some n → Related R old new → R m n
+related_told R old new m n was is both = subst (λ (o : Option Files). Related R (Some m) o) is (subst (λ (o : Option Files). Related R o new) was both)
+
+-- the records that a WAL holds, where those that were found are read of it still
+held_records : (s : StoreSettings) (files : Files) (found lawful : List Record) (own more : List Entry) (last : ℕ) (end : Tip) → ReadsOn s files (first_tip s.segment) found end → map entry_of lawful ++ more ≡ map entry_of found ++ own → AreOwn more → AreOwn own
+    → (HoldsRecords s (log_of s.segment lawful more) last files) → (lawful ≡ found) × (more ≡ own)
+held_records s files found lawful own more last end read same mores owns holds =
+    let part = parted lawful found more own mores owns same in
+    (sym (same_front s files (first_tip s.segment) found lawful (wal_of s.segment (history_of lawful more)) end holds.tip (sym part.0) read holds.read), part.1)
+
+holds_run : {V : Type 0} (g : Vaults V) (left : Opened) (b : StoreAreas V) (old new : Areas) (found : List Record) (own : List Entry) (base : Store) (m : Files) → AreAt g new b → HoldsHistory g left b → left.history ≡ map entry_of found ++ own → AreOwn own
+    → apply_all empty (map entry_of found) ≡ Some base → (old wal_name).files ≡ Some m → HasSettings (old wal_name).files left.settings → HasFound left.settings found m → LeavesWal left.settings found left.history (old wal_name) (new wal_name) → HoldsRun left.settings found left.history new
+holds_run g left b old new found own base m at holds grown owns begun was given there leaves =
+    let s : StoreSettings = left.settings in
+    let law : IsLawful s.segment left.history = holds.lawful in
+    let told : (new wal_name).files ≡ Some holds.files = wal_files g new b at ∙ holds.wal in
+    let kept = related_told (λ x y. IsLeft (archive_of s.segment x) (archive_of s.segment y) (found_tip s found).end ((tip_of s.segment left.history).end - (found_tip s found).end)) (old wal_name).files (new wal_name).files m holds.files was told leaves.left in
+    let read : ReadsOn s holds.files (first_tip s.segment) found (found_tip s found) = held_read s m holds.files found (found_tip s found) ((tip_of s.segment left.history).end - (found_tip s found).end) (some_segment (old wal_name).files m s was given) there kept in
+    let same : map entry_of law.found ++ law.own ≡ map entry_of found ++ own = sym law.grown ∙ grown in
+    let is = held_records s holds.files found law.found own law.own (wal_top left) (found_tip s found) read same (written_own s.segment _ law.own law.logged.written) owns holds.records in
+    let log : log_of s.segment law.found law.own ≡ all_records s found left.history = ap (λ (rs : List Record). rs ++ wal_of s.segment (history_of law.found law.own)) is.0 ∙ ap (λ (es : List Entry). found ++ wal_of s.segment es) (sym law.grown) in
+    record {
+      store = law.store;
+      made = law.made;
+      files = holds.files;
+      told = told;
+      records = subst (λ (rs : List Record). HoldsRecords s rs (wal_top left) holds.files) log holds.records;
+      replayed = ap (λ (rs : List Record). apply_all empty (map entry_of rs)) (sym log)
+          ∙ log_makes s.segment law.found law.own base law.store (ap (λ (rs : List Record). apply_all empty (map entry_of rs)) is.0 ∙ begun) (ap (λ (es : List Entry). apply_all empty es) (sym law.grown) ∙ law.made) law.logged.written;
+      parts = λ q lt. let part = holds.parts q lt in record { part = part.part; is = part.is; files_are = data_files g new b at q lt ∙ part.files_are };
+    }
+
+-- ---- the worker's run
+
+-- what the workers' runs came to
+record CameTo (tells : Bool) (s : StoreSettings) (told : List Told) (found : List Record) (begun left : Opened) : Type 0 where
+  own : List Entry
+  grown : left.history ≡ map entry_of found ++ own
+  owns : AreOwn own
+  of_run : All (IsOfRun (length told)) own
+  answered : (worker : ℕ) (t : Told) → slice_get told worker ≡ Some t → IsAnswered (tells ≡ true) s.segment worker left.history (length found) t.task.lines t.answers
+  wal : (now : Option Files) (faults : Faults) → MayWriteWal left.settings.segment left.flushed (wal_top left) left.wal now → NoneFell left.faults faults → MayWriteWal begun.settings.segment begun.flushed (wal_top left) begun.wal now
+  settings : left.settings ≡ begun.settings
+  later : NoneFell begun.faults left.faults
+  risen : All (λ t. All (λ answer. (area : StoreArea) → TellsFault area answer → Rose (count_of area begun.faults) (count_of area left.faults)) t.answers) told
+
+append-none : {A : Type 0} (xs : List A) → xs ≡ xs ++ []
+append-none [] = refl
+append-none (x ∷ xs) = ap (λ ys. x ∷ ys) (append-none xs)
+
+came_none : (tells : Bool) (s : StoreSettings) (found : List Record) (begun left : Opened) → begun.history ≡ map entry_of found → left ≡ begun → CameTo tells s [] found begun left
+came_none tells s found begun left history same = record {
+  own = [];
+  grown = ap (λ (o : Opened). o.history) same ∙ (history ∙ append-none (map entry_of found));
+  owns = tt;
+  of_run = All-nil (IsOfRun 0);
+  answered = λ worker t there. absurd cc;
+  wal = λ now faults may none. subst (λ (o : Opened). MayWriteWal o.settings.segment o.flushed (wal_top left) o.wal now) same may;
+  settings = ap (λ (o : Opened). o.settings) same;
+  later = λ area. omega (arith, ap (λ (o : Opened). count_of area o.faults) same);
+  risen = λ k d within. absurd (omega arith);
+}
+
+-- the one worker is the first
+one_answered : (tells : Bool) (mib : ℕ) (found : ℕ) (t : Told) (history : List Entry) → IsAnswered (tells ≡ true) mib 0 history found t.task.lines t.answers
+    → (worker : ℕ) (u : Told) → slice_get (t ∷ []) worker ≡ Some u → IsAnswered (tells ≡ true) mib worker history found u.task.lines u.answers
+one_answered tells mib found t history is zero u there = subst (λ (v : Told). IsAnswered (tells ≡ true) mib 0 history found v.task.lines v.answers) (let e : t ≡ u = cc in e) is
+one_answered tells mib found t history is (suc worker) u there = absurd cc
+
+all_one : {A : Type 0} (P : A → Type 0) (x : A) → P x → All P (x ∷ [])
+all_one P x holds zero d within = holds
+all_one P x holds (suc k) d within = absurd (omega arith)
+
+by_one : (es : List Entry) → All (IsOfWorker 0) es → All (IsOfRun 1) es
+by_one es all = λ k d within. (0, omega arith, all k d within)
+
+-- a store with a later wal
+later_store : Opened → Option Files → Faults → Opened
+later_store left now faults = record left { wal = now; faults = faults }
+
+wal_on : (begun left : Opened) (now : Option Files) (faults : Faults) → GoesOn begun left → MayWriteWal left.settings.segment left.flushed (wal_top left) left.wal now → NoneFell left.faults faults → MayWriteWal begun.settings.segment begun.flushed (wal_top left) begun.wal now
+unfolding later_store
+wal_on begun left now faults first may none =
+    let last : GoesOn left (later_store left now faults) = record {
+      settings = refl;
+      history = prefix_refl left.history;
+      top = omega arith;
+      flushed = omega arith;
+      within = first.within;
+      wal = may;
+      later = none;
+    } in
+    (goes_on begun left (later_store left now faults) first last).wal
+
+came_one : (tells : Bool) (s : StoreSettings) (t : Told) (found : List Record) (begun left : Opened) (pass seen : Seen) → begun.settings ≡ s → begun.history ≡ map entry_of found → pass.worker ≡ 0 → pass.list ≡ begun.history → RunsLines (tells ≡ true) t.task.lines pass seen begun left t.answers
+    → CameTo tells s (t ∷ []) found begun left
+came_one tells s t found begun left pass seen set history first list ran =
+    let run : HasRun (tells ≡ true) begun.settings.segment t.task.lines pass seen t.answers = ran.run in
+    let from : pass.list ≡ map entry_of found = list ∙ history in
+    let by : All (IsOfWorker 0) run.own = subst (λ (w : ℕ). All (IsOfWorker w) run.own) first run.by in
+    let none : accepted_by pass.worker pass.list ≡ [] = ap (accepted_by pass.worker) from ∙ none_by pass.worker found in
+    let is : IsAnswered (tells ≡ true) begun.settings.segment pass.worker seen.list (length pass.list) t.task.lines t.answers = runs_answer tells begun.settings.segment t.task.lines pass seen t.answers run none in
+    let many : length pass.list ≡ length found = ap (λ (es : List Entry). length es) from ∙ length-map found entry_of in
+    let here : IsAnswered (tells ≡ true) s.segment 0 left.history (length found) t.task.lines t.answers =
+    subst (λ (n : ℕ). IsAnswered (tells ≡ true) s.segment 0 left.history n t.task.lines t.answers) many
+    (subst (λ (h : List Entry). IsAnswered (tells ≡ true) s.segment 0 h (length pass.list) t.task.lines t.answers) ran.whole
+    (subst (λ (w : ℕ). IsAnswered (tells ≡ true) s.segment w seen.list (length pass.list) t.task.lines t.answers) first
+    (subst (λ (x : StoreSettings). IsAnswered (tells ≡ true) x.segment pass.worker seen.list (length pass.list) t.task.lines t.answers) set is))) in
+    record {
+      own = run.own;
+      grown = sym ran.whole ∙ (run.grown ∙ ap (λ (es : List Entry). es ++ run.own) from);
+      owns = all_own 0 run.own by;
+      of_run = by_one run.own by;
+      answered = one_answered tells s.segment (length found) t left.history here;
+      wal = λ now faults may none. wal_on begun left now faults ran.goes_on may none;
+      settings = ran.goes_on.settings;
+      later = ran.goes_on.later;
+      risen = all_one (λ u. All (λ answer. (area : StoreArea) → TellsFault area answer → Rose (count_of area begun.faults) (count_of area left.faults)) u.answers) t ran.risen;
+    }
+
+came_to : (tells : Bool) (s : StoreSettings) (told : List Told) (found : List Record) (begun left : Opened) (pass seen : Seen) → begun.settings ≡ s → begun.history ≡ map entry_of found → pass.worker ≡ 0 → pass.list ≡ begun.history → RunsTasks (tells ≡ true) told pass seen begun left
+    → CameTo tells s told found begun left
+came_to tells s [] found begun left pass seen set history first list ran = came_none tells s found begun left history ran
+came_to tells s (t ∷ []) found begun left pass seen set history first list ran = came_one tells s t found begun left pass seen set history first list ran
+came_to tells s (t ∷ (u ∷ told)) found begun left pass seen set history first list ran = absurd ran
+
+-- ---- the whole
+
+-- how closing ended, seen from the site
+closing : {V : Type 0} (g : Vaults V) (tells : Bool) (s : StoreSettings) (found : List Record) (left : Opened) (a b : StoreAreas V) (old new : Areas) (closed : Result Lsn StoreFault) → left.settings ≡ s → AreAt g old a → AreAt g new b → (AreTold old → tells ≡ true) → NoneFell (faults_of g a) left.faults
+    → CloseAnswer g (tells ≡ true) left b closed → (AreTold old → HoldsHistory g left b → HoldsRun s found left.history new) → IsClosing s found left.history old new closed
+closing g tells s found left a b old new (Ok end) set was at leads later answer holds =
+    (answer.0 ∙ ap (λ (x : StoreSettings). (tip_of x.segment left.history).end) set, λ told. holds told (answer.1 (leads told)))
+closing g tells s found left a b old new (Err why) set was at leads later answer holds =
+    fails_at g old new a b why was at (cause_between (faults_of g a) left.faults (faults_of g b) (faults_of g b) why later (λ area. omega arith) answer)
+
+-- each area that was told to have failed did
+told_rose : {V : Type 0} (g : Vaults V) (a b : StoreAreas V) (old new : Areas) (begun left : Faults) (told : List Told) → AreAt g old a → AreAt g new b → NoneFell (faults_of g a) begun → NoneFell left (faults_of g b)
+    → All (λ t. All (λ answer. (area : StoreArea) → TellsFault area answer → Rose (count_of area begun) (count_of area left)) t.answers) told → ToldFaultsRose old new told
+told_rose g a b old new begun left told was at early late risen =
+    λ k d within. λ j e inside. λ area tells. rose_at g old new a b was at area
+    (rose_between (count_of area (faults_of g a)) (count_of area begun) (count_of area left) (count_of area (faults_of g b)) (early area) (late area) (risen k d within j e inside area tells))
+
+pub pass_is : (pass : Seen) (history : List Entry) → pass ∷ [] ≡ record { worker = 0; accepted = 0; list = history } ∷ [] → (pass.worker ≡ 0) × (pass.list ≡ history)
+pass_is pass history is =
+    let e : ◌≡◌ {A = Seen} pass (record { worker = 0; accepted = 0; list = history }) = cc in
+    (ap (λ (p : Seen). p.worker) e, ap (λ (p : Seen). p.list) e)
+
+-- a script without a worker leaves the store, and one with a worker runs its lines
+pub tasks_none : (tells : Bool) (told : List Told) (pass : Seen) (store : Opened) → told ≡ [] → RunsTasks (tells ≡ true) told pass pass store store
+tasks_none tells told pass store none = subst (λ (ts : List Told). RunsTasks (tells ≡ true) ts pass pass store store) (sym none) refl
+
+pub tasks_one : (tells : Bool) (told : List Told) (t : Told) (pass seen : Seen) (store left : Opened) → told ≡ t ∷ [] → RunsLines (tells ≡ true) t.task.lines pass seen store left t.answers → RunsTasks (tells ≡ true) told pass seen store left
+tasks_one tells told t pass seen store left one ran = subst (λ (ts : List Told). RunsTasks (tells ≡ true) ts pass seen store left) (sym one) ran
+
+-- the pass of the only worker has seen the store's history
+pub only_seen : {V : Type 0} (g : Vaults V) (a : StoreAreas V) (begun : Opened) (crew : List Seen) (pass : Seen) (tip : Tip) → IsBegun g a 1 begun crew tip → crew ≡ pass ∷ [] → pass.list ≡ begun.history
+only_seen g a begun crew pass tip is one = (pass_is pass begun.history (sym one ∙ is.has.crew_is)).1
+
+pub one_pass : {V : Type 0} (g : Vaults V) (a : StoreAreas V) (begun : Opened) (crew : List Seen) (tip : Tip) → IsBegun g a 1 begun crew tip → length crew ≡ 1
+one_pass g a begun crew tip is = ap (λ (ps : List Seen). length ps) is.has.crew_is
+
+-- no count fell while tasks were run
+tasks_later : (tells : Bool) (told : List Told) (pass seen : Seen) (begun left : Opened) → RunsTasks (tells ≡ true) told pass seen begun left → NoneFell begun.faults left.faults
+tasks_later tells [] pass seen begun left ran = λ area. omega (arith, ap (λ (o : Opened). count_of area o.faults) ran)
+tasks_later tells (t ∷ []) pass seen begun left ran = ran.goes_on.later
+tasks_later tells (t ∷ (u ∷ told)) pass seen begun left ran = absurd ran
+
+pub run_later : {V : Type 0} (g : Vaults V) (tells : Bool) (a b : StoreAreas V) (report : RunReport) → IsRunOn g tells a b report → NoneFell (faults_of g a) (faults_of g b)
+run_later g tells a b report ran =
+    none_fell (faults_of g a) ran.begun.faults (faults_of g b) ran.begins.later
+    (none_fell ran.begun.faults ran.left.faults (faults_of g b) (tasks_later tells report.told ran.pass ran.seen ran.begun ran.left ran.runs) ran.closes.later)
+
+pub run_on : {V : Type 0} (g : Vaults V) (tells : Bool) (a b : StoreAreas V) (report : RunReport) (begun left : Opened) (crew : List Seen) (pass seen : Seen) (tip : Tip) → IsBegun g a 1 begun crew tip → crew ≡ pass ∷ [] → report.opened.0 ≡ tip.end → RunsTasks (tells ≡ true) report.told pass seen begun left
+    → IsLawfulOf (tells ≡ true) left → IsClosed g (tells ≡ true) left b report.closed → IsRunOn g tells a b report
+run_on g tells a b report begun left crew pass seen tip is one opened ran lawful closed = record {
+  begun = begun;
+  pass = pass;
+  tip = tip;
+  begins = subst (λ (ps : List Seen). IsBegun g a 1 begun ps tip) one is;
+  opened = opened;
+  left = left;
+  seen = seen;
+  runs = ran;
+  lawful = lawful;
+  closes = closed;
+}
+
+pub run_done : {V : Type 0} (g : Vaults V) (tells : Bool) (old new : Areas) (a b : StoreAreas V) (report : RunReport) → AreAt g old a → AreAt g new b → (AreTold old → tells ≡ true) → IsRunOn g tells a b report → RunDone old new report
+run_done g tells old new a b report was at leads ran =
+    let has : HasBegun (g.files a.wal) 1 ran.begun (ran.pass ∷ []) ran.tip = ran.begins.has in
+    let s : StoreSettings = ran.begun.settings in
+    let first = pass_is ran.pass ran.begun.history has.crew_is in
+    let came : CameTo tells s report.told has.found ran.begun ran.left = came_to tells s report.told has.found ran.begun ran.left ran.pass ran.seen refl has.history first.0 first.1 ran.runs in
+    let wal : (old wal_name).files ≡ g.files a.wal = wal_files g old a was in
+    let given : HasSettings (old wal_name).files s = subst (λ (o : Option Files). HasSettings o s) (sym wal) has.given in
+    let there : IfSome (old wal_name).files (HasFound s has.found) =
+    subst (λ (t : Tip). IfSome (old wal_name).files (λ m. IsWal s m has.found t)) has.tip_is
+    (subst (λ (o : Option Files). IfSome o (λ m. IsWal s m has.found ran.tip)) (sym wal) has.archive) in
+    let begun : apply_all empty (map entry_of has.found) ≡ Some has.pages = ap (apply_all empty) (sym has.history) ∙ has.made in
+    let may : MayWriteWal s.segment ran.begun.flushed (wal_top ran.left) ran.begun.wal (g.files b.wal) = came.wal (g.files b.wal) (faults_of g b) ran.closes.wal ran.closes.later in
+    let leaves : LeavesWal s has.found ran.left.history (old wal_name) (new wal_name) =
+    subst (λ (x : StoreSettings). MayWriteWal s.segment (found_tip s has.found).end (tip_of x.segment ran.left.history).end (old wal_name).files (new wal_name).files) came.settings
+    (subst (λ (o : Option Files). MayWriteWal s.segment (found_tip s has.found).end (wal_top ran.left) (old wal_name).files o) (sym (wal_files g new b at))
+    (subst (λ (o : Option Files). MayWriteWal s.segment (found_tip s has.found).end (wal_top ran.left) o (g.files b.wal)) (has.wal ∙ sym wal)
+    (subst (λ (n : ℕ). MayWriteWal s.segment n (wal_top ran.left) ran.begun.wal (g.files b.wal)) (has.flushed ∙ ap (λ (t : Tip). t.end) has.tip_is) may))) in
+    let later : NoneFell (faults_of g a) ran.left.faults = none_fell (faults_of g a) ran.begun.faults ran.left.faults ran.begins.later came.later in
+    record {
+      settings = s;
+      given = given;
+      found = has.found;
+      some = has.some;
+      base = has.pages;
+      made = begun;
+      archive = there;
+      opened = ran.opened ∙ ap (λ (t : Tip). t.end) has.tip_is;
+      history = ran.left.history;
+      happened = record {
+        own = came.own;
+        grown = came.grown;
+        of_run = came.of_run;
+        lawful = λ told. subst (λ (x : StoreSettings). IsLawful x.segment ran.left.history) came.settings (ran.lawful (leads told));
+        answered = λ worker t is. answered_less (tells ≡ true) (AreTold old) s.segment worker ran.left.history (length has.found) t.task.lines t.answers leads (came.answered worker t is);
+      };
+      left = leaves;
+      closing = closing g tells s has.found ran.left a b old new report.closed came.settings was at leads later ran.closes.answer
+          (λ told holds. let files = some_told (old wal_name).files (told wal_name (inl refl)) in
+          subst (λ (x : StoreSettings). HoldsRun x has.found ran.left.history new) came.settings
+          (holds_run g ran.left b old new has.found came.own has.pages files.0 at holds came.grown came.owns begun files.1
+          (subst (λ (x : StoreSettings). HasSettings (old wal_name).files x) (sym came.settings) given)
+          (subst (λ (x : StoreSettings). HasFound x has.found files.0) (sym came.settings) (at_told (old wal_name).files files.0 (HasFound s has.found) files.1 there))
+          (subst (λ (x : StoreSettings). LeavesWal x has.found ran.left.history (old wal_name) (new wal_name)) (sym came.settings) leaves)));
+      risen = told_rose g a b old new ran.begun.faults ran.left.faults report.told was at ran.begins.later ran.closes.later came.risen;
+    }

@@ -1,0 +1,243 @@
+-- `run`: what running a script does, prints and ends with.
+use Rattle.std.specs.Prelude.{◌≡◌, ℕ, ◌+◌, ◌<◌, ◌≤◌, List, [], ◌∷◌, ◌++◌, map, length, slice_get, Option, Some, Result, Ok, Err, IsSome, IfSome, codes}
+use Rattle.std.specs.List.{All}
+use Rattle.std.specs.FinMap.{empty}
+use Rattle.std.specs.Fmt.{decimal}
+use Rattle.lsn_core.specs.Causes.{Rose}
+use Rattle.lsn_core.specs.Files.{Files}
+use Rattle.lsn_core.specs.Store.{Store}
+use Rattle.lsn_core.specs.declared.lsn.Lsn.{Lsn}
+use Rattle.lsn_core.specs.Segment.{StoreSettings}
+use Rattle.lsn_core.specs.Tip.{Tip}
+use Rattle.lsn_core.specs.declared.fault.StoreArea.{StoreArea}
+use Rattle.lsn_core.specs.declared.fault.StoreArea.TheVariants.{Data}
+use Rattle.lsn_core.specs.declared.fault.StoreFault.{StoreFault}
+use Rattle.lsn_core.specs.declared.fault.StoreFault.TheVariants as store
+use Rattle.vault.specs.Site.{Areas, AreaState}
+use Rattle.vault.specs.Lending.{Names, IsOneOf}
+use Rattle.wal_record.specs.declared.record.Record.{Record}
+use Rattle.wal_record.specs.Tips.{first_tip, tip_behind}
+use Rattle.wal_reader.specs.Wal.{IsWal}
+use Rattle.history.specs.Entry.{Entry}
+use Rattle.history.specs.Apply.{apply_all}
+use Rattle.history.specs.Whole.{entry_of}
+use Rattle.history.specs.Written.{wal_of, tip_of}
+use Rattle.journal.specs.Lawful.{IsLawful}
+use Rattle.recovery.specs.Causes.{HasSettings}
+use Rattle.shared_store.specs.Calls.{MayWriteWal}
+use Rattle.shared_store.specs.Begin.{BeginCause}
+use Rattle.shared_store.specs.Close.{HoldsRecords, HoldsPart}
+use Rattle.shared_store.specs.declared.begin.BeginWhy.{BeginWhy}
+use Rattle.shared_store.specs.declared.begin.BeginWhy.TheVariants as begin
+use Rattle.crew.specs.declared.script.Task.{Task}
+use Rattle.crew.specs.declared.why.Why.{Why}
+use Rattle.crew.specs.Reasons.{script_limit, why_bytes}
+use Rattle.crew.specs.Script.{IsScript, IsRefusedAt}
+use Rattle.crew.specs.Run.{IsOfWorker, IsAnswered, TellsFault}
+use Rattle.command_base.specs.declared.status.Status.{Status}
+use Rattle.command_base.specs.declared.status.Status.TheVariants as status
+use Rattle.run_command.specs.declared.told.Told.{Told}
+use Rattle.run_command.specs.declared.command.RunReport.{RunReport}
+use Rattle.run_command.specs.declared.command.RunFault.{RunFault}
+use Rattle.run_command.specs.declared.command.RunFault.TheVariants as run
+use Rattle.command_base.specs.Areas.{wal_name, data_name, area_name, Keeps, AreaCause}
+use Rattle.command_base.specs.Outside.{Outside, Works, LeavesSite, IsUntaken}
+use Rattle.run_command.specs.Input.{IsInput, TakesAtMost}
+use Rattle.command_base.specs.Faults.{refused_line, area_text, take_text, begin_text, memory_text, area_status, store_status, begin_status}
+use Rattle.run_command.specs.Report.{ending_of, report_text}
+
+abbrev pub RunResult : Type 0
+RunResult = Result RunReport RunFault
+
+-- ---- the script
+
+-- the input was read, and it is a script that is taken
+pub record HasScript (left now : Option (List ℕ)) (script : List Task) : Type 0 where
+  pub bytes : List ℕ
+  pub input : IsInput bytes left now
+  pub script_is : IsScript bytes script
+
+-- the input was read, and this line is the first that is refused
+pub record HasRefusedLine (left now : Option (List ℕ)) (line : ℕ) (why : Why) : Type 0 where
+  pub bytes : List ℕ
+  pub input : IsInput bytes left now
+  pub refused : IsRefusedAt bytes line why
+
+-- ---- what the run of a script comes to, over the areas of a store
+
+-- the areas that it asks for, which it may change
+abbrev pub run_asks : Names
+run_asks = wal_name ∷ data_name 0 ∷ data_name 1 ∷ data_name 2 ∷ data_name 3 ∷ []
+
+-- each of them tells its files
+abbrev pub AreTold : Areas → Type 0
+AreTold areas = (name : List ℕ) → IsOneOf name run_asks → IsSome (areas name).files
+
+-- the files of each are as they were
+abbrev pub KeepsAll : Areas → Areas → Type 0
+KeepsAll old new = (name : List ℕ) → IsOneOf name run_asks → Keeps (old name) (new name)
+
+-- an area of the store failed only where its count of faults rose; want of memory may come at any
+-- time
+abbrev pub StoreFails : Areas → Areas → StoreFault → Type 0
+StoreFails old new (store.Failed area) =
+    Rose (old (area_name area)).faults (new (area_name area)).faults
+StoreFails old new store.NoMemory = Unit {0}
+
+-- the same of a data area
+abbrev pub DataAreaFails : Areas → Areas → StoreFault → Type 0
+DataAreaFails old new (store.Failed area) =
+    (q : ℕ) × (q < 4) × (area ≡ Data q) × StoreFails old new (store.Failed (Data q))
+DataAreaFails old new store.NoMemory = Unit {0}
+
+-- the script whose workers were told answers
+abbrev pub tasks_told : List Told → List Task
+tasks_told told = map (λ t. t.task) told
+
+-- where a WAL of these records ends
+abbrev pub found_tip : StoreSettings → List Record → Tip
+found_tip s found = tip_behind (first_tip s.segment) found
+
+-- a WAL of these files has just these records
+abbrev pub HasFound : StoreSettings → List Record → Files → Type 0
+HasFound s found files = IsWal s files found (found_tip s found)
+
+-- one of so many workers made the entry: by a command, or as the start or the end of a checkpoint
+abbrev pub IsOfRun : ℕ → Entry → Type 0
+IsOfRun workers entry = (worker : ℕ) × (worker < workers) × IsOfWorker worker entry
+
+-- a history goes on behind the records that were found by entries of the workers alone, and, where
+-- areas tell, lawfully, each entry in the place where it is written; over it
+-- each worker's lines were answered so, and its commands there are those that its answers name
+pub record HasHistory
+    (tells : Type 0) (s : StoreSettings) (found : List Record) (told : List Told)
+    (history : List Entry)
+    : Type 0 where
+  pub own : List Entry
+  pub grown : history ≡ map entry_of found ++ own
+  pub of_run : All (IsOfRun (length told)) own
+  pub lawful : tells → IsLawful s.segment history
+  pub answered : (worker : ℕ) (t : Told) → slice_get told worker ≡ Some t
+      → IsAnswered tells s.segment worker history (length found) t.task.lines t.answers
+
+-- the records that were found, and behind them those that a history is written as
+abbrev pub all_records : StoreSettings → List Record → List Entry → List Record
+all_records s found history = found ++ wal_of s.segment history
+
+-- the areas hold a history: the WAL's records are those that were found and those that the history
+-- is written as, replay of them makes the store that the history makes, and each data area has just
+-- the files of its partition's part of that store
+pub record HoldsRun (s : StoreSettings) (found : List Record) (history : List Entry) (new : Areas)
+    : Type 0 where
+  pub store : Store
+  pub made : apply_all empty history ≡ Some store
+  pub files : Files
+  pub told : (new wal_name).files ≡ Some files
+  pub records : HoldsRecords s (all_records s found history) (tip_of s.segment history).end files
+  pub replayed : apply_all empty (map entry_of (all_records s found history)) ≡ Some store
+  pub parts : (q : ℕ) → q < 4 → HoldsPart s.relseg q store (new (data_name q)).files
+
+-- of the WAL only what stands between the end that was found and the history's end may have changed
+abbrev pub LeavesWal :
+    StoreSettings → List Record → List Entry → AreaState → AreaState → Type 0
+LeavesWal s found history old new =
+    MayWriteWal s.segment (found_tip s found).end (tip_of s.segment history).end
+    old.files new.files
+
+-- what closing the store came to: where the WAL ends, which is where the history does, and then,
+-- where the areas told their files, they hold the history; or which area failed, or memory ran out
+abbrev pub IsClosing :
+    StoreSettings → List Record → List Entry → Areas → Areas → Result Lsn StoreFault → Type 0
+IsClosing s found history old new (Ok end) =
+    (end.0 ≡ (tip_of s.segment history).end) × (AreTold old → HoldsRun s found history new)
+IsClosing s found history old new (Err why) = StoreFails old new why
+
+-- each area that a worker was told to have failed has a count of faults that rose
+abbrev pub ToldFaultsRose : Areas → Areas → List Told → Type 0
+ToldFaultsRose old new told =
+    All (λ t. All (λ answer. (area : StoreArea) → TellsFault area answer
+    → StoreFails old new (store.Failed area)) t.answers) told
+
+-- a script was run on a store whose WAL has an entry, and whose entries make a store, and came to a
+-- history. Whatever else came, the answers are true of that
+pub record RunDone (old new : Areas) (report : RunReport) : Type 0 where
+  pub settings : StoreSettings
+  pub given : HasSettings (old wal_name).files settings
+  pub found : List Record
+  pub some : 0 < length found
+  pub base : Store
+  pub made : apply_all empty (map entry_of found) ≡ Some base
+  pub archive : IfSome (old wal_name).files (HasFound settings found)
+  pub opened : report.opened.0 ≡ (found_tip settings found).end
+  pub history : List Entry
+  pub happened : HasHistory (AreTold old) settings found report.told history
+  pub left : LeavesWal settings found history (old wal_name) (new wal_name)
+  pub closing : IsClosing settings found history old new report.closed
+  pub risen : ToldFaultsRose old new report.told
+
+-- ---- what `run` comes to
+
+-- no store was begun: its WAL can't be begun on, and all is as it was; or a data area failed, or
+-- memory ran out while the data areas were rebuilt, and the WAL is as it was
+abbrev pub CantBegin : Areas → Areas → BeginWhy → Type 0
+CantBegin old new (begin.Wal why) =
+    KeepsAll old new
+    × BeginCause (old wal_name).files (old wal_name).faults (new wal_name).faults why
+CantBegin old new (begin.Data why) =
+    Keeps (old wal_name) (new wal_name) × DataAreaFails old new why
+
+-- why `run` comes to its answer: a script was run; or the input failed, a line is refused, memory
+-- ran out, an area wasn't handed out, or no store can be begun
+abbrev pub RunAnswer : Outside → Outside → RunResult → Type 0
+RunAnswer old new (Ok report) =
+    HasScript old.left new.left (tasks_told report.told) × RunDone old.areas new.areas report
+RunAnswer old new (Err (run.Input why)) =
+    LeavesSite old new × AreaCause old.reads new.reads why
+RunAnswer old new (Err (run.Script line why)) =
+    LeavesSite old new × HasRefusedLine old.left new.left line why
+RunAnswer old new (Err run.NoMemory) = LeavesSite old new
+RunAnswer old new (Err (run.Site fault)) =
+    (script : List Task)
+    × HasScript old.left new.left script
+    × IsUntaken run_asks old new fault
+RunAnswer old new (Err (run.Begin why)) =
+    (script : List Task)
+    × HasScript old.left new.left script
+    × CantBegin old.areas new.areas why
+
+-- `run`. Of the input no more is taken than one byte more than a script may have
+abbrev pub RunDoes : Outside → Outside → RunResult → Type 0
+RunDoes old new r =
+    Works run_asks old new
+    × (old.reads ≤ new.reads)
+    × TakesAtMost (script_limit + 1) old.left new.left
+    × RunAnswer old new r
+
+-- ---- what it prints, and its status
+
+abbrev pub script_text : ℕ → Why → List ℕ
+script_text line why = codes "2 ScriptLine " ++ (decimal line ++ (32 ∷ why_bytes why))
+
+abbrev pub run_fault_text : RunFault → List ℕ
+run_fault_text (run.Input why) = area_text (codes "input") why
+run_fault_text (run.Script line why) = script_text line why
+run_fault_text run.NoMemory = memory_text
+run_fault_text (run.Site fault) = take_text fault
+run_fault_text (run.Begin why) = begin_text why
+
+abbrev pub run_text : RunResult → List ℕ
+run_text (Ok report) = report_text report
+run_text (Err fault) = refused_line (run_fault_text fault)
+
+-- the status of a run by how it ended
+abbrev pub ending_status : Result Lsn StoreFault → Status
+ending_status (Ok end) = status.Done
+ending_status (Err why) = store_status why
+
+abbrev pub run_status : RunResult → Status
+run_status (Ok report) = ending_status (ending_of report)
+run_status (Err (run.Input why)) = area_status why
+run_status (Err (run.Script line why)) = status.Usage
+run_status (Err run.NoMemory) = status.Memory
+run_status (Err (run.Site fault)) = area_status fault.why
+run_status (Err (run.Begin why)) = begin_status why

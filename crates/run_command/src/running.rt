@@ -1,0 +1,157 @@
+//! A script, run on the areas of a store.
+
+ghost use Rattle.std.specs.Prelude.{◌≡◌, ◌<◌, ◌≤◌, ◌∷◌, ◌++◌, [], true, length, IfOk};
+ghost use Rattle.std.specs.Vec.{vec_len, vec_capacity};
+ghost use Rattle.shared_store.specs.Begin.{AllTell, faults_of};
+ghost use Rattle.shared_store.specs.Opened.{NoneFell};
+ghost use Rattle.run_command.specs.Run.{tasks_told};
+ghost use Rattle.run_command.specs.Inner.{task_list, HasRoom, RunsTasks, all_tell, RunsOn, lines_in};
+
+use crate::command::RunReport;
+use crate::told::{Told, ToldTasks};
+use crew::{Answer, Answers, Script, Task, run_lines};
+use journal::HistoryEntry;
+use lsn_core::NoMemory;
+use shared_store::{Began, BeginWhy, OfCrew, Pass, Store, StoreAreas};
+use std::alloc::Global;
+use std::marker::Brand;
+use timeline::Opened;
+use vault::Vault;
+
+/// What a run needs before it asks for areas: the task of its script, if that has one, room for the
+/// answers, and the timeline of its store.
+#[derive(Drop)]
+pub struct Work {
+    pub task: Option<Task>,
+    pub answers: Vec<Answer>,
+    pub list: Vec<Told>,
+}
+
+/// The memory of a timeline.
+pub fn new_line(alloc: Global) -> Result<Opened<HistoryEntry>, NoMemory> {
+    Ok(Opened::new(alloc)?)
+}
+
+/// How many lines a task has.
+fn line_count(task: &Option<Task>) -> usize
+    ensures { result ≡ length (lines_in task.now) }
+{
+    match task {
+        Some(task) => task.lines.as_slice().len(),
+        None => 0,
+    }
+}
+
+/// The task of a script, with room for the answers to its lines.
+pub fn work_of(alloc: Global, script: Script) -> Result<Work, NoMemory>
+    requires { length script ≤ 1 }
+    ensures script { IfOk result (λ work. task_list work.task ≡ script) }
+    ensures room { IfOk result HasRoom }
+{
+    let mut workers = script.into_workers();
+    let task = workers.pop();
+    let answers = Vec::with_capacity(alloc, line_count(&task))?;
+    let list = Vec::with_capacity(alloc, 1)?;
+    Ok(Work {
+        task,
+        answers,
+        list,
+    })
+}
+
+/// Puts what a worker was told where there is room for it.
+fn put(list: &mut Vec<Told>, told: Told)
+    requires { vec_len list.old < vec_capacity list.old }
+    ensures { list.new.items ≡ list.old.items ++ (told ∷ []) }
+{
+    if list.push(told).is_err() {
+        unreachable!()
+    }
+}
+
+/// Runs the task of a script, if it has one.
+fn run_work<J: OfCrew, V: Vault>(
+    alloc: Global,
+    store: &mut Store<J, V>,
+    pass: &mut Pass<J>,
+    work: Work,
+) -> ToldTasks
+    requires room { HasRoom work }
+    requires seen { pass.old.list ≡ store.old.history }
+    ensures run { RunsTasks (J.tells ≡ true) result pass.old pass.new store.old store.new }
+    ensures script { tasks_told result ≡ task_list work.task }
+{
+    let Work {
+        task,
+        answers,
+        list,
+    } = work;
+    let (mut answers, mut list) = (answers, list);
+    let Some(task) = task else {
+        return ToldTasks::from_vec(list);
+    };
+    run_lines(alloc, store, pass, task.lines.as_slice(), &mut answers);
+    let answers = Answers::from_vec(answers);
+    put(&mut list, Told { task, answers });
+    ToldTasks::from_vec(list)
+}
+
+/// The pass of the only worker.
+fn only_pass<J: OfCrew>(crew: Vec<Pass<J>>) -> Pass<J>
+    requires { length crew.items ≡ 1 }
+    ensures { crew.items ≡ result ∷ [] }
+{
+    let mut crew = crew;
+    match crew.pop() {
+        Some(pass) => pass,
+        None => unreachable!(),
+    }
+}
+
+/// Runs a script on the areas of a store: begins it, runs the lines, and closes it.
+fn run_named<J: OfCrew, V: Vault>(
+    alloc: Global,
+    line: Opened<HistoryEntry>,
+    areas: StoreAreas<V>,
+    work: Work,
+) -> (StoreAreas<V>, Result<RunReport, BeginWhy>)
+    requires room { HasRoom work }
+    requires name { line ≡ J.table }
+    requires crew { J.workers ≡ 1 }
+    requires told { J.tells ≡ true → AllTell V.Vault areas }
+    ensures runs { RunsOn V.Vault J.tells areas result.0 result.1 }
+    ensures script { IfOk result.1 (λ report. tasks_told report.told ≡ task_list work.task) }
+    ensures later { NoneFell (faults_of V.Vault areas) (faults_of V.Vault result.0) }
+{
+    let began = match Store::<J, V>::begin(alloc, line, areas, 1) {
+        Ok(began) => began,
+        Err(fault) => return (fault.areas, Err(fault.why)),
+    };
+    let Began { store, crew, tip } = began;
+    let mut store = store;
+    let mut pass = only_pass(crew);
+    let told = run_work(alloc, &mut store, &mut pass, work);
+    store.know();
+    let (areas, closed) = store.close(alloc);
+    let report = RunReport {
+        opened: tip.end,
+        told,
+        closed,
+    };
+    (areas, Ok(report))
+}
+
+/// The same, by the name of the timeline that is handed over.
+pub fn run_areas<V: Vault>(
+    alloc: Global,
+    line: Opened<HistoryEntry>,
+    areas: StoreAreas<V>,
+    work: Work,
+) -> (StoreAreas<V>, Result<RunReport, BeginWhy>)
+    requires { HasRoom work }
+    ensures runs { RunsOn V.Vault (all_tell V.Vault areas) areas result.0 result.1 }
+    ensures script { IfOk result.1 (λ report. tasks_told report.told ≡ task_list work.task) }
+    ensures later { NoneFell (faults_of V.Vault areas) (faults_of V.Vault result.0) }
+{
+    run_named::<Brand, V>(alloc, line, areas, work)
+}
