@@ -3,19 +3,11 @@
 #![tactic(auto)]
 
 use lsn_core::{NoMemory, Text};
-use pgbackup_cli::{Status, pgbackup};
-use std::env;
+use operator_notes::note_of;
+use pgbackup_cli::{Answer, Status, answered};
 use std::process::ExitCode;
+use std::{env, str};
 use vault_os::{OsClock, OsSink, OsSite, OsSource};
-
-const USAGE: &str = "usage: pgbackup init [--segment-mib M] [--relseg N] [--system-id S]
-       pgbackup run
-       pgbackup replay [--target LSN] OUT
-  init makes a new store below the working directory: its settings, and a WAL of one entry in wal;
-    M is a power of two from 1 to 1024 (16), N is 1 to 131072 (131072), S is below 2^64
-  run reads a script from standard input, runs its lines on the store and writes their WAL
-  replay reads the WAL, whole or up to LSN (as 0/1000108), and writes the relation files that its
-    entries make to o/OUT; OUT is 1 to 32 of a to z, 0 to 9 and _";
 
 /// The words of the command line. A word that isn't UTF-8 leaves none, which no command takes.
 fn words_of(rt: &HostRuntime) -> Result<Vec<Text>, NoMemory> {
@@ -35,7 +27,7 @@ fn run_words(rt: &HostRuntime) -> Result<Status, NoMemory> {
     let mut input = OsSource::new(rt.clone()?);
     let mut out = OsSink::new(rt.clone()?);
     let mut clock = OsClock::new(rt.clone()?);
-    let status = pgbackup(
+    let (answer, status) = answered(
         rt.alloc(),
         &words,
         &mut site,
@@ -46,6 +38,7 @@ fn run_words(rt: &HostRuntime) -> Result<Status, NoMemory> {
     if status == Status::Device {
         say(rt, site.said().or(input.said()).or(out.said()));
     }
+    advise(rt, &words, &answer);
     Ok(status)
 }
 
@@ -56,12 +49,19 @@ fn say(rt: &HostRuntime, said: Option<&str>) {
     }
 }
 
+/// Prints what was found, and what to do next, on standard error.
+fn advise(rt: &HostRuntime, words: &[Text], answer: &Answer) {
+    let Ok(note) = note_of(rt.alloc(), words, answer) else {
+        return;
+    };
+    if let Ok(lines) = str::from_utf8(note.as_bytes()) {
+        let _ = eprint!(rt; "{lines}");
+    }
+}
+
 fn main(rt: HostRuntime) -> ExitCode {
     let Ok(status) = run_words(&rt) else {
         return ExitCode::from(Status::Memory.code());
     };
-    if status == Status::Usage {
-        let _ = eprintln!(rt; "{USAGE}");
-    }
     ExitCode::from(status.code())
 }

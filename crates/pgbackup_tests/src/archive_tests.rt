@@ -6,7 +6,7 @@ ghost use Rattle.std.specs.Prelude.{IfOk};
 ghost use Rattle.vault.specs.Site.{AllHome};
 ghost use Rattle.vault.specs.MemorySite.{areas_of};
 
-use crate::calls::{Call, NONE, is_answered, make_calls, run};
+use crate::calls::{Call, NONE, make_calls, run};
 use lsn_core::{AreaFault, NoMemory};
 use pgbackup_cli::Status;
 use std::alloc::Global;
@@ -243,52 +243,16 @@ fn a_long_archive_is_replayed_up_to_targets(rt: HostRuntime) -> Result<(), Wrong
     Ok(())
 }
 
-/// Scripts whose entries end at a page's end, 8 bytes before it, and on a second page; and one of
-/// eleven small images.
+/// Scripts whose entries end at a page's end and 8 bytes before it; and one of eleven small images.
 const TO_THE_END: &str = "worker w\ncreate 5/16384\nchange 5/16384@0=24,224,1\ncreate 5/16388\n";
 
 const EIGHT_BEFORE: &str = "worker w\ncreate 5/16384\nchange 5/16384@0=24,232,1\ncreate 5/16388\n";
-
-const ON_TWO: &str = "worker w\ncreate 5/16384\nchange 5/16384@0=8192,8192,7\n";
 
 const ELEVEN: &str = "worker w\ncreate 5/16384\n\
     change 5/16384@0=24,8192,0\nchange 5/16384@1=24,8192,0\nchange 5/16384@2=24,8192,0\n\
     change 5/16384@3=24,8192,0\nchange 5/16384@4=24,8192,0\nchange 5/16384@5=24,8192,0\n\
     change 5/16384@6=24,8192,0\nchange 5/16384@7=24,8192,0\nchange 5/16384@8=24,8192,0\n\
     change 5/16384@9=24,8192,0\nchange 5/16384@10=24,8192,0\n";
-
-/// The answers to lines over pages.
-static ANSWERED: [(&str, &str); 3] = [
-    (
-        TO_THE_END,
-        "opened 0/100060\nw 2 ok 0/100060 0/100090\nw 3 ok 0/100090 0/102000\n\
-            w 4 ok 0/102018 0/102048\nwal 0/102048\n",
-    ),
-    (
-        EIGHT_BEFORE,
-        "opened 0/100060\nw 2 ok 0/100060 0/100090\nw 3 ok 0/100090 0/101FF8\n\
-            w 4 ok 0/101FF8 0/102040\nwal 0/102040\n",
-    ),
-    (
-        ON_TWO,
-        "opened 0/100060\nw 2 ok 0/100060 0/100090\nw 3 ok 0/100090 0/1020E0\nwal 0/1020E0\n",
-    ),
-];
-
-/// The run of a script on a new store prints these lines.
-fn runs(alloc: Global, script: &str, lines: &str) -> Result<bool, Wrong> {
-    let mut site = new_site(alloc)?;
-    let call = ("run", script, Status::Done, lines);
-    Ok(is_answered(alloc, &mut site, &call)?)
-}
-
-#[test]
-fn entries_go_on_over_pages(rt: HostRuntime) -> Result<(), Wrong> {
-    for (script, lines) in &ANSWERED {
-        assert!(rt; runs(rt.alloc(), script, lines)?, "{lines}");
-    }
-    Ok(())
-}
 
 /// A change that changes nothing.
 const NOTHING: Change = Change::Write(b"x", 0, b"");

@@ -12,7 +12,7 @@ use vault::{MemSink, MemSource, SetClock, Site};
 const MOMENT: u64 = 1_700_000_000;
 
 /// The words of a command line, which stand between spaces.
-fn words_in(alloc: Global, line: &str) -> Result<Vec<Text>, NoMemory> {
+pub(crate) fn words_in(alloc: Global, line: &str) -> Result<Vec<Text>, NoMemory> {
     let mut words = Vec::new(alloc);
     for word in line.split_whitespace() {
         words.push(Text::copied(alloc, word.as_bytes())?)?;

@@ -22,6 +22,8 @@ mod kinds_tests;
 #[cfg(test)]
 mod limit_tests;
 #[cfg(test)]
+mod notes_tests;
+#[cfg(test)]
 mod replay_files_tests;
 #[cfg(test)]
 mod replay_tests;
@@ -29,3 +31,5 @@ mod replay_tests;
 mod run_faults_tests;
 #[cfg(test)]
 mod store_tests;
+#[cfg(test)]
+mod verify_tests;

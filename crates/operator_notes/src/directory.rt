@@ -1,0 +1,131 @@
+//! Notes on the directory of a backup that isn't as its manifest lists it.
+
+use crate::areas::area_note;
+use crate::lines::note;
+use chain_check::{ChainFault, FileWhy, ManifestWhy};
+use command_base::joined;
+use lsn_core::{AreaFault, NoMemory, Text};
+use std::alloc::Global;
+
+const USE_ANOTHER: &[u8] = b"bring the file back from a copy of the backup, or use another backup";
+
+fn manifest_text(why: ManifestWhy) -> &'static [u8] {
+    match why {
+        ManifestWhy::Lines => b"its last line is no checksum of the lines before it",
+        ManifestWhy::Sum => b"its checksum isn't that of its lines",
+        ManifestWhy::Json => b"it is no JSON text",
+        ManifestWhy::Shape => b"its keys and values are not those of a manifest",
+        ManifestWhy::SumKind => b"a file's checksum is none of SHA224, SHA256, SHA384 and SHA512",
+    }
+}
+
+fn file_text(why: FileWhy) -> &'static [u8] {
+    match why {
+        FileWhy::Form => b"incremental backups are not read yet",
+        FileWhy::PageLength => b"its size is no multiple of 8192 bytes",
+    }
+}
+
+/// A file of the backup, and what is wrong with it.
+fn file_note(
+    alloc: Global,
+    backup: &[u8],
+    path: &[u8],
+    wrong: &[u8],
+    next: &[u8],
+) -> Result<Text, NoMemory> {
+    note(alloc, &[b"file ", backup, b"/", path, b" ", wrong], next)
+}
+
+/// Its manifest, and what is wrong with that.
+fn manifest_note(alloc: Global, backup: &[u8], wrong: &[u8]) -> Result<Text, NoMemory> {
+    let wrong = joined(alloc, &[b"is refused: ", wrong])?;
+    file_note(
+        alloc,
+        backup,
+        b"backup_manifest",
+        wrong.as_bytes(),
+        USE_ANOTHER,
+    )
+}
+
+/// The directory of this name isn't as its manifest lists it.
+pub fn directory_note(alloc: Global, backup: &[u8], fault: &ChainFault) -> Result<Text, NoMemory> {
+    match fault {
+        ChainFault::NoManifest => note(
+            alloc,
+            &[b"backup ", backup, b" has no file backup_manifest"],
+            b"it was not completed, or is no backup: take another one",
+        ),
+        ChainFault::ManifestDamaged(why) => manifest_note(alloc, backup, manifest_text(*why)),
+        ChainFault::ManifestVersion(_) | ChainFault::TimelineDiffers(_) => {
+            number_note(alloc, backup, fault)
+        }
+        ChainFault::Failed => area_note(alloc, backup, AreaFault::Failed),
+        ChainFault::NoMemory => area_note(alloc, backup, AreaFault::NoMemory),
+        _ => listed_note(alloc, backup, fault),
+    }
+}
+
+/// The manifest's version or timeline is another one.
+fn number_note(alloc: Global, backup: &[u8], fault: &ChainFault) -> Result<Text, NoMemory> {
+    let wrong = match fault {
+        ChainFault::ManifestVersion(version) => {
+            format!(in alloc; "its version is {version}, and only 2 is read")?
+        }
+        ChainFault::TimelineDiffers(timeline) => {
+            format!(in alloc; "its timeline is {timeline}, and only 1 is read")?
+        }
+        _ => return Err(NoMemory),
+    };
+    manifest_note(alloc, backup, wrong.as_bytes())
+}
+
+/// A file isn't as it is listed.
+fn listed_note(alloc: Global, backup: &[u8], fault: &ChainFault) -> Result<Text, NoMemory> {
+    match fault {
+        ChainFault::FileMissing(path) => {
+            let wrong = b"is missing, or is the label and not listed";
+            file_note(alloc, backup, path.as_bytes(), wrong, USE_ANOTHER)
+        }
+        ChainFault::FileSize(path, have, listed) => {
+            let wrong = format!(in alloc; "has {have} bytes, and {listed} are listed")?;
+            file_note(
+                alloc,
+                backup,
+                path.as_bytes(),
+                wrong.as_bytes(),
+                USE_ANOTHER,
+            )
+        }
+        ChainFault::FileSum(path) => {
+            let wrong = b"has the listed size and another checksum than is listed";
+            file_note(alloc, backup, path.as_bytes(), wrong, USE_ANOTHER)
+        }
+        ChainFault::FileExtra(path) => {
+            let next = b"take it out of the backup, if it doesn't belong there";
+            file_note(alloc, backup, path.as_bytes(), b"is not listed", next)
+        }
+        ChainFault::LabelDamaged(line) => {
+            let wrong = format!(in alloc; "is refused at line {line}")?;
+            file_note(
+                alloc,
+                backup,
+                b"backup_label",
+                wrong.as_bytes(),
+                USE_ANOTHER,
+            )
+        }
+        ChainFault::FileDamaged(path, why) => {
+            let wrong = joined(alloc, &[b"is refused: ", file_text(*why)])?;
+            file_note(
+                alloc,
+                backup,
+                path.as_bytes(),
+                wrong.as_bytes(),
+                USE_ANOTHER,
+            )
+        }
+        _ => Err(NoMemory),
+    }
+}

@@ -1,0 +1,99 @@
+//! The note on what the program came to.
+
+use crate::areas::{area_note, memory_note, not_empty_note, store_note, take_note};
+use crate::directory::directory_note;
+use crate::lines::note;
+use crate::script::script_note;
+use crate::usage::usage_of;
+use crate::wal::wal_note;
+use command_base::{backup_name, output_name};
+use lsn_core::{NoMemory, Text};
+use pgbackup_cli::{Answer, InitFault, ReplayFault, VerifyFault};
+use run_command::{RunFault, RunReport};
+use shared_store::BeginWhy;
+use std::alloc::Global;
+
+/// The lines for standard error: how the program is used, where the words aren't taken; where the
+/// command was refused, what was found and what to do next; none where it did what was asked. Each
+/// line ends with a line feed. Errs where memory ran out.
+pub fn note_of(alloc: Global, words: &[Text], answer: &Answer) -> Result<Text, NoMemory> {
+    match answer {
+        Answer::Usage => usage_of(alloc, words),
+        Answer::Init(Err(fault)) => init_note(alloc, fault),
+        Answer::Run(Err(fault)) => run_note(alloc, fault),
+        Answer::Run(Ok(report)) => ending_note(alloc, report),
+        Answer::Replay(Err(fault)) => replay_note(alloc, output_of(words), fault),
+        Answer::Verify(Err(fault)) => verify_note(alloc, last_of(words), fault),
+        Answer::Init(Ok(_)) | Answer::Replay(Ok(_)) | Answer::Verify(Ok(_)) => Ok(Text::from_vec(
+            Vec::new(alloc),
+        )),
+    }
+}
+
+fn init_note(alloc: Global, fault: &InitFault) -> Result<Text, NoMemory> {
+    match fault {
+        InitFault::Site(fault) => take_note(alloc, fault),
+        InitFault::AlreadyInit => note(
+            alloc,
+            &[b"folder wal holds a file: there is a store here, or what is left of one"],
+            b"run init in another folder, or empty wal first if it holds no WAL that is needed",
+        ),
+        InitFault::SumsNotEmpty => not_empty_note(alloc, b"sums"),
+        InitFault::Wal(why) => area_note(alloc, b"wal", *why),
+        InitFault::Sums(why) => area_note(alloc, b"sums", *why),
+    }
+}
+
+fn run_note(alloc: Global, fault: &RunFault) -> Result<Text, NoMemory> {
+    match fault {
+        RunFault::Input(why) => area_note(alloc, b"standard input", *why),
+        RunFault::Script(line, why) => script_note(alloc, *line, *why),
+        RunFault::Site(fault) => take_note(alloc, fault),
+        RunFault::Begin(BeginWhy::Wal(fault)) => wal_note(alloc, *fault),
+        RunFault::Begin(BeginWhy::Data(fault)) => store_note(alloc, *fault),
+        RunFault::NoMemory => memory_note(alloc),
+    }
+}
+
+/// The note on a run whose script was run.
+fn ending_note(alloc: Global, report: &RunReport) -> Result<Text, NoMemory> {
+    match report.ending() {
+        Ok(_) => Ok(Text::from_vec(Vec::new(alloc))),
+        Err(fault) => store_note(alloc, fault),
+    }
+}
+
+/// The last word; of those of `verify` the backup's name.
+fn last_of(words: &[Text]) -> &[u8] {
+    match words.last() {
+        Some(word) => word.as_bytes(),
+        None => b"",
+    }
+}
+
+/// The name of the output in the words of `replay`, in which the option and its value may stand
+/// behind it.
+fn output_of(words: &[Text]) -> &[u8] {
+    match words {
+        [_, name, option, _] if option.as_bytes() == b"--target".as_slice() => name.as_bytes(),
+        _ => last_of(words),
+    }
+}
+
+fn replay_note(alloc: Global, output: &[u8], fault: &ReplayFault) -> Result<Text, NoMemory> {
+    match fault {
+        ReplayFault::Site(fault) => take_note(alloc, fault),
+        ReplayFault::NotEmpty => not_empty_note(alloc, output_name(alloc, output)?.as_bytes()),
+        ReplayFault::Wal(fault) => wal_note(alloc, *fault),
+        ReplayFault::Out(why) => area_note(alloc, output_name(alloc, output)?.as_bytes(), *why),
+    }
+}
+
+fn verify_note(alloc: Global, name: &[u8], fault: &VerifyFault) -> Result<Text, NoMemory> {
+    match fault {
+        VerifyFault::Site(fault) => take_note(alloc, fault),
+        VerifyFault::Directory(fault) => {
+            directory_note(alloc, backup_name(alloc, name)?.as_bytes(), fault)
+        }
+    }
+}

@@ -1,0 +1,65 @@
+//! How the program is used.
+
+use command_base::joined;
+use lsn_core::{NoMemory, Text};
+use std::alloc::Global;
+
+const INIT: &[u8] = b"usage: pgbackup init [--segment-mib M] [--relseg N] [--system-id S]
+  makes a new store below the working directory: its settings, and a WAL of one entry in wal
+  M: MiB of a WAL segment, a power of two from 1 to 1024 (16)
+  N: blocks of a fork in one file, 1 to 131072 (131072)
+  S: the system identifier, below 2^64 (made of the clock)
+";
+
+const RUN: &[u8] = b"usage: pgbackup run < SCRIPT
+  reads a script from standard input, runs its lines on the store, and writes their WAL and pages
+";
+
+const REPLAY: &[u8] = b"usage: pgbackup replay [--target LSN] OUT
+  replays the WAL from its beginning, and writes the relation files that it makes to o/OUT
+  LSN: where to stop, as 0/1000108 (the WAL's end)
+  OUT: 1 to 32 of a to z, 0 to 9 and _
+";
+
+const VERIFY: &[u8] = b"usage: pgbackup verify NAME
+  checks that the backup in b/NAME is what its manifest lists, each file with its size and checksum
+  NAME: 1 to 32 of a to z, 0 to 9 and _
+";
+
+const HELP: &[u8] = b"usage: pgbackup help [COMMAND]
+  prints how a command is used, or all of them: init, run, replay, verify
+";
+
+/// How this command is used; None where there is no command of that name.
+fn command_usage(name: &[u8]) -> Option<&'static [u8]> {
+    if name == b"init".as_slice() {
+        return Some(INIT);
+    }
+    if name == b"run".as_slice() {
+        return Some(RUN);
+    }
+    if name == b"replay".as_slice() {
+        return Some(REPLAY);
+    }
+    if name == b"verify".as_slice() {
+        return Some(VERIFY);
+    }
+    None
+}
+
+/// The command that the words are about: that of `help`, or the one whose words aren't taken.
+fn command_in(words: &[Text]) -> Option<&'static [u8]> {
+    match words {
+        [help, name] if help.as_bytes() == b"help".as_slice() => command_usage(name.as_bytes()),
+        [name, ..] => command_usage(name.as_bytes()),
+        [] => None,
+    }
+}
+
+/// How the command is used that the words are about, or else how each is.
+pub fn usage_of(alloc: Global, words: &[Text]) -> Result<Text, NoMemory> {
+    match command_in(words) {
+        Some(usage) => joined(alloc, &[usage]),
+        None => joined(alloc, &[INIT, RUN, REPLAY, VERIFY, HELP]),
+    }
+}
