@@ -1,11 +1,14 @@
-//! Entries that change a store in memory.
+//! Entries that change a store in memory: applied, and redone through the calls of pages.
 
-ghost use Rattle.std.specs.Prelude.{◌≡◌};
-ghost use Rattle.history.specs.Applied.{IsApplicable};
+ghost use Rattle.std.specs.Prelude.{◌≡◌, ◌<◌, IfOk};
+ghost use Rattle.history.specs.Applied.{IsApplicable, IsApplicableBody};
+ghost use Rattle.smgr_redo.specs.Storage.{IsStorage};
 
+use generic_redo::redo_block;
 use history::{ApplyFault, PageMap, apply, apply_undoably};
-use lsn_core::{BlockId, ForkId, Lsn, NoMemory};
-use pg_page::make_page;
+use lsn_core::{AreaFault, BlockId, ForkId, Lsn, NoMemory};
+use pg_page::{Frag, Frags, check_frags, lsn_of, make_page, restored_page};
+use smgr_redo::redo_storage;
 use std::alloc::Global;
 use std::test::Fail;
 use test_areas::main_fork;
@@ -13,7 +16,8 @@ use wal_record::{Blocks, Body, Kind, Record};
 
 /// An entry of this kind that ends there.
 fn record(end: u64, kind: Kind) -> Record
-    ensures { result.kind ≡ kind }
+    ensures kind { result.kind ≡ kind }
+    ensures end { result.end.0 ≡ end }
 {
     Record {
         start: Lsn(0x100060),
@@ -24,90 +28,37 @@ fn record(end: u64, kind: Kind) -> Record
     }
 }
 
-/// Applies an entry of this kind that ends there.
-fn apply_kind(store: &mut PageMap, end: u64, kind: Kind) -> Result<(), ApplyFault>
+/// Applies an entry of this kind that ends at 0/1000C8.
+fn apply_kind(store: &mut PageMap, kind: Kind) -> Result<(), ApplyFault>
     requires { IsApplicable kind }
 {
-    apply(store, &record(end, kind))
+    apply(store, &record(0x1000c8, kind))
 }
 
-/// Puts a page into block 2 of a fork by an entry that ends at 0/1000C8.
-fn put(alloc: Global, store: &mut PageMap, fork: ForkId) -> Result<(), Fail> {
+/// An image of a page with lower 24, upper 8190 and 65 behind them.
+fn image() -> Result<Body, Fail>
+    ensures { IfOk result IsApplicableBody }
+{
     let page = make_page(24, 8190, 65).ok_or("the places are good")?;
-    let at = BlockId { fork, block: 2 };
-    let kind = Kind::Generic(Blocks::one(alloc, at, Body::Image(page))?);
-    apply_kind(store, 0x1000c8, kind)?;
-    Ok(())
+    Ok(Body::Image(page))
 }
 
-// the page with lower 24, upper 8190 and 65 behind them, after an entry that ends at 0/1000C8
-fn changed_byte(place: usize) -> u8 {
-    match place {
-        4 => 0xc8,
-        6 => 0x10,
-        12 => 24,
-        14 => 0xfe,
-        15 => 0x1f,
-        17 => 0x20,
-        18 => 0x04,
-        19 => 0x20,
-        8190..=8191 => 65,
-        _ => 0,
-    }
-}
+/// The bytes of that page before and behind its hole, after an entry that ends at 0/1000C8.
+const PAGE: &[u8] = &[
+    0x00, 0x00, 0x00, 0x00, 0xc8, 0x00, 0x10, 0x00, 0x00, 0x00, 0x00, 0x00, 0x18, 0x00, 0xfe, 0x1f,
+    0x00, 0x20, 0x04, 0x20, 0x00, 0x00, 0x00, 0x00, 0x41, 0x41,
+];
 
-/// The first place at which a block isn't the page that was put.
-fn other_byte(store: &PageMap, at: &BlockId) -> Option<usize> {
-    let page = store.block(at)?;
-    for (place, byte) in page.iter().enumerate() {
-        if *byte != changed_byte(place) {
-            return Some(place);
-        }
-    }
-    None
-}
-
-/// A block has zeros alone.
-fn is_zero(store: &PageMap, at: &BlockId) -> bool {
-    match store.block(at) {
-        Some(page) => page.iter().all(|byte| *byte == 0),
-        None => false,
-    }
-}
-
-/// The store has this fork alone, with so many blocks.
-fn has_one_fork(
-    alloc: Global,
-    store: &PageMap,
-    fork: ForkId,
-    blocks: u64,
-) -> Result<bool, NoMemory> {
+/// The store has this fork alone, with so many blocks, of which block 2 is that page.
+fn has_page(alloc: Global, store: &PageMap, fork: ForkId, blocks: u64) -> Result<bool, NoMemory> {
     let forks = store.forks(alloc)?;
     let counts = (store.fork_count(), store.page_count()?);
-    Ok(forks.as_slice() == [fork].as_slice() && counts == (1, blocks))
-}
-
-#[test]
-fn a_creation_is_applied(rt: HostRuntime) -> Result<(), Fail> {
-    let fork = main_fork(16384).ok_or("the numbers are good")?;
-    let mut store = PageMap::new(rt.alloc());
-    apply_kind(&mut store, 0x100090, Kind::Create(fork))?;
-    assert!(rt; store.blocks(&fork) == Some(0));
-    assert!(rt; has_one_fork(rt.alloc(), &store, fork, 0)?);
-    Ok(())
-}
-
-#[test]
-fn a_change_is_applied(rt: HostRuntime) -> Result<(), Fail> {
-    let fork = main_fork(16384).ok_or("the numbers are good")?;
-    let mut store = PageMap::new(rt.alloc());
-    apply_kind(&mut store, 0x100090, Kind::Create(fork))?;
-    put(rt.alloc(), &mut store, fork)?;
-    assert!(rt; store.blocks(&fork) == Some(3));
-    assert!(rt; has_one_fork(rt.alloc(), &store, fork, 3)?);
-    assert!(rt; is_zero(&store, &BlockId { fork, block: 1 }));
-    assert_eq!(rt; other_byte(&store, &BlockId { fork, block: 2 }), None);
-    Ok(())
+    let page = store.block(&BlockId { fork, block: 2 });
+    Ok(
+        forks.as_slice() == [fork].as_slice()
+            && counts == (1, blocks)
+            && page == Some(&restored_page(24, PAGE)),
+    )
 }
 
 /// How many blocks a fork has when a cut of its relation to one block was applied and when that was
@@ -124,20 +75,68 @@ fn cut_and_revert(
 }
 
 #[test]
-fn a_cut_is_applied_and_reverted(rt: HostRuntime) -> Result<(), Fail> {
+fn entries_are_applied_and_reverted(rt: HostRuntime) -> Result<(), Fail> {
     let fork = main_fork(16384).ok_or("the numbers are good")?;
     let mut store = PageMap::new(rt.alloc());
-    put(rt.alloc(), &mut store, fork)?;
+    apply_kind(&mut store, Kind::Create(fork))?;
+    let blocks = Blocks::one(rt.alloc(), BlockId { fork, block: 2 }, image()?)?;
+    apply_kind(&mut store, Kind::Generic(blocks))?;
+    assert!(rt; has_page(rt.alloc(), &store, fork, 3)?);
     assert!(rt; cut_and_revert(&mut store, fork)? == (Some(1), Some(3)));
     Ok(())
 }
 
+/// A delta that writes 65 at place 20.
+fn delta(alloc: Global) -> Result<Body, Fail>
+    ensures { IfOk result IsApplicableBody }
+{
+    let mut list = Vec::new(alloc);
+    list.push(Frag::new(alloc, 20, &[65])?)?;
+    let frags = Frags::from_vec(list);
+    if check_frags(frags.as_slice()).is_some() {
+        return Err("the fragment is good".into());
+    }
+    Ok(Body::Delta(frags))
+}
+
+/// Redoes an entry of one block reference, of block 0, that ends there, and gives the LSN of that
+/// block and its byte at place 20.
+fn redo(
+    alloc: Global,
+    store: &mut PageMap,
+    fork: ForkId,
+    end: u64,
+    body: Body,
+) -> Result<Option<(u64, u8)>, Fail>
+    requires body { IsApplicableBody body }
+    requires end { 0 < end }
+{
+    let at = BlockId { fork, block: 0 };
+    let blocks = Blocks::one(alloc, at, body)?;
+    redo_block(store, &record(end, Kind::Generic(blocks)), 0)?;
+    match store.block(&at) {
+        Some(page) => Ok(Some((lsn_of(page), page[20]))),
+        None => Ok(None),
+    }
+}
+
+/// Redoes an entry of this kind, and gives how many blocks a fork has then.
+fn redo_kind(store: &mut PageMap, fork: ForkId, kind: Kind) -> Result<Option<usize>, AreaFault>
+    requires { IsStorage kind }
+{
+    redo_storage(store, &record(0x1000f8, kind))?;
+    Ok(store.blocks(&fork))
+}
+
 #[test]
-fn a_cut_of_other_forks_is_idle(rt: HostRuntime) -> Result<(), Fail> {
+fn entries_are_redone(rt: HostRuntime) -> Result<(), Fail> {
     let fork = main_fork(16384).ok_or("the numbers are good")?;
     let mut store = PageMap::new(rt.alloc());
-    put(rt.alloc(), &mut store, fork)?;
-    apply_kind(&mut store, 0x1000f8, Kind::Truncate(fork.rel, 1, 6))?;
-    assert!(rt; store.blocks(&fork) == Some(3));
+    assert!(rt; redo_kind(&mut store, fork, Kind::Create(fork))? == Some(0));
+    let found = redo(rt.alloc(), &mut store, fork, 0x1000c8, image()?)?;
+    assert!(rt; found == Some((0x1000c8, 0)));
+    let found = redo(rt.alloc(), &mut store, fork, 0x1000d0, delta(rt.alloc())?)?;
+    assert!(rt; found == Some((0x1000d0, 65)));
+    assert!(rt; redo_kind(&mut store, fork, Kind::Truncate(fork.rel, 0, 7))? == Some(0));
     Ok(())
 }

@@ -8,9 +8,7 @@
 #![tactic(auto)]
 
 #[cfg(test)]
-mod byte_words_tests;
-#[cfg(test)]
-mod checkpointer_tests;
+mod entry_tests;
 #[cfg(test)]
 mod history_tests;
 #[cfg(test)]
@@ -18,32 +16,18 @@ mod lsn_core_tests;
 #[cfg(test)]
 mod pg_page_tests;
 #[cfg(test)]
-mod redo_tests;
-#[cfg(test)]
 mod rel_files_tests;
-#[cfg(test)]
-mod text_numbers_tests;
 #[cfg(test)]
 mod timeline_tests;
 #[cfg(test)]
-mod vault_lending_tests;
-#[cfg(test)]
-mod vault_long_tests;
-#[cfg(test)]
-mod vault_memory_tests;
-#[cfg(test)]
-mod vault_os_reads_tests;
-#[cfg(test)]
 mod vault_os_tests;
 #[cfg(test)]
-mod vault_streams_tests;
-#[cfg(test)]
-mod wal_crc_tests;
+mod vault_tests;
 #[cfg(test)]
 mod wal_pages_tests;
 #[cfg(test)]
 mod wal_reader_tests;
 #[cfg(test)]
-mod wal_record_tests;
-#[cfg(test)]
 mod wal_writer_tests;
+#[cfg(test)]
+mod words_tests;
