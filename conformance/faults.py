@@ -5,7 +5,7 @@
 Each case makes a store or none, takes something away from the program (a folder that may not be
 written, a disk without room, a folder in a file's place ..), and calls it once. It then has to end
 with status 3, to print `refused 60 DeviceFault AREA`, and to name the call, the path and the error on
-one line of standard error. As root, which may write any folder, the program runs as nobody where a
+one line of standard error, before two that say what was found and what to do next. As root, which may write any folder, the program runs as nobody where a
 folder is read-only. A case that needs more than this machine allows is skipped with a word.
 Not part of the gate.
 """
@@ -221,7 +221,10 @@ def differences(wanted, called):
         found.append("status %d, not 3" % status)
     if area is not None and "refused 60 DeviceFault " + area not in lines[-1:]:
         found.append("printed %s, not a fault of %s" % (lines, area))
-    if said != ["pgbackup: %s %s: %s" % (call, path, error)]:
+    begins = ["pgbackup: %s %s: %s" % (call, path, error)]
+    if area is not None:
+        begins += ["pgbackup: error: ", "pgbackup: hint: "]
+    if len(said) != len(begins) or said[0] != begins[0] or not all(map(str.startswith, said, begins)):
         found.append("said %s, not %s %s: %s" % (said, call, path, error))
     return found
 
