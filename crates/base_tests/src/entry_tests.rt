@@ -10,7 +10,7 @@ use checkpointer::{
 };
 use history::{Edit, Item};
 use lsn_core::{BlockId, ForkId, Lsn, NoMemory, Place};
-use pg_page::{Frag, Frags, check_frags, make_page, patch, zero_page};
+use pg_page::{Frag, Frags, check_frags, make_page, patch, set_lsn, zero_page};
 use std::alloc::{AllocError, Global};
 use std::test::Fail;
 use test_areas::main_fork;
@@ -139,7 +139,7 @@ fn marks_are_written(rt: HostRuntime) -> Result<(), NoMemory> {
 fn put_of(alloc: Global, fork: ForkId) -> Result<Kind, Fail>
     ensures { IfOk result IsWritable }
 {
-    let edit = Edit::Put(make_page(24, 8192, 0).ok_or("the places are good")?);
+    let edit = Edit::Put(make_page(alloc, 24, 8192, 0)?.ok_or("the places are good")?);
     let at = BlockId { fork, block: 0 };
     Ok(change_kind(alloc, &[Item { at, edit }], &[zero_page()], Lsn(0))?)
 }
@@ -172,11 +172,12 @@ fn patch_at_24(alloc: Global, page: &[u8; 8192]) -> Result<Edit, Fail>
 fn patch_of(alloc: Global, fork: ForkId, redo: u64) -> Result<Kind, Fail>
     ensures { IfOk result IsWritable }
 {
-    let mut page = make_page(32, 8192, 65).ok_or("the places are good")?;
-    page.set_lsn(0x1000c8);
-    let edit = patch_at_24(alloc, page.bytes())?;
+    let made = make_page(alloc, 32, 8192, 65)?.ok_or("the places are good")?;
+    let mut page = *made.bytes();
+    set_lsn(&mut page, 0x1000c8);
+    let edit = patch_at_24(alloc, &page)?;
     let at = BlockId { fork, block: 0 };
-    Ok(change_kind(alloc, &[Item { at, edit }], &[*page.bytes()], Lsn(redo))?)
+    Ok(change_kind(alloc, &[Item { at, edit }], &[page], Lsn(redo))?)
 }
 
 /// Redo points, whether the patch of that page needs an image behind each, and what it is written

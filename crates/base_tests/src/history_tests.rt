@@ -36,10 +36,10 @@ fn apply_kind(store: &mut PageMap, kind: Kind) -> Result<(), ApplyFault>
 }
 
 /// An image of a page with lower 24, upper 8190 and 65 behind them.
-fn image() -> Result<Body, Fail>
+fn image(alloc: Global) -> Result<Body, Fail>
     ensures { IfOk result IsApplicableBody }
 {
-    let page = make_page(24, 8190, 65).ok_or("the places are good")?;
+    let page = make_page(alloc, 24, 8190, 65)?.ok_or("the places are good")?;
     Ok(Body::Image(page))
 }
 
@@ -57,7 +57,7 @@ fn has_page(alloc: Global, store: &PageMap, fork: ForkId, blocks: u64) -> Result
     Ok(
         forks.as_slice() == [fork].as_slice()
             && counts == (1, blocks)
-            && page == Some(&restored_page(24, PAGE)),
+            && page == Some(&*restored_page(alloc, 24, PAGE)?),
     )
 }
 
@@ -79,7 +79,7 @@ fn entries_are_applied_and_reverted(rt: HostRuntime) -> Result<(), Fail> {
     let fork = main_fork(16384).ok_or("the numbers are good")?;
     let mut store = PageMap::new(rt.alloc());
     apply_kind(&mut store, Kind::Create(fork))?;
-    let blocks = Blocks::one(rt.alloc(), BlockId { fork, block: 2 }, image()?)?;
+    let blocks = Blocks::one(rt.alloc(), BlockId { fork, block: 2 }, image(rt.alloc())?)?;
     apply_kind(&mut store, Kind::Generic(blocks))?;
     assert!(rt; has_page(rt.alloc(), &store, fork, 3)?);
     assert!(rt; cut_and_revert(&mut store, fork)? == (Some(1), Some(3)));
@@ -133,7 +133,7 @@ fn entries_are_redone(rt: HostRuntime) -> Result<(), Fail> {
     let fork = main_fork(16384).ok_or("the numbers are good")?;
     let mut store = PageMap::new(rt.alloc());
     assert!(rt; redo_kind(&mut store, fork, Kind::Create(fork))? == Some(0));
-    let found = redo(rt.alloc(), &mut store, fork, 0x1000c8, image()?)?;
+    let found = redo(rt.alloc(), &mut store, fork, 0x1000c8, image(rt.alloc())?)?;
     assert!(rt; found == Some((0x1000c8, 0)));
     let found = redo(rt.alloc(), &mut store, fork, 0x1000d0, delta(rt.alloc())?)?;
     assert!(rt; found == Some((0x1000d0, 65)));

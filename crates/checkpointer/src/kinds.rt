@@ -14,8 +14,9 @@ ghost use Rattle.checkpointer.specs.Changes.{blocks_over, AreFitOver};
 
 use history::{Edit, Item};
 use lsn_core::{ForkId, Lsn, NoMemory, Rel};
-use pg_page::{Frags, Page, lsn_of, patch};
+use pg_page::{Frags, Page, lsn_of, patch, zero_hole};
 use std::alloc::{AllocError, Global};
+use std::boxed::Box;
 use wal_record::{BlockRef, Blocks, Body, Kind};
 
 /// Whether a patch of a page with this LSN is written as an image of the page, behind this redo
@@ -123,10 +124,10 @@ fn body(alloc: Global, redo: Lsn, old: &[u8; 8192], edit: &Edit) -> Result<Body,
     ensures writable { IfOk result IsWritableBody }
 {
     match edit {
-        Edit::Put(page) => Ok(Body::Image(zeroed(page))),
+        Edit::Put(page) => Ok(Body::Image(zeroed(alloc, page)?)),
         Edit::Patch(frags) => {
             if needs_image(Lsn(lsn_of(old)), redo) {
-                Ok(Body::Image(patched(old, frags)))
+                Ok(Body::Image(patched(alloc, old, frags)?))
             } else {
                 Ok(Body::Delta(frags.copied(alloc)?))
             }
@@ -135,27 +136,25 @@ fn body(alloc: Global, redo: Lsn, old: &[u8; 8192], edit: &Edit) -> Result<Body,
 }
 
 /// The page with zeros in its hole.
-fn zeroed(page: &Page) -> Page
-    ensures page { result ≡ hole_zeroed page.now }
-    ensures writable { IsWritableBody (Image result) }
+fn zeroed(alloc: Global, page: &Page) -> Result<Page, AllocError>
+    ensures page { IfOk result (λ image. image ≡ hole_zeroed page.now) }
+    ensures writable { IfOk result (λ image. IsWritableBody (Image image)) }
 {
-    // its clause tells the prover that the page's header is good
-    let _ = page.bytes();
-    let mut image = *page;
-    image.zero_hole();
-    image
+    let mut image = Box::new(alloc, *page.bytes())?;
+    zero_hole(&mut image);
+    Ok(Page::from_good(image))
 }
 
 /// The page that a patch leaves, with the LSN from before it.
-fn patched(old: &[u8; 8192], frags: &Frags) -> Page
+fn patched(alloc: Global, old: &[u8; 8192], frags: &Frags) -> Result<Page, AllocError>
     requires good { bad_frag frags.now ≡ None }
     requires header { is_good (written_frags frags.now old.now) ≡ true }
-    ensures page { result ≡ patched frags.now (lsn_of old.now) old.now }
-    ensures writable { IsWritableBody (Image result) }
+    ensures page { IfOk result (λ page. page ≡ patched frags.now (lsn_of old.now) old.now) }
+    ensures writable { IfOk result (λ page. IsWritableBody (Image page)) }
 {
-    let mut page = *old;
+    let mut page = Box::new(alloc, *old)?;
     let _ = patch(&mut page, frags.as_slice(), lsn_of(old));
-    Page::from_good(page)
+    Ok(Page::from_good(page))
 }
 
 /// Reads the numbers of a relation. Their clauses tell the prover that they are not 0 and fit, as a

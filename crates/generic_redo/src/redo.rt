@@ -16,7 +16,7 @@ ghost use Rattle.generic_redo.specs.Inside.{restored, delta_redone};
 
 use crate::fault::RedoFault;
 use lsn_core::{AreaFault, BlockId, Lsn, Pages};
-use pg_page::{Frags, Page, lsn_of, patch, zero_page};
+use pg_page::{Frags, Page, lsn_of, patch, set_lsn, zero_hole, zero_page};
 use wal_record::{BlockRef, Body, Kind, Record};
 
 /// Redoes a record's block reference of a number, counted from 0 (access/xlogutils.h). An image is
@@ -78,10 +78,10 @@ fn redo_image<P: Pages>(
     ensures kept { P.keeps target.old target.new }
     ensures cause { HasCause (P.faults target.old) (P.faults target.new) result }
 {
-    let mut page = *image;
-    page.zero_hole();
-    page.set_lsn(end.0);
-    target.write_block(*at, page.bytes())
+    let mut page = *image.bytes();
+    zero_hole(&mut page);
+    set_lsn(&mut page, end.0);
+    target.write_block(*at, &page)
 }
 
 /// Applies a delta where the page that is there was last changed before that end. A missing block

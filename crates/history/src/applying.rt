@@ -14,7 +14,7 @@ use crate::op::main_fork;
 use crate::page_map::PageMap;
 use crate::undo::{Step, Undo};
 use lsn_core::{BlockId, ForkId, Lsn, NoMemory};
-use pg_page::patch;
+use pg_page::{patch, set_lsn, zero_hole};
 use wal_record::{BlockRef, Body, Kind, Record};
 
 /// Why an entry was not applied.
@@ -193,10 +193,10 @@ fn page_after(old: &[u8; 8192], body: &Body, end: Lsn) -> Option<[u8; 8192]>
 {
     match body {
         Body::Image(image) => {
-            let mut page = *image;
-            page.zero_hole();
-            page.set_lsn(end.0);
-            Some(*page.bytes())
+            let mut page = *image.bytes();
+            zero_hole(&mut page);
+            set_lsn(&mut page, end.0);
+            Some(page)
         }
         Body::Delta(frags) => {
             let mut page = *old;

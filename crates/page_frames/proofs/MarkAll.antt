@@ -164,19 +164,6 @@ all_marked end m n h =
           cc;
     }
 
-no_ends : (fs : List Frame) → ((block : ℕ) → block < length fs → get_or (frames_marks fs) block None ≡ None) → frames_ends fs ≡ []
-no_ends [] h = refl
-no_ends (f ∷ fs) h = ap (λ (m : Option ℕ). cons_option m (frames_ends fs)) (h 0 (omega arith)) ∙ no_ends fs (λ i l. h (suc i) (omega arith))
-
-none_in_all : (ks : Entries) → All (λ (k : ForkId × Slot). HasMark None k.1) ks → flat_map entry_ends ks ≡ []
-unfolding HasMark
-none_in_all [] all = refl
-none_in_all (k ∷ ks) all =
-    ap (λ (xs : List ℕ). xs ++ flat_map entry_ends ks) (no_ends (slot_frames k.1) (all 0 k (omega arith))) ∙ none_in_all ks (λ i d l. all (suc i) d (omega arith))
-
-pub none_marked : (m n : Slots) → AreRemarked None m.entries n.entries → IsOrdered derived_cmp n → all_dirty_ends (seen_by slot_marks n) ≡ []
-none_marked m n h order = all_ends n order ∙ none_in_all n.entries (each_marked None m.entries n.entries h)
-
 -- ---- one frame of one slot
 
 pub clean_pages : (fs : List Frame) (i : ℕ) (f d : Frame) → i < length fs → box_value f.page ≡ box_value (get_or fs i d).page → frames_pages (slice_set fs i f) ≡ frames_pages fs

@@ -77,18 +77,6 @@ impl Frames {
             true
         });
     }
-
-    /// All pages are clean.
-    pub(crate) fn clean_all(&mut self)
-        ensures pages { self.new.pages ≡ self.old.pages }
-        ensures clean { all_dirty_ends self.new.marks ≡ [] }
-        ensures room { KeepsRoom self.old.room self.new.room }
-    {
-        self.slots.retain(|_, slot| {
-            mark_frames(&mut slot.frames, None);
-            true
-        });
-    }
 }
 
 /// The frames of a slot that count.

@@ -86,13 +86,13 @@ impl Frames {
         }
     }
 
-    /// The bytes of a block, or of a zero page where there is none.
-    pub fn page_at(&self, at: &BlockId) -> [u8; 8192]
-        ensures { result ≡ page_at self.now.pages at.now }
+    /// A copy of the bytes of a block, or of a zero page where there is none.
+    pub fn page_copy(&self, alloc: Global, at: &BlockId) -> Result<Box<[u8; 8192]>, NoMemory>
+        ensures { IfOk result (λ page. box_value page ≡ page_at self.now.pages at.now) }
     {
         match self.block(at) {
-            Some(page) => *page,
-            None => zero_page(),
+            Some(page) => Ok(Box::new(alloc, *page)?),
+            None => Ok(Box::new(alloc, zero_page())?),
         }
     }
 

@@ -21,7 +21,8 @@ use crate::ready::{Done, NewPage, Ready};
 use crate::work::{Pending, Work};
 use history::{Op, main_fork};
 use lsn_core::{Lsn, NoMemory};
-use page_frames::{Frames, set_lsn};
+use page_frames::Frames;
+use pg_page::set_lsn;
 use std::alloc::Global;
 use vault::Vault;
 

@@ -15,8 +15,8 @@ use crate::ready::{Done, NewPage};
 use checkpointer::{creation_kind, needs_image, truncation_kind};
 use history::{Edit, Item, Op};
 use lsn_core::{BlockId, Lsn, NoMemory, Rel};
-use page_frames::{Frames, write_frags, zero_hole};
-use pg_page::{Frags, Page, lsn_of};
+use page_frames::Frames;
+use pg_page::{Frags, Page, lsn_of, set_lsn, write_frags, zero_hole};
 use std::alloc::Global;
 use std::boxed::Box;
 use wal_record::{BlockRef, Blocks, Body, Kind};
@@ -109,7 +109,7 @@ fn patched_page(
         ≡ hole_zeroed (written_frags frags.now (page_at frames.now.pages at.now))) }
     ensures writable { IfOk result (λ copy. IsWritableBody (Image (box_value copy))) }
 {
-    let mut copy = Box::new(alloc, frames.page_at(at))?;
+    let mut copy = frames.page_copy(alloc, at)?;
     write_frags(&mut copy, frags.as_slice());
     zero_hole(&mut copy);
     Ok(copy)
@@ -154,11 +154,11 @@ fn body(
     ensures writable { IfOk result IsWritableBody }
 {
     match &item.edit {
-        Edit::Put(_) => Ok(Body::Image(Page::from_good(*page))),
+        Edit::Put(_) => Ok(Body::Image(Page::from_good(Box::new(alloc, *page)?))),
         Edit::Patch(frags) => {
             let lsn = lsn_at(frames, &item.at);
             if needs_image(Lsn(lsn), redo) {
-                Ok(Body::Image(image(page, lsn)))
+                Ok(Body::Image(image(alloc, page, lsn)?))
             } else {
                 Ok(Body::Delta(frags.copied(alloc)?))
             }
@@ -177,14 +177,14 @@ fn lsn_at(frames: &Frames, at: &BlockId) -> u64
 }
 
 /// The image of a page with another LSN.
-fn image(page: &[u8; 8192], lsn: u64) -> Page
+fn image(alloc: Global, page: &[u8; 8192], lsn: u64) -> Result<Page, NoMemory>
     requires { IsWritableBody (Image page.now) }
-    ensures page { result ≡ with_lsn lsn page.now }
-    ensures writable { IsWritableBody (Image result) }
+    ensures page { IfOk result (λ image. image ≡ with_lsn lsn page.now) }
+    ensures writable { IfOk result (λ image. IsWritableBody (Image image)) }
 {
-    let mut image = Page::from_good(*page);
-    image.set_lsn(lsn);
-    image
+    let mut image = Box::new(alloc, *page)?;
+    set_lsn(&mut image, lsn);
+    Ok(Page::from_good(image))
 }
 
 /// Reads the numbers of a relation. Their clauses tell the prover that they are not 0 and fit, as a

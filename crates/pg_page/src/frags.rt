@@ -4,7 +4,7 @@ ghost use Rattle.std.specs.Prelude.{◌≡◌, ◌<◌, ◌≤◌, ◌+◌, None
 ghost use Rattle.std.specs.List.{All};
 ghost use Rattle.pg_page.specs.Frags.{bad_frag, written_frags, patched, is_good};
 
-use crate::page::Page;
+use crate::page::{is_good, set_lsn, zero_hole};
 use byte_words::overwrite;
 use std::alloc::{AllocError, Global};
 use std::marker::Model;
@@ -125,21 +125,21 @@ pub fn patch(bytes: &mut [u8; 8192], frags: &[Frag], end: u64) -> bool
 {
     let mut changed = *bytes;
     write_frags(&mut changed, frags);
-    let Some(mut page) = Page::read(&changed) else {
+    if !is_good(&changed) {
         return false;
-    };
-    page.zero_hole();
-    page.set_lsn(end);
-    *bytes = *page.bytes();
+    }
+    zero_hole(&mut changed);
+    set_lsn(&mut changed, end);
+    *bytes = changed;
     true
 }
 
-/// Writes fragments over a page in turn.
-fn write_frags(bytes: &mut [u8; 8192], frags: &[Frag])
+/// Writes fragments over a page in turn, each of which ends within it.
+pub fn write_frags(page: &mut [u8; 8192], frags: &[Frag])
     requires { All (λ f. f.at + length f.bytes ≤ 8192) frags.now }
-    ensures { bytes.new ≡ written_frags frags.now bytes.old }
+    ensures { page.new ≡ written_frags frags.now page.old }
 {
     for frag in frags {
-        overwrite(bytes, usize::from(frag.at), &frag.bytes);
+        overwrite(page, usize::from(frag.at), &frag.bytes);
     }
 }

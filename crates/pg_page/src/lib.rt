@@ -10,7 +10,7 @@
 //!
 //! Left to others: what a change does to a store (`history`) and how its image or its fragments are
 //! announced (`wal_record`). Checksums, flags and items are not looked at. Memory is taken for
-//! fragments alone.
+//! fragments and for a `Page`, which stands on the heap.
 #![tactic(auto)]
 
 mod frags;
@@ -19,10 +19,10 @@ mod laws;
 mod make;
 mod page;
 
-pub use frags::{Frag, Frags, check_frags, patch};
+pub use frags::{Frag, Frags, check_frags, patch, write_frags};
 pub use image::restored_page;
 pub use laws::{
     patched_holes_are_zero, patches_differ_in_lsn, patches_keep_headers, zeroing_twice_is_once,
 };
 pub use make::make_page;
-pub use page::{Page, lsn_of, zero_page};
+pub use page::{Page, lsn_of, set_lsn, zero_hole, zero_page};

@@ -1,38 +1,47 @@
 //! A page made from nothing.
 
-ghost use Rattle.std.specs.Prelude.{◌≡◌, ◌<◌, ◌≤◌, ◌↔◌, IsSome, IfSome};
-ghost use Rattle.pg_page.specs.Header.{made_page, made_fields};
+ghost use Rattle.std.specs.Prelude.{◌≡◌, ◌<◌, ◌≤◌, ◌↔◌, IsSome, IfSome, IfOk};
+ghost use Rattle.pg_page.specs.Header.{zero_page, made_page, made_fields};
 
 use crate::page::{Page, fill_between, zero_page};
 use byte_words::overwrite;
+use std::alloc::{AllocError, Global};
+use std::boxed::Box;
 
 /// The page whose hole lies between these places: LSN, checksum, flags and prune xid 0, the
 /// special space empty, the value in all bytes behind the header that are outside the hole
 /// (profile). None exactly unless 24 <= lower <= upper <= 8192.
 #[tactic(auto, using(crate::proofs::MadeLaws::made_good))]
-pub fn make_page(lower: u16, upper: u16, fill: u8) -> Option<Page>
-    ensures some { IsSome result ↔ (24 ≤ lower) × (lower ≤ upper) × (upper ≤ 8192) }
-    ensures value { IfSome result (λ page. page ≡ made_page lower upper fill) }
+pub fn make_page(
+    alloc: Global,
+    lower: u16,
+    upper: u16,
+    fill: u8,
+) -> Result<Option<Page>, AllocError>
+    ensures some { IfOk result (λ made. IsSome made
+        ↔ (24 ≤ lower) × (lower ≤ upper) × (upper ≤ 8192)) }
+    ensures value { IfOk result (λ made. IfSome made
+        (λ page. page ≡ made_page lower upper fill)) }
 {
     if lower < 24 || upper < lower || upper > 8192 {
-        return None;
+        return Ok(None);
     }
-    let bytes = made_bytes(lower, upper, fill);
-    Some(Page::from_good(bytes))
+    let mut bytes = Box::new(alloc, zero_page())?;
+    write_made(&mut bytes, lower, upper, fill);
+    Ok(Some(Page::from_good(bytes)))
 }
 
-/// The bytes of that page.
-fn made_bytes(lower: u16, upper: u16, fill: u8) -> [u8; 8192]
+/// Writes that page over zeros.
+fn write_made(page: &mut [u8; 8192], lower: u16, upper: u16, fill: u8)
+    requires zeros { page.old ≡ zero_page }
     requires least { 24 ≤ lower }
     requires order { lower ≤ upper }
     requires most { upper ≤ 8192 }
-    ensures { result ≡ made_page lower upper fill }
+    ensures { page.new ≡ made_page lower upper fill }
 {
-    let mut bytes = zero_page();
-    overwrite(&mut bytes, 12, &made_fields(lower, upper));
-    fill_between(&mut bytes, 24, usize::from(lower), fill);
-    fill_between(&mut bytes, usize::from(upper), 8192, fill);
-    bytes
+    overwrite(page, 12, &made_fields(lower, upper));
+    fill_between(page, 24, usize::from(lower), fill);
+    fill_between(page, usize::from(upper), 8192, fill);
 }
 
 /// The bytes of pd_lower, pd_upper, pd_special and pd_pagesize_version.

@@ -1,49 +1,49 @@
 //! A page with a good header.
 
-ghost use Rattle.std.specs.Prelude.{◌≡◌, ◌+◌, ◌-◌, ◌<◌, ◌≤◌, ◌↔◌, length, replicate, IsTrue, IsSome, IfSome};
+ghost use Rattle.std.specs.Prelude.{◌≡◌, ◌+◌, ◌-◌, ◌<◌, ◌≤◌, ◌↔◌, length, replicate, box_value, IsTrue, IsSome, IfSome};
 ghost use Rattle.byte_words.specs.Pieces.{overwritten};
 ghost use Rattle.pg_page.specs.Header.{IsGood, lsn_of, lsn_field, hole_of, hole_zeroed, with_lsn, zero_page};
 
 use byte_words::{overwrite, u16_in};
+use std::boxed::Box;
 use std::marker::Model;
 
-/// A page of 8192 bytes with a good header. Contracts see its bytes.
-#[derive(Clone, Copy, Debug, PartialEq, Eq)]
+/// A page of 8192 bytes with a good header, on the heap: a move of it moves no byte of the page.
+/// Contracts see its bytes.
+#[derive(Debug, Drop)]
 pub struct Page {
-    bytes: [u8; 8192],
+    bytes: Box<[u8; 8192]>,
 }
 
 impl Model for Page {
-    ghost use Rattle.std.specs.Prelude.{List, ℕ};
+    ghost use Rattle.std.specs.Prelude.{List, ℕ, box_value};
 
     ghost Value = { List ℕ };
 
     ghost use Rattle.pg_page.specs.Header.{IsGood};
 
-    ghost view = { λ p. p.bytes };
+    ghost view = { λ p. box_value p.bytes };
 
-    ghost invariant = { λ p. IsGood p.bytes };
-
-    ghost inverse = { λ bytes. record { bytes = bytes } };
+    ghost invariant = { λ p. IsGood (box_value p.bytes) };
 }
 
 impl Page {
     /// The page of these bytes. None exactly where the header isn't good.
-    pub fn read(bytes: &[u8; 8192]) -> Option<Page>
-        ensures some { IsSome result ↔ IsGood bytes.now }
-        ensures value { IfSome result (λ page. page ≡ bytes.now) }
+    pub fn read(bytes: Box<[u8; 8192]>) -> Option<Page>
+        ensures some { IsSome result ↔ IsGood (box_value bytes) }
+        ensures value { IfSome result (λ page. page ≡ box_value bytes) }
     {
-        if is_good(bytes) {
-            Some(Page { bytes: *bytes })
+        if is_good(&bytes) {
+            Some(Page { bytes })
         } else {
             None
         }
     }
 
     /// The page of bytes with a good header.
-    pub fn from_good(bytes: [u8; 8192]) -> Page
-        requires { IsGood bytes }
-        ensures { result ≡ bytes }
+    pub fn from_good(bytes: Box<[u8; 8192]>) -> Page
+        requires { IsGood (box_value bytes) }
+        ensures { result ≡ box_value bytes }
     {
         Page { bytes }
     }
@@ -60,7 +60,7 @@ impl Page {
     pub fn hole(&self) -> Option<(u16, u16)>
         ensures { result ≡ hole_of self.now }
     {
-        let (lower, upper) = (u16_in(&self.bytes, 12), u16_in(&self.bytes, 14));
+        let (lower, upper) = (u16_in(&*self.bytes, 12), u16_in(&*self.bytes, 14));
         if lower < upper {
             Some((lower, upper))
         } else {
@@ -74,24 +74,25 @@ impl Page {
     {
         lsn_of(&self.bytes)
     }
+}
 
-    /// Sets the page's LSN.
-    #[tactic(auto, using(crate::proofs::HeaderLaws::lsn_keeps_good), unfolding(crate::specs::Header::with_lsn))]
-    pub fn set_lsn(&mut self, at: u64)
-        ensures { self.new ≡ with_lsn at self.old }
-    {
-        overwrite(&mut self.bytes, 0, &lsn_field(at));
-    }
+/// Sets the LSN of a page, also of one whose header isn't good.
+#[tactic(auto, unfolding(crate::specs::Header::with_lsn))]
+pub fn set_lsn(page: &mut [u8; 8192], at: u64)
+    ensures { page.new ≡ with_lsn at page.old }
+{
+    overwrite(page, 0, &lsn_field(at));
+}
 
-    /// Writes zeros into the hole.
-    #[tactic(auto, using(crate::proofs::HeaderLaws::hole_keeps_good), unfolding(crate::specs::Header::hole_zeroed))]
-    pub fn zero_hole(&mut self)
-        ensures { self.new ≡ hole_zeroed self.old }
-    {
-        let lower = usize::from(u16_in(&self.bytes, 12));
-        let upper = usize::from(u16_in(&self.bytes, 14));
-        fill_between(&mut self.bytes, lower, upper, 0);
-    }
+/// Writes zeros into the hole of a page.
+#[tactic(auto, unfolding(crate::specs::Header::hole_zeroed))]
+pub fn zero_hole(page: &mut [u8; 8192])
+    requires { IsGood page.old }
+    ensures { page.new ≡ hole_zeroed page.old }
+{
+    let lower = usize::from(u16_in(page, 12));
+    let upper = usize::from(u16_in(page, 14));
+    fill_between(page, lower, upper, 0);
 }
 
 /// The LSN of a page, also of one whose header isn't good.
@@ -113,7 +114,7 @@ pub fn zero_page() -> [u8; 8192]
 
 /// Whether the header is good: the version is 4 with 8192 bytes, and pd_lower, pd_upper and
 /// pd_special stand in order behind the header.
-fn is_good(page: &[u8; 8192]) -> bool
+pub(crate) fn is_good(page: &[u8; 8192]) -> bool
     ensures { IsTrue result ↔ IsGood page.now }
 {
     let (lower, upper, special) = (u16_in(page, 12), u16_in(page, 14), u16_in(page, 16));

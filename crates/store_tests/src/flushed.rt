@@ -42,6 +42,11 @@ fn new_wal(alloc: Global, tip: WalTip) -> Result<WalState<MemVault>, Wrong>
     Ok(WalState::attach(alloc, area, settings, tip))
 }
 
+/// A page whose bytes before and behind its hole, from 32 to 8160, are this one.
+pub fn page_of(alloc: Global, fill: u8) -> Result<Option<Page>, NoMemory> {
+    Ok(make_page(alloc, 32, 8160, fill)?)
+}
+
 /// The kind of entry that puts this page at the beginning of a fork.
 fn put_kind(alloc: Global, fork: ForkId, page: Page) -> Result<Kind, NoMemory>
     ensures { IfOk result IsWritable }
@@ -70,7 +75,7 @@ fn flush(alloc: Global, wal: &mut WalState<MemVault>) -> Result<Flushed, Wrong> 
 /// The mark of a flush behind both entries.
 pub fn flushed(alloc: Global) -> Result<Flushed, Wrong> {
     let fork = main_fork(16384).ok_or(Wrong::Step(0))?;
-    let page = make_page(32, 8160, 65).ok_or(Wrong::Step(0))?;
+    let page = page_of(alloc, 65)?.ok_or(Wrong::Step(0))?;
     let mut wal = new_wal(alloc, BEHIND_FIRST)?;
     append(alloc, &mut wal, creation_kind(fork))?;
     append(alloc, &mut wal, put_kind(alloc, fork, page)?)?;

@@ -5,12 +5,12 @@
 ghost use Rattle.std.specs.Prelude.{IfOk};
 ghost use Rattle.page_pool.specs.Ready.{HasItems};
 
-use crate::flushed::{PUT, flushed};
+use crate::flushed::{PUT, flushed, page_of};
 use history::{Edit, Item, Items, Op};
 use lsn_core::{AreaFault, BlockId, ForkId, ForkLen, Lsn, NoMemory};
 use page_frames::Frames;
 use page_pool::{OpFault, Partition, Wrote};
-use pg_page::{Frag, Frags, make_page};
+use pg_page::{Frag, Frags};
 use rel_files::Forks;
 use std::alloc::Global;
 use std::test::Fail;
@@ -75,8 +75,8 @@ fn fork() -> Result<ForkId, Wrong> {
 }
 
 /// The item that puts a page at a block.
-fn put(block: u32, fill: u8) -> Result<Item, Wrong> {
-    let page = make_page(32, 8160, fill).ok_or(Wrong::Step(0))?;
+fn put(alloc: Global, block: u32, fill: u8) -> Result<Item, Wrong> {
+    let page = page_of(alloc, fill)?.ok_or(Wrong::Step(0))?;
     Ok(Item {
         at: BlockId {
             fork: fork()?,
@@ -118,8 +118,10 @@ fn op_of(alloc: Global, does: Does) -> Result<Op, Wrong>
 {
     match does {
         Does::Creates => Ok(Op::Create(fork()?)),
-        Does::Puts(block, fill) => Ok(change(alloc, put(block, fill)?)?),
-        Does::PutsTwo(first, second) => { Ok(change_two(alloc, put(first, 1)?, put(second, 2)?)?) }
+        Does::Puts(block, fill) => Ok(change(alloc, put(alloc, block, fill)?)?),
+        Does::PutsTwo(first, second) => {
+            Ok(change_two(alloc, put(alloc, first, 1)?, put(alloc, second, 2)?)?)
+        }
         Does::Patches(block, at) => Ok(change(alloc, patch(alloc, fork()?, block, at)?)?),
         Does::Cuts(count) => Ok(Op::Truncate(fork()?.rel, count)),
     }

@@ -75,8 +75,12 @@ heads_apart (h ∷ hs) rest =
     ∙ sym (append_assoc (block_bytes h []) (heads_bytes hs Absent []) rest)
     ∙ ap (λ (l : List ℕ). l ++ rest) (sym (block_apart h (heads_bytes hs Absent [])))
 
-pub blocks_body : (blocks : List BlockRef) → body_of (Generic blocks) ≡ all_heads blocks ++ bodies_bytes blocks
+blocks_body : (blocks : List BlockRef) → body_of (Generic blocks) ≡ all_heads blocks ++ bodies_bytes blocks
 blocks_body blocks = ap (heads_bytes (heads_of 0 None blocks) Absent) (append-nil (bodies_bytes blocks)) ∙ heads_apart (heads_of 0 None blocks) (bodies_bytes blocks)
+
+-- behind what was there
+pub blocks_behind : (bytes : List ℕ) (blocks : List BlockRef) → (bytes ++ all_heads blocks) ++ bodies_bytes blocks ≡ bytes ++ body_of (Generic blocks)
+blocks_behind bytes blocks = append_assoc bytes (all_heads blocks) (bodies_bytes blocks) ∙ ap (λ (l : List ℕ). bytes ++ l) (sym (blocks_body blocks))
 
 -- one more announcement
 pub one_more : (bytes now whole : List ℕ) (id : ℕ) (last : Option Relation) (blocks : List BlockRef) (i : ℕ) (b : BlockRef) → i < length blocks → b ≡ get_or blocks i b

@@ -1,6 +1,6 @@
 //! Writing the blocks of an entry.
 
-ghost use Rattle.std.specs.Prelude.{◌≡◌, ◌+◌, ◌≤◌, [], ◌++◌, length, IfOk, OnOk};
+ghost use Rattle.std.specs.Prelude.{◌≡◌, ◌+◌, ◌≤◌, [], ◌++◌, length, OnOk};
 ghost use Rattle.std.specs.List.{All};
 ghost use Rattle.pg_page.specs.Image.{image_of, without_hole};
 ghost use Rattle.wal_record.specs.declared.record.Kind.TheVariants.{Generic};
@@ -11,35 +11,33 @@ use crate::names::{fork_number, relation};
 use crate::record::{BlockRef, Body};
 use lsn_core::Rel;
 use pg_page::{Frag, Page};
-use std::alloc::{AllocError, Global};
+use std::alloc::AllocError;
 use wal_heads::ImageHead;
 
-/// What stands behind the header of an entry without main data: its blocks, announced and then
+/// Adds what stands behind the header of an entry without main data: its blocks, announced and then
 /// with their bodies.
-#[tactic(auto, using(crate::proofs::Writing::blocks_body))]
-pub fn blocks_alone(alloc: Global, blocks: &[BlockRef]) -> Result<Vec<u8>, AllocError>
+pub fn add_blocks(bytes: &mut Vec<u8>, blocks: &[BlockRef]) -> Result<(), AllocError>
     requires { IsBlockList blocks.now }
-    ensures { IfOk result (λ bytes. bytes.items ≡ body_of (Generic blocks.now)) }
+    ensures { OnOk result (bytes.new.items ≡ bytes.old.items ++ body_of (Generic blocks.now)) }
 {
-    let mut bytes = heads_of(alloc, blocks)?;
-    add_bodies(&mut bytes, blocks)?;
-    Ok(bytes)
+    add_heads(bytes, blocks)?;
+    add_bodies(bytes, blocks)?;
+    Ok(())
 }
 
-/// The announcements of blocks.
-fn heads_of(alloc: Global, blocks: &[BlockRef]) -> Result<Vec<u8>, AllocError>
+/// Adds the announcements of blocks.
+fn add_heads(bytes: &mut Vec<u8>, blocks: &[BlockRef]) -> Result<(), AllocError>
     requires { IsBlockList blocks.now }
-    ensures { IfOk result (λ bytes. bytes.items ≡ all_heads blocks.now) }
+    ensures { OnOk result (bytes.new.items ≡ bytes.old.items ++ all_heads blocks.now) }
 {
-    let mut bytes = Vec::new(alloc);
     let mut id: u8 = 0;
     let mut last: Option<Rel> = None;
     for block in blocks {
-        add_head(&mut bytes, id, last, block)?;
+        add_head(bytes, id, last, block)?;
         id += 1;
         last = Some(block.at.fork.rel);
     }
-    Ok(bytes)
+    Ok(())
 }
 
 /// Adds the announcement of a block, by its id and the relation of the block before.

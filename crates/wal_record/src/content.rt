@@ -148,7 +148,7 @@ fn body_said(
 {
     match head.image {
         None => delta_said(alloc, form, head, delta),
-        Some(image_head) => Ok(image_said(form, head, image_head, image)?),
+        Some(image_head) => image_said(alloc, form, head, image_head, image),
     }
 }
 
@@ -168,14 +168,22 @@ fn has_deltas(form: Form) -> bool
 
 /// A block that is changed as a whole.
 #[tactic(auto, unfolding(crate::specs::Content::image_said))]
-fn image_said(form: Form, head: BlockHead, image: ImageHead, bytes: &[u8]) -> Result<Body, Why>
-    ensures { result ≡ image_said form head image bytes.now }
+fn image_said(
+    alloc: Global,
+    form: Form,
+    head: BlockHead,
+    image: ImageHead,
+    bytes: &[u8],
+) -> Result<Body, RecordFault>
+    ensures { Gives result (refused (image_said form head image bytes.now)) }
 {
-    let page = page_of(usize::from(image.offset), bytes).ok_or(Why::ImagePage)?;
+    let Some(page) = page_of(alloc, usize::from(image.offset), bytes)? else {
+        return Err(RecordFault::Content(Why::ImagePage));
+    };
     if has_blocks(form) && head.data_len == 0 {
         Ok(Body::Image(page))
     } else {
-        Err(Why::Shape)
+        Err(RecordFault::Content(Why::Shape))
     }
 }
 

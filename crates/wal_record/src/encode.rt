@@ -1,12 +1,13 @@
 //! Writing an entry.
 
-ghost use Rattle.std.specs.Prelude.{◌≡◌, ◌+◌, ◌<◌, ◌≤◌, ◌++◌, length, IfOk};
+ghost use Rattle.std.specs.Prelude.{◌≡◌, ◌+◌, ◌<◌, ◌≤◌, ◌++◌, length, IfOk, OnOk};
 ghost use Rattle.wal_heads.specs.Heads.{main_bytes};
 ghost use Rattle.wal_record.specs.Spelling.{manager_of, info_of, checkpoint_bytes, creation_bytes, truncation_bytes, main_head_of, body_of, total_of, front_of, sealed, IsWritable};
 
-use crate::blocks::blocks_alone;
+use crate::blocks::add_blocks;
 use crate::names::{fork_number, relation};
 use crate::record::{Kind, Record};
+use byte_words::{overwrite, zeros};
 use lsn_core::{ForkId, Lsn, NoMemory, Rel};
 use std::alloc::{AllocError, Global};
 use wal_heads::{LEAST_TOTAL, sum_of};
@@ -18,29 +19,29 @@ pub fn encode_record(alloc: Global, rec: &Record) -> Result<Vec<u8>, NoMemory>
     requires { IsWritable rec.now.kind }
     ensures { IfOk result (λ bytes. bytes.items ≡ sealed rec.now) }
 {
-    let body = body_of(alloc, &rec.kind)?;
-    let mut bytes = front_of(alloc, rec, body.len())?;
-    let crc = sum_of(&bytes, &body);
-    bytes.extend_from_slice(&crc.to_le_bytes())?;
-    bytes.extend_from_slice(&body)?;
+    let mut bytes = zeros(alloc, 24)?;
+    add_body(&mut bytes, &rec.kind)?;
+    let front = front_of(rec, bytes.len() - 24);
+    let crc = sum_of(&front, &bytes[24..]);
+    overwrite(&mut bytes, 0, &front);
+    overwrite(&mut bytes, 20, &crc.to_le_bytes());
     Ok(bytes)
 }
 
 /// The first 20 bytes of the header, where so many bytes stand behind the header.
-fn front_of(alloc: Global, rec: &Record, size: usize) -> Result<Vec<u8>, AllocError>
+fn front_of(rec: &Record, size: usize) -> [u8; 20]
     requires size { 24 + size ≡ total_of rec.now.kind }
     requires most { size ≤ 4_194_280 }
-    ensures { IfOk result (λ bytes. bytes.items ≡ front_of rec.now) }
+    ensures { result ≡ front_of rec.now }
 {
     let total = LEAST_TOTAL + size as u32;
-    let mut bytes = Vec::new(alloc);
-    bytes.extend_from_slice(&total.to_le_bytes())?;
-    bytes.extend_from_slice(&rec.xid.to_le_bytes())?;
-    bytes.extend_from_slice(&rec.prev.0.to_le_bytes())?;
-    bytes.push(info_of(&rec.kind))?;
-    bytes.push(manager_of(&rec.kind))?;
-    bytes.extend_from_slice(&[0, 0])?;
-    Ok(bytes)
+    let [a, b, c, d] = total.to_le_bytes();
+    let [e, f, g, h] = rec.xid.to_le_bytes();
+    let [i, j, k, l, m, n, o, p] = rec.prev.0.to_le_bytes();
+    let (info, manager) = (info_of(&rec.kind), manager_of(&rec.kind));
+    [
+        a, b, c, d, e, f, g, h, i, j, k, l, m, n, o, p, info, manager, 0, 0,
+    ]
 }
 
 /// The number of the resource manager of a kind (access/rmgrlist.h).
@@ -77,39 +78,36 @@ fn info_of(kind: &Kind) -> u8
     }
 }
 
-/// What stands behind the header: announcements, blocks and main data.
+/// Adds what stands behind the header: announcements, blocks and main data.
 #[tactic(auto, using(crate::proofs::Lengths::body_most))]
-fn body_of(alloc: Global, kind: &Kind) -> Result<Vec<u8>, AllocError>
+fn add_body(bytes: &mut Vec<u8>, kind: &Kind) -> Result<(), AllocError>
     requires { IsWritable kind.now }
-    ensures body { IfOk result (λ bytes. bytes.items ≡ body_of kind.now) }
+    ensures body { OnOk result (bytes.new.items ≡ bytes.old.items ++ body_of kind.now) }
     ensures most { length (body_of kind.now) ≤ 4_194_280 }
 {
     match kind {
-        Kind::Shutdown(redo) => main_alone(alloc, &checkpoint(*redo)),
-        Kind::Online(redo) => main_alone(alloc, &checkpoint(*redo)),
-        Kind::RedoMark(number) => main_alone(alloc, &number.to_le_bytes()),
-        Kind::NoOp => Ok(Vec::new(alloc)),
-        Kind::BackupEnd(start) => main_alone(alloc, &start.0.to_le_bytes()),
-        Kind::Images(blocks) => blocks_alone(alloc, blocks.as_slice()),
-        Kind::Generic(blocks) => blocks_alone(alloc, blocks.as_slice()),
-        Kind::Create(fork) => main_alone(alloc, &creation(*fork)),
-        Kind::Truncate(rel, count, flags) => {
-            main_alone(alloc, &truncation(*rel, *count, *flags))
-        }
+        Kind::Shutdown(redo) => add_main(bytes, &checkpoint(*redo)),
+        Kind::Online(redo) => add_main(bytes, &checkpoint(*redo)),
+        Kind::RedoMark(number) => add_main(bytes, &number.to_le_bytes()),
+        Kind::NoOp => Ok(()),
+        Kind::BackupEnd(start) => add_main(bytes, &start.0.to_le_bytes()),
+        Kind::Images(blocks) => add_blocks(bytes, blocks.as_slice()),
+        Kind::Generic(blocks) => add_blocks(bytes, blocks.as_slice()),
+        Kind::Create(fork) => add_main(bytes, &creation(*fork)),
+        Kind::Truncate(rel, count, flags) => add_main(bytes, &truncation(*rel, *count, *flags)),
     }
 }
 
-/// What stands behind the header of an entry without blocks: main data, announced by one byte of
-/// length.
-fn main_alone(alloc: Global, main: &[u8]) -> Result<Vec<u8>, AllocError>
+/// Adds what stands behind the header of an entry without blocks: main data, announced by one byte
+/// of length.
+fn add_main(bytes: &mut Vec<u8>, main: &[u8]) -> Result<(), AllocError>
     requires some { 0 < length main.now }
     requires most { length main.now ≤ 255 }
-    ensures { IfOk result (λ bytes. bytes.items ≡ main_bytes (main_head_of main.now) main.now) }
+    ensures { OnOk result (bytes.new.items
+        ≡ bytes.old.items ++ main_bytes (main_head_of main.now) main.now) }
 {
-    let mut bytes = Vec::new(alloc);
     bytes.extend_from_slice(&[255, main.len() as u8])?;
-    bytes.extend_from_slice(main)?;
-    Ok(bytes)
+    bytes.extend_from_slice(main)
 }
 
 /// The main data of a checkpoint (profile).

@@ -1,6 +1,6 @@
 //! The parts behind an entry's announcements: images, fragments and main data.
 
-ghost use Rattle.std.specs.Prelude.{◌≡◌, length, take, drop, IfOk};
+ghost use Rattle.std.specs.Prelude.{◌≡◌, length, take, drop, box_value, IfOk};
 ghost use Rattle.std.specs.Option.{option_map};
 ghost use Rattle.wal_record.specs.Parts.{last_of, good_page, page_at, frag_at, frags_at, delta_at, checkpoint_at, mark_at, start_at, creation_at, truncation_at};
 
@@ -8,6 +8,7 @@ use byte_words::{u16_at, u32_at, u64_at};
 use lsn_core::Lsn;
 use pg_page::{Frag, Frags, Page, check_frags, restored_page};
 use std::alloc::{AllocError, Global};
+use std::boxed::Box;
 use wal_heads::{RelName, named_of};
 
 /// What stands at the end of the bytes, so much.
@@ -34,19 +35,19 @@ pub fn behind(size: usize, bytes: &[u8]) -> &[u8]
 /// The page of an image, with zeros where bytes are left out. None exactly where it has a bad
 /// header, or the image no room for these bytes.
 #[tactic(auto, unfolding(crate::specs::Parts::page_at))]
-pub fn page_of(offset: usize, image: &[u8]) -> Option<Page>
-    ensures { result ≡ page_at offset image.now }
+pub fn page_of(alloc: Global, offset: usize, image: &[u8]) -> Result<Option<Page>, AllocError>
+    ensures { IfOk result (λ page. page ≡ page_at offset image.now) }
 {
     if offset > image.len() || image.len() > 8192 {
-        return None;
+        return Ok(None);
     }
-    good_page(&restored_page(offset, image))
+    Ok(good_page(restored_page(alloc, offset, image)?))
 }
 
 /// The page of these bytes. None exactly where it has a bad header.
 #[tactic(auto, unfolding(crate::specs::Parts::good_page, pg_page::specs::Frags::is_good))]
-fn good_page(bytes: &[u8; 8192]) -> Option<Page>
-    ensures { result ≡ good_page bytes.now }
+fn good_page(bytes: Box<[u8; 8192]>) -> Option<Page>
+    ensures { result ≡ good_page (box_value bytes) }
 {
     Page::read(bytes)
 }

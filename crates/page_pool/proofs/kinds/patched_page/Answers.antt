@@ -15,13 +15,13 @@ pub zero_hole-requires : goal.zero_hole-requires
 zero_hole-requires c =
     let written : c.write_frags.new.page ≡ written_frags c.args.frags.now (page_at c.args.frames.now.pages c.args.at.now) =
     c.write_frags.ensures ∙ ap (λ (fs : List Fragment). written_frags fs c.deref_mut.result.now) c.as_slice.ensures
-    ∙ ap (written_frags c.args.frags.now) (c.deref_mut.ensures.value ∙ (c.in_ok-copy.ensures.ok ∙ c.page_at.ensures)) in
+    ∙ ap (written_frags c.args.frags.now) (c.deref_mut.ensures.value ∙ c.in_ok-copy.ensures) in
     subst IsGood (sym (c.deref_mut-2.ensures.value ∙ written)) (good_told (written_frags c.args.frags.now (page_at c.args.frames.now.pages c.args.at.now)) c.requires.header)
 
 pub returns-clause-writable : goal.returns-clause-writable
 returns-clause-writable c =
     let written : c.write_frags.new.page ≡ written_frags c.args.frags.now (page_at c.args.frames.now.pages c.args.at.now) =
     c.write_frags.ensures ∙ ap (λ (fs : List Fragment). written_frags fs c.deref_mut.result.now) c.as_slice.ensures
-    ∙ ap (written_frags c.args.frags.now) (c.deref_mut.ensures.value ∙ (c.in_ok-copy.ensures.ok ∙ c.page_at.ensures)) in
+    ∙ ap (written_frags c.args.frags.now) (c.deref_mut.ensures.value ∙ c.in_ok-copy.ensures) in
     zeroed_page (written_frags c.args.frags.now (page_at c.args.frames.now.pages c.args.at.now)) c.zero_hole.new.page (good_told (written_frags c.args.frags.now (page_at c.args.frames.now.pages c.args.at.now)) c.requires.header)
     (c.zero_hole.ensures ∙ ap hole_zeroed (c.deref_mut-2.ensures.value ∙ written))

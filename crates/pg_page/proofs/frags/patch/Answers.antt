@@ -7,12 +7,12 @@ use Rattle.pg_page.proofs.frags.patch.Goals as goal
 pub write_frags-requires : goal.write_frags-requires
 write_frags-requires c = frags_fit c.args.frags.now c.requires
 
-pub returns-in_default-clause-good : goal.returns-in_default-clause-good
-returns-in_default-clause-good c = sym (told_bad c.write_frags.new.bytes c.in_default.ensures.some.1) ∙ ap is_good c.write_frags.ensures
+pub returns-then-not-is_good-clause-good : goal.returns-then-not-is_good-clause-good
+returns-then-not-is_good-clause-good c = sym (told_bad c.write_frags.new.page c.if-not-is_good.ensures.1) ∙ ap is_good c.write_frags.ensures
 
 pub returns-clause-good : goal.returns-clause-good
-returns-clause-good c = sym (told_good c.write_frags.new.bytes (c.in-Some.ensures.some.0 refl)) ∙ ap is_good c.write_frags.ensures
+returns-clause-good c = sym (told_good c.write_frags.new.page (c.if-not-is_good.ensures.0 refl)) ∙ ap is_good c.write_frags.ensures
 
 pub returns-clause-bytes : goal.returns-clause-bytes
 unfolding patched
-returns-clause-bytes c = rw (c.bytes.ensures.bytes, c.set_lsn.ensures, c.zero_hole.ensures, c.in-Some.ensures.value, c.write_frags.ensures) refl
+returns-clause-bytes c = rw (c.set_lsn.ensures, c.zero_hole.ensures, c.write_frags.ensures) refl
