@@ -167,6 +167,16 @@ impl<J: OfCrew, V: Vault> Store<J, V> {
         }
     }
 
+    /// The pass sees the whole history.
+    pub fn look(&mut self, pass: &mut Pass<J>)
+        ensures same { self.new ≡ self.old }
+        ensures seen { StaysBy pass.old pass.new }
+        ensures whole { pass.new.list ≡ self.new.history }
+        ensures accepted { pass.new.accepted ≡ pass.old.accepted }
+    {
+        pass.meet(&self.line, &mut self.journal);
+    }
+
     /// Flushes the WAL up to where an entry ends that the pass has seen.
     pub fn flush_wal(
         &mut self,
