@@ -1,0 +1,27 @@
+-- The label of a backup, written and listed.
+use Rattle.std.proofs.Common.{◌≡◌, ◌≢◌, ℕ, List, [], ◌∷◌, ◌++◌, length, get_or, Option, ap, ◌∙◌, arith}
+use Rattle.std.specs.Option.{option_map}
+use Rattle.sha2.specs.Sha256.{sha256}
+use Rattle.lsn_core.specs.Files.{Files}
+use Rattle.lsn_core.specs.Segment.{StoreSettings}
+use Rattle.vault.specs.Area.{after_write}
+use Rattle.manifest.specs.declared.listing.FileRow.{FileRow}
+use Rattle.shared_store.specs.declared.receipt.Redo.{Redo}
+use Rattle.base_backup.specs.Directory.{label_name, manifest_name}
+use Rattle.base_backup.specs.Inside.{AddsLabel, IsLabelOf, Lacks, row_with}
+use Rattle.base_backup.proofs.Contents.{written_new_in}
+
+-- it is another file than the manifest
+pub label_apart : label_name ≢ manifest_name
+label_apart e = let differ : 108 ≡ 109 = ap (λ (x : List ℕ). get_or x 7 0) e in omega (arith, differ)
+
+pub label_added : (settings : StoreSettings) (redo : Redo) (name : List ℕ) (when : ℕ) (modified path text sum : List ℕ) (size : ℕ) (old new : Option Files) (before rows : List FileRow) (row : FileRow) → IsLabelOf settings redo name when text → Lacks old label_name
+    → new ≡ option_map (after_write label_name 0 text) old → row ≡ row_with path size modified sum → path ≡ label_name → size ≡ length text → sum ≡ sha256 text → rows ≡ before ++ (row ∷ []) → AddsLabel settings redo name when modified old new before rows
+label_added settings redo name when modified path text sum size old new before rows row label lacks wrote row_is path_is size_is sum_is grown = record {
+  text = text;
+  label = label;
+  stands = wrote ∙ written_new_in old label_name text lacks;
+  listed =
+      grown ∙ ap (λ (r : FileRow). before ++ (r ∷ []))
+      (row_is ∙ (ap (λ (x : List ℕ). row_with x size modified sum) path_is ∙ (ap (λ (n : ℕ). row_with label_name n modified sum) size_is ∙ ap (λ (x : List ℕ). row_with label_name (length text) modified x) sum_is)));
+}

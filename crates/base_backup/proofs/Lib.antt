@@ -1,0 +1,17 @@
+pub mod Steps
+pub mod PageLists
+pub mod Contents
+pub mod Segments
+pub mod Stores
+pub mod Lengths
+pub mod Manifests
+pub mod Texts
+pub mod Listings
+pub mod Runs
+pub mod Whole
+pub mod Labels
+pub mod Passed
+pub mod Copying
+pub mod NoFile
+pub mod Digests
+pub mod Sound

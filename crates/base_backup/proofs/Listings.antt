@@ -1,0 +1,271 @@
+-- Rows of a backup's files, in order, and with distinct paths.
+use Rattle.std.proofs.Common.{◌≡◌, ◌≢◌, ℕ, ◌+◌, ◌-◌, ◌/◌, ◌^◌, ◌<◌, ◌≤◌, true, false, List, [], ◌∷◌, ◌++◌, map, length, get_or, codes, Option, Some, None, IfSome, zero, suc, refl, sym, ap, subst, ◌∙◌, arith}
+use Rattle.std.specs.Prelude.{◌==◌, slice_index_or}
+use Rattle.std.specs.Str.{IsUtf8}
+use Rattle.std.specs.Char.{is_ascii_hexdigit}
+use Rattle.std.specs.List.{All, AllByRecursion, AllPass, IsDistinct, list_all}
+use Rattle.std.specs.List.Sorted.{IsPermutation, IsSortedByKey, IsStrictlySortedBy}
+use Rattle.std.specs.declared.cmp.Ordering.{Ordering}
+use Rattle.std.specs.declared.cmp.Ordering.TheVariants.{Less, Equal, Greater}
+use Rattle.std.specs.Ordering.{nat_cmp, is_lt, is_eq, ordering_reverse}
+use Rattle.std.specs.Cmp.Lexicographic.{slice_cmp, nat_list_cmp_total}
+use Rattle.std.specs.FinMap.{entries, get, empty, insert, get-insert, get-empty}
+use Rattle.std.proofs.Math.Nat.{div-le_of_le-mul}
+use Rattle.std.proofs.lemmas.Bool.{and_from, eq-eqb, false_from_ne_true}
+use Rattle.std.proofs.lemmas.Cmp.{eq_by_cmp_equiv}
+use Rattle.std.proofs.lemmas.List.Elements.{All-nil, All-cons, All-head, All-tail}
+use Rattle.std.proofs.lemmas.List.Sorted.{All-permutation, IsPermutation-map, length_permutation}
+use Rattle.std.proofs.lemmas.List.Sums.{list_all-from_AllPass}
+use Rattle.std.proofs.lemmas.Map.Keys.{IsDistinct-IsPermutation}
+use Rattle.json.proofs.Printed.Utf8.{IsUtf8-are_ascii}
+use Rattle.sha2.specs.Sha256.{sha256}
+use Rattle.sha2.proofs.Facts256.{length-sha256}
+use Rattle.hex.specs.Hex.{encode_lower, lower_digits, is_hex_digit}
+use Rattle.hex.proofs.HexLemmas.{decode_of-ok, length-encode_with}
+use Rattle.lsn_core.specs.Files.{Files}
+use Rattle.lsn_core.specs.Segment.{StoreSettings}
+use Rattle.lsn_core.specs.Names.{fork_path_bytes, IsNamed}
+use Rattle.lsn_core.specs.Store.{Store, fork_files, files_of, segment_content, segment_count, store_files}
+use Rattle.lsn_core.specs.declared.ids.ForkId.{ForkId}
+use Rattle.lsn_core.specs.declared.lsn.Lsn.{Lsn}
+use Rattle.lsn_core.proofs.AnyAll.{all_append, all_more, all_pieces, all_range, distinct_append}
+use Rattle.lsn_core.proofs.StoreFiles.{same_name, names_tie, distinct_files}
+use Rattle.manifest.specs.Kinds.{is_sum}
+use Rattle.manifest.specs.Shape.{is_path}
+use Rattle.backup_label.specs.Time.{IsTimeText}
+use Rattle.manifest.specs.Text.{IsWritable, IsWritableRow, manifest_text}
+use Rattle.manifest.specs.declared.kinds.SumKind.TheVariants.{Sha256}
+use Rattle.manifest.specs.declared.listing.FileRow.{FileRow}
+use Rattle.shared_store.specs.declared.receipt.Redo.{Redo}
+use Rattle.base_backup.specs.Directory.{directory_of, full_manifest, label_name, listed_files, manifest_name, row_of}
+use Rattle.base_backup.specs.Inside.{AddsLabel, AreListable, Finishes, HoldsCopy, IsNamedFork, Lacks, ListsRows, path_of, with_file}
+use Rattle.base_backup.proofs.Digests.{spelled}
+use Rattle.base_backup.proofs.Segments.{absent, named_at}
+use Rattle.base_backup.proofs.Stores.{named_copy}
+use Rattle.base_backup.proofs.Texts.{path_text, good_path, never_named, time_is_text}
+
+-- ---- sums
+
+hex_digit : (c : ℕ) → is_hex_digit c ≡ true → is_ascii_hexdigit c ≡ true
+hex_digit c e = grind arith
+
+each : (text : List ℕ) → AllPass is_hex_digit text → AllPass is_ascii_hexdigit text
+each [] all = All-nil (λ c. is_ascii_hexdigit c ≡ true)
+each (c ∷ text) all =
+    All-cons (λ c. is_ascii_hexdigit c ≡ true) c text (hex_digit c (All-head (λ c. is_hex_digit c ≡ true) c text all)) (each text (All-tail (λ c. is_hex_digit c ≡ true) c text all))
+
+hex_digits : (text : List ℕ) → AllPass is_hex_digit text → list_all is_ascii_hexdigit text ≡ true
+hex_digits text all = list_all-from_AllPass is_ascii_hexdigit text (each text all)
+
+pub good_sum : (bytes : List ℕ) → is_sum Sha256 (encode_lower (sha256 bytes)) ≡ true
+good_sum bytes =
+    let sum = sha256 bytes in
+    and_from (length (encode_lower sum) == 64) (list_all is_ascii_hexdigit (encode_lower sum))
+    (eq-eqb (length (encode_lower sum)) 64 (omega (arith, length-encode_with lower_digits sum, length-sha256 bytes)))
+    (hex_digits (encode_lower sum) (decode_of-ok (encode_lower sum) sum (spelled bytes)).1)
+
+-- ---- rows that can be written
+
+pub row_good : (modified path bytes : List ℕ) → IsUtf8 modified → IsUtf8 path → is_path path ≡ true → IsWritableRow (row_of modified (path, bytes))
+row_good modified path bytes m u p = record { path = u; good_path = p; modified = m; sum = good_sum bytes }
+
+all_from : {A : Type 0} (P : A → Type 0) (xs : List A) → AllByRecursion P xs → All P xs
+all_from P [] all = All-nil P
+all_from P (x ∷ xs) all = All-cons P x xs all.0 (all_from P xs all.1)
+
+all_map : {A B : Type 0} (f : A → B) (P : B → Type 0) (xs : List A) → AllByRecursion (λ x. P (f x)) xs → AllByRecursion P (map f xs)
+all_map f P [] all = tt
+all_map f P (x ∷ xs) all = (all.0, all_map f P xs all.1)
+
+-- a good path that is neither the label's nor the manifest's
+pub record IsGoodPath (path : List ℕ) : Type 0 where
+  pub plain : IsUtf8 path
+  pub good : is_path path ≡ true
+  pub no_label : same_name label_name path ≡ false
+  pub no_manifest : same_name manifest_name path ≡ false
+
+other_name : (fork : ForkId) (seg : ℕ) (name : List ℕ) → get_or name 2 0 ≢ 115 → same_name name (fork_path_bytes fork seg false) ≡ false
+other_name fork seg name other =
+    false_from_ne_true (same_name name (fork_path_bytes fork seg false)) (λ e. never_named fork seg name other (sym (names_tie name (fork_path_bytes fork seg false) e)))
+
+fork_path_good : (fork : ForkId) (seg : ℕ) → IsNamed fork seg → IsGoodPath (fork_path_bytes fork seg false)
+fork_path_good fork seg named = record {
+  plain = path_text fork seg named;
+  good = good_path fork seg named;
+  no_label = other_name fork seg label_name (λ x. omega (arith, x));
+  no_manifest = other_name fork seg manifest_name (λ x. omega (arith, x));
+}
+
+count_fits : (relseg blocks seg : ℕ) → 0 < relseg → seg < segment_count relseg blocks → blocks < 2 ^ 32 → seg < 2 ^ 32
+count_fits zero blocks seg some lt fits = absurd (omega (arith, some))
+count_fits (suc r) blocks seg some lt fits =
+    let most : (blocks + (suc r - 1)) / suc r ≤ blocks + 1 = div-le_of_le-mul (suc r) (omega arith) in
+    omega (arith, lt, most, fits)
+
+-- each file of a store has a good path
+pub paths_good : (relseg : ℕ) (store : Store) → 0 < relseg → AllByRecursion IsNamedFork (entries store) → AllByRecursion (λ f. IsGoodPath f.0) (store_files relseg store)
+paths_good relseg store some named =
+    all_pieces IsNamedFork (λ (f : List ℕ × List ℕ). IsGoodPath f.0) (fork_files relseg) (entries store)
+    (λ e is.
+    all_range (λ (f : List ℕ × List ℕ). IsGoodPath f.0) (λ seg. (fork_path_bytes e.0 seg false, segment_content relseg e.1 seg)) 0 (segment_count relseg (length e.1)) (λ s least most.
+    fork_path_good e.0 s (named_at e.0 (length e.1) s is (count_fits relseg (length e.1) s some (omega (arith, most)) is.seg_fits))))
+    named
+
+label_good : IsUtf8 label_name × (is_path label_name ≡ true)
+label_good = (IsUtf8-are_ascii label_name refl, refl)
+
+map_rows : (modified : List ℕ) (files : List (List ℕ × List ℕ)) → map path_of (map (row_of modified) files) ≡ map (λ f. f.0) files
+map_rows modified [] = refl
+map_rows modified (f ∷ files) = ap (λ (l : List (List ℕ)). f.0 ∷ l) (map_rows modified files)
+
+apart_all : (files : List (List ℕ × List ℕ)) → AllByRecursion (λ f. IsGoodPath f.0) files → AllByRecursion (λ x. AllByRecursion (λ y. same_name x y ≡ false) (label_name ∷ [])) (map (λ f. f.0) files)
+apart_all [] all = tt
+apart_all (f ∷ files) all = (((eq_by_cmp_equiv nat_list_cmp_total).symm f.0 label_name ∙ all.0.no_label, tt), apart_all files all.1)
+
+map-append : {A B : Type 0} (f : A → B) (xs ys : List A) → map f (xs ++ ys) ≡ map f xs ++ map f ys
+map-append f [] ys = refl
+map-append {B = B} f (x ∷ xs) ys = ap (λ (l : List B). f x ∷ l) (map-append f xs ys)
+
+alone : (name : List ℕ) → IsDistinct same_name (name ∷ [])
+unfolding IsDistinct
+alone name = (tt, tt)
+
+pub listable : (relseg : ℕ) (store : Store) (modified label : List ℕ) (rows : List FileRow) → 0 < relseg → AllByRecursion IsNamedFork (entries store) → IsUtf8 modified → rows ≡ map (row_of modified) (listed_files relseg store label) → AreListable rows
+listable relseg store modified label rows some named plain is =
+    let files = store_files relseg store in
+    let all = listed_files relseg store label in
+    let good = paths_good relseg store some named in
+    subst AreListable (sym is) (record {
+      writable =
+          all_from IsWritableRow (map (row_of modified) all) (all_map (row_of modified) IsWritableRow all
+          (all_append (λ (f : List ℕ × List ℕ). IsWritableRow (row_of modified f)) files ((label_name, label) ∷ [])
+          (all_more (λ (f : List ℕ × List ℕ). IsGoodPath f.0) (λ f. IsWritableRow (row_of modified f)) files (λ f g. row_good modified f.0 f.1 plain g.plain g.good) good)
+          (row_good modified label_name label plain label_good.0 label_good.1, tt)));
+      distinct =
+          subst (IsDistinct same_name) (sym (map_rows modified all ∙ map-append (λ (f : List ℕ × List ℕ). f.0) files ((label_name, label) ∷ [])))
+          (distinct_append same_name (map (λ f. f.0) files) (label_name ∷ []) (distinct_files relseg store some (named_copy store named)) (alone label_name) (apart_all files good));
+    })
+
+-- ---- rows in order
+
+abbrev path_cmp : List ℕ → List ℕ → Ordering
+path_cmp = slice_cmp nat_cmp
+
+abbrev Chain : List ℕ → List (List ℕ) → Type 0
+Chain p [] = Unit {0}
+Chain p (q ∷ qs) = (path_cmp p q ≡ Less) × Chain q qs
+
+lower : (a b : List ℕ) (qs : List (List ℕ)) → path_cmp a b ≡ Less → Chain b qs → Chain a qs
+lower a b [] less h = tt
+lower a b (q ∷ qs) less h = (nat_list_cmp_total.trans a b q less h.0, h.1)
+
+all_above : (p : List ℕ) (qs : List (List ℕ)) → Chain p qs → AllByRecursion (λ q. path_cmp p q ≡ Less) qs
+all_above p [] h = tt
+all_above p (q ∷ qs) h = (h.0, all_above p qs (lower p q qs h.0 h.1))
+
+sorted_chain : (p : List ℕ) (qs : List (List ℕ)) → Chain p qs → IsStrictlySortedBy path_cmp qs
+unfolding IsStrictlySortedBy
+sorted_chain p [] h = tt
+sorted_chain p (q ∷ qs) h = (all_above q qs h.1, sorted_chain q qs h.1)
+
+less_of : (o r : Ordering) → o ≡ ordering_reverse r → is_lt r ≡ false → is_eq o ≡ false → o ≡ Less
+less_of o Less e f g = absurd cc
+less_of o Equal e f g = let no : true ≡ false = sym (ap is_eq e) ∙ g in absurd cc
+less_of o Greater e f g = e
+
+abbrev InOrder : List FileRow → Type 0
+InOrder rows = (k : ℕ) (d : FileRow) → 0 ≤ k → k + 1 < length rows → is_lt (path_cmp (slice_index_or rows (k + 1) d).path (slice_index_or rows k d).path) ≡ false
+
+chain_of : (row : FileRow) (rows : List FileRow) → InOrder (row ∷ rows) → IsDistinct same_name (map path_of (row ∷ rows)) → Chain row.path (map path_of rows)
+unfolding IsDistinct
+chain_of row [] order distinct = tt
+chain_of row (next ∷ rows) order distinct = (
+  less_of (path_cmp row.path next.path) (path_cmp next.path row.path) (nat_list_cmp_total.antisymm row.path next.path) (order 0 row (omega arith) (omega arith)) distinct.0.0,
+  chain_of next rows (λ k d low within.
+      let next_one : suc k + 1 ≡ suc (k + 1) = omega arith in
+      subst (λ (j : ℕ). is_lt (path_cmp (slice_index_or (row ∷ next ∷ rows) j d).path (slice_index_or (next ∷ rows) k d).path) ≡ false) next_one (order (suc k) d (omega arith) (omega (arith, within)))) distinct.1,
+)
+
+strictly : (rows : List FileRow) → InOrder rows → IsDistinct same_name (map path_of rows) → IsStrictlySortedBy path_cmp (map path_of rows)
+unfolding IsStrictlySortedBy
+strictly [] order distinct = tt
+strictly (row ∷ rows) order distinct =
+    let chain = chain_of row rows order distinct in
+    (all_above row.path (map path_of rows) chain, sorted_chain row.path (map path_of rows) chain)
+
+flips : (a b : List ℕ) → same_name a b ≡ same_name b a
+flips a b = (eq_by_cmp_equiv nat_list_cmp_total).symm a b
+
+pub rows_rise : (rows sorted : List FileRow) → AreListable rows → IsPermutation rows sorted → IsSortedByKey path_of (slice_cmp nat_cmp) sorted → IsStrictlySortedBy (slice_cmp nat_cmp) (map path_of sorted)
+rows_rise rows sorted are moved order =
+    strictly sorted order (IsDistinct-IsPermutation same_name flips (map path_of rows) (map path_of sorted) (IsPermutation-map path_of rows sorted moved) are.distinct)
+
+-- they make a manifest that can be written
+pub manifest_good : (system : ℕ) (rows sorted : List FileRow) (start end : Lsn) → AreListable rows → start.0 < end.0 → IsPermutation rows sorted → IsSortedByKey path_of (slice_cmp nat_cmp) sorted → IsWritable (full_manifest system sorted start end)
+manifest_good system rows sorted start end are rises moved order = record {
+  version = refl;
+  system = refl;
+  rows = All-permutation IsWritableRow rows sorted moved are.writable;
+  order = rows_rise rows sorted are moved order;
+  rises = rises;
+}
+
+-- ---- an area of a copy
+
+not_there : (relseg : ℕ) (copy : Store) (name : List ℕ) → ((path : List ℕ) → IsGoodPath path → same_name name path ≡ false) → 0 < relseg → AllByRecursion IsNamedFork (entries copy) → get (files_of relseg copy) name ≡ None
+not_there relseg copy name other some named =
+    absent empty name (store_files relseg copy) (all_more (λ (f : List ℕ × List ℕ). IsGoodPath f.0) (λ f. same_name name f.0 ≡ false) (store_files relseg copy) (λ f good. other f.0 good) (paths_good relseg copy some named))
+    ∙ get-empty (slice_cmp nat_cmp) name
+
+lacks_of : (files : Option Files) (name : List ℕ) (all : Files) → IfSome files (λ m. m ≡ all) → get all name ≡ None → Lacks files name
+lacks_of None name all is none = tt
+lacks_of (Some m) name all is none = ap (λ (x : Files). get x name) is ∙ none
+
+pub label_missing : (relseg : ℕ) (copy : Store) (modified : List ℕ) (files : Option Files) (rows : List FileRow) → 0 < relseg → HoldsCopy relseg copy modified files rows → Lacks files label_name
+label_missing relseg copy modified files rows some held = lacks_of files label_name (files_of relseg copy) held.stand (not_there relseg copy label_name (λ path good. good.no_label) some held.named)
+
+with_label : (files : Option Files) (text : List ℕ) → Lacks files manifest_name → Lacks (with_file label_name text files) manifest_name
+with_label None text lacks = tt
+with_label (Some m) text lacks = get-insert nat_list_cmp_total m label_name text manifest_name ∙ lacks
+
+pub manifest_missing : (relseg : ℕ) (copy : Store) (modified text : List ℕ) (old new : Option Files) (rows : List FileRow) → 0 < relseg → HoldsCopy relseg copy modified old rows → new ≡ with_file label_name text old → Lacks new manifest_name
+manifest_missing relseg copy modified text old new rows some held stands =
+    subst (λ (o : Option Files). Lacks o manifest_name) (sym stands)
+    (with_label old text (lacks_of old manifest_name (files_of relseg copy) held.stand (not_there relseg copy manifest_name (λ path good. good.no_manifest) some held.named)))
+
+-- ---- the whole directory
+
+whole_of : (relseg : ℕ) (copy : Store) (label manifest : List ℕ) (files : Option Files) → IfSome files (λ m. m ≡ files_of relseg copy) → IfSome (with_file manifest_name manifest (with_file label_name label files)) (λ m. m ≡ directory_of relseg copy label manifest)
+whole_of relseg copy label manifest None is = tt
+whole_of relseg copy label manifest (Some m) is = ap (λ (x : Files). insert (insert x label_name label) manifest_name manifest) is
+
+all_rows : (modified label : List ℕ) (relseg : ℕ) (copy : Store) (rows more : List FileRow) → rows ≡ map (row_of modified) (store_files relseg copy) → more ≡ rows ++ (row_of modified (label_name, label) ∷ []) → more ≡ map (row_of modified) (listed_files relseg copy label)
+all_rows modified label relseg copy rows more rows_are more_is =
+    more_is ∙ (ap (λ (l : List FileRow). l ++ (row_of modified (label_name, label) ∷ [])) rows_are ∙ sym (map-append (row_of modified) (store_files relseg copy) ((label_name, label) ∷ [])))
+
+-- the rows of a copy and its label can be listed
+pub rows_listable : (settings : StoreSettings) (redo : Redo) (name : List ℕ) (when : ℕ) (modified : List ℕ) (copy : Store) (old mid : Option Files) (rows more : List FileRow) → 0 < settings.relseg → IsTimeText when (codes "GMT") modified → HoldsCopy settings.relseg copy modified old rows
+    → AddsLabel settings redo name when modified old mid rows more → AreListable more
+rows_listable settings redo name when modified copy old mid rows more some moment held adds =
+    listable settings.relseg copy modified adds.text more some held.named (time_is_text when (codes "GMT") modified (IsUtf8-are_ascii (codes "GMT") refl) moment) (all_rows modified adds.text settings.relseg copy rows more held.listed adds.listed)
+
+pub finished : (settings : StoreSettings) (redo : Redo) (end : Lsn) (name : List ℕ) (when : ℕ) (modified : List ℕ) (old mid new : Option Files) (rows more : List FileRow) (count : ℕ) (text : List ℕ) → IsTimeText when (codes "GMT") modified
+    → AddsLabel settings redo name when modified old mid rows more → count ≡ length more → ListsRows settings.system more redo.redo end text → new ≡ with_file manifest_name text mid → Finishes settings name when modified old new redo end rows count
+finished settings redo end name when modified old mid new rows more count text moment adds counted lists stands copy held = record {
+  begun = adds.label.begun;
+  begun_at = adds.label.begun_at;
+  modified = modified;
+  modified_at = moment;
+  label = adds.text;
+  label_is = adds.label.text_is;
+  rows = lists.sorted;
+  listed = record {
+    same = subst (λ (l : List FileRow). IsPermutation l lists.sorted) (all_rows modified adds.text settings.relseg copy rows more held.listed adds.listed) lists.same;
+    order = lists.order;
+  };
+  counted = counted ∙ sym (length_permutation more lists.sorted lists.same);
+  files_are =
+      subst (λ (o : Option Files). IfSome o (λ m. m ≡ directory_of settings.relseg copy adds.text (manifest_text (full_manifest settings.system lists.sorted redo.redo end))))
+      (sym (stands ∙ (ap (λ (x : List ℕ). with_file manifest_name x mid) lists.text_is ∙ ap (with_file manifest_name (manifest_text (full_manifest settings.system lists.sorted redo.redo end))) adds.stands)))
+      (whole_of settings.relseg copy adds.text (manifest_text (full_manifest settings.system lists.sorted redo.redo end)) old held.stand);
+}

@@ -1,0 +1,91 @@
+-- The directory of a full backup (PostgreSQL manual, pg_basebackup; Backup Manifest Format).
+use Rattle.std.specs.Prelude.{◌≡◌, ℕ, List, [], ◌∷◌, ◌++◌, map, length, codes, Option, Some, None, IfSome}
+use Rattle.std.specs.List.Sorted.{IsPermutation, IsStrictlySortedBy}
+use Rattle.std.specs.Ordering.{nat_cmp}
+use Rattle.std.specs.Cmp.Lexicographic.{slice_cmp}
+use Rattle.std.specs.FinMap.{insert}
+use Rattle.sha2.specs.Sha256.{sha256}
+use Rattle.hex.specs.Hex.{encode_lower}
+use Rattle.lsn_core.specs.Files.{Files}
+use Rattle.lsn_core.specs.Segment.{StoreSettings}
+use Rattle.lsn_core.specs.Store.{Store, store_files, files_of}
+use Rattle.lsn_core.specs.declared.lsn.Lsn.{Lsn}
+use Rattle.backup_label.specs.declared.label.Label.{Label}
+use Rattle.backup_label.specs.Label.{label_text}
+use Rattle.backup_label.specs.Time.{IsTimeText}
+use Rattle.manifest.specs.declared.kinds.SumKind.TheVariants.{Sha256}
+use Rattle.manifest.specs.declared.listing.FileRow.{FileRow}
+use Rattle.manifest.specs.Listing.{Listing}
+use Rattle.manifest.specs.Text.{manifest_text}
+
+abbrev pub label_name : List ℕ
+label_name = codes "backup_label"
+
+abbrev pub manifest_name : List ℕ
+manifest_name = codes "backup_manifest"
+
+-- ---- what is listed
+
+-- the row of a file, with the text of when it was last modified
+abbrev pub row_of : List ℕ → List ℕ × List ℕ → FileRow
+row_of modified file = record {
+  path = file.0;
+  size = length file.1;
+  modified = modified;
+  kind = Sha256;
+  sum = encode_lower (sha256 file.1);
+}
+
+-- rows list these files and no others, each once, in byte order of their paths
+pub record AreRowsOf (modified : List ℕ) (files : List (List ℕ × List ℕ)) (rows : List FileRow)
+    : Type 0 where
+  pub same : IsPermutation (map (row_of modified) files) rows
+  pub order : IsStrictlySortedBy (slice_cmp nat_cmp) (map (λ row. row.path) rows)
+
+-- the files that are listed: those of the pages that were copied, and the label
+abbrev pub listed_files : ℕ → Store → List ℕ → List (List ℕ × List ℕ)
+listed_files relseg copy label = store_files relseg copy ++ ((label_name, label) ∷ [])
+
+-- ---- the directory
+
+-- the label of a full backup that was begun at a moment, by its text
+abbrev pub full_label : Lsn → Lsn → List ℕ → List ℕ → Label
+full_label start checkpoint begun name = record {
+  start = start;
+  checkpoint = checkpoint;
+  time = begun;
+  label = name;
+  timeline = 1;
+  prior = None;
+}
+
+-- a manifest of version 2 with these rows, of a WAL from a place to another
+abbrev pub full_manifest : ℕ → List FileRow → Lsn → Lsn → Listing
+full_manifest system rows start end = record {
+  version = 2;
+  system = Some system;
+  files = rows;
+  start = start.0;
+  end = end.0;
+}
+
+-- the files of the pages that were copied, the label and the manifest, and no others
+abbrev pub directory_of : ℕ → Store → List ℕ → List ℕ → Files
+directory_of relseg copy label manifest =
+    insert (insert (files_of relseg copy) label_name label) manifest_name manifest
+
+-- files are the directory of a full backup of these pages, which was begun at a moment under a name.
+-- It starts at a place and its checkpoint at another, ends at a third, and lists so many files
+pub record IsFullBackup (settings : StoreSettings) (name : List ℕ) (when : ℕ) (copy : Store)
+    (start checkpoint end : Lsn) (count : ℕ) (files : Option Files) : Type 0 where
+  pub begun : List ℕ
+  pub begun_at : IsTimeText when (codes "UTC") begun
+  pub modified : List ℕ
+  pub modified_at : IsTimeText when (codes "GMT") modified
+  pub label : List ℕ
+  pub label_is : label ≡ label_text (full_label start checkpoint begun name) settings.segment
+  pub rows : List FileRow
+  pub listed : AreRowsOf modified (listed_files settings.relseg copy label) rows
+  pub counted : count ≡ length rows
+  pub files_are : IfSome files (λ m. m ≡ directory_of settings.relseg copy label
+      (manifest_text (full_manifest settings.system rows start end)))

@@ -1,0 +1,379 @@
+-- What the crate's private functions answer: no public contract cites these.
+use Rattle.std.specs.Prelude.{◌≡◌, ℕ, ◌+◌, ◌*◌, ◌-◌, ◌<◌, ◌≤◌, min, ◌⊎◌, false, List, [], ◌∷◌, ◌++◌, map, length, codes, Option, Some, None, IfSome, unwrap_or}
+use Rattle.std.specs.List.{All, AllByRecursion, IsDistinct, flat_map, range_with_len}
+use Rattle.std.specs.List.Sorted.{IsPermutation, IsStrictlySortedBy}
+use Rattle.std.specs.Option.{option_map}
+use Rattle.std.specs.Ordering.{nat_cmp, eq_by_cmp}
+use Rattle.std.specs.Cmp.Lexicographic.{slice_cmp}
+use Rattle.std.specs.FinMap.{get, insert, entries}
+use Rattle.std.specs.BTreeMap.{BTreeMap}
+use Rattle.std.specs.BTreeMap as tree
+use mathlib.Core.List.{IsPrefix}
+use Rattle.sha2.specs.Sha256.{sha256}
+use Rattle.sha2.specs.Hashers.{Holds256}
+use Rattle.sha2.specs.declared.Sha256.{Sha256}
+use Rattle.hex.specs.Hex.{encode_lower}
+use Rattle.lsn_core.specs.Blocks.{block_of, block_count}
+use Rattle.lsn_core.specs.Causes.{Rose}
+use Rattle.lsn_core.specs.Files.{Files}
+use Rattle.lsn_core.specs.Names.{fork_path_bytes, segment_number, IsNamed}
+use Rattle.lsn_core.specs.Segment.{StoreSettings}
+use Rattle.lsn_core.specs.Sizes.{most_segments}
+use Rattle.lsn_core.specs.Store.{Store, ForkPages, fork_cmp, fork_files, files_of, segment_content, store_files, with_files}
+use Rattle.lsn_core.specs.declared.ids.ForkId.{ForkId}
+use Rattle.lsn_core.specs.declared.ids.ForkLen.{ForkLen}
+use Rattle.lsn_core.specs.declared.lsn.Lsn.{Lsn}
+use Rattle.lsn_core.specs.declared.fault.AreaFault.{AreaFault}
+use Rattle.lsn_core.specs.declared.fault.AreaFault.TheVariants as area
+use Rattle.lsn_core.specs.declared.fault.StoreFault.{StoreFault}
+use Rattle.lsn_core.specs.declared.fault.StoreFault.TheVariants as store
+use Rattle.lsn_core.specs.declared.fault.MarkFault.{MarkFault}
+use Rattle.lsn_core.specs.declared.fault.MarkFault.TheVariants as mark
+use Rattle.vault.specs.declared.area.Vault.{Ghosts}
+use Rattle.vault.specs.Area.{Related, after_write, after_remove}
+use Rattle.pg_page.specs.Header.{zero_page}
+use Rattle.history.specs.Entry.{Entry}
+use Rattle.fuzzy_copies.specs.Taken.{IsBlockCopied, IsListed, IsTaken}
+use Rattle.backup_label.specs.Label.{label_text}
+use Rattle.backup_label.specs.Time.{IsTimeText}
+use Rattle.manifest.specs.Text.{IsWritableRow, manifest_text}
+use Rattle.manifest.specs.declared.kinds.SumKind.TheVariants as kind
+use Rattle.manifest.specs.declared.listing.FileRow.{FileRow}
+use Rattle.shared_store.specs.declared.receipt.Redo.{Redo}
+use Rattle.shared_store.specs.Seen.{Seen, StaysBy}
+use Rattle.shared_store.specs.Opened.{Opened, count_of}
+use Rattle.shared_store.specs.Calls.{GoesOn}
+use Rattle.shared_store.specs.Copied.{HasRedoPoint, listed_length}
+use Rattle.base_backup.specs.declared.fault.BackupFault.{BackupFault}
+use Rattle.base_backup.specs.declared.fault.BackupFault.TheVariants as fault
+use Rattle.base_backup.specs.Directory.{label_name, manifest_name, row_of, full_label, full_manifest, IsFullBackup}
+use Rattle.base_backup.specs.Backup.{Site, HasBackup, HoldsSomething, KeepsManifest, RoseTwice}
+
+-- ---- faults
+
+abbrev pub area_fault : AreaFault → BackupFault
+area_fault area.Failed = fault.OutFailed
+area_fault area.NoMemory = fault.NoMemory
+
+abbrev pub store_fault : StoreFault → BackupFault
+store_fault (store.Failed which) = fault.StoreFailed which
+store_fault store.NoMemory = fault.NoMemory
+
+abbrev pub mark_fault : MarkFault → BackupFault
+mark_fault (mark.Failed which) = fault.StoreFailed which
+mark_fault (mark.WalFull n) = fault.WalFull n
+mark_fault mark.NoMemory = fault.NoMemory
+
+-- copying failed: a device did whose count rose, or memory ran out
+abbrev pub CopyCause : {V : Type 0} → Ghosts V → Site V → Site V → BackupFault → Type 0
+CopyCause g old new fault.NotEmpty = ⊥
+CopyCause g old new (fault.WalFull n) = ⊥
+CopyCause g old new (fault.StoreFailed which) =
+    Rose (count_of which old.store.faults) (count_of which new.store.faults)
+CopyCause g old new fault.OutFailed = Rose (g.faults old.out) (g.faults new.out)
+CopyCause g old new fault.NoMemory = Unit {0}
+
+-- the store goes on without a new entry, and the pass has lost nothing
+pub record ReadsOn (old : Opened) (was : Seen) (new : Opened) (now : Seen) : Type 0 where
+  pub store : GoesOn old new
+  pub same : new.history ≡ old.history
+  pub seen : StaysBy was now
+  pub accepted : now.accepted ≡ was.accepted
+
+-- of the backup's area, the manifest's file is left alone, and the count didn't fall
+pub record SparesManifest {V : Type 0} (g : Ghosts V) (old new : V) : Type 0 where
+  pub manifest : KeepsManifest (g.files old) (g.files new)
+  pub faults : g.faults old ≤ g.faults new
+
+-- a step of copying
+pub record CopiesOn {V : Type 0} (g : Ghosts V) (old new : Site V) : Type 0 where
+  pub reads : ReadsOn old.store old.seen new.store new.seen
+  pub spares : SparesManifest g old.out new.out
+
+-- ---- pages
+
+-- the bytes of pages
+abbrev pub page_bytes : ForkPages → List ℕ
+page_bytes pages = flat_map (λ page. page) pages
+
+-- a page that was copied at a moment at the latest when these entries were seen
+pub record IsPageCopied (seen : List Entry) (from : ℕ) (fork : ForkId) (block : ℕ)
+    (page : List ℕ) : Type 0 where
+  pub moment : List Entry
+  pub before : IsPrefix moment seen
+  pub redo : HasRedoPoint moment from
+  pub answer : Option (List ℕ)
+  pub copied : IsBlockCopied moment from fork block answer
+  pub written : page ≡ unwrap_or answer zero_page
+
+-- pages of a fork from a block on
+abbrev pub ArePagesCopied : List Entry → ℕ → ForkId → ℕ → ForkPages → Type 0
+ArePagesCopied seen from fork block [] = Unit {0}
+ArePagesCopied seen from fork block (page ∷ pages) =
+    IsPageCopied seen from fork block page × ArePagesCopied seen from fork (block + 1) pages
+
+-- so many pages, each of 8192 bytes
+pub record AreCopies (tells : Type 0) (seen : List Entry) (from : ℕ) (fork : ForkId)
+    (block count : ℕ) (pages : ForkPages) : Type 0 where
+  pub many : length pages ≡ count
+  pub sized : AllByRecursion (λ page. length page ≡ 8192) pages
+  pub copied : tells → ArePagesCopied seen from fork block pages
+
+-- their bytes were added to others
+pub record AddsCopies (tells : Type 0) (seen : List Entry) (from : ℕ) (fork : ForkId)
+    (block count : ℕ) (old new : List ℕ) : Type 0 where
+  pub pages : ForkPages
+  pub copies : AreCopies tells seen from fork block count pages
+  pub grown : new ≡ old ++ page_bytes pages
+
+-- their bytes were written behind so many earlier pages of a file, and hashed behind what the hasher
+-- held
+pub record AddsPiece (tells : Type 0) (seen : List Entry) (from : ℕ) (fork : ForkId)
+    (block done count : ℕ) (path : List ℕ) (old new : Option Files) (before now : Sha256)
+    : Type 0 where
+  pub pages : ForkPages
+  pub copies : AreCopies tells seen from fork block count pages
+  pub written : new ≡ option_map (after_write path (done * 8192) (page_bytes pages)) old
+  pub hashed : (m : List ℕ) → Holds256 before m → Holds256 now (m ++ page_bytes pages)
+
+-- an area with a file
+abbrev pub with_file : List ℕ → List ℕ → Option Files → Option Files
+with_file name bytes files = option_map (λ m. insert m name bytes) files
+
+-- a file that wasn't there holds them, and their SHA-256 is told
+pub record WritesCopies (tells : Type 0) (seen : List Entry) (from : ℕ) (fork : ForkId)
+    (block count : ℕ) (path : List ℕ) (old new : Option Files) (sum : List ℕ) : Type 0 where
+  pub pages : ForkPages
+  pub copies : AreCopies tells seen from fork block count pages
+  pub stands : new ≡ with_file path (page_bytes pages) old
+  pub sum_is : sum ≡ sha256 (page_bytes pages)
+
+-- ---- rows
+
+abbrev pub path_of : FileRow → List ℕ
+path_of row = row.path
+
+-- the row of a file with a SHA-256 and so many bytes
+abbrev pub row_with : List ℕ → ℕ → List ℕ → List ℕ → FileRow
+row_with path size modified sum = record {
+  path = path;
+  size = size;
+  modified = modified;
+  kind = kind.Sha256;
+  sum = encode_lower sum;
+}
+
+-- ---- files of forks
+
+-- an area has no file of a name, where that is told
+abbrev pub Lacks : Option Files → List ℕ → Type 0
+Lacks files name = IfSome files (λ m. get m name ≡ None)
+
+-- no segment file of a fork
+abbrev pub LacksFork : Option Files → ForkId → Type 0
+LacksFork files fork = (seg : ℕ) → IsNamed fork seg → Lacks files (fork_path_bytes fork seg false)
+
+-- a fork's numbers fit, and its length
+abbrev pub IsNamedFork : ForkId × ForkPages → Type 0
+IsNamedFork e = IsNamed e.0 (length e.1)
+
+-- the first files of a fork, so many
+abbrev pub first_files : ℕ → ForkId → ForkPages → ℕ → List (List ℕ × List ℕ)
+first_files relseg fork pages count =
+    map (λ seg. (fork_path_bytes fork seg false, segment_content relseg pages seg))
+    (range_with_len 0 count)
+
+-- files were put into an area, and listed in rows
+pub record PutsFiles (modified : List ℕ) (files : List (List ℕ × List ℕ))
+    (old new : Option Files) (before rows : List FileRow) : Type 0 where
+  pub stand : new ≡ option_map (λ m. with_files m files) old
+  pub listed : rows ≡ before ++ map (row_of modified) files
+
+-- the file of a segment of so many of a fork's blocks
+pub record PutsSegment (tells : Type 0) (seen : List Entry) (from relseg : ℕ) (fork : ForkLen)
+    (seg : ℕ) (modified : List ℕ) (old new : Option Files) (before rows : List FileRow)
+    : Type 0 where
+  pub pages : ForkPages
+  pub copies : AreCopies tells seen from fork.fork (seg * relseg)
+      (min relseg (fork.blocks - seg * relseg)) pages
+  pub puts : PutsFiles modified
+      ((fork_path_bytes fork.fork seg false, page_bytes pages) ∷ []) old new before rows
+
+-- the files of a fork
+pub record PutsFork (tells : Type 0) (seen : List Entry) (from relseg : ℕ) (fork : ForkLen)
+    (modified : List ℕ) (old new : Option Files) (before rows : List FileRow) : Type 0 where
+  pub pages : ForkPages
+  pub named : IsNamed fork.fork (length pages)
+  pub copies : AreCopies tells seen from fork.fork 0 fork.blocks pages
+  pub puts : PutsFiles modified (fork_files relseg (fork.fork, pages)) old new before rows
+
+-- the files of all forks, in order
+pub record PutsStore (tells : Type 0) (seen : List Entry) (from relseg : ℕ) (list : List ForkLen)
+    (modified : List ℕ) (old new : Option Files) (rows : List FileRow) : Type 0 where
+  pub copy : Store
+  pub named : AllByRecursion IsNamedFork (entries copy)
+  pub lengths : map (λ e. record { fork = e.0; blocks = length e.1 }) (entries copy) ≡ list
+  pub pages : tells → AllByRecursion (λ e. ArePagesCopied seen from e.0 0 e.1) (entries copy)
+  pub puts : PutsFiles modified (store_files relseg copy) old new [] rows
+
+-- ---- the listing
+
+-- a fork's length, or its want, as it was listed at a moment at the latest when these entries were
+-- seen
+pub record IsForkListed (seen : List Entry) (from : ℕ) (fork : ForkId) (found : Option ℕ)
+    : Type 0 where
+  pub moment : List Entry
+  pub before : IsPrefix moment seen
+  pub redo : HasRedoPoint moment from
+  pub listed : IsListed moment from fork found
+
+-- the length of a fork, where it is known
+abbrev pub known_length : BTreeMap ForkId ℕ → ForkId → Option ℕ
+known_length known fork = tree.get fork_cmp known fork
+
+-- the forks whose lengths are known, in order
+abbrev pub lengths_in : BTreeMap ForkId ℕ → List ForkLen
+lengths_in known = map (λ e. record { fork = e.0; blocks = e.1 }) known.entries
+
+-- the first of two that is told
+abbrev pub or_else : Option ℕ → Option ℕ → Option ℕ
+or_else None later = later
+or_else (Some n) later = Some n
+
+-- the lengths of a list are known too; of a fork that was known before the earlier one
+abbrev pub NotesAll : List ForkLen → BTreeMap ForkId ℕ → BTreeMap ForkId ℕ → Type 0
+NotesAll list old new =
+    (fork : ForkId) → known_length new fork ≡ or_else (known_length old fork) (listed_length list fork)
+
+-- a list in order, each fork once, with what was listed of each fork
+pub record ListsForks (tells : Type 0) (seen : List Entry) (from : ℕ) (list : List ForkLen)
+    : Type 0 where
+  pub order : IsStrictlySortedBy fork_cmp (map (λ l. l.fork) list)
+  pub listed : tells → (fork : ForkId) → IsForkListed seen from fork (listed_length list fork)
+
+-- ---- a store that was copied
+
+-- each fork was listed at a moment of its own, each page copied at another
+pub record IsCopiedSoFar (seen : List Entry) (from : ℕ) (copy : Store) : Type 0 where
+  pub forks : (fork : ForkId) → IsForkListed seen from fork (block_count copy fork)
+  pub pages : (fork : ForkId) (block : ℕ) (page : List ℕ)
+      → block_of copy fork block ≡ Some page → IsPageCopied seen from fork block page
+
+-- an area holds just a copy's files, and rows list them
+pub record HoldsCopy (relseg : ℕ) (copy : Store) (modified : List ℕ) (files : Option Files)
+    (rows : List FileRow) : Type 0 where
+  pub named : AllByRecursion IsNamedFork (entries copy)
+  pub stand : IfSome files (λ m. m ≡ files_of relseg copy)
+  pub listed : rows ≡ map (row_of modified) (store_files relseg copy)
+
+pub record CopiesStore (tells : Type 0) (seen : List Entry) (from relseg : ℕ)
+    (modified : List ℕ) (files : Option Files) (rows : List FileRow) : Type 0 where
+  pub copy : Store
+  pub held : HoldsCopy relseg copy modified files rows
+  pub copied : tells → IsCopiedSoFar seen from copy
+
+-- a backup's entries stand, and its files but the label and the manifest
+pub record IsRun (tells : Type 0) (worker : ℕ) (old new : Opened) (modified : List ℕ)
+    (files : Option Files) (redo : Redo) (end : Lsn) (rows : List FileRow) : Type 0 where
+  pub entries : HasBackup worker old.history new.history redo.redo.0 redo.at.0 end.0
+  pub copy : Store
+  pub held : HoldsCopy new.settings.relseg copy modified files rows
+  pub taken : tells → IsTaken copy new.history redo.redo.0 end.0
+  pub rises : redo.redo.0 < end.0
+  pub segment : segment_number redo.redo.0 new.settings.segment ≤ most_segments
+
+-- ---- looking at the area, and ending a backup
+
+-- looking failed: the area holds a file, or its device failed, or memory ran out
+abbrev pub LookCause : {V : Type 0} → Ghosts V → V → V → BackupFault → Type 0
+LookCause g old new fault.NotEmpty = HoldsSomething (g.files old)
+LookCause g old new (fault.WalFull n) = ⊥
+LookCause g old new (fault.StoreFailed which) = ⊥
+LookCause g old new fault.OutFailed = Rose (g.faults old) (g.faults new)
+LookCause g old new fault.NoMemory = Unit {0}
+
+-- ending it failed: the area's device failed, or memory ran out
+abbrev pub EndCause : {V : Type 0} → Ghosts V → V → V → BackupFault → Type 0
+EndCause g old new fault.NotEmpty = ⊥
+EndCause g old new (fault.WalFull n) = ⊥
+EndCause g old new (fault.StoreFailed which) = ⊥
+EndCause g old new fault.OutFailed = Rose (g.faults old) (g.faults new)
+EndCause g old new fault.NoMemory = Unit {0}
+
+-- a copy's files stand, and can be listed
+pub record CanFinish (settings : StoreSettings) (modified : List ℕ) (files : Option Files)
+    (redo : Redo) (end : Lsn) (rows : List FileRow) : Type 0 where
+  pub relseg : 0 < settings.relseg
+  pub copy : Store
+  pub held : HoldsCopy settings.relseg copy modified files rows
+  pub rises : redo.redo.0 < end.0
+  pub segment : segment_number redo.redo.0 settings.segment ≤ most_segments
+
+-- of a copy whose files stood, the directory is whole, and lists so many files
+abbrev pub Finishes : StoreSettings → List ℕ → ℕ → List ℕ → Option Files → Option Files → Redo
+    → Lsn → List FileRow → ℕ → Type 0
+Finishes settings name when modified old new redo end rows count =
+    (copy : Store) → HoldsCopy settings.relseg copy modified old rows
+    → IsFullBackup settings name when copy redo.redo redo.at end count new
+
+-- ---- the label
+
+-- the text of a label
+pub record IsLabelOf (settings : StoreSettings) (redo : Redo) (name : List ℕ) (when : ℕ)
+    (text : List ℕ) : Type 0 where
+  pub begun : List ℕ
+  pub begun_at : IsTimeText when (codes "UTC") begun
+  pub text_is : text ≡ label_text (full_label redo.redo redo.at begun name) settings.segment
+
+-- a label was written and listed
+pub record AddsLabel (settings : StoreSettings) (redo : Redo) (name : List ℕ) (when : ℕ)
+    (modified : List ℕ) (old new : Option Files) (before rows : List FileRow) : Type 0 where
+  pub text : List ℕ
+  pub label : IsLabelOf settings redo name when text
+  pub stands : new ≡ with_file label_name text old
+  pub listed : rows ≡ before ++ (row_of modified (label_name, text) ∷ [])
+
+-- ---- the manifest
+
+-- rows that a manifest can list: with distinct paths
+pub record AreListable (rows : List FileRow) : Type 0 where
+  pub writable : All IsWritableRow rows
+  pub distinct : IsDistinct (eq_by_cmp (slice_cmp nat_cmp)) (map path_of rows)
+
+-- a manifest that lists them, in order of their paths
+pub record ListsRows (system : ℕ) (rows : List FileRow) (start end : Lsn) (text : List ℕ)
+    : Type 0 where
+  pub sorted : List FileRow
+  pub same : IsPermutation rows sorted
+  pub order : IsStrictlySortedBy (slice_cmp nat_cmp) (map path_of sorted)
+  pub text_is : text ≡ manifest_text (full_manifest system sorted start end)
+
+-- either both of two areas tell their files, or neither
+abbrev pub TellAlike : Option Files → Option Files → Type 0
+TellAlike old new = Related (λ m n. Unit {0}) old new
+
+-- writing the manifest failed, or syncing behind it
+abbrev pub FailsToWrite : {V : Type 0} → Ghosts V → List ℕ → V → V → AreaFault → Type 0
+FailsToWrite g text old new area.Failed =
+    Rose (g.faults old) (g.faults new) × TellAlike (g.files old) (g.files new)
+FailsToWrite g text old new area.NoMemory =
+    (g.files new ≡ g.files old) ⊎ (g.files new ≡ with_file manifest_name text (g.files old))
+
+-- the manifest was removed; or its removal failed, and the count rose; or there was no memory for
+-- it, which is answered
+abbrev pub Withdraws : {V : Type 0} → Ghosts V → AreaFault → V → V → AreaFault → Type 0
+Withdraws g why old new answer =
+    ((answer ≡ why) × (g.files new ≡ option_map (after_remove manifest_name) (g.files old)))
+    ⊎ (((answer ≡ why) × Rose (g.faults old) (g.faults new))
+    ⊎ ((answer ≡ area.NoMemory) × (g.files new ≡ g.files old)))
+
+-- what is left of the manifest where it can't be written and synced: nothing, unless its removal
+-- failed too. Then the count rose twice; or once, and there was no memory; or memory was missing
+-- twice, and the text stands
+abbrev pub LeavesText : {V : Type 0} → Ghosts V → List ℕ → V → V → AreaFault → Type 0
+LeavesText g text old new area.Failed =
+    KeepsManifest (g.files old) (g.files new) ⊎ RoseTwice (g.faults old) (g.faults new)
+LeavesText g text old new area.NoMemory =
+    KeepsManifest (g.files old) (g.files new)
+    ⊎ (Rose (g.faults old) (g.faults new)
+    ⊎ (g.files new ≡ with_file manifest_name text (g.files old)))

@@ -1,0 +1,4 @@
+pub mod Directory
+pub mod Backup
+pub mod Inside
+pub mod Laws

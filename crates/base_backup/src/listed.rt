@@ -1,0 +1,96 @@
+//! The label of a backup, and the text of its manifest.
+
+ghost use Rattle.std.specs.Prelude.{◌≡◌, ◌<◌, ◌≤◌, codes, IfOk, OnOk};
+ghost use Rattle.lsn_core.specs.Causes.{HasCause};
+ghost use Rattle.lsn_core.specs.Names.{segment_number};
+ghost use Rattle.lsn_core.specs.Sizes.{most_segments};
+ghost use Rattle.backup_label.specs.Time.{IsTimeText};
+ghost use Rattle.base_backup.specs.Directory.{label_name};
+ghost use Rattle.base_backup.specs.Inside.{Lacks, SparesManifest, IsLabelOf, AddsLabel, AreListable, ListsRows};
+
+use crate::rows::{file_row, sort_rows};
+use backup_label::{Label, time_text, write_label};
+use lsn_core::{AreaFault, Lsn, NoMemory, Settings, Text};
+use manifest::{FileRow, Manifest, write_manifest};
+use sha2::{Digest, Sha256};
+use shared_store::Redo;
+use std::alloc::Global;
+use vault::Vault;
+
+/// The name of the label's file.
+const LABEL: &[u8] = b"backup_label";
+
+/// The text of the label of a full backup.
+fn label_text(
+    alloc: Global,
+    settings: Settings,
+    redo: Redo,
+    name: &Text,
+    when: u64,
+) -> Result<Vec<u8>, NoMemory>
+    requires segment { segment_number redo.redo.0 settings.segment ≤ most_segments }
+    requires when { when ≤ 253402207199 }
+    ensures { IfOk result (λ text. IsLabelOf settings redo name.now when text.items) }
+{
+    let label = Label {
+        start: redo.redo,
+        checkpoint: redo.at,
+        time: time_text(alloc, when, b"UTC")?,
+        label: Text::copied(alloc, name.as_bytes())?,
+        timeline: 1,
+        prior: None,
+    };
+    write_label(alloc, &label, settings.segment())
+}
+
+/// Writes the label, which isn't there, and lists it.
+pub(crate) fn add_label<V: Vault>(
+    alloc: Global,
+    out: &mut V,
+    settings: Settings,
+    redo: Redo,
+    name: &Text,
+    when: u64,
+    modified: &Text,
+    rows: &mut Vec<FileRow>,
+) -> Result<(), AreaFault>
+    requires segment { segment_number redo.redo.0 settings.segment ≤ most_segments }
+    requires when { when ≤ 253402207199 }
+    requires missing { Lacks (V.files out.old) label_name }
+    ensures added { OnOk result (AddsLabel settings redo name.now when modified.now
+        (V.files out.old) (V.files out.new) rows.old.items rows.new.items) }
+    ensures spares { SparesManifest V.Vault out.old out.new }
+    ensures cause { HasCause (V.faults out.old) (V.faults out.new) result }
+{
+    let text = label_text(alloc, settings, redo, name, when)?;
+    out.write_at(LABEL, 0, &text)?;
+    let path = Text::copied(alloc, LABEL)?;
+    let sum = Sha256::digest(&text);
+    rows.push(file_row(alloc, path, text.len() as u64, modified, &sum)?)?;
+    Ok(())
+}
+
+/// The text of the manifest that lists these rows, in order of their paths.
+pub(crate) fn manifest_text(
+    alloc: Global,
+    settings: Settings,
+    rows: Vec<FileRow>,
+    start: Lsn,
+    end: Lsn,
+) -> Result<Vec<u8>, NoMemory>
+    requires rows { AreListable rows.items }
+    requires rises { start.0 < end.0 }
+    ensures { IfOk result (λ text.
+        ListsRows settings.system rows.items start end text.items) }
+{
+    let mut rows = rows;
+    sort_rows(&mut rows);
+    let manifest = Manifest {
+        version: 2,
+        system: Some(settings.system()),
+        files: rows,
+        start,
+        end,
+    };
+    write_manifest(alloc, &manifest)
+}
