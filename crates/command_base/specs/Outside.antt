@@ -59,6 +59,15 @@ abbrev pub of_site_input : {S V I : Type 0} → Sites S V → Sources I → S �
 of_site_input sites sources site input =
     with_input (of_site sites site) (sources.left input) (sources.faults input)
 
+-- with what a clock tells
+abbrev pub with_moment : Outside → Option ℕ → Outside
+with_moment o moment = record o { moment = moment }
+
+-- all but the sink
+abbrev pub of_all : {S V I C : Type 0} → Sites S V → Sources I → Clocks C → S → I → C → Outside
+of_all sites sources clocks site input clock =
+    with_moment (of_site_input sites sources site input) (clocks.moment clock)
+
 -- ---- what a command does to it
 
 -- every area is given back, only the files of these may have changed, and no count of faults fell

@@ -19,5 +19,5 @@ pub use faults::{
     area_name, area_status, area_text, begin_status, begin_text, full_text, joined, refused_line,
     store_status, store_text, take_text, wal_status, wal_text,
 };
-pub use names::{backup_name, names_of, output_name};
+pub use names::{backup_name, is_backup_name, names_of, output_name};
 pub use status::Status;

@@ -1,6 +1,6 @@
 //! Names of areas.
 
-ghost use Rattle.std.specs.Prelude.{◌≡◌, map, IfOk};
+ghost use Rattle.std.specs.Prelude.{◌≡◌, map, bytes_eq, IfOk};
 ghost use Rattle.command_base.specs.Areas.{output_name, backup_name};
 
 use crate::faults::joined;
@@ -30,4 +30,14 @@ pub fn backup_name(alloc: Global, name: &[u8]) -> Result<Text, NoMemory>
     ensures { IfOk result (λ area. area ≡ backup_name name.now) }
 {
     joined(alloc, &[b"b/", name])
+}
+
+/// Whether a name is that of the area of this backup.
+pub fn is_backup_name(area: &[u8], name: &[u8]) -> bool
+    ensures { result ≡ bytes_eq area.now (backup_name name.now) }
+{
+    match area {
+        [b'b', b'/', rest @ ..] => rest == name,
+        _ => false,
+    }
 }

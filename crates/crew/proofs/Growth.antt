@@ -16,11 +16,11 @@ use Rattle.shared_store.specs.Seen.{Seen}
 use Rattle.shared_store.specs.Opened.{Opened, count_of}
 use Rattle.crew.specs.declared.script.Command.TheVariants as command
 use Rattle.crew.specs.declared.order.Order.{Order}
-use Rattle.crew.specs.declared.answer.Answer.TheVariants.{Accepted, Refused, Stopped}
+use Rattle.crew.specs.declared.answer.Answer.TheVariants.{Accepted, Refused, Grown, Stopped}
 use Rattle.crew.specs.Orders.{op_asked, grow_op, grow_ops}
 use Rattle.crew.specs.Shape.{Shape}
 use Rattle.crew.specs.Run.{IsMade, Made, IsRefusedNow, span_end, span_of, TellsFault}
-use Rattle.crew.specs.Running.{Knows, WentOn, Inserts, LineRuns}
+use Rattle.crew.specs.Running.{Knows, WentOn, Inserts, CommandRuns}
 use Rattle.crew.proofs.Moments.{made_later, made_on}
 use Rattle.crew.proofs.Steps.{went_nowhere, went_further}
 
@@ -44,24 +44,24 @@ none_failed (insert.WalFull n) area P t = absurd cc
 -- ---- one command
 
 pub accepted : (tells : Type 0) (order : Order) (old new : Seen) (before behind : Opened) (place : Place) → Inserts tells (op_asked order) old new before behind (Ok place)
-    → LineRuns tells (command.Insert order) false old new before behind (Accepted place)
-accepted tells order old new before behind place i =
+    → CommandRuns tells (command.Insert order) old new before behind (Accepted place)
+accepted tells order old new before behind place i = λ when held.
     let e : Entry = i.0 in
     let past : length old.list < length new.list = slice_get_within new.list (length old.list) e i.2.there in
     record {
       made = e ∷ [];
       went = i.1;
-      answered = (order, refl, (length old.list, omega arith, i.2, omega (arith, past)), i.3);
+      answered = (order, refl, (length old.list, omega arith, i.2, omega (arith, past)), i.3, refl);
       risen = λ area t. absurd cc;
       run = refl;
     }
 
 pub refused_line : (tells : Type 0) (order : Order) (old new : Seen) (before behind : Opened) (why : InsertFault) → Inserts tells (op_asked order) old new before behind (Err why)
-    → LineRuns tells (command.Insert order) false old new before behind (Refused why)
-refused_line tells order old new before behind why i = record {
+    → CommandRuns tells (command.Insert order) old new before behind (Refused why)
+refused_line tells order old new before behind why i = λ when held. record {
   made = [];
   went = i.0;
-  answered = (order, refl, refl, i.1);
+  answered = (order, refl, refl, i.1, refl);
   risen = λ area t. none_failed why area (Rose (count_of area before.faults) (count_of area behind.faults)) t;
   run = refl;
 }
@@ -116,8 +116,8 @@ grows_more tells old now new before mid behind at shape k j span next place g i 
     }
 
 pub stopped : (tells : Type 0) (old now new : Seen) (before mid behind : Opened) (at : BlockId) (shape : Shape) (k count : ℕ) (span : Place) (why : InsertFault) → IsGrowing tells old now before mid at shape k span
-    → Inserts tells (grow_op at shape k) now new mid behind (Err why) → k < count → LineRuns tells (command.Grow at count shape) false old new before behind (Stopped k why)
-stopped tells old now new before mid behind at shape k count span why g i lt =
+    → Inserts tells (grow_op at shape k) now new mid behind (Err why) → k < count → CommandRuns tells (command.Grow at count shape) old new before behind (Stopped k why)
+stopped tells old now new before mid behind at shape k count span why g i lt = λ when held.
     let same : mid.settings.segment ≡ before.settings.segment = ap (λ (s : StoreSettings). s.segment) g.went.goes_on.settings in
     record {
       made = g.made;
@@ -130,7 +130,18 @@ stopped tells old now new before mid behind at shape k count span why g i lt =
         lt,
         made_later tells before.settings.segment old.worker now.list new.list (length old.list) (grow_ops at shape k) g.made i.0.stays.seen g.are,
         subst (λ (n : ℕ). IsRefusedNow tells n new.list (grow_op at shape k) why) same i.1,
+        refl,
       );
       risen = λ area t. none_failed why area (Rose (count_of area before.faults) (count_of area behind.faults)) t;
       run = refl;
     }
+
+-- all of a growth's commands were
+pub grown : (tells : Type 0) (old new : Seen) (before behind : Opened) (at : BlockId) (shape : Shape) (count : ℕ) (span : Place) → IsGrowing tells old new before behind at shape count span → CommandRuns tells (command.Grow at count shape) old new before behind (Grown count span)
+grown tells old new before behind at shape count span g = λ when held. record {
+  made = g.made;
+  went = g.went;
+  answered = (at, shape, refl, g.are, g.span_is, refl);
+  risen = λ area t. absurd cc;
+  run = refl;
+}

@@ -4,6 +4,9 @@ pub mod Steps
 pub mod Growth
 pub mod Marks
 pub mod Ran
+pub mod Held
+pub mod Backed
+pub mod Kept
 pub mod RunLaws
 pub mod Pieces
 pub mod Each

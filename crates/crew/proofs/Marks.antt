@@ -1,5 +1,5 @@
 -- Checkpoints and flushes.
-use Rattle.std.proofs.Common.{◌≡◌, ℕ, suc, ◌&&◌, Bool, true, false, List, [], ◌∷◌, ◌++◌, length, take, Some, None, Option, refl, ap, sym, subst, ◌∙◌, arith, inl, inr}
+use Rattle.std.proofs.Common.{◌≡◌, ℕ, suc, ◌≤◌, ◌&&◌, Bool, true, false, List, [], ◌∷◌, ◌++◌, length, take, Some, None, Option, refl, ap, sym, subst, ◌∙◌, arith, inl, inr}
 use Rattle.std.specs.List.{All}
 use Rattle.std.specs.Option.{is_some}
 use Rattle.std.specs.Prelude.{slice_get}
@@ -17,9 +17,10 @@ use Rattle.shared_store.specs.Seen.{Seen, StaysBy, is_by, is_number, accepted_by
 use Rattle.shared_store.specs.Opened.{Opened, StoreCause, count_of}
 use Rattle.shared_store.specs.Calls.{GoesOn, HasCheckpoint, MayHaveMarks, MarkCause, MayBeFull, FindsNoRoom, IsMarkOf}
 use Rattle.crew.specs.declared.script.Command.TheVariants as command
-use Rattle.crew.specs.declared.answer.Answer.TheVariants.{Redo, CheckpointRefused, CallFailed}
+use Rattle.crew.specs.declared.answer.Answer.TheVariants.{Redo, CheckpointRefused, Wrote, CallFailed}
+use Rattle.crew.specs.declared.answer.Stop.TheVariants as stop
 use Rattle.crew.specs.Run.{IsOfWorker, IsCheckpointRefused, HasCheckpointAt, mark_stop}
-use Rattle.crew.specs.Running.{Knows, WentOn, LineRuns}
+use Rattle.crew.specs.Running.{Knows, WentOn, CommandRuns}
 use Rattle.crew.proofs.Lists.{next_there, second_there, up_to_here}
 use Rattle.crew.proofs.Steps.{rose_from, went_further}
 
@@ -32,7 +33,7 @@ and_false false = refl
 mark_not_by : (worker : ℕ) (e : Entry) → e.seq ≡ None → is_by worker e ≡ false
 mark_not_by worker e none = ap (λ (s : Option ℕ). is_number worker e.worker && is_some s) none ∙ and_false (is_number worker e.worker)
 
-none_accepted : (worker : ℕ) (es : List Entry) → All (λ e. e.seq ≡ None) es → accepted_by worker es ≡ []
+pub none_accepted : (worker : ℕ) (es : List Entry) → All (λ e. e.seq ≡ None) es → accepted_by worker es ≡ []
 none_accepted worker [] marks = refl
 none_accepted worker (e ∷ es) marks = rw (mark_not_by worker e (All-head (λ e. e.seq ≡ None) e es marks)) (none_accepted worker es (All-tail (λ e. e.seq ≡ None) e es marks))
 
@@ -46,7 +47,7 @@ marked old new before behind first last redo many k starts ends grown stays whol
   stays = stays;
   own = take many (first ∷ last ∷ []);
   grown = whole ∙ grown ∙ ap (λ (xs : List Entry). xs ++ take many (first ∷ last ∷ [])) (sym k.whole);
-  by = All-take (IsOfWorker old.worker) many (first ∷ last ∷ []) (both_hold (IsOfWorker old.worker) first last (inr (inl starts)) (inr (inr (redo, ends))));
+  by = All-take (IsOfWorker old.worker) many (first ∷ last ∷ []) (both_hold (IsOfWorker old.worker) first last (inr (inl starts)) (inr (inr (inl (redo, ends)))));
   made_is = none_accepted old.worker (take many (first ∷ last ∷ [])) (All-take (λ e. e.seq ≡ None) many (first ∷ last ∷ []) (both_hold (λ e. e.seq ≡ None) first last starts.2 ends.2));
   counted = omega (arith, accepted);
   whole = whole;
@@ -54,8 +55,8 @@ marked old new before behind first last redo many k starts ends grown stays whol
 }
 
 pub redone : (tells : Type 0) (old new : Seen) (before behind : Opened) (redo : receipt.Redo) (flushed : Flushed) → Knows old before → HasCheckpoint old.worker before.history behind.history redo flushed → StaysBy old new → new.list ≡ behind.history
-    → new.accepted ≡ old.accepted → GoesOn before behind → LineRuns tells command.Checkpoint false old new before behind (Redo redo.redo)
-redone tells old new before behind redo flushed k c stays whole accepted goes =
+    → new.accepted ≡ old.accepted → GoesOn before behind → CommandRuns tells command.Checkpoint old new before behind (Redo redo.redo)
+redone tells old new before behind redo flushed k c stays whole accepted goes = λ when held.
     let grown : new.list ≡ old.list ++ (c.first ∷ c.last ∷ []) = whole ∙ c.grown ∙ ap (λ (xs : List Entry). xs ++ (c.first ∷ c.last ∷ [])) (sym k.whole) in
     let there : HasCheckpointAt old.worker (length old.list) new.list redo.redo.0 = record {
       first = c.first;
@@ -73,14 +74,14 @@ redone tells old new before behind redo flushed k c stays whole accepted goes =
     record {
       made = [];
       went = marked old new before behind c.first c.last redo.redo.0 2 k c.starts c.ends c.grown stays whole accepted goes;
-      answered = (refl, refl, there);
+      answered = (refl, refl, there, refl);
       risen = λ area t. absurd cc;
       run = refl;
     }
 
 -- ---- checkpoints that fail
 
-mark_risen : (before behind : Opened) (why : MarkFault) (area : StoreArea) → MarkCause before behind why → mark_stop why ≡ Some (store.Failed area) → Rose (count_of area before.faults) (count_of area behind.faults)
+mark_risen : (before behind : Opened) (why : MarkFault) (area : StoreArea) → MarkCause before behind why → mark_stop why ≡ Some (stop.Store (store.Failed area)) → Rose (count_of area before.faults) (count_of area behind.faults)
 mark_risen before behind (mark.Failed other) area cause e =
     let same : other ≡ area = cc in
     subst (λ (a : StoreArea). Rose (count_of a before.faults) (count_of a behind.faults)) same cause
@@ -99,29 +100,32 @@ why_not mib worker old new before behind mark.NoMemory k stays whole cause full 
 
 pub not_redone : (tells : Type 0) (old new : Seen) (before behind : Opened) (why : MarkFault) → Knows old before → MayHaveMarks old.worker before.history behind.history → MarkCause before behind why
     → MayBeFull before.settings.segment old.worker before.history behind.history why → StaysBy old new → new.list ≡ behind.history → new.accepted ≡ old.accepted → GoesOn before behind
-    → LineRuns tells command.Checkpoint false old new before behind (CheckpointRefused why)
-not_redone tells old new before behind why k m cause full stays whole accepted goes = record {
+    → CommandRuns tells command.Checkpoint old new before behind (CheckpointRefused why)
+not_redone tells old new before behind why k m cause full stays whole accepted goes = λ when held. record {
   made = [];
   went = marked old new before behind m.first m.last m.first.start m.many k m.starts m.ends m.grown stays whole accepted goes;
-  answered = (refl, refl, why_not before.settings.segment old.worker old new before behind why k stays whole cause full);
+  answered = (refl, refl, why_not before.settings.segment old.worker old new before behind why k stays whole cause full, refl);
   risen = λ area t. mark_risen before behind why area cause t;
   run = refl;
 }
 
 -- ---- flushes
 
-fault_risen : (before behind : Opened) (why : StoreFault) (area : StoreArea) → StoreCause before.faults behind.faults why → Some why ≡ Some (store.Failed area) → Rose (count_of area before.faults) (count_of area behind.faults)
+fault_risen : (before behind : Opened) (why : StoreFault) (area : StoreArea) → StoreCause before.faults behind.faults why → Some (stop.Store why) ≡ Some (stop.Store (store.Failed area)) → Rose (count_of area before.faults) (count_of area behind.faults)
 fault_risen before behind (store.Failed other) area cause e =
     let same : other ≡ area = cc in
     subst (λ (a : StoreArea). Rose (count_of a before.faults) (count_of a behind.faults)) same cause
 fault_risen before behind store.NoMemory area cause e = absurd cc
 
 pub not_written : (tells : Type 0) (old now new : Seen) (before mid behind : Opened) (count : ℕ) (why : StoreFault) → WentOn old now before mid [] → WentOn now new mid behind [] → StoreCause mid.faults behind.faults why
-    → LineRuns tells (command.Flush count) false old new before behind (CallFailed why)
-not_written tells old now new before mid behind count why w v cause = record {
+    → CommandRuns tells (command.Flush count) old new before behind (CallFailed why)
+not_written tells old now new before mid behind count why w v cause = λ when held. record {
   made = [];
   went = went_further old now new before mid behind [] [] w v;
-  answered = (count, refl, refl);
+  answered = (count, refl, refl, refl);
   risen = λ area t. rose_from (count_of area before.faults) (count_of area mid.faults) (count_of area behind.faults) (w.goes_on.later area) (fault_risen mid behind why area cause t);
   run = refl;
 }
+
+pub written : (tells : Type 0) (old new : Seen) (before behind : Opened) (count wrote : ℕ) → WentOn old new before behind [] → wrote ≤ count → CommandRuns tells (command.Flush count) old new before behind (Wrote wrote)
+written tells old new before behind count wrote w few = λ when held. record { made = []; went = w; answered = (count, refl, refl, few, refl); risen = λ area t. absurd cc; run = refl }

@@ -6,10 +6,11 @@ use Rattle.std.proofs.lemmas.List.{take_all}
 use mathlib.Core.List.{IsPrefix}
 use Rattle.history.specs.declared.op.Op.{Op}
 use Rattle.history.specs.Entry.{Entry}
+use Rattle.vault.specs.Site.{Areas}
 use Rattle.shared_store.specs.Seen.{accepted_by}
 use Rattle.crew.specs.declared.script.Line.{Line}
 use Rattle.crew.specs.declared.answer.Answer.{Answer}
-use Rattle.crew.specs.Run.{IsMade, IsTakenAt, Made, LineAnswer, Answered, InOrder, is_not_run, stops_with}
+use Rattle.crew.specs.Run.{Basis, IsMade, IsTakenAt, Made, LineAnswer, Answered, InOrder, is_not_run, stops_with}
 use Rattle.crew.proofs.Lists.{prefix_length, prefix_get, prefix_take}
 
 -- ---- entries
@@ -44,43 +45,45 @@ made_on tells mib w g h from i (o ∷ ops) (x ∷ es) op e p past one m = (m.0, 
 
 -- ---- lines
 
-pub answered_later : (tells : Type 0) (mib w : ℕ) (g h : List Entry) (from : ℕ) (lines : List Line) (answers : List Answer) (es : List Entry) (to : ℕ) → IsPrefix g h → Answered tells mib w g from lines answers es to
-    → Answered tells mib w h from lines answers es to
-answered_later tells mib w g h from [] [] es to p a = a
-answered_later tells mib w g h from [] (x ∷ answers) es to p a = absurd a
-answered_later tells mib w g h from (l ∷ lines) [] es to p a = absurd a
-answered_later tells mib w g h from (l ∷ lines) (x ∷ answers) es to p a = (
+pub answered_later : (tells : Type 0) (b : Basis) (w : ℕ) (g h : List Entry) (from : ℕ) (lines : List Line) (answers : List Answer) (es : List Entry) (to : ℕ) (held new : Areas) → IsPrefix g h → Answered tells b w g from lines answers es to held new
+    → Answered tells b w h from lines answers es to held new
+answered_later tells b w g h from [] [] es to held new p a = a
+answered_later tells b w g h from [] (x ∷ answers) es to held new p a = absurd a
+answered_later tells b w g h from (l ∷ lines) [] es to held new p a = absurd a
+answered_later tells b w g h from (l ∷ lines) (x ∷ answers) es to held new p a = (
   a.0,
   a.1,
   a.2,
   a.3,
-  omega (arith, a.4, prefix_length g h p),
-  a.5,
-  subst (λ (xs : List Entry). LineAnswer tells mib w from xs l.command x a.1) (sym (prefix_take g h a.0 p a.4)) a.6,
-  answered_later tells mib w g h a.0 lines answers a.2 to p a.7,
+  a.4,
+  omega (arith, a.5, prefix_length g h p),
+  a.6,
+  subst (λ (xs : List Entry). LineAnswer tells b w from xs l.command x a.1 held a.3) (sym (prefix_take g h a.0 p a.5)) a.7,
+  answered_later tells b w g h a.0 lines answers a.2 to a.3 new p a.8,
 )
 
-answered_on : (tells : Type 0) (mib w : ℕ) (h : List Entry) (from : ℕ) (lines : List Line) (answers : List Answer) (es : List Entry) (to next : ℕ) (l : Line) (x : Answer) (here : List Entry) → to ≤ next → next ≤ length h
-    → LineAnswer tells mib w to (take next h) l.command x here → Answered tells mib w h from lines answers es to
-    → Answered tells mib w h from (lines ++ (l ∷ [])) (answers ++ (x ∷ [])) (es ++ here) next
-answered_on tells mib w h from [] [] es to next l x here le within is a =
+answered_on : (tells : Type 0) (b : Basis) (w : ℕ) (h : List Entry) (from : ℕ) (lines : List Line) (answers : List Answer) (es : List Entry) (to next : ℕ) (l : Line) (x : Answer) (here : List Entry) (held new last : Areas) → to ≤ next → next ≤ length h
+    → LineAnswer tells b w to (take next h) l.command x here new last → Answered tells b w h from lines answers es to held new
+    → Answered tells b w h from (lines ++ (l ∷ [])) (answers ++ (x ∷ [])) (es ++ here) next held last
+answered_on tells b w h from [] [] es to next l x here held new last le within is a =
     let made : es ++ here ≡ here ++ [] = ap (λ (xs : List Entry). xs ++ here) a.0 ∙ sym (append-nil here) in
-    (next, here, [], omega (arith, a.1, le), within, made, subst (λ (n : ℕ). LineAnswer tells mib w n (take next h) l.command x here) (sym a.1) is, (refl, refl))
-answered_on tells mib w h from [] (y ∷ answers) es to next l x here le within is a = absurd a
-answered_on tells mib w h from (k ∷ lines) [] es to next l x here le within is a = absurd a
-answered_on tells mib w h from (k ∷ lines) (y ∷ answers) es to next l x here le within is a =
-    let made : es ++ here ≡ a.1 ++ (a.2 ++ here) = ap (λ (xs : List Entry). xs ++ here) a.5 ∙ append_assoc a.1 a.2 here in
-    (a.0, a.1, a.2 ++ here, a.3, a.4, made, a.6, answered_on tells mib w h a.0 lines answers a.2 to next l x here le within is a.7)
+    let moved : LineAnswer tells b w from (take next h) l.command x here new last = subst (λ (n : ℕ). LineAnswer tells b w n (take next h) l.command x here new last) (sym a.1) is in
+    (next, here, [], last, omega (arith, a.1, le), within, made, subst (λ (f : Areas). LineAnswer tells b w from (take next h) l.command x here f last) a.2 moved, (refl, refl, refl))
+answered_on tells b w h from [] (y ∷ answers) es to next l x here held new last le within is a = absurd a
+answered_on tells b w h from (k ∷ lines) [] es to next l x here held new last le within is a = absurd a
+answered_on tells b w h from (k ∷ lines) (y ∷ answers) es to next l x here held new last le within is a =
+    let made : es ++ here ≡ a.1 ++ (a.2 ++ here) = ap (λ (xs : List Entry). xs ++ here) a.6 ∙ append_assoc a.1 a.2 here in
+    (a.0, a.1, a.2 ++ here, a.3, a.4, a.5, made, a.7, answered_on tells b w h a.0 lines answers a.2 to next l x here a.3 new last le within is a.8)
 
 -- one more line, on all that is seen now
-pub answered_more : (tells : Type 0) (mib w : ℕ) (g h : List Entry) (from : ℕ) (lines : List Line) (answers : List Answer) (es : List Entry) (l : Line) (x : Answer) (here : List Entry) → IsPrefix g h
-    → LineAnswer tells mib w (length g) h l.command x here → Answered tells mib w g from lines answers es (length g)
-    → Answered tells mib w h from (lines ++ (l ∷ [])) (answers ++ (x ∷ [])) (es ++ here) (length h)
-answered_more tells mib w g h from lines answers es l x here p is a =
+pub answered_more : (tells : Type 0) (b : Basis) (w : ℕ) (g h : List Entry) (from : ℕ) (lines : List Line) (answers : List Answer) (es : List Entry) (l : Line) (x : Answer) (here : List Entry) (held new last : Areas) → IsPrefix g h
+    → LineAnswer tells b w (length g) h l.command x here new last → Answered tells b w g from lines answers es (length g) held new
+    → Answered tells b w h from (lines ++ (l ∷ [])) (answers ++ (x ∷ [])) (es ++ here) (length h) held last
+answered_more tells b w g h from lines answers es l x here held new last p is a =
     let all : take (length h) h ≡ h = take_all (length h) h (omega arith) in
-    answered_on tells mib w h from lines answers es (length g) (length h) l x here (prefix_length g h p) (omega arith)
-    (subst (λ (xs : List Entry). LineAnswer tells mib w (length g) xs l.command x here) (sym all) is)
-    (answered_later tells mib w g h from lines answers es (length g) p a)
+    answered_on tells b w h from lines answers es (length g) (length h) l x here held new last (prefix_length g h p) (omega arith)
+    (subst (λ (xs : List Entry). LineAnswer tells b w (length g) xs l.command x here new last) (sym all) is)
+    (answered_later tells b w g h from lines answers es (length g) held new p a)
 
 -- ---- which lines are run
 

@@ -13,16 +13,16 @@ use Rattle.crew.specs.Run.{Answered, AnswersStay, RunsAreAnswered, TakenOrRefuse
 use Rattle.crew.proofs.Moments.{answered_later}
 
 pub answers_hold : AnswersStay
-answers_hold tells mib worker seen history from to lines answers made p le a = answered_later (tells ≡ true) mib worker seen history from lines answers made to p a
+answers_hold tells b worker seen history from to lines answers made held new p le a = answered_later (tells ≡ true) b worker seen history from lines answers made to held new p a
 
 pub runs_answer : RunsAreAnswered
-runs_answer tells mib lines old new answers run none =
+runs_answer tells b lines old new held mid answers run none =
     let all : accepted_by old.worker run.own ≡ accepted_by old.worker new.list =
     sym (ap (accepted_by old.worker) run.grown ∙ filter-append (is_by old.worker) old.list run.own ∙ ap (λ (es : List Entry). es ++ accepted_by old.worker run.own) none) in
     record {
       to = length new.list;
       within = omega arith;
-      answered = subst (λ (es : List Entry). Answered (tells ≡ true) mib old.worker new.list (length old.list) lines answers es (length new.list)) all run.answered;
+      answered = subst (λ (es : List Entry). Answered (tells ≡ true) b old.worker new.list (length old.list) lines answers es (length new.list) held mid) all run.answered;
       order = run.order;
     }
 

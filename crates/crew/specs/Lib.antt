@@ -6,6 +6,7 @@ pub mod Meaning
 pub mod Reasons
 pub mod Script
 pub mod Laws
+pub mod Backups
 pub mod Run
 pub mod Inside
 pub mod Running

@@ -3,7 +3,7 @@ use Rattle.std.specs.Prelude.{ℕ, List, [], ◌∷◌, Option, Some, None, code
 use Rattle.std.specs.Option.{option_map}
 use Rattle.byte_words.specs.Numbers.{◌>>=◌}
 use Rattle.crew.specs.declared.script.Command.{Command}
-use Rattle.crew.specs.declared.script.Command.TheVariants.{Insert, Grow, Checkpoint, Flush}
+use Rattle.crew.specs.declared.script.Command.TheVariants.{Insert, Grow, Checkpoint, Flush, Full}
 use Rattle.crew.specs.declared.order.Order.TheVariants.{Create, Truncate, Change}
 use Rattle.crew.specs.Cuts.{words_of, is_name}
 use Rattle.text_numbers.specs.Numbers.{number_of}
@@ -81,6 +81,11 @@ flush_says words = do
   count ← flush_count word
   Some (Does (Flush count))
 
+abbrev pub full_says : List (List ℕ) → Option Says
+full_says words = do
+  name ← only words
+  if is_name name then Some (Does (Full name)) else None
+
 abbrev pub words_say : List (List ℕ) → Option Says
 words_say [] = None
 words_say (verb ∷ words) =
@@ -90,7 +95,8 @@ words_say (verb ∷ words) =
     else (if bytes_eq verb (codes "change") then change_says words
     else (if bytes_eq verb (codes "grow") then grow_says words
     else (if bytes_eq verb (codes "checkpoint") then checkpoint_says words
-    else (if bytes_eq verb (codes "flush") then flush_says words else None))))))
+    else (if bytes_eq verb (codes "flush") then flush_says words
+    else (if bytes_eq verb (codes "full") then full_says words else None)))))))
 
 -- None where a line says nothing that is taken; empty lines and comments say Nothing
 abbrev pub meaning : List ℕ → Option Says

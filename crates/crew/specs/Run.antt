@@ -1,5 +1,5 @@
 -- What the lines of a worker are answered, over the history that it has seen.
-use Rattle.std.specs.Prelude.{◌≡◌, ℕ, ◌+◌, ◌<◌, ◌≤◌, ◌⊎◌, ◌||◌, Bool, true, false, List, [], ◌∷◌, ◌++◌, length, take, slice_get, Option, Some, None}
+use Rattle.std.specs.Prelude.{◌≡◌, ◌≢◌, ℕ, ◌+◌, ◌<◌, ◌≤◌, ◌⊎◌, ◌||◌, Bool, true, false, List, [], ◌∷◌, ◌++◌, length, take, slice_get, Option, Some, None, IsSome, IfSome}
 use Rattle.std.specs.List.{All}
 use Rattle.std.specs.Option.{is_some}
 use Rattle.std.specs.FinMap.{empty}
@@ -12,9 +12,15 @@ use Rattle.lsn_core.specs.declared.fault.StoreArea.{StoreArea}
 use Rattle.lsn_core.specs.declared.fault.StoreFault.{StoreFault}
 use Rattle.lsn_core.specs.declared.fault.StoreFault.TheVariants as store
 use Rattle.lsn_core.specs.Causes.{Rose}
+use Rattle.lsn_core.specs.Files.{Files}
+use Rattle.lsn_core.specs.Segment.{StoreSettings}
 use Rattle.lsn_core.specs.Store.{Store}
+use Rattle.lsn_core.specs.declared.lsn.Lsn.{Lsn}
+use Rattle.vault.specs.Site.{Areas, AreaState}
+use Rattle.vault.specs.Lending.{IsNoneOf}
 use Rattle.history.specs.declared.op.Op.{Op}
-use Rattle.history.specs.Entry.{Entry, RedoMark, Online}
+use Rattle.history.specs.Entry.{Entry, RedoMark, Online, BackupEnd}
+use Rattle.fuzzy_copies.specs.Taken.{IsTaken}
 use Rattle.history.specs.Apply.{apply_all}
 use Rattle.history.specs.Op.{act_of_op}
 use Rattle.history.specs.Written.{record_of, tip_of}
@@ -24,12 +30,20 @@ use Rattle.shared_store.specs.Seen.{Seen, StaysBy, is_by, accepted_by}
 use Rattle.shared_store.specs.Refusals.{judged_at, IsRefusedBehind}
 use Rattle.shared_store.specs.Opened.{Opened, count_of}
 use Rattle.shared_store.specs.Calls.{IsMarkOf, FindsNoRoom, GoesOn}
+use Rattle.base_backup.specs.declared.fault.BackupFault.{BackupFault}
+use Rattle.base_backup.specs.declared.fault.BackupFault.TheVariants as backup
+use Rattle.base_backup.specs.Backup.{AreOfBackup, FindsNoRoomFor, HoldsNothing, HoldsSomething, KeepsManifest, RoseTwice}
+use Rattle.base_backup.specs.Directory.{IsFullBackup}
+use Rattle.command_base.specs.Areas.{backup_name}
 use Rattle.crew.specs.declared.script.Command.{Command}
 use Rattle.crew.specs.declared.script.Command.TheVariants as command
 use Rattle.crew.specs.declared.script.Line.{Line}
 use Rattle.crew.specs.declared.order.Order.{Order}
 use Rattle.crew.specs.declared.answer.Answer.{Answer}
-use Rattle.crew.specs.declared.answer.Answer.TheVariants.{Accepted, Refused, Grown, Stopped, Redo, CheckpointRefused, Wrote, CallFailed, NotRun}
+use Rattle.crew.specs.declared.answer.Answer.TheVariants.{Accepted, Refused, Grown, Stopped, Redo, CheckpointRefused, Wrote, CallFailed, Backup, BackupRefused, NotRun}
+use Rattle.crew.specs.declared.answer.Stop.{Stop}
+use Rattle.crew.specs.declared.answer.Stop.TheVariants as stop
+use Rattle.crew.specs.Backups.{areas_asked}
 use Rattle.crew.specs.Orders.{op_asked, grow_op, grow_ops}
 use Rattle.crew.specs.Shape.{Shape}
 
@@ -106,65 +120,169 @@ IsCheckpointRefused mib worker before now (mark.WalFull n) =
     × ((at : ℕ) × (before ≤ at) × FindsNoRoom mib worker (take at now) now)
 IsCheckpointRefused mib worker before now mark.NoMemory = Unit {0}
 
+-- ---- backups
+
+-- what lines run on: the settings of the store, and the moment of their backups
+pub record Basis : Type 0 where
+  pub settings : StoreSettings
+  pub when : ℕ
+
+abbrev pub basis_of : StoreSettings → ℕ → Basis
+basis_of settings when = record { settings = settings; when = when }
+
+-- a backup of a worker, behind so many entries: its checkpoint, and behind that its end
+pub record HasBackupAt (worker before : ℕ) (now : List Entry) (start checkpoint end : ℕ)
+    : Type 0 where
+  pub first : Entry
+  pub last : Entry
+  pub stop : Entry
+  pub entries : AreOfBackup worker first last stop
+  pub number : ℕ
+  pub later : before ≤ number
+  pub there : slice_get now number ≡ Some first
+  pub number_last : ℕ
+  pub behind : number < number_last
+  pub there_last : slice_get now number_last ≡ Some last
+  pub number_stop : ℕ
+  pub behind_last : number_last < number_stop
+  pub there_stop : slice_get now number_stop ≡ Some stop
+  pub start_is : start ≡ first.start
+  pub checkpoint_is : checkpoint ≡ last.start
+  pub end_is : end ≡ stop.end
+
+-- files are the directory of that backup under a name. Its pages were copied, each at a moment of
+-- its own, while this history was written
+pub record HoldsBackup (tells : Type 0) (b : Basis) (worker before : ℕ) (now : List Entry)
+    (name : List ℕ) (start end : Lsn) (files : Option Files) : Type 0 where
+  pub copy : Store
+  pub checkpoint : ℕ
+  pub count : ℕ
+  pub entries : HasBackupAt worker before now start.0 checkpoint end.0
+  pub directory : IsFullBackup b.settings name b.when copy
+      start (record { 0 = checkpoint }) end count files
+  pub taken : tells → IsTaken copy now start.0 end.0
+
+-- it does, wherever the backup starts and ends
+abbrev pub HoldsSomeBackup :
+    Type 0 → Basis → ℕ → ℕ → List Entry → List ℕ → Option Files → Type 0
+HoldsSomeBackup tells b worker before now name files =
+    (start : Lsn) × (end : Lsn) × HoldsBackup tells b worker before now name start end files
+
+-- of the areas that a worker holds this one alone may have changed, and its count didn't fall
+pub record OnlyAt (name : List ℕ) (held mid : Areas) : Type 0 where
+  pub others : (n : List ℕ) → n ≢ name → mid n ≡ held n
+  pub later : (held name).faults ≤ (mid name).faults
+
+-- an area that held a file has the files that it had
+abbrev pub KeepsFiles : Option Files → Option Files → Type 0
+KeepsFiles old new = IfSome old (λ m. m ≢ empty → new ≡ old)
+
+-- the WAL had no room for the backup, behind a beginning of the history
+abbrev pub MeetsFullWal : ℕ → ℕ → ℕ → List Entry → Type 0
+MeetsFullWal mib worker before now =
+    (at : ℕ) × (before ≤ at) × FindsNoRoomFor mib worker (take at now) now
+
+-- why a backup into an area was refused, and what it left there: no manifest, in an area that held
+-- none. Where its device failed in the manifest's removal too, or memory was missing then, one may be
+-- left: a part of it, or the whole
+abbrev pub IsBackupRefused :
+    Type 0 → Basis → ℕ → ℕ → List Entry → List ℕ → AreaState → AreaState → BackupFault → Type 0
+IsBackupRefused tells b worker before now name old new backup.NotEmpty =
+    HoldsSomething old.files × (length now ≡ before) × KeepsManifest old.files new.files
+IsBackupRefused tells b worker before now name old new (backup.WalFull n) =
+    HoldsNothing old.files × (n ≡ length now)
+    × MeetsFullWal b.settings.segment worker before now × KeepsManifest old.files new.files
+IsBackupRefused tells b worker before now name old new (backup.StoreFailed area) =
+    HoldsNothing old.files × KeepsManifest old.files new.files
+IsBackupRefused tells b worker before now name old new backup.OutFailed =
+    Rose old.faults new.faults
+    × (KeepsManifest old.files new.files ⊎ RoseTwice old.faults new.faults)
+IsBackupRefused tells b worker before now name old new backup.NoMemory =
+    KeepsManifest old.files new.files
+    ⊎ (Rose old.faults new.faults ⊎ HoldsSomeBackup tells b worker before now name new.files)
+
 -- ---- one line
 
 -- what a line's command was answered by a worker that had seen so many entries before and has seen
--- this history now, and the entries that its commands made
+-- this history now, the entries that its commands made, and what it left of the areas of backups
 abbrev pub LineAnswer :
-    Type 0 → ℕ → ℕ → ℕ → List Entry → Command → Answer → List Entry → Type 0
-LineAnswer tells mib worker before now line (Accepted place) made =
+    Type 0 → Basis → ℕ → ℕ → List Entry → Command → Answer → List Entry → Areas → Areas → Type 0
+LineAnswer tells b worker before now line (Accepted place) made held mid =
     (order : Order) × (line ≡ command.Insert order)
-    × Made tells mib worker now before (op_asked order ∷ []) made × (place ≡ span_of made)
-LineAnswer tells mib worker before now line (Refused why) made =
+    × Made tells b.settings.segment worker now before (op_asked order ∷ []) made
+    × (place ≡ span_of made) × (mid ≡ held)
+LineAnswer tells b worker before now line (Refused why) made held mid =
     (order : Order) × (line ≡ command.Insert order) × (made ≡ [])
-    × IsRefusedNow tells mib now (op_asked order) why
-LineAnswer tells mib worker before now line (Grown k place) made =
+    × IsRefusedNow tells b.settings.segment now (op_asked order) why × (mid ≡ held)
+LineAnswer tells b worker before now line (Grown k place) made held mid =
     (at : BlockId) × (shape : Shape) × (line ≡ command.Grow at k shape)
-    × Made tells mib worker now before (grow_ops at shape k) made × (place ≡ span_of made)
-LineAnswer tells mib worker before now line (Stopped k why) made =
+    × Made tells b.settings.segment worker now before (grow_ops at shape k) made
+    × (place ≡ span_of made) × (mid ≡ held)
+LineAnswer tells b worker before now line (Stopped k why) made held mid =
     (at : BlockId) × (count : ℕ) × (shape : Shape) × (line ≡ command.Grow at count shape)
-    × (k < count) × Made tells mib worker now before (grow_ops at shape k) made
-    × IsRefusedNow tells mib now (grow_op at shape k) why
-LineAnswer tells mib worker before now line (Redo redo) made =
+    × (k < count) × Made tells b.settings.segment worker now before (grow_ops at shape k) made
+    × IsRefusedNow tells b.settings.segment now (grow_op at shape k) why × (mid ≡ held)
+LineAnswer tells b worker before now line (Redo redo) made held mid =
     (line ≡ command.Checkpoint) × (made ≡ []) × HasCheckpointAt worker before now redo.0
-LineAnswer tells mib worker before now line (CheckpointRefused why) made =
-    (line ≡ command.Checkpoint) × (made ≡ []) × IsCheckpointRefused mib worker before now why
-LineAnswer tells mib worker before now line (Wrote k) made =
-    (count : ℕ) × (line ≡ command.Flush count) × (made ≡ []) × (k ≤ count)
-LineAnswer tells mib worker before now line (CallFailed why) made =
-    (count : ℕ) × (line ≡ command.Flush count) × (made ≡ [])
-LineAnswer tells mib worker before now line NotRun made = made ≡ []
+    × (mid ≡ held)
+LineAnswer tells b worker before now line (CheckpointRefused why) made held mid =
+    (line ≡ command.Checkpoint) × (made ≡ [])
+    × IsCheckpointRefused b.settings.segment worker before now why × (mid ≡ held)
+LineAnswer tells b worker before now line (Wrote k) made held mid =
+    (count : ℕ) × (line ≡ command.Flush count) × (made ≡ []) × (k ≤ count) × (mid ≡ held)
+LineAnswer tells b worker before now line (CallFailed why) made held mid =
+    (count : ℕ) × (line ≡ command.Flush count) × (made ≡ []) × (mid ≡ held)
+LineAnswer tells b worker before now line (Backup start end) made held mid =
+    (name : List ℕ) × (line ≡ command.Full name) × (made ≡ [])
+    × HoldsNothing (held (backup_name name)).files × OnlyAt (backup_name name) held mid
+    × HoldsBackup tells b worker before now name start end (mid (backup_name name)).files
+LineAnswer tells b worker before now line (BackupRefused why) made held mid =
+    (name : List ℕ) × (line ≡ command.Full name) × (made ≡ [])
+    × OnlyAt (backup_name name) held mid
+    × KeepsFiles (held (backup_name name)).files (mid (backup_name name)).files
+    × IsBackupRefused tells b worker before now name
+    (held (backup_name name)) (mid (backup_name name)) why
+LineAnswer tells b worker before now line NotRun made held mid = (made ≡ []) × (mid ≡ held)
 
 -- ---- lines in turn
 
--- lines and their answers, one each, from a moment of a history to another, and the entries that
--- their commands made. Each answer is a fact of the beginning of the history that the worker had seen
--- when it was given
+-- lines and their answers, one each, from a moment of a history to another, the entries that their
+-- commands made, and what they left of the areas of backups. Each answer is a fact of the beginning
+-- of the history that the worker had seen when it was given
 abbrev pub Answered :
-    Type 0 → ℕ → ℕ → List Entry → ℕ → List Line → List Answer → List Entry → ℕ → Type 0
-Answered tells mib worker history from [] [] made to = (made ≡ []) × (from ≡ to)
-Answered tells mib worker history from [] (answer ∷ answers) made to = ⊥
-Answered tells mib worker history from (line ∷ lines) [] made to = ⊥
-Answered tells mib worker history from (line ∷ lines) (answer ∷ answers) made to =
-    (next : ℕ) × (here : List Entry) × (rest : List Entry)
+    Type 0 → Basis → ℕ → List Entry → ℕ → List Line → List Answer → List Entry → ℕ
+    → Areas → Areas → Type 0
+Answered tells b worker history from [] [] made to held new =
+    (made ≡ []) × (from ≡ to) × (new ≡ held)
+Answered tells b worker history from [] (answer ∷ answers) made to held new = ⊥
+Answered tells b worker history from (line ∷ lines) [] made to held new = ⊥
+Answered tells b worker history from (line ∷ lines) (answer ∷ answers) made to held new =
+    (next : ℕ) × (here : List Entry) × (rest : List Entry) × (mid : Areas)
     × (from ≤ next) × (next ≤ length history) × (made ≡ here ++ rest)
-    × LineAnswer tells mib worker from (take next history) line.command answer here
-    × Answered tells mib worker history next lines answers rest to
+    × LineAnswer tells b worker from (take next history) line.command answer here held mid
+    × Answered tells b worker history next lines answers rest to mid new
 
 -- ---- what stops a worker
 
--- the fault by which the refusal of a command stops it, and that of a checkpoint: a device that
--- failed, or want of memory, but not want of room in the WAL
-abbrev pub insert_stop : InsertFault → Option StoreFault
-insert_stop insert.NoMemory = Some store.NoMemory
+-- by what the refusal of a command stops it, that of a checkpoint, and that of a backup: a device
+-- that failed, or want of memory, but not want of room in the WAL, and no area that holds a file
+abbrev pub insert_stop : InsertFault → Option Stop
+insert_stop insert.NoMemory = Some (stop.Store store.NoMemory)
 insert_stop why = None
 
-abbrev pub mark_stop : MarkFault → Option StoreFault
-mark_stop (mark.Failed area) = Some (store.Failed area)
+abbrev pub mark_stop : MarkFault → Option Stop
+mark_stop (mark.Failed area) = Some (stop.Store (store.Failed area))
 mark_stop (mark.WalFull n) = None
-mark_stop mark.NoMemory = Some store.NoMemory
+mark_stop mark.NoMemory = Some (stop.Store store.NoMemory)
 
-abbrev pub stop_of : Answer → Option StoreFault
+abbrev pub backup_stop : BackupFault → Option Stop
+backup_stop backup.NotEmpty = None
+backup_stop (backup.WalFull n) = None
+backup_stop (backup.StoreFailed area) = Some (stop.Store (store.Failed area))
+backup_stop backup.OutFailed = Some stop.Backup
+backup_stop backup.NoMemory = Some (stop.Store store.NoMemory)
+
+abbrev pub stop_of : Answer → Option Stop
 stop_of (Accepted place) = None
 stop_of (Refused why) = insert_stop why
 stop_of (Grown k place) = None
@@ -172,7 +290,9 @@ stop_of (Stopped k why) = insert_stop why
 stop_of (Redo redo) = None
 stop_of (CheckpointRefused why) = mark_stop why
 stop_of (Wrote k) = None
-stop_of (CallFailed why) = Some why
+stop_of (CallFailed why) = Some (stop.Store why)
+stop_of (Backup start end) = None
+stop_of (BackupRefused why) = backup_stop why
 stop_of NotRun = None
 
 abbrev pub is_not_run : Answer → Bool
@@ -189,9 +309,9 @@ InOrder stopped [] = Unit {0}
 InOrder stopped (answer ∷ answers) =
     (is_not_run answer ≡ stopped) × InOrder (stops_with answer) answers
 
--- an answer tells that an area failed
+-- an answer tells that an area of the store failed
 abbrev pub TellsFault : StoreArea → Answer → Type 0
-TellsFault area answer = stop_of answer ≡ Some (store.Failed area)
+TellsFault area answer = stop_of answer ≡ Some (stop.Store (store.Failed area))
 
 -- each area that an answer tells to have failed has a count of faults that rose
 abbrev pub FaultsRose : List Answer → Opened → Opened → Type 0
@@ -201,63 +321,113 @@ FaultsRose answers old new =
 
 -- ---- a worker's run
 
--- the start or the end of a checkpoint of this worker
-abbrev pub IsCheckpointMark : ℕ → Entry → Type 0
-IsCheckpointMark worker entry =
-    IsMarkOf worker (RedoMark 1) entry ⊎ ((redo : ℕ) × IsMarkOf worker (Online redo) entry)
+-- an entry of this worker that is no command's: the start or the end of a checkpoint, or the end of
+-- a backup
+abbrev pub IsMarkBy : ℕ → Entry → Type 0
+IsMarkBy worker entry =
+    IsMarkOf worker (RedoMark 1) entry
+    ⊎ (((redo : ℕ) × IsMarkOf worker (Online redo) entry)
+    ⊎ ((start : ℕ) × IsMarkOf worker (BackupEnd start) entry))
 
--- a worker made the entry, by a command or as a mark of a checkpoint
+-- a worker made the entry, by a command or as such a mark
 abbrev pub IsOfWorker : ℕ → Entry → Type 0
-IsOfWorker worker entry = (is_by worker entry ≡ true) ⊎ IsCheckpointMark worker entry
+IsOfWorker worker entry = (is_by worker entry ≡ true) ⊎ IsMarkBy worker entry
 
 -- a worker ran its lines: the history goes on with entries of its own, of which those of commands
 -- are those that its answers name, in order
-pub record HasRun (tells : Type 0) (mib : ℕ) (lines : List Line) (old new : Seen)
-    (answers : List Answer) : Type 0 where
+pub record HasRun (tells : Type 0) (b : Basis) (lines : List Line) (old new : Seen)
+    (held mid : Areas) (answers : List Answer) : Type 0 where
   pub stays : StaysBy old new
   pub own : List Entry
   pub grown : new.list ≡ old.list ++ own
   pub by : All (IsOfWorker old.worker) own
-  pub answered : Answered tells mib old.worker new.list (length old.list) lines answers
-      (accepted_by old.worker own) (length new.list)
+  pub answered : Answered tells b old.worker new.list (length old.list) lines answers
+      (accepted_by old.worker own) (length new.list) held mid
   pub counted : new.accepted ≡ old.accepted + length (accepted_by old.worker own)
   pub order : InOrder false answers
 
 -- so it is where a pass has seen a store's history, and the store goes on
-pub record RunsLines (tells : Type 0) (lines : List Line) (old new : Seen) (before behind : Opened)
-    (answers : List Answer) : Type 0 where
-  pub run : HasRun tells before.settings.segment lines old new answers
+pub record RunsLines (tells : Type 0) (when : ℕ) (lines : List Line) (old new : Seen)
+    (before behind : Opened) (held mid : Areas) (answers : List Answer) : Type 0 where
+  pub run : HasRun tells (basis_of before.settings when) lines old new held mid answers
   pub whole : new.list ≡ behind.history
   pub goes_on : GoesOn before behind
   pub risen : FaultsRose answers before behind
 
 -- a worker's answers over the finished history, of which so many entries were found: its accepted
 -- commands are exactly those that the answers name, in order
-pub record IsAnswered (tells : Type 0) (mib worker : ℕ) (history : List Entry) (found : ℕ)
-    (lines : List Line) (answers : List Answer) : Type 0 where
+pub record IsAnswered (tells : Type 0) (b : Basis) (worker : ℕ) (history : List Entry)
+    (found : ℕ) (lines : List Line) (answers : List Answer) (held new : Areas) : Type 0 where
   pub to : ℕ
   pub within : to ≤ length history
   pub answered :
-      Answered tells mib worker history found lines answers (accepted_by worker history) to
+      Answered tells b worker history found lines answers (accepted_by worker history) to held new
   pub order : InOrder false answers
+
+-- ---- what stands of backups when all lines were run
+
+-- where a line was answered that its backup was taken, the area of its name had the directory of the
+-- backup then, taken over a beginning of the history; and has it still, where it told its files then,
+-- or where no line behind this one names the backup too
+abbrev pub StandsFor :
+    Type 0 → Basis → ℕ → List Entry → Line → List Line → Answer → Areas → Type 0
+StandsFor tells b worker history line lines (Backup start end) areas =
+    (name : List ℕ) → line.command ≡ command.Full name
+    → (next : ℕ) × (files : Option Files) × (next ≤ length history)
+    × HoldsBackup tells b worker 0 (take next history) name start end files
+    × (IsSome files ⊎ IsNoneOf (backup_name name) (areas_asked lines)
+    → (areas (backup_name name)).files ≡ files)
+StandsFor tells b worker history line lines answer areas = Unit {0}
+
+abbrev pub BackupsStand :
+    Type 0 → Basis → ℕ → List Entry → List Line → List Answer → Areas → Type 0
+BackupsStand tells b worker history [] answers areas = Unit {0}
+BackupsStand tells b worker history (line ∷ lines) [] areas = Unit {0}
+BackupsStand tells b worker history (line ∷ lines) (answer ∷ answers) areas =
+    StandsFor tells b worker history line lines answer areas
+    × BackupsStand tells b worker history lines answers areas
+
+-- the area of a backup failed, by its answer, only where its count of faults rose
+abbrev pub FailsFor : Line → Answer → Areas → Areas → Type 0
+FailsFor line answer old new =
+    stop_of answer ≡ Some stop.Backup
+    → (name : List ℕ) × (line.command ≡ command.Full name)
+    × Rose (old (backup_name name)).faults (new (backup_name name)).faults
+
+abbrev pub BackupFaultsRose : List Line → List Answer → Areas → Areas → Type 0
+BackupFaultsRose [] answers old new = Unit {0}
+BackupFaultsRose (line ∷ lines) [] old new = Unit {0}
+BackupFaultsRose (line ∷ lines) (answer ∷ answers) old new =
+    FailsFor line answer old new × BackupFaultsRose lines answers old new
 
 -- ---- laws
 
 -- what was answered over a beginning of a history is answered over the history
 abbrev pub AnswersStay : Type 0
 AnswersStay =
-    (tells : Bool) (mib worker : ℕ) (seen history : List Entry) (from to : ℕ)
-    (lines : List Line) (answers : List Answer) (made : List Entry)
+    (tells : Bool) (b : Basis) (worker : ℕ) (seen history : List Entry) (from to : ℕ)
+    (lines : List Line) (answers : List Answer) (made : List Entry) (held new : Areas)
     → IsPrefix seen history → to ≤ length seen
-    → Answered (tells ≡ true) mib worker seen from lines answers made to
-    → Answered (tells ≡ true) mib worker history from lines answers made to
+    → Answered (tells ≡ true) b worker seen from lines answers made to held new
+    → Answered (tells ≡ true) b worker history from lines answers made to held new
 
 -- a worker of whose commands none is in what was found is answered so over what its run left
 abbrev pub RunsAreAnswered : Type 0
 RunsAreAnswered =
-    (tells : Bool) (mib : ℕ) (lines : List Line) (old new : Seen) (answers : List Answer)
-    → HasRun (tells ≡ true) mib lines old new answers → accepted_by old.worker old.list ≡ []
-    → IsAnswered (tells ≡ true) mib old.worker new.list (length old.list) lines answers
+    (tells : Bool) (b : Basis) (lines : List Line) (old new : Seen) (held mid : Areas)
+    (answers : List Answer)
+    → HasRun (tells ≡ true) b lines old new held mid answers
+    → accepted_by old.worker old.list ≡ []
+    → IsAnswered (tells ≡ true) b old.worker new.list (length old.list) lines answers held mid
+
+-- each backup that was answered stands, and each of its areas that failed has a count that rose
+abbrev pub AnswersTellBackups : Type 0
+AnswersTellBackups =
+    (tells : Bool) (b : Basis) (worker : ℕ) (history : List Entry) (found : ℕ)
+    (lines : List Line) (answers : List Answer) (held new : Areas)
+    → IsAnswered (tells ≡ true) b worker history found lines answers held new
+    → BackupsStand (tells ≡ true) b worker history lines answers new
+    × BackupFaultsRose lines answers held new
 
 -- behind one history a command is taken or refused, and never both, but for want of memory
 abbrev pub TakenOrRefused : Type 0

@@ -1,8 +1,9 @@
 //! What lines were answered.
 
 ghost use Rattle.std.specs.Prelude.{◌≡◌};
-ghost use Rattle.crew.specs.Run.{stops_with, insert_stop, mark_stop, stop_of};
+ghost use Rattle.crew.specs.Run.{stops_with, insert_stop, mark_stop, backup_stop, stop_of};
 
+use base_backup::BackupFault;
 use lsn_core::{Lsn, MarkFault, Place, StoreFault};
 use shared_store::InsertFault;
 use std::marker::Model;
@@ -27,34 +28,60 @@ pub enum Answer {
     Wrote(u32),
     /// One of its writes failed.
     CallFailed(StoreFault),
+    /// The full backup was taken: where a restore of it begins to read the WAL, and how far one
+    /// reads at least.
+    Backup(Lsn, Lsn),
+    /// The backup was refused, or failed.
+    BackupRefused(BackupFault),
     /// The worker was stopped before it.
     NotRun,
 }
 
-/// The fault by which the refusal of a command stops a worker.
-fn insert_stop(why: InsertFault) -> Option<StoreFault>
+/// By what an answer stops a worker.
+#[derive(Clone, Copy, Debug, PartialEq, Eq)]
+pub enum Stop {
+    /// The device of an area of the store failed, or memory ran out.
+    Store(StoreFault),
+    /// The device of the area of the line's backup failed.
+    Backup,
+}
+
+/// By what the refusal of a command stops a worker.
+fn insert_stop(why: InsertFault) -> Option<Stop>
     ensures { result ≡ insert_stop why }
 {
     match why {
-        InsertFault::NoMemory => Some(StoreFault::NoMemory),
+        InsertFault::NoMemory => Some(Stop::Store(StoreFault::NoMemory)),
         _ => None,
     }
 }
 
-/// The fault by which a checkpoint that was not done stops a worker.
-fn mark_stop(why: MarkFault) -> Option<StoreFault>
+/// By what a checkpoint that was not done stops a worker.
+fn mark_stop(why: MarkFault) -> Option<Stop>
     ensures { result ≡ mark_stop why }
 {
     match why {
-        MarkFault::Failed(area) => Some(StoreFault::Failed(area)),
+        MarkFault::Failed(area) => Some(Stop::Store(StoreFault::Failed(area))),
         MarkFault::WalFull(_) => None,
-        MarkFault::NoMemory => Some(StoreFault::NoMemory),
+        MarkFault::NoMemory => Some(Stop::Store(StoreFault::NoMemory)),
+    }
+}
+
+/// By what a backup that was refused, or failed, stops a worker.
+fn backup_stop(why: BackupFault) -> Option<Stop>
+    ensures { result ≡ backup_stop why }
+{
+    match why {
+        BackupFault::NotEmpty | BackupFault::WalFull(_) => None,
+        BackupFault::StoreFailed(area) => Some(Stop::Store(StoreFault::Failed(area))),
+        BackupFault::OutFailed => Some(Stop::Backup),
+        BackupFault::NoMemory => Some(Stop::Store(StoreFault::NoMemory)),
     }
 }
 
 impl Answer {
-    /// The fault by which this answer stops the worker: a device that failed, or want of memory.
-    pub fn stop(self) -> Option<StoreFault>
+    /// By what this answer stops the worker: a device that failed, or want of memory.
+    pub fn stop(self) -> Option<Stop>
         ensures { result ≡ stop_of self }
     {
         match self {
@@ -65,7 +92,9 @@ impl Answer {
             Answer::Redo(_) => None,
             Answer::CheckpointRefused(why) => mark_stop(why),
             Answer::Wrote(_) => None,
-            Answer::CallFailed(why) => Some(why),
+            Answer::CallFailed(why) => Some(Stop::Store(why)),
+            Answer::Backup(_, _) => None,
+            Answer::BackupRefused(why) => backup_stop(why),
             Answer::NotRun => None,
         }
     }

@@ -1,7 +1,7 @@
 //! Laws of scripts and of their runs: each is the contract of a function that does nothing.
 
 ghost use Rattle.crew.specs.Laws.{HasOneAnswer};
-ghost use Rattle.crew.specs.Run.{AnswersStay, RunsAreAnswered, TakenOrRefused};
+ghost use Rattle.crew.specs.Run.{AnswersStay, RunsAreAnswered, AnswersTellBackups, TakenOrRefused};
 
 /// The answers on a script shut each other out: it is taken as one list of commands, or refused at
 /// one line for one reason.
@@ -18,6 +18,13 @@ pub fn answers_stay()
 /// left: its accepted commands there are those that the answers name, in order.
 pub fn runs_are_answered()
     ensures { RunsAreAnswered }
+{}
+
+/// A worker's answers tell of its backups: the directory of each that was taken stands in its area when
+/// all lines were run, where the area tells its files, or where no later line names the backup too; and
+/// an area failed only where its count of faults rose.
+pub fn answers_tell_backups()
+    ensures { AnswersTellBackups }
 {}
 
 /// A command that is taken behind a history is refused there for want of memory alone.

@@ -4,14 +4,17 @@
 //! bad line with a reason (`specs/Script.antt`). `run_lines` runs a worker's lines on an open
 //! store: each answer is a fact of the beginning of the history that the worker had seen when it
 //! was given, and the entries of its accepted commands are those that its answers name, in order
-//! (`specs/Run.antt`). What holds of every script and of every run are laws (`laws`).
+//! (`specs/Run.antt`). The areas of its backups are the worker's own: what each answer leaves of them
+//! stands beside what it says of the history. What holds of every script and of every run are laws
+//! (`laws`).
 //!
 //! Left to others: whether a command may be done, its place in the WAL, checkpoints and what is
-//! flushed (`shared_store`), where the bytes of a script come from, and printing answers. So far
-//! there is one worker a script.
+//! flushed (`shared_store`), what a backup does (`base_backup`), where the bytes of a script and the
+//! areas come from, and printing answers. So far there is one worker a script.
 #![tactic(auto)]
 
 mod answer;
+mod backups;
 mod cuts;
 mod frags;
 mod items;
@@ -24,9 +27,11 @@ mod script;
 mod shape;
 mod why;
 
-pub use answer::{Answer, Answers};
+pub use answer::{Answer, Answers, Stop};
 pub use cuts::is_name;
-pub use laws::{answers_stay, runs_are_answered, script_has_one_answer, taken_or_refused};
+pub use laws::{
+    answers_stay, answers_tell_backups, runs_are_answered, script_has_one_answer, taken_or_refused,
+};
 pub use order::{Order, OrderEdit, OrderItem, OrderItems};
 pub use reading::read_script;
 pub use run::run_lines;

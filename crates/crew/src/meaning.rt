@@ -5,14 +5,14 @@ ghost use Rattle.std.specs.Option.{option_map};
 ghost use Rattle.crew.specs.Cuts.{words_of};
 ghost use Rattle.crew.specs.Meaning.{only, two, three, words_say, meaning};
 ghost use Rattle.crew.specs.Meaning.{worker_says, create_says, truncate_says, change_says};
-ghost use Rattle.crew.specs.Meaning.{grow_says, checkpoint_says, flush_says};
+ghost use Rattle.crew.specs.Meaning.{grow_says, checkpoint_says, flush_says, full_says};
 ghost use Rattle.crew.specs.Inside.{said};
 
 use crate::cuts::{first_word, is_name};
 use crate::items::{block_in, flush_count, fork_in, growth_count, items_in, rel_in, shape_in};
 use crate::order::Order;
 use crate::script::Command;
-use lsn_core::NoMemory;
+use lsn_core::{NoMemory, Text};
 use std::alloc::Global;
 use text_numbers::digits_in;
 
@@ -122,6 +122,18 @@ fn flush_said(text: &[u8]) -> Option<Said<'_>>
     Some(Said::Does(Command::Flush(count)))
 }
 
+/// What a line says that takes a full backup. None exactly where that is no name.
+fn full_said(alloc: Global, text: &[u8]) -> Result<Option<Said<'_>>, NoMemory>
+    ensures { IfOk result (λ what. option_map said what ≡ full_says (words_of text.now)) }
+{
+    match only_word(text) {
+        Some(name) if is_name(name) => {
+            Ok(Some(Said::Does(Command::Full(Text::copied(alloc, name)?))))
+        }
+        _ => Ok(None),
+    }
+}
+
 /// What a verb and the words behind it say. None exactly where that is nothing that is taken.
 fn words_said<'a>(alloc: Global, verb: &[u8], text: &'a [u8]) -> Result<Option<Said<'a>>, NoMemory>
     ensures { IfOk result (λ s. option_map said s ≡ words_say (verb.now ∷ words_of text.now)) }
@@ -146,6 +158,9 @@ fn words_said<'a>(alloc: Global, verb: &[u8], text: &'a [u8]) -> Result<Option<S
     }
     if verb == b"flush".as_slice() {
         return Ok(flush_said(text));
+    }
+    if verb == b"full".as_slice() {
+        return full_said(alloc, text);
     }
     Ok(None)
 }

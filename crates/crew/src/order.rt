@@ -95,7 +95,7 @@ pub(crate) fn grow_op(alloc: Global, at: BlockId, shape: PageShape, k: u32) -> R
             fork: at.fork,
             block,
         },
-        edit: Edit::Put(page_of(shape)),
+        edit: Edit::Put(page_of(alloc, shape)?),
     })?;
     Ok(Op::Change(Items::from_vec(list)))
 }
@@ -117,17 +117,17 @@ fn edit_of(alloc: Global, edit: &OrderEdit) -> Result<Edit, AllocError>
     ensures { IfOk result (λ e. e ≡ edit_asked edit.now) }
 {
     match edit {
-        OrderEdit::Put(shape) => Ok(Edit::Put(page_of(*shape))),
+        OrderEdit::Put(shape) => Ok(Edit::Put(page_of(alloc, *shape)?)),
         OrderEdit::Patch(frags) => Ok(Edit::Patch(frags.copied(alloc)?)),
     }
 }
 
 /// The page that is made so.
-fn page_of(shape: PageShape) -> Page
-    ensures { result ≡ made_page shape.lower shape.upper shape.fill }
+fn page_of(alloc: Global, shape: PageShape) -> Result<Page, AllocError>
+    ensures { IfOk result (λ page. page ≡ made_page shape.lower shape.upper shape.fill) }
 {
-    let Some(page) = make_page(shape.lower(), shape.upper(), shape.fill()) else {
+    let Some(page) = make_page(alloc, shape.lower(), shape.upper(), shape.fill())? else {
         unreachable!()
     };
-    page
+    Ok(page)
 }

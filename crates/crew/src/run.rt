@@ -5,10 +5,13 @@ ghost use Rattle.std.specs.Prelude.{[], true, false, length, IfOk};
 ghost use Rattle.std.specs.Vec.{vec_len, vec_capacity};
 ghost use Rattle.history.specs.declared.op.Op.{Op};
 ghost use Rattle.crew.specs.declared.script.Command.TheVariants as command;
+ghost use Rattle.vault.specs.Lending.{AreLater};
+ghost use Rattle.crew.specs.Backups.{area_asked, areas_asked, areas_of, AreHeld};
 ghost use Rattle.crew.specs.Run.{RunsLines};
-ghost use Rattle.crew.specs.Running.{Knows, Inserts, LineRuns};
+ghost use Rattle.crew.specs.Running.{Knows, Inserts, CommandRuns, LineRuns};
 
 use crate::answer::Answer;
+use crate::backups::full;
 use crate::order::{Order, grow_op};
 use crate::script::{Command, Line};
 use crate::shape::PageShape;
@@ -16,7 +19,7 @@ use history::Op;
 use lsn_core::{BlockId, Lsn, NoMemory, Place};
 use shared_store::{InsertFault, OfCrew, Pass, Store};
 use std::alloc::Global;
-use vault::Vault;
+use vault::{Held, Vault};
 
 /// Inserts a command, which is refused where there was no memory to make it.
 fn insert_made<J: OfCrew, V: Vault>(
@@ -47,7 +50,7 @@ fn insert<J: OfCrew, V: Vault>(
     order: &Order,
 ) -> Answer
     requires { Knows pass.old store.old }
-    ensures { LineRuns (J.tells ≡ true) (command.Insert order.now) false pass.old pass.new
+    ensures { CommandRuns (J.tells ≡ true) (command.Insert order.now) pass.old pass.new
         store.old store.new result }
 {
     match insert_made(alloc, store, pass, order.op(alloc)) {
@@ -81,7 +84,7 @@ fn grow<J: OfCrew, V: Vault>(
     shape: PageShape,
 ) -> Answer
     requires { Knows pass.old store.old }
-    ensures { LineRuns (J.tells ≡ true) (command.Grow at.now count shape) false pass.old pass.new
+    ensures { CommandRuns (J.tells ≡ true) (command.Grow at.now count shape) pass.old pass.new
         store.old store.new result }
 {
     let mut span = Place {
@@ -104,7 +107,7 @@ fn checkpoint<J: OfCrew, V: Vault>(
     pass: &mut Pass<J>,
 ) -> Answer
     requires { Knows pass.old store.old }
-    ensures { LineRuns (J.tells ≡ true) command.Checkpoint false pass.old pass.new
+    ensures { CommandRuns (J.tells ≡ true) command.Checkpoint pass.old pass.new
         store.old store.new result }
 {
     match store.checkpoint(alloc, pass) {
@@ -121,7 +124,7 @@ fn flush<J: OfCrew, V: Vault>(
     count: u32,
 ) -> Answer
     requires { Knows pass.old store.old }
-    ensures { LineRuns (J.tells ≡ true) (command.Flush count) false pass.old pass.new
+    ensures { CommandRuns (J.tells ≡ true) (command.Flush count) pass.old pass.new
         store.old store.new result }
 {
     let mut wrote = 0;
@@ -143,17 +146,23 @@ fn answer_to<J: OfCrew, V: Vault>(
     alloc: Global,
     store: &mut Store<J, V>,
     pass: &mut Pass<J>,
+    held: &mut [Held<V>],
+    when: u64,
     command: &Command,
 ) -> Answer
-    requires { Knows pass.old store.old }
-    ensures { LineRuns (J.tells ≡ true) command.now false pass.old pass.new
-        store.old store.new result }
+    requires knows { Knows pass.old store.old }
+    requires when { when ≤ 253402207199 }
+    requires held { AreHeld (area_asked command.now) held.old }
+    ensures runs { LineRuns (J.tells ≡ true) when command.now false pass.old pass.new
+        store.old store.new (areas_of V.Vault held.old) (areas_of V.Vault held.new) result }
+    ensures later { AreLater V.Vault held.old held.new }
 {
     match command {
         Command::Insert(order) => insert(alloc, store, pass, order),
         Command::Grow(at, count, shape) => grow(alloc, store, pass, at, *count, *shape),
         Command::Checkpoint => checkpoint(alloc, store, pass),
         Command::Flush(count) => flush(alloc, store, pass, *count),
+        Command::Full(name) => full(alloc, store, pass, held, when, name),
     }
 }
 
@@ -162,17 +171,22 @@ fn run_line<J: OfCrew, V: Vault>(
     alloc: Global,
     store: &mut Store<J, V>,
     pass: &mut Pass<J>,
+    held: &mut [Held<V>],
+    when: u64,
     line: &Line,
     stopped: bool,
 ) -> Answer
-    requires { Knows pass.old store.old }
-    ensures { LineRuns (J.tells ≡ true) line.now.command stopped pass.old pass.new
-        store.old store.new result }
+    requires knows { Knows pass.old store.old }
+    requires when { when ≤ 253402207199 }
+    requires held { AreHeld (area_asked line.now.command) held.old }
+    ensures runs { LineRuns (J.tells ≡ true) when line.now.command stopped pass.old pass.new
+        store.old store.new (areas_of V.Vault held.old) (areas_of V.Vault held.new) result }
+    ensures later { AreLater V.Vault held.old held.new }
 {
     if stopped {
         Answer::NotRun
     } else {
-        answer_to(alloc, store, pass, &line.command)
+        answer_to(alloc, store, pass, held, when, &line.command)
     }
 }
 
@@ -189,24 +203,30 @@ fn put(answers: &mut Vec<Answer>, answer: Answer)
 }
 
 /// Runs the lines of a worker on an open store, each on what those before it left, and puts their
-/// answers where there is room for them. After a device that failed or want of memory the other lines
-/// aren't run.
+/// answers where there is room for them. The areas of its backups are held by their names; `when` is
+/// the moment of these, in seconds since 1970 UTC. After a device that failed or want of memory the
+/// other lines aren't run.
 pub fn run_lines<J: OfCrew, V: Vault>(
     alloc: Global,
     store: &mut Store<J, V>,
     pass: &mut Pass<J>,
+    held: &mut [Held<V>],
+    when: u64,
     lines: &[Line],
     answers: &mut Vec<Answer>,
 )
     requires seen { pass.old.list ≡ store.old.history }
+    requires when { when ≤ 253402207199 }
+    requires held { AreHeld (areas_asked lines.now) held.old }
     requires none { answers.old.items ≡ [] }
     requires empty { vec_len answers.old ≡ 0 }
     requires room { length lines.now ≤ vec_capacity answers.old }
-    ensures run { RunsLines (J.tells ≡ true) lines.now pass.old pass.new store.old store.new
-        answers.new.items }
+    ensures run { RunsLines (J.tells ≡ true) when lines.now pass.old pass.new store.old store.new
+        (areas_of V.Vault held.old) (areas_of V.Vault held.new) answers.new.items }
+    ensures later { AreLater V.Vault held.old held.new }
 {
     store.know();
-    run_into(alloc, store, pass, lines, answers);
+    run_into(alloc, store, pass, held, when, lines, answers);
 }
 
 /// The same, where the pass knows the store.
@@ -214,19 +234,24 @@ fn run_into<J: OfCrew, V: Vault>(
     alloc: Global,
     store: &mut Store<J, V>,
     pass: &mut Pass<J>,
+    held: &mut [Held<V>],
+    when: u64,
     lines: &[Line],
     answers: &mut Vec<Answer>,
 )
     requires knows { Knows pass.old store.old }
+    requires when { when ≤ 253402207199 }
+    requires held { AreHeld (areas_asked lines.now) held.old }
     requires none { answers.old.items ≡ [] }
     requires empty { vec_len answers.old ≡ 0 }
     requires room { length lines.now ≤ vec_capacity answers.old }
-    ensures { RunsLines (J.tells ≡ true) lines.now pass.old pass.new store.old store.new
-        answers.new.items }
+    ensures run { RunsLines (J.tells ≡ true) when lines.now pass.old pass.new store.old store.new
+        (areas_of V.Vault held.old) (areas_of V.Vault held.new) answers.new.items }
+    ensures later { AreLater V.Vault held.old held.new }
 {
     let mut stopped = false;
     for line in lines {
-        let answer = run_line(alloc, store, pass, line, stopped);
+        let answer = run_line(alloc, store, pass, held, when, line, stopped);
         stopped = answer.stops();
         put(answers, answer);
     }

@@ -1,6 +1,7 @@
 //! A script that was taken: its worker and the commands of that.
 
 ghost use Rattle.std.specs.Prelude.{◌≡◌};
+ghost use Rattle.crew.specs.Backups.{backup_taken};
 
 use crate::order::Order;
 use crate::shape::PageShape;
@@ -22,6 +23,21 @@ pub enum Command {
     Checkpoint,
     /// Write pages that wait back to the data area, at most so many, 1 to 1,000,000.
     Flush(u32),
+    /// Take a full backup under this name.
+    Full(Text),
+}
+
+impl Command {
+    /// The name of its backup; of a command that takes none, no bytes.
+    pub fn backup(&self) -> &[u8]
+        ensures { result.now ≡ backup_taken self.now }
+    {
+        match self {
+            Command::Full(name) => name.as_bytes(),
+            Command::Insert(_) | Command::Grow(_, _, _) | Command::Checkpoint | Command::Flush(_) =>
+                b"",
+        }
+    }
 }
 
 /// A command, and the number of its line in the script, counted from 1.

@@ -7,7 +7,8 @@ use crate::script::script_note;
 use crate::usage::usage_of;
 use crate::wal::wal_note;
 use command_base::{backup_name, output_name};
-use lsn_core::{NoMemory, Text};
+use crew::Stop;
+use lsn_core::{AreaFault, NoMemory, Text};
 use pgbackup_cli::{Answer, InitFault, ReplayFault, VerifyFault};
 use run_command::{RunFault, RunReport};
 use shared_store::BeginWhy;
@@ -57,9 +58,26 @@ fn run_note(alloc: Global, fault: &RunFault) -> Result<Text, NoMemory> {
 
 /// The note on a run whose script was run.
 fn ending_note(alloc: Global, report: &RunReport) -> Result<Text, NoMemory> {
-    match report.ending() {
-        Ok(_) => Ok(Text::from_vec(Vec::new(alloc))),
-        Err(fault) => store_note(alloc, fault),
+    match report.told.stop() {
+        Some((line, stop)) => stop_note(alloc, line.command.backup(), stop),
+        None => match report.closed {
+            Ok(_) => Ok(Text::from_vec(Vec::new(alloc))),
+            Err(fault) => store_note(alloc, fault),
+        },
+    }
+}
+
+/// The note on a line that was stopped, which takes a backup of this name, if it takes one.
+fn stop_note(alloc: Global, name: &[u8], stop: Stop) -> Result<Text, NoMemory> {
+    match stop {
+        Stop::Store(fault) => store_note(alloc, fault),
+        Stop::Backup => {
+            area_note(
+                alloc,
+                backup_name(alloc, name)?.as_bytes(),
+                AreaFault::Failed,
+            )
+        }
     }
 }
 

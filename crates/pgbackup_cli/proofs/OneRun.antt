@@ -59,8 +59,8 @@ same_opened w files s t rs qs a b told given other here there first second =
     let one = one_reading s files rs qs (found_tip s rs) (found_tip s qs) here again in
     same_lsn a b (first ∙ (ap (λ (x : Tip). x.end) one.1 ∙ (ap (λ (x : StoreSettings). (found_tip x qs).end) (sym same) ∙ sym second)))
 
-begun_alike : (w : AreaState) (files : Files) (old new other : Outside) (a b : RunReport) → old.areas wal_name ≡ w → w.files ≡ Some files → RunDone old.areas new.areas a → RunDone old.areas other.areas b → a.opened ≡ b.opened
-begun_alike w files old new other a b is told first second =
+begun_alike : (w : AreaState) (files : Files) (old new other : Outside) (when also : ℕ) (a b : RunReport) → old.areas wal_name ≡ w → w.files ≡ Some files → RunDone when old.areas new.areas a → RunDone also old.areas other.areas b → a.opened ≡ b.opened
+begun_alike w files old new other when also a b is told first second =
     let told_here : (old.areas wal_name).files ≡ Some files = ap (λ (x : AreaState). x.files) is ∙ told in
     same_opened (old.areas wal_name) files first.settings second.settings first.found second.found a.opened b.opened told_here first.given second.given
     (at_told (old.areas wal_name).files files (HasFound first.settings first.found) told_here first.archive)
@@ -178,8 +178,8 @@ some_or_empty files s rs given wal some none =
     let one = one_reading s files rs [] (found_tip s rs) (first_tip s.segment) wal bare in
     absurd (omega (arith, some, ap (λ (xs : List Record). length xs) one.0))
 
-done_or_refused : (old new other : Outside) (files : Files) (a : RunReport) (f : RecoveryFault) → (old.areas wal_name).files ≡ Some files → RunDone old.areas new.areas a → BeginCause (old.areas wal_name).files (old.areas wal_name).faults (other.areas wal_name).faults f → IsOfFiles f → ⊥
-done_or_refused old new other files a f told done cause own =
+done_or_refused : (old new other : Outside) (files : Files) (when : ℕ) (a : RunReport) (f : RecoveryFault) → (old.areas wal_name).files ≡ Some files → RunDone when old.areas new.areas a → BeginCause (old.areas wal_name).files (old.areas wal_name).faults (other.areas wal_name).faults f → IsOfFiles f → ⊥
+done_or_refused old new other files when a f told done cause own =
     let w : AreaState = old.areas wal_name in
     let s : StoreSettings = done.settings in
     let given : HasSettings (Some files) s = subst (λ (o : Option Files). HasSettings o s) told done.given in
@@ -239,46 +239,48 @@ refused_for : RecoveryFault → RunFault
 refused_for fault = run.Begin (begin.Wal fault)
 
 -- a run that was done, and one that was refused
-one_done : (old new other : Outside) (files : Files) (whole : List ℕ) (a : RunReport) (f : RunFault) → (old.areas wal_name).files ≡ Some files → old.left ≡ Some whole → RunAnswer old new (Ok a) → RunAnswer old other (Err f) → IsOfOutside f → ⊥
-one_done old new other files whole a (run.Input why) told input first second own = own
-one_done old new other files whole a (run.Script n why) told input first second own = taken_or_refused old.left new.left other.left whole (tasks_told a.told) n why input first.0 second.1
-one_done old new other files whole a run.NoMemory told input first second own = own
-one_done old new other files whole a (run.Site fault) told input first second own = own
-one_done old new other files whole a (run.Begin (begin.Wal why)) told input first second own = done_or_refused old new other files a why told first.1 second.2.1 own
-one_done old new other files whole a (run.Begin (begin.Data why)) told input first second own = own
+one_done : (old new other : Outside) (files : Files) (whole : List ℕ) (when then : ℕ) (script again : List Task) (a : RunReport) (f : RunFault) → (old.areas wal_name).files ≡ Some files → old.left ≡ Some whole → RunAnswer when script old new (Ok a) → RunAnswer then again old other (Err f)
+    → IsOfOutside f → ⊥
+one_done old new other files whole when then script again a (run.Input why) told input first second own = own
+one_done old new other files whole when then script again a (run.Script n why) told input first second own = taken_or_refused old.left new.left other.left whole script n why input first.1 second.1
+one_done old new other files whole when then script again a run.NoMemory told input first second own = own
+one_done old new other files whole when then script again a (run.Site fault) told input first second own = own
+one_done old new other files whole when then script again a (run.Begin (begin.Wal why)) told input first second own = done_or_refused old new other files when a why told first.2 second.1.1 own
+one_done old new other files whole when then script again a (run.Begin (begin.Data why)) told input first second own = own
 
 -- two runs that were refused
-both_refused : (old new other : Outside) (files : Files) (whole : List ℕ) (f g : RunFault) → (old.areas wal_name).files ≡ Some files → old.left ≡ Some whole → RunAnswer old new (Err f) → RunAnswer old other (Err g) → IsOfOutside f → IsOfOutside g → f ≡ g
+both_refused : (old new other : Outside) (files : Files) (whole : List ℕ) (when then : ℕ) (script again : List Task) (f g : RunFault) → (old.areas wal_name).files ≡ Some files → old.left ≡ Some whole → RunAnswer when script old new (Err f) → RunAnswer then again old other (Err g)
+    → IsOfOutside f → IsOfOutside g → f ≡ g
 unfolding refused_line refused_for
-both_refused old new other files whole (run.Input why) g told input first second own also = absurd own
-both_refused old new other files whole run.NoMemory g told input first second own also = absurd own
-both_refused old new other files whole (run.Site fault) g told input first second own also = absurd own
-both_refused old new other files whole (run.Begin (begin.Data why)) g told input first second own also = absurd own
-both_refused old new other files whole (run.Script n why) (run.Input w) told input first second own also = absurd also
-both_refused old new other files whole (run.Script n why) (run.Script m w) told input first second own also = same_line old.left new.left other.left whole n m why w input first.1 second.1
-both_refused old new other files whole (run.Script n why) run.NoMemory told input first second own also = absurd also
-both_refused old new other files whole (run.Script n why) (run.Site w) told input first second own also = absurd also
-both_refused old new other files whole (run.Script n why) (run.Begin (begin.Wal w)) told input first second own also = absurd (taken_or_refused old.left other.left new.left whole second.0 n why input second.1 first.1)
-both_refused old new other files whole (run.Script n why) (run.Begin (begin.Data w)) told input first second own also = absurd also
-both_refused old new other files whole (run.Begin (begin.Wal why)) (run.Input w) told input first second own also = absurd also
-both_refused old new other files whole (run.Begin (begin.Wal why)) (run.Script m w) told input first second own also = absurd (taken_or_refused old.left new.left other.left whole first.0 m w input first.1 second.1)
-both_refused old new other files whole (run.Begin (begin.Wal why)) run.NoMemory told input first second own also = absurd also
-both_refused old new other files whole (run.Begin (begin.Wal why)) (run.Site w) told input first second own also = absurd also
-both_refused old new other files whole (run.Begin (begin.Wal why)) (run.Begin (begin.Wal w)) told input first second own also =
-    ap refused_for (same_refusal (old.areas wal_name) (new.areas wal_name) (other.areas wal_name) files why w told first.2.1 second.2.1 own also)
-both_refused old new other files whole (run.Begin (begin.Wal why)) (run.Begin (begin.Data w)) told input first second own also = absurd also
+both_refused old new other files whole when then script again (run.Input why) g told input first second own also = absurd own
+both_refused old new other files whole when then script again run.NoMemory g told input first second own also = absurd own
+both_refused old new other files whole when then script again (run.Site fault) g told input first second own also = absurd own
+both_refused old new other files whole when then script again (run.Begin (begin.Data why)) g told input first second own also = absurd own
+both_refused old new other files whole when then script again (run.Script n why) (run.Input w) told input first second own also = absurd also
+both_refused old new other files whole when then script again (run.Script n why) (run.Script m w) told input first second own also = same_line old.left new.left other.left whole n m why w input first.1 second.1
+both_refused old new other files whole when then script again (run.Script n why) run.NoMemory told input first second own also = absurd also
+both_refused old new other files whole when then script again (run.Script n why) (run.Site w) told input first second own also = absurd also
+both_refused old new other files whole when then script again (run.Script n why) (run.Begin (begin.Wal w)) told input first second own also = absurd (taken_or_refused old.left other.left new.left whole again n why input second.0 first.1)
+both_refused old new other files whole when then script again (run.Script n why) (run.Begin (begin.Data w)) told input first second own also = absurd also
+both_refused old new other files whole when then script again (run.Begin (begin.Wal why)) (run.Input w) told input first second own also = absurd also
+both_refused old new other files whole when then script again (run.Begin (begin.Wal why)) (run.Script m w) told input first second own also = absurd (taken_or_refused old.left new.left other.left whole script m w input first.0 second.1)
+both_refused old new other files whole when then script again (run.Begin (begin.Wal why)) run.NoMemory told input first second own also = absurd also
+both_refused old new other files whole when then script again (run.Begin (begin.Wal why)) (run.Site w) told input first second own also = absurd also
+both_refused old new other files whole when then script again (run.Begin (begin.Wal why)) (run.Begin (begin.Wal w)) told input first second own also =
+    ap refused_for (same_refusal (old.areas wal_name) (new.areas wal_name) (other.areas wal_name) files why w told first.1.1 second.1.1 own also)
+both_refused old new other files whole when then script again (run.Begin (begin.Wal why)) (run.Begin (begin.Data w)) told input first second own also = absurd also
 
-begin_alike : (old new other : Outside) (files : Files) (whole : List ℕ) (a b : RunResult) → (old.areas wal_name).files ≡ Some files → old.left ≡ Some whole → RunAnswer old new a → RunAnswer old other b → BeginAlike a b
-begin_alike old new other files whole (Ok a) (Ok b) told input first second = (
-  begun_alike (old.areas wal_name) files old new other a b refl told first.1 second.1,
-  same_script old.left new.left other.left whole (tasks_told a.told) (tasks_told b.told) input first.0 second.0,
+begin_alike : (old new other : Outside) (files : Files) (whole : List ℕ) (when then : ℕ) (script again : List Task) (a b : RunResult) → (old.areas wal_name).files ≡ Some files → old.left ≡ Some whole → RunAnswer when script old new a → RunAnswer then again old other b → BeginAlike a b
+begin_alike old new other files whole when then script again (Ok a) (Ok b) told input first second = (
+  begun_alike (old.areas wal_name) files old new other when then a b refl told first.2 second.2,
+  first.0 ∙ (same_script old.left new.left other.left whole script again input first.1 second.1 ∙ sym second.0),
 )
-begin_alike old new other files whole (Ok a) (Err g) told input first second = one_done old new other files whole a g told input first second
-begin_alike old new other files whole (Err f) (Ok b) told input first second = one_done old other new files whole b f told input second first
-begin_alike old new other files whole (Err f) (Err g) told input first second = both_refused old new other files whole f g told input first second
+begin_alike old new other files whole when then script again (Ok a) (Err g) told input first second = one_done old new other files whole when then script again a g told input first second
+begin_alike old new other files whole when then script again (Err f) (Ok b) told input first second = one_done old other new files whole then when again script b f told input second first
+begin_alike old new other files whole when then script again (Err f) (Err g) told input first second = both_refused old new other files whole when then script again f g told input first second
 
 pub runs_begin_alike : RunsBeginAlike
 runs_begin_alike old new other a b told first second =
     let files = some_told (old.areas wal_name).files (told.files wal_name) in
     let whole = some_told old.left told.left in
-    begin_alike old new other files.0 whole.0 a b files.1 whole.1 first.3 second.3
+    begin_alike old new other files.0 whole.0 first.0 second.0 first.1 second.1 a b files.1 whole.1 first.6 second.6

@@ -10,7 +10,6 @@ use Rattle.lsn_core.specs.Segment.{StoreSettings, IsSegmentMib, IsRelseg}
 use Rattle.lsn_core.specs.declared.fault.AreaFault.{AreaFault}
 use Rattle.vault.specs.declared.area.Vault.{Ghosts as Vaults}
 use Rattle.vault.specs.declared.site.Site.{Ghosts as Sites}
-use Rattle.vault.specs.declared.stream.Source.{Ghosts as Sources}
 use Rattle.vault.specs.declared.stream.Sink.{Ghosts as Sinks}
 use Rattle.vault.specs.declared.stream.Clock.{Ghosts as Clocks}
 use Rattle.vault.specs.Stream.{Tells}
@@ -27,7 +26,7 @@ use Rattle.pgbackup_cli.specs.declared.replay.ReplayReport.{ReplayReport}
 use Rattle.pgbackup_cli.specs.declared.replay.ReplayFault.{ReplayFault}
 use Rattle.pgbackup_cli.specs.declared.replay.ReplayFault.TheVariants as replay
 use Rattle.command_base.specs.Areas.{AreaCause}
-use Rattle.command_base.specs.Outside.{Outside, of_site, of_site_input}
+use Rattle.command_base.specs.Outside.{Outside, of_site}
 use Rattle.pgbackup_cli.specs.Init.{InitResult, InitAreas, InitAnswer, IsTornIn, new_wal, first_entry, settings_name, settings_file, segment_name, segment_file}
 use Rattle.pgbackup_cli.specs.Replay.{ReplayResult, ReplayAreas, ReplayAnswer}
 use Rattle.pgbackup_cli.specs.Verify.{VerifyResult, VerifyAnswer}
@@ -37,10 +36,6 @@ use Rattle.pgbackup_cli.specs.Verify.{VerifyResult, VerifyAnswer}
 abbrev pub of_site_clock : {S V C : Type 0} → Sites S V → Clocks C → S → C → Outside
 of_site_clock sites clocks site clock =
     record (of_site sites site) { moment = clocks.moment clock }
-
-abbrev pub of_all : {S V I C : Type 0} → Sites S V → Sources I → Clocks C → S → I → C → Outside
-of_all sites sources clocks site input clock =
-    record (of_site_input sites sources site input) { moment = clocks.moment clock }
 
 -- a sink was told a text
 abbrev pub TellsIn :

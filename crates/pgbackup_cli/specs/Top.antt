@@ -1,6 +1,6 @@
 -- What a run of the program is: one answer, and the outside, the lines and the status as it says. A
 -- command joins by its file, and by one row in each of these definitions.
-use Rattle.std.specs.Prelude.{◌≡◌, ℕ, List, [], Option, Some, None, Result, Ok, Err, codes}
+use Rattle.std.specs.Prelude.{◌≡◌, ◌⊎◌, ℕ, List, [], Option, Some, None, Result, Ok, Err, codes}
 use Rattle.lsn_core.specs.declared.fault.AreaFault.{AreaFault}
 use Rattle.pgbackup_cli.specs.declared.answer.Answer.{Answer}
 use Rattle.pgbackup_cli.specs.declared.answer.Answer.TheVariants as answer
@@ -63,9 +63,11 @@ status_of came (Err why) = area_status why
 abbrev pub ReadsInput : Option Asked → Type 0
 ReadsInput words = words ≡ Some Run
 
--- `init` alone, where no system identifier is given, reads the clock
+-- `run` reads the clock, and `init`, where no system identifier is given
 abbrev pub ReadsClock : Option Asked → Type 0
-ReadsClock words = (options : InitOptions) × (words ≡ Some (Init options)) × (options.system ≡ None)
+ReadsClock words =
+    (words ≡ Some Run)
+    ⊎ ((options : InitOptions) × (words ≡ Some (Init options)) × (options.system ≡ None))
 
 -- a run of the program on these words that comes to this answer, and ends so
 pub record ComesTo (words : List (List ℕ)) (old new : Outside) (answer : Answer)

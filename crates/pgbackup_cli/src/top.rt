@@ -3,9 +3,9 @@
 ghost use Rattle.std.specs.Prelude.{◌≡◌, ◌⊎◌};
 ghost use Rattle.vault.specs.Site.{AllHome};
 ghost use Rattle.command_line.specs.Words.{asked};
-ghost use Rattle.command_base.specs.Outside.{outside};
+ghost use Rattle.command_base.specs.Outside.{outside, of_all};
 ghost use Rattle.pgbackup_cli.specs.Top.{DoesAsked, ReadsInput, ReadsClock, text_of, ComesTo, Ran};
-ghost use Rattle.pgbackup_cli.specs.Inner.{of_all, TellsIn};
+ghost use Rattle.pgbackup_cli.specs.Inner.{TellsIn};
 
 use crate::answer::{Answer, exit_status, text_of};
 use crate::init::init;
@@ -38,7 +38,7 @@ fn work<S: Site, I: Source, C: Clock>(
     match command_of(words) {
         None => Answer::Usage,
         Some(Command::Init(options)) => Answer::Init(init(alloc, options, site, clock)),
-        Some(Command::Run) => Answer::Run(run(alloc, site, input)),
+        Some(Command::Run) => Answer::Run(run(alloc, site, input, clock)),
         Some(Command::Replay(upto, name)) => Answer::Replay(replay(alloc, upto, name, site)),
         Some(Command::Verify(name)) => Answer::Verify(verify(alloc, name, site)),
     }
@@ -84,7 +84,7 @@ pub fn answered<S: Site, I: Source, O: Sink, C: Clock>(
 
 /// All that the program does: it takes the words of the command line, does what they ask over the
 /// areas of the site, prints its lines and answers the exit status. Every area is given back. Only
-/// `run` reads the input, and only `init` the clock, where no system identifier is given.
+/// `run` reads the input, and only it and `init` the clock, this where no system identifier is given.
 pub fn pgbackup<S: Site, I: Source, O: Sink, C: Clock>(
     alloc: Global,
     words: &[Text],

@@ -4,7 +4,6 @@
 ghost use Rattle.vault.specs.Site.{AllHome};
 
 use crate::calls::{Call, make_calls};
-use lsn_core::NoMemory;
 use pgbackup_cli::Status;
 use std::alloc::Global;
 use test_areas::Wrong;
@@ -192,41 +191,4 @@ fn patched_pages_are_replayed(rt: HostRuntime) -> Result<(), Wrong> {
     let page = replayed(rt.alloc(), &mut site)?;
     assert!(rt; page.len() == 8192 && page.starts_with(PATCHED.0) && page.ends_with(PATCHED.1));
     Ok(())
-}
-
-/// Adds a line that patches the block 0 by eight fragments of 8,168 bytes, and others of so many.
-fn push_patch(alloc: Global, script: &mut String, others: &[u8]) -> Result<(), NoMemory> {
-    script.push_str("\nchange 5/16384@0+24:00")?;
-    for at in 1..65_344u32 {
-        script.push_str(if at % 8168 == 0 { ",24:00" } else { "00" })?;
-    }
-    for size in others {
-        let zeros = format!(in alloc; "{:0width$}", 0, width = 2 * usize::from(*size))?;
-        script.push_str(",24:")?;
-        script.push_str(&zeros)?;
-    }
-    Ok(())
-}
-
-/// A script with a put and three patches, of 65,535 bytes in all and of one more.
-fn long_patches(alloc: Global) -> Result<String, NoMemory> {
-    let head = "worker w\ncreate 5/16384\nchange 5/16384@0=8192,8192,7";
-    let mut script = format!(in alloc; "{head}")?;
-    push_patch(alloc, &mut script, &[155])?;
-    push_patch(alloc, &mut script, &[156])?;
-    push_patch(alloc, &mut script, &[155, 1])?;
-    Ok(script)
-}
-
-#[test]
-fn fragments_take_65535_bytes_at_most(rt: HostRuntime) -> Result<(), Wrong> {
-    let printed = "opened 0/100060
-w 2 ok 0/100060 0/100090
-w 3 ok 0/100090 0/1020E0
-w 4 ok 0/1020E0 0/1121D0
-w 5 refused 6 BadFragment 0 8
-w 6 refused 6 BadFragment 0 9
-wal 0/1121D0
-";
-    runs(rt.alloc(), &long_patches(rt.alloc())?, printed)
 }

@@ -23,12 +23,6 @@ fn refusal(alloc: Global, text: &[u8]) -> Option<(u32, &'static [u8])> {
     }
 }
 
-/// How many workers a text that is taken has.
-fn worker_count(alloc: Global, text: &[u8]) -> Option<usize> {
-    let script = script_of(alloc, text).ok()?;
-    Some(script.workers().len())
-}
-
 fn kind_word(kind: ForkKind) -> &'static str {
     match kind {
         ForkKind::Main => "main",
@@ -109,6 +103,13 @@ fn command_text(alloc: Global, command: &Command) -> Result<String, NoMemory> {
         Command::Grow(at, count, shape) => grow_text(alloc, at, *count, *shape),
         Command::Checkpoint => Ok(format!(in alloc; "checkpoint")?),
         Command::Flush(count) => Ok(format!(in alloc; "flush {count}")?),
+        Command::Full(name) => {
+            let mut text = String::from_str(alloc, "full ")?;
+            for byte in name.as_bytes() {
+                text.push(char::from(*byte))?;
+            }
+            Ok(text)
+        }
     }
 }
 
@@ -137,7 +138,7 @@ fn is_taken(alloc: Global, line: &str, says: &str) -> Result<bool, NoMemory> {
 }
 
 /// Lines, and what each says.
-static TAKEN: [(&str, &str); 22] = [
+static TAKEN: [(&str, &str); 24] = [
     ("create 1/2", "create main 1 2"),
     ("\tcreate \t 1/2 ", "create main 1 2"),
     ("create 0000000001/0000000002", "create main 1 2"),
@@ -184,6 +185,11 @@ static TAKEN: [(&str, &str); 22] = [
     (" checkpoint\t", "checkpoint"),
     ("flush 0000000001", "flush 1"),
     ("flush 1000000", "flush 1000000"),
+    ("full f_1", "full f_1"),
+    (
+        " full\tabcdefghijklmnopqrstuvwxyz012345 ",
+        "full abcdefghijklmnopqrstuvwxyz012345",
+    ),
 ];
 
 #[test]
@@ -194,46 +200,8 @@ fn lines_are_taken(rt: HostRuntime) -> Result<(), NoMemory> {
     Ok(())
 }
 
-/// A change of the block 0 by one fragment of so many bytes.
-fn long_fragment(alloc: Global, bytes: usize) -> Result<Vec<u8>, NoMemory> {
-    let mut text = Vec::from_slice(alloc, b"worker a\nchange 1/2@0+24:")?;
-    for _ in 0..bytes {
-        text.extend_from_slice(b"aB")?;
-    }
-    Ok(text)
-}
-
-/// What refuses the second line for its words.
-const WORD: Option<(u32, &[u8])> = Some((2, b"Word"));
-
-#[test]
-fn a_fragment_has_8192_bytes_at_most(rt: HostRuntime) -> Result<(), NoMemory> {
-    let alloc = rt.alloc();
-    assert!(rt; worker_count(alloc, &long_fragment(alloc, 8192)?) == Some(1));
-    assert!(rt; refusal(alloc, &long_fragment(alloc, 8193)?) == WORD);
-    Ok(())
-}
-
-/// A change of so many items.
-fn many_items(alloc: Global, items: u32) -> Result<Vec<u8>, NoMemory> {
-    let mut text = Vec::from_slice(alloc, b"worker a\nchange")?;
-    for block in 0..items {
-        let item = format!(in alloc; " 1/2@{block}+24:61")?;
-        text.extend_from_slice(item.as_bytes())?;
-    }
-    Ok(text)
-}
-
-#[test]
-fn a_line_has_16_items_at_most(rt: HostRuntime) -> Result<(), NoMemory> {
-    let alloc = rt.alloc();
-    assert!(rt; worker_count(alloc, &many_items(alloc, 16)?) == Some(1));
-    assert!(rt; refusal(alloc, &many_items(alloc, 17)?) == WORD);
-    Ok(())
-}
-
 /// Scripts, and where and why each is refused.
-static REFUSED: [(&str, u32, &str); 67] = [
+static REFUSED: [(&str, u32, &str); 72] = [
     ("\n#\u{7f}\n", 2, "Bytes"),
     ("worker a\r\n", 1, "Bytes"),
     ("x\0", 1, "Bytes"),
@@ -295,6 +263,15 @@ static REFUSED: [(&str, u32, &str); 67] = [
     ("worker a\nflush 0", 2, "Word"),
     ("worker a\nflush 1000001", 2, "Word"),
     ("worker a\nflush 1 1", 2, "Word"),
+    ("worker a\nfull", 2, "Word"),
+    ("worker a\nfull f1 f2", 2, "Word"),
+    ("worker a\nfull F1", 2, "Word"),
+    (
+        "worker a\nfull abcdefghijklmnopqrstuvwxyz0123456",
+        2,
+        "Word",
+    ),
+    ("full f1\nworker a", 1, "NoWorker"),
     ("checkpoint\nworker a", 1, "NoWorker"),
     ("worker a\nerase 1/2", 2, "Word"),
     ("worker a\nworker B", 2, "Word"),
@@ -309,20 +286,4 @@ fn lines_are_refused(rt: HostRuntime) {
         let refused = refusal(rt.alloc(), text.as_bytes());
         assert!(rt; refused == Some((*number, why.as_bytes())), "{text}");
     }
-}
-
-/// A script of one comment of so many bytes.
-fn comment(alloc: Global, bytes: usize) -> Result<Vec<u8>, NoMemory> {
-    let mut text = Vec::new(alloc);
-    text.resize(bytes, b'#')?;
-    Ok(text)
-}
-
-#[test]
-fn four_mebibytes_are_the_most(rt: HostRuntime) -> Result<(), NoMemory> {
-    let alloc = rt.alloc();
-    assert!(rt; worker_count(alloc, &comment(alloc, 4_194_304)?) == Some(0));
-    let long = refusal(alloc, &comment(alloc, 4_194_305)?);
-    assert!(rt; long == Some((1, b"Long".as_slice())));
-    Ok(())
 }

@@ -18,6 +18,8 @@ mod checkpoint_tests;
 #[cfg(test)]
 mod crew_tests;
 #[cfg(test)]
+mod full_tests;
+#[cfg(test)]
 mod kinds_tests;
 #[cfg(test)]
 mod limit_tests;

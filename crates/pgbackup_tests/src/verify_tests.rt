@@ -19,25 +19,18 @@ const MANIFEST: &[u8] = b"backup_manifest";
 
 const FORK: &[u8] = b"base/5/16384";
 
-/// The files of a full backup `f1` of ten pages: its label, its manifest, and the pages, each its
-/// head and zeros.
-static F1: [Change<'static>; 13] = [
-    Change::Write(
-        LABEL,
-        0,
-        b"START WAL LOCATION: 0/1003B0 (file 000000010000000000000001)
+/// The label of a full backup `f1`.
+pub(crate) const F1_LABEL: &[u8] = b"START WAL LOCATION: 0/1003B0 (file 000000010000000000000001)
 CHECKPOINT LOCATION: 0/1003D0
 BACKUP METHOD: streamed
 BACKUP FROM: primary
 START TIME: 2023-11-14 22:13:20 UTC
 LABEL: f1
 START TIMELINE: 1
-",
-    ),
-    Change::Write(
-        MANIFEST,
-        0,
-        b"{ \"PostgreSQL-Backup-Manifest-Version\": 2,
+";
+
+/// Its manifest.
+pub(crate) const F1_MANIFEST: &[u8] = b"{ \"PostgreSQL-Backup-Manifest-Version\": 2,
 \"System-Identifier\": 7,
 \"Files\": [
 { \"Path\": \"backup_label\", \"Size\": 200, \"Last-Modified\": \"2023-11-14 22:13:20 GMT\", \
@@ -51,8 +44,13 @@ START TIMELINE: 1
 { \"Timeline\": 1, \"Start-LSN\": \"0/1003B0\", \"End-LSN\": \"0/100430\" }
 ],
 \"Manifest-Checksum\": \"95fe2d883e5dac53bbb8338896e8139cf01aa2b54520fd1fe1ed690cff39cf32\"}
-",
-    ),
+";
+
+/// The files of a full backup `f1` of ten pages: its label, its manifest, and the pages, each its
+/// head and zeros.
+static F1: [Change<'static>; 13] = [
+    Change::Write(LABEL, 0, F1_LABEL),
+    Change::Write(MANIFEST, 0, F1_MANIFEST),
     Change::Write(
         FORK,
         0,

@@ -1,8 +1,9 @@
 pub mod Reading
-pub mod Stops
 pub mod StoreLent
 pub mod ToldLess
 pub mod OwnEntries
+pub mod Noted
 pub mod RunDone
 pub mod RunAnswers
 pub mod AnswerLines
+pub mod Stops

@@ -48,7 +48,8 @@ by_worker w (Some x) b e = refl
 pub of_worker : (w : ℕ) (e : Entry) → IsOfWorker w e → is_of_run e ≡ true
 of_worker w e (inl by) = by_worker w e.worker (is_some e.seq) by
 of_worker w e (inr (inl mark)) = ap is_some mark.1
-of_worker w e (inr (inr mark)) = ap is_some mark.1.1
+of_worker w e (inr (inr (inl mark))) = ap is_some mark.1.1
+of_worker w e (inr (inr (inr mark))) = ap is_some mark.1.1
 
 pub all_own : (w : ℕ) (es : List Entry) → All (IsOfWorker w) es → AreOwn es
 all_own w [] all = tt

@@ -1,5 +1,5 @@
 -- Why `run` comes to its answer, seen from the site.
-use Rattle.std.proofs.Common.{◌≡◌, ℕ, List, [], ◌∷◌, Option, Result, Ok, Err, sym, ap, subst, ◌∙◌, inl, inr}
+use Rattle.std.proofs.Common.{◌≡◌, ℕ, List, [], ◌∷◌, ◌++◌, Option, Result, Ok, Err, sym, ap, subst, ◌∙◌, inl, inr}
 use Rattle.std.specs.Result.{IsErrAnd}
 use Rattle.lsn_core.specs.Files.{Files}
 use Rattle.vault.specs.declared.area.Vault.{Ghosts as Vaults}
@@ -17,9 +17,11 @@ use Rattle.crew.specs.declared.script.Task.{Task}
 use Rattle.run_command.specs.declared.command.RunReport.{RunReport}
 use Rattle.run_command.specs.declared.command.RunFault.TheVariants as run
 use Rattle.command_base.specs.Areas.{wal_name, data_name, Keeps}
-use Rattle.run_command.specs.Run.{run_asks, tasks_told, HasScript, DataAreaFails, CantBegin}
+use Rattle.vault.specs.declared.lending.Held.{Held}
+use Rattle.crew.specs.Backups.{areas_of}
+use Rattle.run_command.specs.Run.{store_asks, backups_asked, KeepAll, AreAsAt, tasks_told, HasScript, DataAreaFails, CantBegin}
 use Rattle.run_command.specs.Inner.{all_tell, IsRunOn, RunsScript}
-use Rattle.run_command.proofs.StoreLent.{AreAt, StoreBack, wal_files, wal_faults, all_told, rose_at}
+use Rattle.run_command.proofs.StoreLent.{AreAt, RunBack, one_either, wal_files, wal_faults, all_told, rose_at}
 use Rattle.run_command.proofs.RunDone.{run_done}
 
 -- ---- areas that are as they were
@@ -41,28 +43,45 @@ data_fails g old new a b (store.Failed area) was at (q, below, is, rose) = (q, b
 data_fails g old new a b store.NoMemory was at cause = tt
 
 -- where no store was begun
-pub cant_begin : {V : Type 0} (g : Vaults V) (old new : Areas) (a b : StoreAreas V) (why : BeginWhy) → AreAt g old a → AreAt g new b → IsUnbegun g a (record { areas = b; why = why }) → CantBegin old new why
-cant_begin g old new a b (begin.Wal fault) was at un =
+held_keep : (script : List Task) (old new held kept : Areas) → AreAsAt (backups_asked script) held old → AreAsAt (backups_asked script) kept new → kept ≡ held → KeepAll (backups_asked script) old new
+held_keep script old new held kept were are same name one =
+    ap (λ (x : AreaState). x.files) (sym (are name one) ∙ (ap (λ (f : Areas). f name) same ∙ were name one))
+
+both_keep : (front rest : Names) (old new : Areas) → KeepAll front old new → ((name : List ℕ) → IsOneOf name rest → Keeps (old name) (new name)) → KeepAll (front ++ rest) old new
+both_keep front rest old new first last name one =
+    elim (one_either name front rest one) [
+      | inl is ↦ first name is
+      | inr is ↦ last name is
+    ]
+
+pub cant_begin : {V : Type 0} (g : Vaults V) (script : List Task) (old new : Areas) (a b : StoreAreas V) (why : BeginWhy) → KeepAll (backups_asked script) old new → AreAt g old a → AreAt g new b → IsUnbegun g a (record { areas = b; why = why }) → CantBegin script old new why
+cant_begin g script old new a b (begin.Wal fault) backups was at un =
     let wal : (new wal_name).files ≡ (old wal_name).files = wal_files g new b at ∙ (un.wal ∙ sym (wal_files g old a was)) in
     let same : SameData a b = un.cause.1 in
     let cause : BeginCause (old wal_name).files (old wal_name).faults (new wal_name).faults fault =
     subst (λ (n : ℕ). BeginCause (old wal_name).files (old wal_name).faults n fault) (sym (wal_faults g new b at))
     (subst (λ (n : ℕ). BeginCause (old wal_name).files n (g.faults b.wal) fault) (sym (wal_faults g old a was))
-    (subst (λ (f : Option Files). BeginCause f (g.faults a.wal) (g.faults b.wal) fault) (sym (wal_files g old a was)) un.cause.0)) in
-    (keeps_one old new run_asks (wal, (same_area g (old (data_name 0)) (new (data_name 0)) a.data0 b.data0 was.data0 at.data0 same.data0, (same_area g (old (data_name 1)) (new (data_name 1)) a.data1 b.data1 was.data1 at.data1 same.data1, (same_area g (old (data_name 2)) (new (data_name 2)) a.data2 b.data2 was.data2 at.data2 same.data2, (same_area g (old (data_name 3)) (new (data_name 3)) a.data3 b.data3 was.data3 at.data3 same.data3, tt))))), cause)
-cant_begin g old new a b (begin.Data fault) was at un =
-    (wal_files g new b at ∙ (un.wal ∙ sym (wal_files g old a was)), data_fails g old new a b fault was at un.cause)
+    (subst (λ (f : Option Files). BeginCause f (g.faults a.wal) (g.faults b.wal) fault) (sym (wal_files g old a was)) un.cause.0)) in (
+      both_keep (backups_asked script) store_asks old new backups
+          (keeps_one old new store_asks (wal, (same_area g (old (data_name 0)) (new (data_name 0)) a.data0 b.data0 was.data0 at.data0 same.data0, (same_area g (old (data_name 1)) (new (data_name 1)) a.data1 b.data1 was.data1 at.data1 same.data1, (same_area g (old (data_name 2)) (new (data_name 2)) a.data2 b.data2 was.data2 at.data2 same.data2, (same_area g (old (data_name 3)) (new (data_name 3)) a.data3 b.data3 was.data3 at.data3 same.data3, tt)))))),
+      cause,
+    )
+cant_begin g script old new a b (begin.Data fault) backups was at un =
+    (backups, wal_files g new b at ∙ (un.wal ∙ sym (wal_files g old a was)), data_fails g old new a b fault was at un.cause)
 
 -- ---- the answers
 
-pub ran_ok : {S V : Type 0} (s : Sites S V) (g : Vaults V) (script : List Task) (old new : S) (a b : StoreAreas V) (report : RunReport) → StoreBack s g old new a b → IsRunOn g (all_tell g a) a b report → tasks_told report.told ≡ script → RunsScript s script old new (Ok report)
-ran_ok s g script old new a b report back ran same = λ left rest reads now has. (
-  subst (λ (ts : List Task). HasScript left rest ts) (sym same) has,
-  run_done g (all_tell g a) (s.areas old) (s.areas new) a b report back.was back.is (λ told. all_told g (s.areas old) a back.was told) ran,
-)
+pub ran_ok : {S V : Type 0} (s : Sites S V) (g : Vaults V) (when : ℕ) (script : List Task) (old new : S) (held kept : List (Held V)) (a b : StoreAreas V) (report : RunReport) → RunBack s g (backups_asked script) old new held kept a b
+    → IsRunOn g (all_tell g a) when a b (areas_of g held) (areas_of g kept) report → tasks_told report.told ≡ script → RunsScript s when script old new (Ok report)
+ran_ok s g when script old new held kept a b report back ran same = λ left rest reads now before behind has.
+    let were : AreAsAt (backups_asked (tasks_told report.told)) (areas_of g held) (s.areas old) = subst (λ (ts : List Task). AreAsAt (backups_asked ts) (areas_of g held) (s.areas old)) (sym same) back.were in
+    let are : AreAsAt (backups_asked (tasks_told report.told)) (areas_of g kept) (s.areas new) = subst (λ (ts : List Task). AreAsAt (backups_asked ts) (areas_of g kept) (s.areas new)) (sym same) back.after in
+    (same, has, run_done g (all_tell g a) when (s.areas old) (s.areas new) a b (areas_of g held) (areas_of g kept) report back.was back.is were are (λ told. all_told g (s.areas old) a back.was told) ran)
 
-pub ran_err : {S V : Type 0} (s : Sites S V) (g : Vaults V) (script : List Task) (old new : S) (a b : StoreAreas V) (why : BeginWhy) → StoreBack s g old new a b → IsUnbegun g a (record { areas = b; why = why }) → RunsScript s script old new (Err (run.Begin why))
-ran_err s g script old new a b why back un = λ left rest reads now has. (script, has, cant_begin g (s.areas old) (s.areas new) a b why back.was back.is un)
+pub ran_err : {S V : Type 0} (s : Sites S V) (g : Vaults V) (when : ℕ) (script : List Task) (old new : S) (held kept : List (Held V)) (a b : StoreAreas V) (why : BeginWhy) → RunBack s g (backups_asked script) old new held kept a b
+    → areas_of g kept ≡ areas_of g held → IsUnbegun g a (record { areas = b; why = why }) → RunsScript s when script old new (Err (run.Begin why))
+ran_err s g when script old new held kept a b why back same un = λ left rest reads now before behind has.
+    (has, cant_begin g script (s.areas old) (s.areas new) a b why (held_keep script (s.areas old) (s.areas new) (areas_of g held) (areas_of g kept) back.were back.after same) back.was back.is un)
 
 -- ---- no script
 

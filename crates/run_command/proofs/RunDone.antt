@@ -15,6 +15,7 @@ use Rattle.lsn_core.specs.declared.fault.StoreArea.{StoreArea}
 use Rattle.lsn_core.specs.declared.fault.StoreFault.{StoreFault}
 use Rattle.vault.specs.Area.{Related}
 use Rattle.vault.specs.Site.{Areas}
+use Rattle.vault.specs.Lending.{IsOneOf}
 use Rattle.vault.specs.declared.area.Vault.{Ghosts as Vaults}
 use Rattle.wal_archive.specs.Archive.{archive_of}
 use Rattle.wal_archive.specs.Writing.{IsLeft}
@@ -37,16 +38,18 @@ use Rattle.shared_store.specs.Calls.{GoesOn, MayWriteWal}
 use Rattle.shared_store.specs.Begin.{IsBegun, HasBegun, faults_of}
 use Rattle.shared_store.specs.Close.{IsClosed, CloseAnswer, HoldsHistory, HoldsRecords}
 use Rattle.shared_store.proofs.Goes.{goes_on}
-use Rattle.crew.specs.Run.{HasRun, RunsLines, IsAnswered, IsOfWorker, TellsFault}
+use Rattle.crew.specs.Backups.{areas_asked}
+use Rattle.crew.specs.Run.{Basis, basis_of, HasRun, RunsLines, IsAnswered, IsOfWorker, TellsFault}
 use Rattle.crew.proofs.RunLaws.{runs_answer}
+use Rattle.crew.proofs.Kept.{backups_told}
 use Rattle.run_command.specs.declared.told.Told.{Told}
 use Rattle.run_command.specs.declared.command.RunReport.{RunReport}
 use Rattle.command_base.specs.Areas.{wal_name}
-use Rattle.run_command.specs.Run.{AreTold, found_tip, HasFound, IsOfRun, all_records, HoldsRun, LeavesWal, IsClosing, ToldFaultsRose, RunDone}
+use Rattle.run_command.specs.Run.{AreTold, AreAsAt, backups_asked, tasks_told, found_tip, HasFound, IsOfRun, all_records, HoldsRun, LeavesWal, IsClosing, ToldFaultsRose, RunDone}
 use Rattle.run_command.specs.Inner.{RunsTasks, IsRunOn}
 use Rattle.command_base.proofs.Told.{some_told, at_told}
 use Rattle.run_command.proofs.StoreLent.{AreAt, wal_files, data_files, rose_between, cause_between, none_fell, rose_at, fails_at}
-use Rattle.run_command.proofs.ToldLess.{answered_less}
+use Rattle.run_command.proofs.ToldLess.{answered_less, stand_less, fail_at, one_front, one_back}
 use Rattle.run_command.proofs.OwnEntries.{AreOwn, all_own, written_own, parted, none_by, same_front, held_read, log_makes}
 
 -- ---- the areas hold the history
@@ -95,12 +98,12 @@ holds_run g left b old new found own base m at holds grown owns begun was given 
 -- ---- the worker's run
 
 -- what the workers' runs came to
-record CameTo (tells : Bool) (s : StoreSettings) (told : List Told) (found : List Record) (begun left : Opened) : Type 0 where
+record CameTo (tells : Bool) (s : StoreSettings) (when : ℕ) (told : List Told) (found : List Record) (begun left : Opened) (held kept : Areas) : Type 0 where
   own : List Entry
   grown : left.history ≡ map entry_of found ++ own
   owns : AreOwn own
   of_run : All (IsOfRun (length told)) own
-  answered : (worker : ℕ) (t : Told) → slice_get told worker ≡ Some t → IsAnswered (tells ≡ true) s.segment worker left.history (length found) t.task.lines t.answers
+  answered : (worker : ℕ) (t : Told) → slice_get told worker ≡ Some t → IsAnswered (tells ≡ true) (basis_of s when) worker left.history (length found) t.task.lines t.answers held kept
   wal : (now : Option Files) (faults : Faults) → MayWriteWal left.settings.segment left.flushed (wal_top left) left.wal now → NoneFell left.faults faults → MayWriteWal begun.settings.segment begun.flushed (wal_top left) begun.wal now
   settings : left.settings ≡ begun.settings
   later : NoneFell begun.faults left.faults
@@ -110,8 +113,8 @@ append-none : {A : Type 0} (xs : List A) → xs ≡ xs ++ []
 append-none [] = refl
 append-none (x ∷ xs) = ap (λ ys. x ∷ ys) (append-none xs)
 
-came_none : (tells : Bool) (s : StoreSettings) (found : List Record) (begun left : Opened) → begun.history ≡ map entry_of found → left ≡ begun → CameTo tells s [] found begun left
-came_none tells s found begun left history same = record {
+came_none : (tells : Bool) (s : StoreSettings) (when : ℕ) (found : List Record) (begun left : Opened) (held kept : Areas) → begun.history ≡ map entry_of found → left ≡ begun → CameTo tells s when [] found begun left held kept
+came_none tells s when found begun left held kept history same = record {
   own = [];
   grown = ap (λ (o : Opened). o.history) same ∙ (history ∙ append-none (map entry_of found));
   owns = tt;
@@ -124,10 +127,10 @@ came_none tells s found begun left history same = record {
 }
 
 -- the one worker is the first
-one_answered : (tells : Bool) (mib : ℕ) (found : ℕ) (t : Told) (history : List Entry) → IsAnswered (tells ≡ true) mib 0 history found t.task.lines t.answers
-    → (worker : ℕ) (u : Told) → slice_get (t ∷ []) worker ≡ Some u → IsAnswered (tells ≡ true) mib worker history found u.task.lines u.answers
-one_answered tells mib found t history is zero u there = subst (λ (v : Told). IsAnswered (tells ≡ true) mib 0 history found v.task.lines v.answers) (let e : t ≡ u = cc in e) is
-one_answered tells mib found t history is (suc worker) u there = absurd cc
+one_answered : (tells : Bool) (b : Basis) (found : ℕ) (t : Told) (history : List Entry) (held kept : Areas) → IsAnswered (tells ≡ true) b 0 history found t.task.lines t.answers held kept
+    → (worker : ℕ) (u : Told) → slice_get (t ∷ []) worker ≡ Some u → IsAnswered (tells ≡ true) b worker history found u.task.lines u.answers held kept
+one_answered tells b found t history held kept is zero u there = subst (λ (v : Told). IsAnswered (tells ≡ true) b 0 history found v.task.lines v.answers held kept) (let e : t ≡ u = cc in e) is
+one_answered tells b found t history held kept is (suc worker) u there = absurd cc
 
 all_one : {A : Type 0} (P : A → Type 0) (x : A) → P x → All P (x ∷ [])
 all_one P x holds zero d within = holds
@@ -154,37 +157,37 @@ wal_on begun left now faults first may none =
     } in
     (goes_on begun left (later_store left now faults) first last).wal
 
-came_one : (tells : Bool) (s : StoreSettings) (t : Told) (found : List Record) (begun left : Opened) (pass seen : Seen) → begun.settings ≡ s → begun.history ≡ map entry_of found → pass.worker ≡ 0 → pass.list ≡ begun.history → RunsLines (tells ≡ true) t.task.lines pass seen begun left t.answers
-    → CameTo tells s (t ∷ []) found begun left
-came_one tells s t found begun left pass seen set history first list ran =
-    let run : HasRun (tells ≡ true) begun.settings.segment t.task.lines pass seen t.answers = ran.run in
+came_one : (tells : Bool) (s : StoreSettings) (when : ℕ) (t : Told) (found : List Record) (begun left : Opened) (pass seen : Seen) (held kept : Areas) → begun.settings ≡ s → begun.history ≡ map entry_of found → pass.worker ≡ 0 → pass.list ≡ begun.history
+    → RunsLines (tells ≡ true) when t.task.lines pass seen begun left held kept t.answers → CameTo tells s when (t ∷ []) found begun left held kept
+came_one tells s when t found begun left pass seen held kept set history first list ran =
+    let run : HasRun (tells ≡ true) (basis_of begun.settings when) t.task.lines pass seen held kept t.answers = ran.run in
     let from : pass.list ≡ map entry_of found = list ∙ history in
     let by : All (IsOfWorker 0) run.own = subst (λ (w : ℕ). All (IsOfWorker w) run.own) first run.by in
     let none : accepted_by pass.worker pass.list ≡ [] = ap (accepted_by pass.worker) from ∙ none_by pass.worker found in
-    let is : IsAnswered (tells ≡ true) begun.settings.segment pass.worker seen.list (length pass.list) t.task.lines t.answers = runs_answer tells begun.settings.segment t.task.lines pass seen t.answers run none in
+    let is : IsAnswered (tells ≡ true) (basis_of begun.settings when) pass.worker seen.list (length pass.list) t.task.lines t.answers held kept = runs_answer tells (basis_of begun.settings when) t.task.lines pass seen held kept t.answers run none in
     let many : length pass.list ≡ length found = ap (λ (es : List Entry). length es) from ∙ length-map found entry_of in
-    let here : IsAnswered (tells ≡ true) s.segment 0 left.history (length found) t.task.lines t.answers =
-    subst (λ (n : ℕ). IsAnswered (tells ≡ true) s.segment 0 left.history n t.task.lines t.answers) many
-    (subst (λ (h : List Entry). IsAnswered (tells ≡ true) s.segment 0 h (length pass.list) t.task.lines t.answers) ran.whole
-    (subst (λ (w : ℕ). IsAnswered (tells ≡ true) s.segment w seen.list (length pass.list) t.task.lines t.answers) first
-    (subst (λ (x : StoreSettings). IsAnswered (tells ≡ true) x.segment pass.worker seen.list (length pass.list) t.task.lines t.answers) set is))) in
+    let here : IsAnswered (tells ≡ true) (basis_of s when) 0 left.history (length found) t.task.lines t.answers held kept =
+    subst (λ (n : ℕ). IsAnswered (tells ≡ true) (basis_of s when) 0 left.history n t.task.lines t.answers held kept) many
+    (subst (λ (h : List Entry). IsAnswered (tells ≡ true) (basis_of s when) 0 h (length pass.list) t.task.lines t.answers held kept) ran.whole
+    (subst (λ (w : ℕ). IsAnswered (tells ≡ true) (basis_of s when) w seen.list (length pass.list) t.task.lines t.answers held kept) first
+    (subst (λ (x : StoreSettings). IsAnswered (tells ≡ true) (basis_of x when) pass.worker seen.list (length pass.list) t.task.lines t.answers held kept) set is))) in
     record {
       own = run.own;
       grown = sym ran.whole ∙ (run.grown ∙ ap (λ (es : List Entry). es ++ run.own) from);
       owns = all_own 0 run.own by;
       of_run = by_one run.own by;
-      answered = one_answered tells s.segment (length found) t left.history here;
+      answered = one_answered tells (basis_of s when) (length found) t left.history held kept here;
       wal = λ now faults may none. wal_on begun left now faults ran.goes_on may none;
       settings = ran.goes_on.settings;
       later = ran.goes_on.later;
       risen = all_one (λ u. All (λ answer. (area : StoreArea) → TellsFault area answer → Rose (count_of area begun.faults) (count_of area left.faults)) u.answers) t ran.risen;
     }
 
-came_to : (tells : Bool) (s : StoreSettings) (told : List Told) (found : List Record) (begun left : Opened) (pass seen : Seen) → begun.settings ≡ s → begun.history ≡ map entry_of found → pass.worker ≡ 0 → pass.list ≡ begun.history → RunsTasks (tells ≡ true) told pass seen begun left
-    → CameTo tells s told found begun left
-came_to tells s [] found begun left pass seen set history first list ran = came_none tells s found begun left history ran
-came_to tells s (t ∷ []) found begun left pass seen set history first list ran = came_one tells s t found begun left pass seen set history first list ran
-came_to tells s (t ∷ (u ∷ told)) found begun left pass seen set history first list ran = absurd ran
+came_to : (tells : Bool) (s : StoreSettings) (when : ℕ) (told : List Told) (found : List Record) (begun left : Opened) (pass seen : Seen) (held kept : Areas) → begun.settings ≡ s → begun.history ≡ map entry_of found → pass.worker ≡ 0 → pass.list ≡ begun.history
+    → RunsTasks (tells ≡ true) when told pass seen begun left held kept → CameTo tells s when told found begun left held kept
+came_to tells s when [] found begun left pass seen held kept set history first list ran = came_none tells s when found begun left held kept history ran.0
+came_to tells s when (t ∷ []) found begun left pass seen held kept set history first list ran = came_one tells s when t found begun left pass seen held kept set history first list ran
+came_to tells s when (t ∷ (u ∷ told)) found begun left pass seen held kept set history first list ran = absurd ran
 
 -- ---- the whole
 
@@ -209,11 +212,12 @@ pass_is pass history is =
     (ap (λ (p : Seen). p.worker) e, ap (λ (p : Seen). p.list) e)
 
 -- a script without a worker leaves the store, and one with a worker runs its lines
-pub tasks_none : (tells : Bool) (told : List Told) (pass : Seen) (store : Opened) → told ≡ [] → RunsTasks (tells ≡ true) told pass pass store store
-tasks_none tells told pass store none = subst (λ (ts : List Told). RunsTasks (tells ≡ true) ts pass pass store store) (sym none) refl
+pub tasks_none : (tells : Bool) (when : ℕ) (told : List Told) (pass : Seen) (store : Opened) (held : Areas) → told ≡ [] → RunsTasks (tells ≡ true) when told pass pass store store held held
+tasks_none tells when told pass store held none = subst (λ (ts : List Told). RunsTasks (tells ≡ true) when ts pass pass store store held held) (sym none) (refl, refl)
 
-pub tasks_one : (tells : Bool) (told : List Told) (t : Told) (pass seen : Seen) (store left : Opened) → told ≡ t ∷ [] → RunsLines (tells ≡ true) t.task.lines pass seen store left t.answers → RunsTasks (tells ≡ true) told pass seen store left
-tasks_one tells told t pass seen store left one ran = subst (λ (ts : List Told). RunsTasks (tells ≡ true) ts pass seen store left) (sym one) ran
+pub tasks_one : (tells : Bool) (when : ℕ) (told : List Told) (t : Told) (pass seen : Seen) (store left : Opened) (held kept : Areas) → told ≡ t ∷ [] → RunsLines (tells ≡ true) when t.task.lines pass seen store left held kept t.answers
+    → RunsTasks (tells ≡ true) when told pass seen store left held kept
+tasks_one tells when told t pass seen store left held kept one ran = subst (λ (ts : List Told). RunsTasks (tells ≡ true) when ts pass seen store left held kept) (sym one) ran
 
 -- the pass of the only worker has seen the store's history
 pub only_seen : {V : Type 0} (g : Vaults V) (a : StoreAreas V) (begun : Opened) (crew : List Seen) (pass : Seen) (tip : Tip) → IsBegun g a 1 begun crew tip → crew ≡ pass ∷ [] → pass.list ≡ begun.history
@@ -223,19 +227,19 @@ pub one_pass : {V : Type 0} (g : Vaults V) (a : StoreAreas V) (begun : Opened) (
 one_pass g a begun crew tip is = ap (λ (ps : List Seen). length ps) is.has.crew_is
 
 -- no count fell while tasks were run
-tasks_later : (tells : Bool) (told : List Told) (pass seen : Seen) (begun left : Opened) → RunsTasks (tells ≡ true) told pass seen begun left → NoneFell begun.faults left.faults
-tasks_later tells [] pass seen begun left ran = λ area. omega (arith, ap (λ (o : Opened). count_of area o.faults) ran)
-tasks_later tells (t ∷ []) pass seen begun left ran = ran.goes_on.later
-tasks_later tells (t ∷ (u ∷ told)) pass seen begun left ran = absurd ran
+tasks_later : (tells : Bool) (when : ℕ) (told : List Told) (pass seen : Seen) (begun left : Opened) (held kept : Areas) → RunsTasks (tells ≡ true) when told pass seen begun left held kept → NoneFell begun.faults left.faults
+tasks_later tells when [] pass seen begun left held kept ran = λ area. omega (arith, ap (λ (o : Opened). count_of area o.faults) ran.0)
+tasks_later tells when (t ∷ []) pass seen begun left held kept ran = ran.goes_on.later
+tasks_later tells when (t ∷ (u ∷ told)) pass seen begun left held kept ran = absurd ran
 
-pub run_later : {V : Type 0} (g : Vaults V) (tells : Bool) (a b : StoreAreas V) (report : RunReport) → IsRunOn g tells a b report → NoneFell (faults_of g a) (faults_of g b)
-run_later g tells a b report ran =
+pub run_later : {V : Type 0} (g : Vaults V) (tells : Bool) (when : ℕ) (a b : StoreAreas V) (held kept : Areas) (report : RunReport) → IsRunOn g tells when a b held kept report → NoneFell (faults_of g a) (faults_of g b)
+run_later g tells when a b held kept report ran =
     none_fell (faults_of g a) ran.begun.faults (faults_of g b) ran.begins.later
-    (none_fell ran.begun.faults ran.left.faults (faults_of g b) (tasks_later tells report.told ran.pass ran.seen ran.begun ran.left ran.runs) ran.closes.later)
+    (none_fell ran.begun.faults ran.left.faults (faults_of g b) (tasks_later tells when report.told ran.pass ran.seen ran.begun ran.left held kept ran.runs) ran.closes.later)
 
-pub run_on : {V : Type 0} (g : Vaults V) (tells : Bool) (a b : StoreAreas V) (report : RunReport) (begun left : Opened) (crew : List Seen) (pass seen : Seen) (tip : Tip) → IsBegun g a 1 begun crew tip → crew ≡ pass ∷ [] → report.opened.0 ≡ tip.end → RunsTasks (tells ≡ true) report.told pass seen begun left
-    → IsLawfulOf (tells ≡ true) left → IsClosed g (tells ≡ true) left b report.closed → IsRunOn g tells a b report
-run_on g tells a b report begun left crew pass seen tip is one opened ran lawful closed = record {
+pub run_on : {V : Type 0} (g : Vaults V) (tells : Bool) (when : ℕ) (a b : StoreAreas V) (held kept : Areas) (report : RunReport) (begun left : Opened) (crew : List Seen) (pass seen : Seen) (tip : Tip) → IsBegun g a 1 begun crew tip → crew ≡ pass ∷ [] → report.opened.0 ≡ tip.end
+    → RunsTasks (tells ≡ true) when report.told pass seen begun left held kept → IsLawfulOf (tells ≡ true) left → IsClosed g (tells ≡ true) left b report.closed → IsRunOn g tells when a b held kept report
+run_on g tells when a b held kept report begun left crew pass seen tip is one opened ran lawful closed = record {
   begun = begun;
   pass = pass;
   tip = tip;
@@ -248,12 +252,21 @@ run_on g tells a b report begun left crew pass seen tip is one opened ran lawful
   closes = closed;
 }
 
-pub run_done : {V : Type 0} (g : Vaults V) (tells : Bool) (old new : Areas) (a b : StoreAreas V) (report : RunReport) → AreAt g old a → AreAt g new b → (AreTold old → tells ≡ true) → IsRunOn g tells a b report → RunDone old new report
-run_done g tells old new a b report was at leads ran =
+-- the areas that a worker asks for are among those of its script
+asked_among : (told : List Told) (worker : ℕ) (t : Told) (n : List ℕ) → slice_get told worker ≡ Some t → IsOneOf n (areas_asked t.task.lines) → IsOneOf n (backups_asked (tasks_told told))
+asked_among [] worker t n there one = absurd cc
+asked_among (u ∷ told) zero t n there one =
+    let same : u ≡ t = cc in
+    one_front n (areas_asked u.task.lines) (backups_asked (tasks_told told)) (subst (λ (v : Told). IsOneOf n (areas_asked v.task.lines)) (sym same) one)
+asked_among (u ∷ told) (suc worker) t n there one = one_back n (areas_asked u.task.lines) (backups_asked (tasks_told told)) (asked_among told worker t n there one)
+
+pub run_done : {V : Type 0} (g : Vaults V) (tells : Bool) (when : ℕ) (old new : Areas) (a b : StoreAreas V) (held kept : Areas) (report : RunReport) → AreAt g old a → AreAt g new b → AreAsAt (backups_asked (tasks_told report.told)) held old
+    → AreAsAt (backups_asked (tasks_told report.told)) kept new → (AreTold old → tells ≡ true) → IsRunOn g tells when a b held kept report → RunDone when old new report
+run_done g tells when old new a b held kept report was at were are leads ran =
     let has : HasBegun (g.files a.wal) 1 ran.begun (ran.pass ∷ []) ran.tip = ran.begins.has in
     let s : StoreSettings = ran.begun.settings in
     let first = pass_is ran.pass ran.begun.history has.crew_is in
-    let came : CameTo tells s report.told has.found ran.begun ran.left = came_to tells s report.told has.found ran.begun ran.left ran.pass ran.seen refl has.history first.0 first.1 ran.runs in
+    let came : CameTo tells s when report.told has.found ran.begun ran.left held kept = came_to tells s when report.told has.found ran.begun ran.left ran.pass ran.seen held kept refl has.history first.0 first.1 ran.runs in
     let wal : (old wal_name).files ≡ g.files a.wal = wal_files g old a was in
     let given : HasSettings (old wal_name).files s = subst (λ (o : Option Files). HasSettings o s) (sym wal) has.given in
     let there : IfSome (old wal_name).files (HasFound s has.found) =
@@ -282,8 +295,14 @@ run_done g tells old new a b report was at leads ran =
         grown = came.grown;
         of_run = came.of_run;
         lawful = λ told. subst (λ (x : StoreSettings). IsLawful x.segment ran.left.history) came.settings (ran.lawful (leads told));
-        answered = λ worker t is. answered_less (tells ≡ true) (AreTold old) s.segment worker ran.left.history (length has.found) t.task.lines t.answers leads (came.answered worker t is);
+        answered = λ worker t is. answered_less (tells ≡ true) (AreTold old) (basis_of s when) worker ran.left.history (length has.found) t.task.lines t.answers held kept leads (came.answered worker t is);
       };
+      held = held;
+      were = were;
+      kept = kept;
+      are = are;
+      completed = λ worker t is. stand_less (tells ≡ true) (AreTold old) (basis_of s when) worker ran.left.history t.task.lines t.answers kept new leads (λ n one. are n (asked_among report.told worker t n is one))
+          (backups_told tells (basis_of s when) worker ran.left.history (length has.found) t.task.lines t.answers held kept (came.answered worker t is)).0;
       left = leaves;
       closing = closing g tells s has.found ran.left a b old new report.closed came.settings was at leads later ran.closes.answer
           (λ told holds. let files = some_told (old wal_name).files (told wal_name (inl refl)) in
@@ -293,4 +312,6 @@ run_done g tells old new a b report was at leads ran =
           (subst (λ (x : StoreSettings). HasFound x has.found files.0) (sym came.settings) (at_told (old wal_name).files files.0 (HasFound s has.found) files.1 there))
           (subst (λ (x : StoreSettings). LeavesWal x has.found ran.left.history (old wal_name) (new wal_name)) (sym came.settings) leaves)));
       risen = told_rose g a b old new ran.begun.faults ran.left.faults report.told was at ran.begins.later ran.closes.later came.risen;
+      backups_failed = λ worker t is. fail_at t.task.lines t.answers held kept old new (λ n one. were n (asked_among report.told worker t n is one)) (λ n one. are n (asked_among report.told worker t n is one))
+          (backups_told tells (basis_of s when) worker ran.left.history (length has.found) t.task.lines t.answers held kept (came.answered worker t is)).1;
     }

@@ -1,29 +1,30 @@
--- The first fault by which workers were stopped.
-use Rattle.std.proofs.Common.{◌≡◌, ℕ, suc, ◌+◌, ◌<◌, List, [], ◌∷◌, ◌++◌, length, get_or, drop, drop-cons, add-one, Some, None, refl, sym, ap, ◌∙◌}
-use Rattle.std.specs.List.{filter_map, flat_map, slice_get}
-use Rattle.std.proofs.lemmas.List.Elements.{filter_map-append}
-use Rattle.lsn_core.specs.declared.fault.StoreFault.{StoreFault}
+-- The first line by whose answer a worker was stopped.
+use Rattle.std.proofs.Common.{◌≡◌, ℕ, suc, ◌+◌, ◌<◌, List, [], ◌∷◌, length, get_or, drop, drop-cons, add-one, Option, Some, None, refl, sym, ap, ◌∙◌, arith}
+use Rattle.crew.specs.declared.script.Line.{Line}
+use Rattle.crew.specs.declared.answer.Answer.{Answer}
+use Rattle.crew.specs.declared.answer.Stop.{Stop}
 use Rattle.crew.specs.Run.{stop_of}
 use Rattle.run_command.specs.declared.told.Told.{Told}
-use Rattle.run_command.specs.Report.{stops_told}
+use Rattle.run_command.specs.Report.{stop_or, first_or, first_stop, first_told}
+
+-- ---- of one worker
+
+pub no_lines : (lines : List Line) (answers : List Answer) → length lines ≡ 0 → first_stop lines answers ≡ None
+no_lines [] answers none = refl
+no_lines (line ∷ lines) answers none = absurd (omega (arith, none))
+
+pub no_answers : (lines : List Line) (answers : List Answer) → length answers ≡ 0 → first_stop lines answers ≡ None
+no_answers [] answers none = refl
+no_answers (line ∷ lines) [] none = refl
+no_answers (line ∷ lines) (answer ∷ answers) none = absurd (omega (arith, none))
+
+-- ---- of all workers
 
 dropped : {A : Type 0} (xs : List A) (i : ℕ) (x : A) → i < length xs → x ≡ get_or xs i x → drop i xs ≡ x ∷ drop (i + 1) xs
 dropped xs i x lt is = rw (add-one, drop-cons xs i x) (ap (λ y. y ∷ drop (suc i) xs) (sym is))
 
--- the same of workers
-front_none : (fs gs : List StoreFault) → slice_get fs 0 ≡ None → fs ++ gs ≡ gs
-front_none [] gs none = refl
-front_none (f ∷ fs) gs none = absurd cc
+pub worker_next : (ts : List Told) (i : ℕ) (t : Told) → i < length ts → t ≡ get_or ts i t → first_stop t.task.lines t.answers ≡ None → first_told (drop (i + 1) ts) ≡ first_told (drop i ts)
+worker_next ts i t lt is none = sym (ap first_told (dropped ts i t lt is) ∙ ap (λ (o : Option (Line × Stop)). first_or o (first_told (drop (i + 1) ts))) none)
 
-front_some : (fs gs : List StoreFault) (f : StoreFault) → slice_get fs 0 ≡ Some f → slice_get (fs ++ gs) 0 ≡ Some f
-front_some [] gs f some = absurd cc
-front_some (x ∷ fs) gs f some = some
-
-stops_first : (t : Told) (ts : List Told) → stops_told (t ∷ ts) ≡ filter_map stop_of t.answers ++ stops_told ts
-stops_first t ts = filter_map-append stop_of t.answers (flat_map (λ u. u.answers) ts)
-
-pub worker_next : (ts : List Told) (i : ℕ) (t : Told) → i < length ts → t ≡ get_or ts i t → slice_get (filter_map stop_of t.answers) 0 ≡ None → stops_told (drop (i + 1) ts) ≡ stops_told (drop i ts)
-worker_next ts i t lt is none = sym (ap stops_told (dropped ts i t lt is) ∙ (stops_first t (drop (i + 1) ts) ∙ front_none (filter_map stop_of t.answers) (stops_told (drop (i + 1) ts)) none))
-
-pub worker_here : (ts : List Told) (i : ℕ) (t : Told) (f : StoreFault) → i < length ts → t ≡ get_or ts i t → slice_get (filter_map stop_of t.answers) 0 ≡ Some f → slice_get (stops_told (drop i ts)) 0 ≡ Some f
-worker_here ts i t f lt is some = ap (λ (xs : List StoreFault). slice_get xs 0) (ap stops_told (dropped ts i t lt is) ∙ stops_first t (drop (i + 1) ts)) ∙ front_some (filter_map stop_of t.answers) (stops_told (drop (i + 1) ts)) f some
+pub worker_here : (ts : List Told) (i : ℕ) (t : Told) (x : Line × Stop) → i < length ts → t ≡ get_or ts i t → first_stop t.task.lines t.answers ≡ Some x → first_told (drop i ts) ≡ Some x
+worker_here ts i t x lt is some = ap first_told (dropped ts i t lt is) ∙ ap (λ (o : Option (Line × Stop)). first_or o (first_told (drop (i + 1) ts))) some

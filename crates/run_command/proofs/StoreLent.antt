@@ -1,8 +1,9 @@
 -- The areas of a store that a run took from a site and gave back.
-use Rattle.std.proofs.Common.{◌≡◌, ℕ, zero, suc, ◌<◌, ◌≤◌, true, false, List, [], ◌∷◌, Option, IsSome, refl, ap, subst, arith, inl, inr, ⊎_elim}
+use Rattle.std.proofs.Common.{◌≡◌, ℕ, zero, suc, ◌<◌, ◌≤◌, true, false, List, [], ◌∷◌, ◌++◌, length, length-append, append-nil, take, drop, Option, IsSome, refl, sym, ap, subst, ◌∙◌, ◌⊎◌, arith, inl, inr, ⊎_elim}
 use Rattle.std.specs.Prelude.{◌==◌}
 use Rattle.std.proofs.lemmas.Bool.Decides.{eqb_tells}
 use Rattle.std.specs.Option.{is_some}
+use Rattle.std.proofs.lemmas.List.{take_all, drop_all}
 use Rattle.lsn_core.specs.Causes.{Rose}
 use Rattle.lsn_core.specs.Files.{Files}
 use Rattle.lsn_core.specs.declared.fault.StoreArea.{StoreArea}
@@ -12,16 +13,22 @@ use Rattle.lsn_core.specs.declared.fault.StoreFault.TheVariants as store
 use Rattle.vault.specs.declared.area.Vault.{Ghosts as Vaults}
 use Rattle.vault.specs.declared.site.Site.{Ghosts as Sites}
 use Rattle.vault.specs.declared.lending.Held.{Held}
+use Rattle.vault.specs.declared.lending.TakeFault.{TakeFault}
 use Rattle.vault.specs.Site.{Areas, AreaState, AllHome, state_in}
-use Rattle.vault.specs.Lending.{AreAreasOf, AreOut, WritesAmong, AreTaken, GivesBack}
-use Rattle.vault.proofs.LentAreas.{lent, out_front, gives_more}
+use Rattle.vault.specs.Lending.{Names, IsOneOf, IsNoneOf, names_of, AreAreasOf, AreOut, AreLater, WritesAmong, AreTaken, NoneTaken, TakeCause, GivesBack}
+use Rattle.vault.proofs.SetAreas.{set_at-same, set_at-other, same_or_not}
+use Rattle.vault.proofs.LentAreas.{one_or_none, lent, areas_named, later_named, out_front, out_later, gives_more}
 use Rattle.shared_store.specs.declared.areas.StoreAreas.{StoreAreas}
 use Rattle.shared_store.specs.Begin.{data_area, faults_of}
 use Rattle.shared_store.specs.Opened.{Faults, NoneFell, StoreCause, count_of, data_count}
 use Rattle.run_command.specs.declared.lending.StoreNames.{StoreNames}
 use Rattle.command_base.specs.Areas.{wal_name, data_name}
-use Rattle.run_command.specs.Run.{run_asks, AreTold, StoreFails}
-use Rattle.run_command.specs.Inner.{held_of, all_tell}
+use Rattle.crew.specs.declared.script.Line.{Line}
+use Rattle.crew.specs.declared.script.Task.{Task}
+use Rattle.crew.specs.Backups.{areas_asked, areas_of, AreHeld}
+use Rattle.run_command.specs.Run.{store_asks, backups_asked, run_asks, AreTold, AreAsAt, StoreFails}
+use Rattle.run_command.specs.Inner.{held_of, all_tell, AreEachOnce, AreAsked}
+use Rattle.run_command.proofs.ToldLess.{one_front, one_back}
 
 -- ---- the areas of a store at a site
 
@@ -113,25 +120,28 @@ fails_at g old new are now store.NoMemory was at cause = tt
 
 -- ---- taken, and given back
 
--- they can be given back, once their counts have not fallen
-pub five_out : {A : Type 0} (g : Vaults A) (areas : Areas) (names : StoreNames) (are now : StoreAreas A) → AreOut g areas (held_of names are) → NoneFell (faults_of g are) (faults_of g now) → AreOut g areas (held_of names now)
-five_out g areas names are now out later = (
-  record { out = out.0.out; later = omega (arith, out.0.later, later Wal) },
-  out.1,
-  (
-    record { out = out.2.0.out; later = omega (arith, out.2.0.later, later (Data 0)) },
-    out.2.1,
-    (
-      record { out = out.2.2.0.out; later = omega (arith, out.2.2.0.later, later (Data 1)) },
-      out.2.2.1,
-      (
-        record { out = out.2.2.2.0.out; later = omega (arith, out.2.2.2.0.later, later (Data 2)) },
-        out.2.2.2.1,
-        (record { out = out.2.2.2.2.0.out; later = omega (arith, out.2.2.2.2.0.later, later (Data 3)) }, tt, tt),
-      ),
-    ),
-  ),
+-- the same areas later, whose counts have not fallen
+five_later : {A : Type 0} (g : Vaults A) (names : StoreNames) (are now : StoreAreas A) → NoneFell (faults_of g are) (faults_of g now) → AreLater g (held_of names are) (held_of names now)
+five_later g names are now later = (
+  refl,
+  omega (arith, later Wal),
+  (refl, omega (arith, later (Data 0)), (refl, omega (arith, later (Data 1)), (refl, omega (arith, later (Data 2)), (refl, omega (arith, later (Data 3)), tt)))),
 )
+
+both_later : {A : Type 0} (g : Vaults A) (xs xs2 ys ys2 : List (Held A)) → AreLater g xs xs2 → AreLater g ys ys2 → AreLater g (xs ++ ys) (xs2 ++ ys2)
+both_later g [] [] ys ys2 first second = second
+both_later g [] (x ∷ xs2) ys ys2 first second = absurd first
+both_later g (x ∷ xs) [] ys ys2 first second = absurd first
+both_later g (x ∷ xs) (z ∷ xs2) ys ys2 first second = (first.0, first.1, both_later g xs xs2 ys ys2 first.2 second)
+
+-- they can be given back, once their counts have not fallen
+pub run_out : {A : Type 0} (g : Vaults A) (areas : Areas) (held now : List (Held A)) (names : StoreNames) (a b : StoreAreas A) → AreOut g areas (held ++ held_of names a) → AreLater g held now → NoneFell (faults_of g a) (faults_of g b) → AreOut g areas (now ++ held_of names b)
+run_out g areas held now names a b out later fell = out_later g areas (held ++ held_of names a) (now ++ held_of names b) out (both_later g held now (held_of names a) (held_of names b) later (five_later g names a b fell))
+
+-- the last of areas that are out
+pub out_back : {A : Type 0} (g : Vaults A) (areas : Areas) (front back : List (Held A)) → AreOut g areas (front ++ back) → AreOut g areas back
+out_back g areas [] back out = out
+out_back g areas (one ∷ front) back out = out_back g areas front back out.2
 
 -- the first three, and the last two
 abbrev pub front_held : {A : Type 0} → StoreNames → StoreAreas A → List (Held A)
@@ -169,14 +179,90 @@ store_gives s g old mid then new names are out first second third =
     gives_more s g (front_held names are) (back_held names are) old mid new out first
     (gives_more s g (wal_held names are) (mid_held names are) mid then new (front_out s g old mid names are out first) second third)
 
+-- ---- lent as a slice
+
+later_length : {A : Type 0} (g : Vaults A) (xs ys : List (Held A)) → AreLater g xs ys → length ys ≡ length xs
+later_length g [] [] later = refl
+later_length g [] (y ∷ ys) later = absurd later
+later_length g (x ∷ xs) [] later = absurd later
+later_length g (x ∷ xs) (y ∷ ys) later = ap suc (later_length g xs ys later.2)
+
+pub written_back : {A : Type 0} (g : Vaults A) (xs ys : List (Held A)) (n : ℕ) → n ≡ length xs → AreLater g xs ys → take n (ys ++ drop (length ys) xs) ≡ ys
+written_back g xs ys n many later =
+    let same : length ys ≡ length xs = later_length g xs ys later in
+    ap (λ (zs : List _). take n (ys ++ zs)) (drop_all (length ys) xs (omega (arith, same))) ∙ (ap (take n) (append-nil ys) ∙ take_all n ys (omega (arith, same, many)))
+
+-- ---- by their names
+
+areas_front : {A : Type 0} (g : Vaults A) (site : Areas) (front rest : Names) (held five : List (Held A)) → names_of held ≡ front → AreAreasOf g site (front ++ rest) (held ++ five) → AreAreasOf g site front held
+areas_front g site [] rest [] five named are = tt
+areas_front g site [] rest (one ∷ held) five named are = absurd cc
+areas_front g site (name ∷ front) rest [] five named are = absurd cc
+areas_front g site (name ∷ front) rest (one ∷ held) five named are =
+    let more : names_of held ≡ front = cc in
+    (are.0, are.1, areas_front g site front rest held five more are.2)
+
+areas_back : {A : Type 0} (g : Vaults A) (site : Areas) (front rest : Names) (held five : List (Held A)) → names_of held ≡ front → AreAreasOf g site (front ++ rest) (held ++ five) → AreAreasOf g site rest five
+areas_back g site [] rest [] five named are = are
+areas_back g site [] rest (one ∷ held) five named are = absurd cc
+areas_back g site (name ∷ front) rest [] five named are = absurd cc
+areas_back g site (name ∷ front) rest (one ∷ held) five named are =
+    let more : names_of held ≡ front = cc in
+    areas_back g site front rest held five more are.2
+
+-- what is held under a name is what the site has there
+as_there : {A : Type 0} (g : Vaults A) (site : Areas) (names : Names) (held : List (Held A)) (n : List ℕ) → AreAreasOf g site names held → IsOneOf n names → areas_of g held n ≡ site n
+as_there g site [] [] n are one = absurd one
+as_there g site [] (x ∷ held) n are one = absurd are
+as_there g site (name ∷ names) [] n are one = absurd are
+as_there g site (name ∷ names) (x ∷ held) n are one =
+    elim (same_or_not n x.name) [
+      | inl is ↦ ap (areas_of g (x ∷ held)) is ∙ (set_at-same (areas_of g held) x.name (state_in g x.area) ∙ (sym are.1 ∙ ap site (sym (is ∙ are.0))))
+      | inr other ↦ set_at-other (areas_of g held) x.name n (state_in g x.area) other ∙ elim one [
+        | inl first ↦ absurd (other (first ∙ sym are.0))
+        | inr later ↦ as_there g site names held n are.2 later
+      ]
+    ]
+
+one_not_none : (n : List ℕ) (names : Names) → IsOneOf n names → IsNoneOf n names → ⊥
+one_not_none n [] one none = absurd one
+one_not_none n (name ∷ names) (inl is) none = none.0 is
+one_not_none n (name ∷ names) (inr later) none = one_not_none n names later none.1
+
+pub one_either : (n : List ℕ) (front rest : Names) → IsOneOf n (front ++ rest) → IsOneOf n front ⊎ IsOneOf n rest
+one_either n [] rest one = inr one
+one_either n (name ∷ front) rest (inl is) = inl (inl is)
+one_either n (name ∷ front) rest (inr later) =
+    elim (one_either n front rest later) [
+      | inl first ↦ inl (inr first)
+      | inr last ↦ inr last
+    ]
+
+-- no name among more is none among fewer
+none_fewer : (n : List ℕ) (asked names : Names) → ((m : List ℕ) → IsOneOf m names → IsOneOf m asked) → IsNoneOf n asked → IsNoneOf n names
+none_fewer n asked names only none =
+    elim (one_or_none n names) [
+      | inl one ↦ absurd (one_not_none n asked (only n one) none)
+      | inr apart ↦ apart
+    ]
+
+pub one_both : (n : List ℕ) (front rest more : Names) → ((m : List ℕ) → IsOneOf m front → IsOneOf m more) → IsOneOf n (front ++ rest) → IsOneOf n (more ++ rest)
+one_both n front rest more only one =
+    elim (one_either n front rest one) [
+      | inl first ↦ one_front n more rest (only n first)
+      | inr last ↦ one_back n more rest last
+    ]
+
 -- what a site comes to whose areas were all at home, once they were given back
-pub record StoreBack {S A : Type 0} (s : Sites S A) (g : Vaults A) (old new : S) (are now : StoreAreas A) : Type 0 where
-  pub site : WritesAmong run_asks (s.areas old) (s.areas new)
+pub record RunBack {S A : Type 0} (s : Sites S A) (g : Vaults A) (asked : Names) (old new : S) (held kept : List (Held A)) (are now : StoreAreas A) : Type 0 where
+  pub site : WritesAmong (asked ++ store_asks) (s.areas old) (s.areas new)
   pub was : AreAt g (s.areas old) are
   pub is : AreAt g (s.areas new) now
+  pub were : AreAsAt asked (areas_of g held) (s.areas old)
+  pub after : AreAsAt asked (areas_of g kept) (s.areas new)
   pub later : s.take_faults old ≤ s.take_faults new
 
-are_at : {A : Type 0} (g : Vaults A) (areas : Areas) (names : StoreNames) (are : StoreAreas A) → AreAreasOf g areas run_asks (held_of names are) → AreAt g areas are
+are_at : {A : Type 0} (g : Vaults A) (areas : Areas) (names : StoreNames) (are : StoreAreas A) → AreAreasOf g areas store_asks (held_of names are) → AreAt g areas are
 are_at g areas names are is = record {
   wal = is.1;
   data0 = is.2.1;
@@ -185,12 +271,72 @@ are_at g areas names are is = record {
   data3 = is.2.2.2.2.1;
 }
 
-pub store_back : {S A : Type 0} (s : Sites S A) (g : Vaults A) (old mid new : S) (names : StoreNames) (are now : StoreAreas A) → AllHome (s.areas old) → AreTaken s g run_asks old mid (held_of names are) → GivesBack s g (held_of names now) mid new → StoreBack s g old new are now
-store_back s g old mid new names are now home taken gives =
-    let back = lent s g run_asks old mid new (held_of names are) (held_of names now) home taken refl gives in
+names_of_both : {A : Type 0} (xs ys : List (Held A)) → names_of (xs ++ ys) ≡ names_of xs ++ names_of ys
+names_of_both [] ys = refl
+names_of_both (x ∷ xs) ys = ap (λ (ns : Names). x.name ∷ ns) (names_of_both xs ys)
+
+fronts_same : {A : Type 0} (xs us ys vs : List A) → length ys ≡ length vs → xs ++ ys ≡ us ++ vs → xs ≡ us
+fronts_same [] [] ys vs same e = refl
+fronts_same [] (u ∷ us) ys vs same e = absurd (omega (arith, same, ap (λ (l : List _). length l) e, length-append us vs))
+fronts_same (x ∷ xs) [] ys vs same e = absurd (omega (arith, same, ap (λ (l : List _). length l) e, length-append xs ys))
+fronts_same (x ∷ xs) (u ∷ us) ys vs same e =
+    let head : x ≡ u = cc in
+    let tail : xs ++ ys ≡ us ++ vs = cc in
+    ap (λ a. a ∷ xs) head ∙ ap (λ (l : List _). u ∷ l) (fronts_same xs us ys vs same tail)
+
+-- the areas before those of the store have the names of the backups
+pub held_are : {A : Type 0} (g : Vaults A) (site : Areas) (backups : Names) (held : List (Held A)) (names : StoreNames) (are : StoreAreas A) → AreAreasOf g site (backups ++ store_asks) (held ++ held_of names are) → names_of held ≡ backups
+held_are g site backups held names are is =
+    fronts_same (names_of held) backups (names_of (held_of names are)) store_asks refl (sym (names_of_both held (held_of names are)) ∙ areas_named g site (backups ++ store_asks) (held ++ held_of names are) is)
+
+pub run_back : {S A : Type 0} (s : Sites S A) (g : Vaults A) (asked backups : Names) (old mid new : S) (names : StoreNames) (held kept : List (Held A)) (are now : StoreAreas A) → AreEachOnce asked backups → AllHome (s.areas old)
+    → AreTaken s g (backups ++ store_asks) old mid (held ++ held_of names are) → AreLater g held kept → GivesBack s g (kept ++ held_of names now) mid new → RunBack s g asked old new held kept are now
+run_back s g asked backups old mid new names held kept are now each home taken later gives =
+    let kept_named : names_of kept ≡ names_of held = later_named g held kept later in
+    let named : names_of (kept ++ held_of names now) ≡ names_of (held ++ held_of names are) =
+    names_of_both kept (held_of names now) ∙ (ap (λ (ns : Names). ns ++ names_of (held_of names now)) kept_named ∙ sym (names_of_both held (held_of names are))) in
+    let back = lent s g (backups ++ store_asks) old mid new (held ++ held_of names are) (kept ++ held_of names now) home taken named gives in
+    let held_named : names_of held ≡ backups = held_are g (s.areas old) backups held names are back.was in
     record {
-      site = back.site;
-      was = are_at g (s.areas old) names are back.was;
-      is = are_at g (s.areas new) names now back.is;
+      site = record {
+        home = back.site.home;
+        later = back.site.later;
+        others = λ n none. back.site.others n (none_fewer n (asked ++ store_asks) (backups ++ store_asks) (λ m one. one_both m backups store_asks asked each.only one) none);
+      };
+      was = are_at g (s.areas old) names are (areas_back g (s.areas old) backups store_asks held (held_of names are) held_named back.was);
+      is = are_at g (s.areas new) names now (areas_back g (s.areas new) backups store_asks kept (held_of names now) (kept_named ∙ held_named) back.is);
+      were = λ n one. as_there g (s.areas old) backups held n (areas_front g (s.areas old) backups store_asks held (held_of names are) held_named back.was) (each.all n one);
+      after = λ n one. as_there g (s.areas new) backups kept n (areas_front g (s.areas new) backups store_asks kept (held_of names now) (kept_named ∙ held_named) back.is) (each.all n one);
       later = back.later;
     }
+
+-- what was asked for is held under its names
+pub asked_held : {S A : Type 0} (s : Sites S A) (g : Vaults A) (lines : List Line) (ns : Names) (old mid : S) (held : List (Held A)) (names : StoreNames) (are : StoreAreas A) → AreAsked lines ns → AreTaken s g ns old mid (held ++ held_of names are) → AreHeld (areas_asked lines) held
+asked_held s g lines ns old mid held names are asked taken =
+    let areas : AreAreasOf g (s.areas old) (asked.backups ++ store_asks) (held ++ held_of names are) = subst (λ (xs : Names). AreAreasOf g (s.areas old) xs (held ++ held_of names are)) asked.names_are taken.areas in
+    let named : names_of held ≡ asked.backups = held_are g (s.areas old) asked.backups held names are areas in
+    λ n one. subst (λ (xs : Names). IsOneOf n xs) (sym named) (asked.each.all n one)
+
+-- all of it, from the site's side
+pub run_ends : {S A : Type 0} (s : Sites S A) (g : Vaults A) (lines : List Line) (script : List Task) (ns : Names) (old mid then new : S) (names : StoreNames) (held kept : List (Held A)) (are now : StoreAreas A) → AreAsked lines ns → areas_asked lines ≡ backups_asked script
+    → AllHome (s.areas old) → AreTaken s g ns old mid (held ++ held_of names are) → AreLater g held kept → NoneFell (faults_of g are) (faults_of g now) → GivesBack s g (held_of names now) mid then → GivesBack s g kept then new
+    → RunBack s g (backups_asked script) old new held kept are now
+run_ends s g lines script ns old mid then new names held kept are now asked same home taken later fell first second =
+    let there : AreTaken s g (asked.backups ++ store_asks) old mid (held ++ held_of names are) = subst (λ (xs : Names). AreTaken s g xs old mid (held ++ held_of names are)) asked.names_are taken in
+    let out : AreOut g (s.areas mid) (kept ++ held_of names now) = run_out g (s.areas mid) held kept names are now there.out later fell in
+    let gives : GivesBack s g (kept ++ held_of names now) mid new = gives_more s g kept (held_of names now) mid then new out first second in
+    subst (λ (xs : Names). RunBack s g xs old new held kept are now) same (run_back s g (areas_asked lines) asked.backups old mid new names held kept are now asked.each home there later gives)
+
+-- one of the areas wasn't handed out
+pub untaken : {S A : Type 0} (s : Sites S A) (g : Vaults A) (lines : List Line) (script : List Task) (ns : Names) (old new : S) (fault : TakeFault) → AreAsked lines ns → areas_asked lines ≡ backups_asked script → NoneTaken s ns old new fault
+    → (s.areas new ≡ s.areas old) × TakeCause (run_asks script) (s.take_faults old) (s.take_faults new) fault
+untaken s g lines script ns old new fault asked same none =
+    let among : IsOneOf fault.area (asked.backups ++ store_asks) = subst (λ (xs : Names). IsOneOf fault.area xs) asked.names_are none.cause.among in
+    let wider : IsOneOf fault.area (areas_asked lines ++ store_asks) = one_both fault.area asked.backups store_asks (areas_asked lines) asked.each.only among in (
+      none.areas,
+      record {
+        later = none.cause.later;
+        among = subst (λ (xs : Names). IsOneOf fault.area (xs ++ store_asks)) same wider;
+        failed = none.cause.failed;
+      },
+    )

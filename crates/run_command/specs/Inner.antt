@@ -1,6 +1,6 @@
 -- What private functions answer to those that call them. None of it stands in the contract of a
 -- public call.
-use Rattle.std.specs.Prelude.{◌≡◌, ℕ, ◌+◌, ◌-◌, ◌<◌, ◌≤◌, ◌&&◌, Bool, true, false, List, [], ◌∷◌, ◌++◌, length, take, drop, Option, Some, None, Result, Ok, Err, IfSome}
+use Rattle.std.specs.Prelude.{◌≡◌, ℕ, ◌+◌, ◌-◌, ◌<◌, ◌≤◌, ◌&&◌, ◌⊎◌, Bool, true, false, List, [], ◌∷◌, ◌++◌, length, take, drop, Option, Some, None, Result, Ok, Err, IfSome}
 use Rattle.std.specs.Option.{option_map, is_some}
 use Rattle.std.specs.Vec.{vec_len, vec_capacity}
 use Rattle.std.specs.Global.{Vec}
@@ -10,9 +10,12 @@ use Rattle.vault.specs.declared.site.Site.{Ghosts as Sites}
 use Rattle.vault.specs.declared.stream.Source.{Ghosts as Sources}
 use Rattle.vault.specs.declared.lending.Held.{Held}
 use Rattle.vault.specs.declared.lending.TakeFault.{TakeFault}
-use Rattle.vault.specs.Lending.{AreTaken, NoneTaken}
+use Rattle.vault.specs.Site.{Areas}
+use Rattle.vault.specs.Lending.{Names, IsOneOf, AreDistinct, AreTaken, NoneTaken}
 use Rattle.crew.specs.declared.script.Task.{Task}
 use Rattle.crew.specs.declared.script.Line.{Line}
+use Rattle.crew.specs.declared.script.Command.{Command}
+use Rattle.crew.specs.Backups.{area_asked, areas_asked}
 use Rattle.crew.specs.Run.{RunsLines}
 use Rattle.shared_store.specs.declared.areas.StoreAreas.{StoreAreas}
 use Rattle.shared_store.specs.declared.begin.BeginWhy.{BeginWhy}
@@ -25,9 +28,9 @@ use Rattle.run_command.specs.declared.running.Work.{Work}
 use Rattle.run_command.specs.declared.told.Told.{Told}
 use Rattle.run_command.specs.declared.command.RunReport.{RunReport}
 use Rattle.run_command.specs.declared.command.RunFault.{RunFault}
-use Rattle.command_base.specs.Outside.{Outside, of_site, with_input}
+use Rattle.command_base.specs.Outside.{Outside, of_site, with_input, with_moment}
 use Rattle.run_command.specs.Input.{IsInput}
-use Rattle.run_command.specs.Run.{RunResult, HasScript, run_asks, RunAnswer}
+use Rattle.run_command.specs.Run.{RunResult, HasScript, store_asks, RunAnswer}
 
 -- ---- the input
 
@@ -62,12 +65,31 @@ held_of names areas =
     ∷ record { name = names.data3; area = areas.data3 }
     ∷ []
 
--- the areas of a store were taken, or none of them
-abbrev pub TakesStore : {S V : Type 0} → Sites S V → Vaults V → S → S
-    → Result (StoreNames × StoreAreas V) TakeFault → Type 0
-TakesStore sites vaults old new (Ok taken) =
-    AreTaken sites vaults run_asks old new (held_of taken.0 taken.1)
-TakesStore sites vaults old new (Err fault) = NoneTaken sites run_asks old new fault
+-- names are these, each once, in some order
+pub record AreEachOnce (asked names : Names) : Type 0 where
+  pub distinct : AreDistinct names
+  pub all : (n : List ℕ) → IsOneOf n asked → IsOneOf n names
+  pub only : (n : List ℕ) → IsOneOf n names → IsOneOf n asked
+
+-- with what a command asks for, unless that is among them already
+pub record AddsAsked (command : Command) (old new : Names) : Type 0 where
+  pub distinct : AreDistinct old → AreDistinct new
+  pub kept : (n : List ℕ) → IsOneOf n old → IsOneOf n new
+  pub added : (n : List ℕ) → IsOneOf n (area_asked command) → IsOneOf n new
+  pub only : (n : List ℕ) → IsOneOf n new → IsOneOf n old ⊎ IsOneOf n (area_asked command)
+
+-- the areas that lines and their store ask for
+pub record AreAsked (lines : List Line) (names : Names) : Type 0 where
+  pub backups : Names
+  pub each : AreEachOnce (areas_asked lines) backups
+  pub names_are : names ≡ backups ++ store_asks
+
+-- the areas of backups and of a store were taken, or none of them
+abbrev pub TakesRun : {S V : Type 0} → Sites S V → Vaults V → Names → S → S
+    → Result (Vec (Held V) × StoreNames × StoreAreas V) TakeFault → Type 0
+TakesRun sites vaults names old new (Ok taken) =
+    AreTaken sites vaults names old new (taken.0.items ++ held_of taken.1 taken.2)
+TakesRun sites vaults names old new (Err fault) = NoneTaken sites names old new fault
 
 -- whether each area of a store tells its files
 abbrev pub all_tell : {V : Type 0} → Vaults V → StoreAreas V → Bool
@@ -93,16 +115,17 @@ pub record HasRoom (work : Work) : Type 0 where
   pub untold : work.list.items ≡ []
   pub place : vec_len work.list < vec_capacity work.list
 
--- the worker of a script, if it has one, ran its lines
-abbrev pub RunsTasks : Type 0 → List Told → Seen → Seen → Opened → Opened → Type 0
-RunsTasks tells [] old new before behind = behind ≡ before
-RunsTasks tells (t ∷ []) old new before behind =
-    RunsLines tells t.task.lines old new before behind t.answers
-RunsTasks tells (t ∷ (u ∷ told)) old new before behind = ⊥
+-- the worker of a script, if it has one, ran its lines, and made of the areas of its backups those
+abbrev pub RunsTasks :
+    Type 0 → ℕ → List Told → Seen → Seen → Opened → Opened → Areas → Areas → Type 0
+RunsTasks tells when [] old new before behind held kept = (behind ≡ before) × (kept ≡ held)
+RunsTasks tells when (t ∷ []) old new before behind held kept =
+    RunsLines tells when t.task.lines old new before behind held kept t.answers
+RunsTasks tells when (t ∷ (u ∷ told)) old new before behind held kept = ⊥
 
 -- a store was begun on areas for one worker, the script was run on it, and it was closed
-pub record IsRunOn {V : Type 0} (vaults : Vaults V) (tells : Bool) (old new : StoreAreas V)
-    (report : RunReport) : Type 0 where
+pub record IsRunOn {V : Type 0} (vaults : Vaults V) (tells : Bool) (when : ℕ)
+    (old new : StoreAreas V) (held kept : Areas) (report : RunReport) : Type 0 where
   pub begun : Opened
   pub pass : Seen
   pub tip : Tip
@@ -110,27 +133,34 @@ pub record IsRunOn {V : Type 0} (vaults : Vaults V) (tells : Bool) (old new : St
   pub opened : report.opened.0 ≡ tip.end
   pub left : Opened
   pub seen : Seen
-  pub runs : RunsTasks (tells ≡ true) report.told pass seen begun left
+  pub runs : RunsTasks (tells ≡ true) when report.told pass seen begun left held kept
   pub lawful : IsLawfulOf (tells ≡ true) left
   pub closes : IsClosed vaults (tells ≡ true) left new report.closed
 
 -- so it was, or no store was begun
-abbrev pub RunsOn : {V : Type 0} → Vaults V → Bool → StoreAreas V → StoreAreas V
-    → Result RunReport BeginWhy → Type 0
-RunsOn vaults tells old new (Ok report) = IsRunOn vaults tells old new report
-RunsOn vaults tells old new (Err why) =
-    IsUnbegun vaults old (record { areas = new; why = why })
+abbrev pub RunsOn : {V : Type 0} → Vaults V → Bool → ℕ → StoreAreas V → StoreAreas V
+    → Areas → Areas → Result RunReport BeginWhy → Type 0
+RunsOn vaults tells when old new held kept (Ok report) =
+    IsRunOn vaults tells when old new held kept report
+RunsOn vaults tells when old new held kept (Err why) =
+    IsUnbegun vaults old (record { areas = new; why = why }) × (kept ≡ held)
 
--- there is no script, whatever the site is
+-- a site and an input, as `run` sees them, where a clock tells this
+abbrev pub seen_at : Outside → Option (List ℕ) → ℕ → Option ℕ → Outside
+seen_at site left reads moment = with_moment (with_input site left reads) moment
+
+-- there is no script, whatever the site, the clock and the script are
 abbrev pub RefusesScript : {I : Type 0} → Sources I → I → I → RunFault → Type 0
 RefusesScript sources old new fault =
-    (site : Outside)
-    → RunAnswer (with_input site (sources.left old) (sources.faults old))
-    (with_input site (sources.left new) (sources.faults new)) (Err fault)
+    (when : ℕ) (script : List Task) (site : Outside) (before behind : Option ℕ)
+    → RunAnswer when script (seen_at site (sources.left old) (sources.faults old) before)
+    (seen_at site (sources.left new) (sources.faults new) behind) (Err fault)
 
--- why `run` comes to its answer with this script, whatever the input was
-abbrev pub RunsScript : {S V : Type 0} → Sites S V → List Task → S → S → RunResult → Type 0
-RunsScript sites script old new r =
-    (left rest : Option (List ℕ)) (reads now : ℕ) → HasScript left rest script
-    → RunAnswer (with_input (of_site sites old) left reads)
-    (with_input (of_site sites new) rest now) r
+-- why `run` comes to its answer with this script, whatever the input and the clock were
+abbrev pub RunsScript :
+    {S V : Type 0} → Sites S V → ℕ → List Task → S → S → RunResult → Type 0
+RunsScript sites when script old new r =
+    (left rest : Option (List ℕ)) (reads now : ℕ) (before behind : Option ℕ)
+    → HasScript left rest script
+    → RunAnswer when script (seen_at (of_site sites old) left reads before)
+    (seen_at (of_site sites new) rest now behind) r

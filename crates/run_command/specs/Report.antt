@@ -1,6 +1,6 @@
 -- The lines that the run of a script prints (profile).
-use Rattle.std.specs.Prelude.{ℕ, List, [], ◌∷◌, ◌++◌, slice_get, Option, Some, None, Result, Ok, Err, codes}
-use Rattle.std.specs.List.{flat_map, filter_map}
+use Rattle.std.specs.Prelude.{ℕ, List, [], ◌∷◌, ◌++◌, Option, Some, None, Result, Ok, Err, codes}
+use Rattle.std.specs.List.{flat_map}
 use Rattle.std.specs.Fmt.{decimal}
 use Rattle.lsn_core.specs.Names.{lsn_bytes}
 use Rattle.lsn_core.specs.declared.lsn.Lsn.{Lsn}
@@ -11,12 +11,17 @@ use Rattle.lsn_core.specs.declared.fault.MarkFault.TheVariants as mark
 use Rattle.lsn_core.specs.declared.fault.StoreFault.{StoreFault}
 use Rattle.shared_store.specs.declared.fault.InsertFault.{InsertFault}
 use Rattle.shared_store.specs.declared.fault.InsertFault.TheVariants as insert_fault
+use Rattle.base_backup.specs.declared.fault.BackupFault.{BackupFault}
+use Rattle.base_backup.specs.declared.fault.BackupFault.TheVariants as backup
 use Rattle.crew.specs.declared.script.Line.{Line}
+use Rattle.crew.specs.declared.answer.Stop.{Stop}
+use Rattle.crew.specs.declared.answer.Stop.TheVariants as stop
+use Rattle.crew.specs.Backups.{backup_taken}
 use Rattle.crew.specs.Run.{stop_of}
 use Rattle.crew.specs.declared.answer.Answer.{Answer}
 use Rattle.crew.specs.declared.answer.Answer.TheVariants as answer
-use Rattle.command_base.specs.Areas.{area_name}
-use Rattle.command_base.specs.Faults.{refused_line, area_text, store_text, memory_text}
+use Rattle.command_base.specs.Areas.{area_name, backup_name}
+use Rattle.command_base.specs.Faults.{refused_line, area_text, store_text, full_text, memory_text}
 use Rattle.run_command.specs.declared.told.Told.{Told}
 use Rattle.run_command.specs.declared.command.RunReport.{RunReport}
 
@@ -54,23 +59,43 @@ mark_fault_text (mark.Failed area) = area_text (area_name area) Failed
 mark_fault_text (mark.WalFull n) = codes "17 WalFull " ++ decimal n
 mark_fault_text mark.NoMemory = memory_text
 
--- the answer to a line
-abbrev pub answer_text : Answer → List ℕ
-answer_text (answer.Accepted place) = accepted_text place
-answer_text (answer.Refused why) = codes "refused " ++ insert_fault_text why
-answer_text (answer.Grown k place) = grown_text k place
-answer_text (answer.Stopped k why) =
+-- a full backup was taken, between these places
+abbrev pub backup_text : Lsn → Lsn → List ℕ
+backup_text start end = codes "backup " ++ (lsn_bytes start.0 ++ (32 ∷ lsn_bytes end.0))
+
+-- why a backup of this name was refused, or failed
+abbrev pub backup_fault_text : List ℕ → BackupFault → List ℕ
+backup_fault_text name backup.NotEmpty = full_text (backup_name name)
+backup_fault_text name (backup.WalFull n) = codes "17 WalFull " ++ decimal n
+backup_fault_text name (backup.StoreFailed area) = area_text (area_name area) Failed
+backup_fault_text name backup.OutFailed = area_text (backup_name name) Failed
+backup_fault_text name backup.NoMemory = memory_text
+
+-- by what a line was stopped that takes a backup of this name, if it takes one
+abbrev pub stop_text : List ℕ → Stop → List ℕ
+stop_text name (stop.Store why) = store_text why
+stop_text name stop.Backup = area_text (backup_name name) Failed
+
+-- the answer to such a line
+abbrev pub answer_text : List ℕ → Answer → List ℕ
+answer_text name (answer.Accepted place) = accepted_text place
+answer_text name (answer.Refused why) = codes "refused " ++ insert_fault_text why
+answer_text name (answer.Grown k place) = grown_text k place
+answer_text name (answer.Stopped k why) =
     codes "stopped " ++ (decimal k ++ (32 ∷ insert_fault_text why))
-answer_text (answer.Redo redo) = codes "redo " ++ lsn_bytes redo.0
-answer_text (answer.CheckpointRefused why) = codes "refused " ++ mark_fault_text why
-answer_text (answer.Wrote k) = codes "wrote " ++ decimal k
-answer_text (answer.CallFailed why) = codes "refused " ++ store_text why
-answer_text answer.NotRun = codes "not run"
+answer_text name (answer.Redo redo) = codes "redo " ++ lsn_bytes redo.0
+answer_text name (answer.CheckpointRefused why) = codes "refused " ++ mark_fault_text why
+answer_text name (answer.Wrote k) = codes "wrote " ++ decimal k
+answer_text name (answer.CallFailed why) = codes "refused " ++ store_text why
+answer_text name (answer.Backup start end) = backup_text start end
+answer_text name (answer.BackupRefused why) = codes "refused " ++ backup_fault_text name why
+answer_text name answer.NotRun = codes "not run"
 
 -- the worker, the number of the line, and its answer
 abbrev pub answer_line : List ℕ → Line → Answer → List ℕ
 answer_line name line answer =
-    name ++ (32 ∷ (decimal line.number ++ (32 ∷ (answer_text answer ++ (10 ∷ [])))))
+    name ++ (32 ∷ (decimal line.number
+    ++ (32 ∷ (answer_text (backup_taken line.command) answer ++ (10 ∷ [])))))
 
 abbrev pub answer_lines : List ℕ → List Line → List Answer → List ℕ
 answer_lines name [] answers = []
@@ -82,22 +107,41 @@ answer_lines name (line ∷ lines) (answer ∷ answers) =
 abbrev pub worker_lines : Told → List ℕ
 worker_lines told = answer_lines told.task.name told.task.lines told.answers
 
--- the faults by which workers were stopped, in the order of the script
-abbrev pub stops_told : List Told → List StoreFault
-stops_told told = filter_map stop_of (flat_map (λ t. t.answers) told)
+-- the first line by whose answer a worker was stopped, and by what
+abbrev pub stop_or : Line → Option Stop → Option (Line × Stop) → Option (Line × Stop)
+stop_or line None rest = rest
+stop_or line (Some why) rest = Some (line, why)
 
--- a run ends with the first of them; where there is none, as closing the store did
-abbrev pub ending_behind : Option StoreFault → Result Lsn StoreFault → Result Lsn StoreFault
-ending_behind None closed = closed
-ending_behind (Some why) closed = Err why
+abbrev pub first_stop : List Line → List Answer → Option (Line × Stop)
+first_stop [] answers = None
+first_stop (line ∷ lines) [] = None
+first_stop (line ∷ lines) (answer ∷ answers) =
+    stop_or line (stop_of answer) (first_stop lines answers)
 
-abbrev pub ending_of : RunReport → Result Lsn StoreFault
-ending_of report = ending_behind (slice_get (stops_told report.told) 0) report.closed
+-- the same of all workers, in the order of the script
+abbrev pub first_or : Option (Line × Stop) → Option (Line × Stop) → Option (Line × Stop)
+first_or None rest = rest
+first_or (Some first) rest = Some first
 
--- the last line: where the WAL ends, or why it isn't known to be written
-abbrev pub last_line : Result Lsn StoreFault → List ℕ
-last_line (Ok end) = codes "wal " ++ (lsn_bytes end.0 ++ (10 ∷ []))
-last_line (Err why) = refused_line (store_text why)
+abbrev pub first_told : List Told → Option (Line × Stop)
+first_told [] = None
+first_told (t ∷ told) = first_or (first_stop t.task.lines t.answers) (first_told told)
+
+-- how closing the store ended: where the WAL ends, or why it isn't known to be written
+abbrev pub closed_line : Result Lsn StoreFault → List ℕ
+closed_line (Ok end) = codes "wal " ++ (lsn_bytes end.0 ++ (10 ∷ []))
+closed_line (Err why) = refused_line (store_text why)
+
+-- a run ends with the line by which a worker was stopped first; where none was, as closing the store
+-- did
+abbrev pub ending_line : Option (Line × Stop) → Result Lsn StoreFault → List ℕ
+ending_line None closed = closed_line closed
+ending_line (Some first) closed =
+    refused_line (stop_text (backup_taken first.0.command) first.1)
+
+-- the last line
+abbrev pub last_line : RunReport → List ℕ
+last_line report = ending_line (first_told report.told) report.closed
 
 -- the first line: where the WAL ended before
 abbrev pub opened_line : Lsn → List ℕ
@@ -105,5 +149,4 @@ opened_line opened = codes "opened " ++ (lsn_bytes opened.0 ++ (10 ∷ []))
 
 abbrev pub report_text : RunReport → List ℕ
 report_text report =
-    opened_line report.opened
-    ++ (flat_map worker_lines report.told ++ last_line (ending_of report))
+    opened_line report.opened ++ (flat_map worker_lines report.told ++ last_line report)

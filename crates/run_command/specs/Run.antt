@@ -1,6 +1,6 @@
 -- `run`: what running a script does, prints and ends with.
-use Rattle.std.specs.Prelude.{◌≡◌, ℕ, ◌+◌, ◌<◌, ◌≤◌, List, [], ◌∷◌, ◌++◌, map, length, slice_get, Option, Some, Result, Ok, Err, IsSome, IfSome, codes}
-use Rattle.std.specs.List.{All}
+use Rattle.std.specs.Prelude.{◌≡◌, ℕ, ◌+◌, ◌<◌, ◌≤◌, List, [], ◌∷◌, ◌++◌, map, length, slice_get, Option, Some, None, Result, Ok, Err, IsSome, IfSome, codes}
+use Rattle.std.specs.List.{All, flat_map}
 use Rattle.std.specs.FinMap.{empty}
 use Rattle.std.specs.Fmt.{decimal}
 use Rattle.lsn_core.specs.Causes.{Rose}
@@ -33,7 +33,11 @@ use Rattle.crew.specs.declared.script.Task.{Task}
 use Rattle.crew.specs.declared.why.Why.{Why}
 use Rattle.crew.specs.Reasons.{script_limit, why_bytes}
 use Rattle.crew.specs.Script.{IsScript, IsRefusedAt}
-use Rattle.crew.specs.Run.{IsOfWorker, IsAnswered, TellsFault}
+use Rattle.crew.specs.declared.script.Line.{Line}
+use Rattle.crew.specs.declared.answer.Stop.{Stop}
+use Rattle.crew.specs.declared.answer.Stop.TheVariants as stop
+use Rattle.crew.specs.Backups.{areas_asked}
+use Rattle.crew.specs.Run.{IsOfWorker, IsAnswered, BackupsStand, BackupFaultsRose, TellsFault, basis_of}
 use Rattle.command_base.specs.declared.status.Status.{Status}
 use Rattle.command_base.specs.declared.status.Status.TheVariants as status
 use Rattle.run_command.specs.declared.told.Told.{Told}
@@ -44,7 +48,7 @@ use Rattle.command_base.specs.Areas.{wal_name, data_name, area_name, Keeps, Area
 use Rattle.command_base.specs.Outside.{Outside, Works, LeavesSite, IsUntaken}
 use Rattle.run_command.specs.Input.{IsInput, TakesAtMost}
 use Rattle.command_base.specs.Faults.{refused_line, area_text, take_text, begin_text, memory_text, area_status, store_status, begin_status}
-use Rattle.run_command.specs.Report.{ending_of, report_text}
+use Rattle.run_command.specs.Report.{first_told, report_text}
 
 abbrev pub RunResult : Type 0
 RunResult = Result RunReport RunFault
@@ -65,17 +69,29 @@ pub record HasRefusedLine (left now : Option (List ℕ)) (line : ℕ) (why : Why
 
 -- ---- what the run of a script comes to, over the areas of a store
 
+-- the areas of a store
+abbrev pub store_asks : Names
+store_asks = wal_name ∷ data_name 0 ∷ data_name 1 ∷ data_name 2 ∷ data_name 3 ∷ []
+
+-- those of the backups that a script takes
+abbrev pub backups_asked : List Task → Names
+backups_asked script = flat_map (λ task. areas_asked task.lines) script
+
 -- the areas that it asks for, which it may change
-abbrev pub run_asks : Names
-run_asks = wal_name ∷ data_name 0 ∷ data_name 1 ∷ data_name 2 ∷ data_name 3 ∷ []
+abbrev pub run_asks : List Task → Names
+run_asks script = backups_asked script ++ store_asks
 
--- each of them tells its files
+-- each of a store tells its files
 abbrev pub AreTold : Areas → Type 0
-AreTold areas = (name : List ℕ) → IsOneOf name run_asks → IsSome (areas name).files
+AreTold areas = (name : List ℕ) → IsOneOf name store_asks → IsSome (areas name).files
 
--- the files of each are as they were
-abbrev pub KeepsAll : Areas → Areas → Type 0
-KeepsAll old new = (name : List ℕ) → IsOneOf name run_asks → Keeps (old name) (new name)
+-- the files of these areas are as they were
+abbrev pub KeepAll : Names → Areas → Areas → Type 0
+KeepAll names old new = (name : List ℕ) → IsOneOf name names → Keeps (old name) (new name)
+
+-- these are the areas of a site, by these names
+abbrev pub AreAsAt : Names → Areas → Areas → Type 0
+AreAsAt names areas site = (name : List ℕ) → IsOneOf name names → areas name ≡ site name
 
 -- an area of the store failed only where its count of faults rose; want of memory may come at any
 -- time
@@ -102,23 +118,26 @@ found_tip s found = tip_behind (first_tip s.segment) found
 abbrev pub HasFound : StoreSettings → List Record → Files → Type 0
 HasFound s found files = IsWal s files found (found_tip s found)
 
--- one of so many workers made the entry: by a command, or as the start or the end of a checkpoint
+-- one of so many workers made the entry: by a command, or as the start or the end of a checkpoint or
+-- the end of a backup
 abbrev pub IsOfRun : ℕ → Entry → Type 0
 IsOfRun workers entry = (worker : ℕ) × (worker < workers) × IsOfWorker worker entry
 
 -- a history goes on behind the records that were found by entries of the workers alone, and, where
 -- areas tell, lawfully, each entry in the place where it is written; over it
--- each worker's lines were answered so, and its commands there are those that its answers name
+-- each worker's lines were answered so, at this moment, and its commands there are those that its
+-- answers name; and its backups made of these areas those
 pub record HasHistory
-    (tells : Type 0) (s : StoreSettings) (found : List Record) (told : List Told)
-    (history : List Entry)
+    (tells : Type 0) (s : StoreSettings) (when : ℕ) (found : List Record) (told : List Told)
+    (held kept : Areas) (history : List Entry)
     : Type 0 where
   pub own : List Entry
   pub grown : history ≡ map entry_of found ++ own
   pub of_run : All (IsOfRun (length told)) own
   pub lawful : tells → IsLawful s.segment history
   pub answered : (worker : ℕ) (t : Told) → slice_get told worker ≡ Some t
-      → IsAnswered tells s.segment worker history (length found) t.task.lines t.answers
+      → IsAnswered tells (basis_of s when) worker history (length found) t.task.lines t.answers
+      held kept
 
 -- the records that were found, and behind them those that a history is written as
 abbrev pub all_records : StoreSettings → List Record → List Entry → List Record
@@ -158,9 +177,24 @@ ToldFaultsRose old new told =
     All (λ t. All (λ answer. (area : StoreArea) → TellsFault area answer
     → StoreFails old new (store.Failed area)) t.answers) told
 
--- a script was run on a store whose WAL has an entry, and whose entries make a store, and came to a
--- history. Whatever else came, the answers are true of that
-pub record RunDone (old new : Areas) (report : RunReport) : Type 0 where
+-- the directory of each backup that was answered stands at the site, where its area told it then, or
+-- where no later line names the backup too: its pages were copied while a beginning of the history was
+-- written
+abbrev pub BackupsDone :
+    Type 0 → StoreSettings → ℕ → List Entry → Areas → List Told → Type 0
+BackupsDone tells s when history new told =
+    (worker : ℕ) (t : Told) → slice_get told worker ≡ Some t
+    → BackupsStand tells (basis_of s when) worker history t.task.lines t.answers new
+
+-- the area of each backup that was told to have failed has a count of faults that rose
+abbrev pub ToldBackupsFailed : Areas → Areas → List Told → Type 0
+ToldBackupsFailed old new told =
+    (worker : ℕ) (t : Told) → slice_get told worker ≡ Some t
+    → BackupFaultsRose t.task.lines t.answers old new
+
+-- a script was run on a store whose WAL has an entry, and whose entries make a store, at a moment, and
+-- came to a history. Whatever else came, the answers are true of that
+pub record RunDone (when : ℕ) (old new : Areas) (report : RunReport) : Type 0 where
   pub settings : StoreSettings
   pub given : HasSettings (old wal_name).files settings
   pub found : List Record
@@ -170,48 +204,60 @@ pub record RunDone (old new : Areas) (report : RunReport) : Type 0 where
   pub archive : IfSome (old wal_name).files (HasFound settings found)
   pub opened : report.opened.0 ≡ (found_tip settings found).end
   pub history : List Entry
-  pub happened : HasHistory (AreTold old) settings found report.told history
+  -- the areas of the backups, as they were and as they are
+  pub held : Areas
+  pub were : AreAsAt (backups_asked (tasks_told report.told)) held old
+  pub kept : Areas
+  pub are : AreAsAt (backups_asked (tasks_told report.told)) kept new
+  pub happened : HasHistory (AreTold old) settings when found report.told held kept history
+  pub completed : BackupsDone (AreTold old) settings when history new report.told
   pub left : LeavesWal settings found history (old wal_name) (new wal_name)
   pub closing : IsClosing settings found history old new report.closed
   pub risen : ToldFaultsRose old new report.told
+  pub backups_failed : ToldBackupsFailed old new report.told
 
 -- ---- what `run` comes to
 
--- no store was begun: its WAL can't be begun on, and all is as it was; or a data area failed, or
--- memory ran out while the data areas were rebuilt, and the WAL is as it was
-abbrev pub CantBegin : Areas → Areas → BeginWhy → Type 0
-CantBegin old new (begin.Wal why) =
-    KeepsAll old new
+-- no store was begun, and the areas of the backups are as they were: its WAL can't be begun on, and
+-- all is as it was; or a data area failed, or memory ran out while the data areas were rebuilt, and
+-- the WAL is as it was
+abbrev pub CantBegin : List Task → Areas → Areas → BeginWhy → Type 0
+CantBegin script old new (begin.Wal why) =
+    KeepAll (run_asks script) old new
     × BeginCause (old wal_name).files (old wal_name).faults (new wal_name).faults why
-CantBegin old new (begin.Data why) =
-    Keeps (old wal_name) (new wal_name) × DataAreaFails old new why
+CantBegin script old new (begin.Data why) =
+    KeepAll (backups_asked script) old new
+    × Keeps (old wal_name) (new wal_name) × DataAreaFails old new why
 
--- why `run` comes to its answer: a script was run; or the input failed, a line is refused, memory
--- ran out, an area wasn't handed out, or no store can be begun
-abbrev pub RunAnswer : Outside → Outside → RunResult → Type 0
-RunAnswer old new (Ok report) =
-    HasScript old.left new.left (tasks_told report.told) × RunDone old.areas new.areas report
-RunAnswer old new (Err (run.Input why)) =
+-- why `run` of a script at a moment comes to its answer: it was run; or the input failed, a line is
+-- refused, memory ran out, an area wasn't handed out, or no store can be begun
+abbrev pub RunAnswer : ℕ → List Task → Outside → Outside → RunResult → Type 0
+RunAnswer when script old new (Ok report) =
+    (tasks_told report.told ≡ script) × HasScript old.left new.left script
+    × RunDone when old.areas new.areas report
+RunAnswer when script old new (Err (run.Input why)) =
     LeavesSite old new × AreaCause old.reads new.reads why
-RunAnswer old new (Err (run.Script line why)) =
+RunAnswer when script old new (Err (run.Script line why)) =
     LeavesSite old new × HasRefusedLine old.left new.left line why
-RunAnswer old new (Err run.NoMemory) = LeavesSite old new
-RunAnswer old new (Err (run.Site fault)) =
-    (script : List Task)
-    × HasScript old.left new.left script
-    × IsUntaken run_asks old new fault
-RunAnswer old new (Err (run.Begin why)) =
-    (script : List Task)
-    × HasScript old.left new.left script
-    × CantBegin old.areas new.areas why
+RunAnswer when script old new (Err run.NoMemory) = LeavesSite old new
+RunAnswer when script old new (Err (run.Site fault)) =
+    HasScript old.left new.left script × IsUntaken (run_asks script) old new fault
+RunAnswer when script old new (Err (run.Begin why)) =
+    HasScript old.left new.left script × CantBegin script old.areas new.areas why
 
--- `run`. Of the input no more is taken than one byte more than a script may have
+-- a moment is the clock's
+abbrev pub IsMoment : Outside → ℕ → Type 0
+IsMoment old when = IfSome old.moment (λ told. when ≡ told)
+
+-- `run`, of a script where the input has one, at the clock's moment. Of the input no more is taken
+-- than one byte more than a script may have
 abbrev pub RunDoes : Outside → Outside → RunResult → Type 0
 RunDoes old new r =
-    Works run_asks old new
+    (when : ℕ) × (script : List Task) × IsMoment old when
+    × Works (run_asks script) old new
     × (old.reads ≤ new.reads)
     × TakesAtMost (script_limit + 1) old.left new.left
-    × RunAnswer old new r
+    × RunAnswer when script old new r
 
 -- ---- what it prints, and its status
 
@@ -229,13 +275,22 @@ abbrev pub run_text : RunResult → List ℕ
 run_text (Ok report) = report_text report
 run_text (Err fault) = refused_line (run_fault_text fault)
 
--- the status of a run by how it ended
-abbrev pub ending_status : Result Lsn StoreFault → Status
-ending_status (Ok end) = status.Done
-ending_status (Err why) = store_status why
+-- the status of a run by how it ended: with the line by which a worker was stopped first; where none
+-- was, as closing the store did
+abbrev pub stop_status : Stop → Status
+stop_status (stop.Store why) = store_status why
+stop_status stop.Backup = status.Device
+
+abbrev pub closed_status : Result Lsn StoreFault → Status
+closed_status (Ok end) = status.Done
+closed_status (Err why) = store_status why
+
+abbrev pub ending_status : Option (Line × Stop) → Result Lsn StoreFault → Status
+ending_status None closed = closed_status closed
+ending_status (Some first) closed = stop_status first.1
 
 abbrev pub run_status : RunResult → Status
-run_status (Ok report) = ending_status (ending_of report)
+run_status (Ok report) = ending_status (first_told report.told) report.closed
 run_status (Err (run.Input why)) = area_status why
 run_status (Err (run.Script line why)) = status.Usage
 run_status (Err run.NoMemory) = status.Memory

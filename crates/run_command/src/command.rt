@@ -4,26 +4,27 @@ ghost use Rattle.std.specs.Prelude.{◌≡◌, ◌+◌, ◌≤◌, length, IfOk,
 ghost use Rattle.vault.specs.Site.{AllHome};
 ghost use Rattle.crew.specs.Reasons.{script_limit};
 ghost use Rattle.run_command.specs.declared.command.RunFault.TheVariants as run;
-ghost use Rattle.command_base.specs.Outside.{of_site, of_site_input, Works};
+ghost use Rattle.command_base.specs.Outside.{of_site, of_all, Works};
 ghost use Rattle.run_command.specs.Input.{TakesAtMost};
-ghost use Rattle.run_command.specs.Report.{ending_of};
-ghost use Rattle.run_command.specs.Run.{HasScript, run_asks, RunDoes, script_text, run_fault_text, run_text, ending_status, run_status};
+ghost use Rattle.run_command.specs.Report.{first_told};
+ghost use Rattle.run_command.specs.Run.{HasScript, run_asks, RunDoes, script_text, run_fault_text, run_text};
+ghost use Rattle.run_command.specs.Run.{stop_status, ending_status, run_status};
 ghost use Rattle.run_command.specs.Inner.{RefusesScript, RunsScript};
 
 use crate::input::read_input;
-use crate::lending::{give_store, store_names, take_store};
+use crate::lending::{give_store, run_names, take_run};
 use crate::report::report_text;
-use crate::running::{new_line, run_areas, work_of};
+use crate::running::{lines_in, new_line, run_areas, work_of};
 use crate::told::ToldTasks;
 use command_base::{
     Status, area_status, area_text, begin_status, begin_text, joined, refused_line, store_status,
     take_text,
 };
-use crew::{Script, ScriptFault, Why, read_script, why_text};
+use crew::{Script, ScriptFault, Stop, Why, read_script, why_text};
 use lsn_core::{AreaFault, Lsn, NoMemory, StoreFault, Text};
 use shared_store::BeginWhy;
 use std::alloc::Global;
-use vault::{Site, Source, TakeFault};
+use vault::{Clock, Site, Source, TakeFault, give_all};
 
 /// What the run of a script came to: where the WAL ended before, the script with the answers to its
 /// lines, and what closing the store came to: where the WAL ends now, or why not all is known to be
@@ -33,19 +34,6 @@ pub struct RunReport {
     pub opened: Lsn,
     pub told: ToldTasks,
     pub closed: Result<Lsn, StoreFault>,
-}
-
-impl RunReport {
-    /// How the run ended: with the first fault by which a worker was stopped; where there is none, as
-    /// closing the store did.
-    pub fn ending(&self) -> Result<Lsn, StoreFault>
-        ensures { result ≡ ending_of self.now }
-    {
-        match self.told.stop() {
-            Some(fault) => Err(fault),
-            None => self.closed,
-        }
-    }
 }
 
 /// Why no script was run.
@@ -79,20 +67,27 @@ impl From<NoMemory> for RunFault {
     }
 }
 
-/// Runs a script on the store of a site. All memory that a refusal would need is taken before the
-/// areas are, and these are given back in any case.
-fn run_in<S: Site>(alloc: Global, script: Script, site: &mut S) -> Result<RunReport, RunFault>
+/// Runs a script on the store of a site, at this moment. All memory that a refusal would need is taken
+/// before the areas are, and these are given back in any case.
+fn run_in<S: Site>(
+    alloc: Global,
+    script: Script,
+    when: u64,
+    site: &mut S,
+) -> Result<RunReport, RunFault>
     requires few { length script ≤ 1 }
+    requires when { when ≤ 253402207199 }
     requires home { AllHome (S.areas site.old) }
-    ensures site { Works run_asks (of_site S.Site site.old) (of_site S.Site site.new) }
-    ensures answer { RunsScript S.Site script site.old site.new result }
+    ensures site { Works (run_asks script) (of_site S.Site site.old) (of_site S.Site site.new) }
+    ensures answer { RunsScript S.Site when script site.old site.new result }
 {
     let work = work_of(alloc, script)?;
-    let names = store_names(alloc)?;
+    let names = run_names(alloc, lines_in(&work.task))?;
     let line = new_line(alloc)?;
-    let (names, areas) = take_store(alloc, site, names)?;
-    let (areas, answer) = run_areas(alloc, line, areas, work);
+    let (held, names, areas) = take_run(alloc, site, names)?;
+    let (held, areas, answer) = run_areas(alloc, line, areas, held, when, work);
     give_store(site, names, areas);
+    give_all(site, held);
     match answer {
         Ok(report) => Ok(report),
         Err(why) => Err(RunFault::Begin(why)),
@@ -118,19 +113,21 @@ fn script_of<I: Source>(alloc: Global, input: &mut I) -> Result<Script, RunFault
     }
 }
 
-/// `run`: reads the script of the input, and runs it on the store of a site.
-pub fn run<S: Site, I: Source>(
+/// `run`: reads the clock and the script of the input, and runs it on the store of a site.
+pub fn run<S: Site, I: Source, C: Clock>(
     alloc: Global,
     site: &mut S,
     input: &mut I,
+    clock: &mut C,
 ) -> Result<RunReport, RunFault>
     requires { AllHome (S.areas site.old) }
-    ensures does { RunDoes (of_site_input S.Site I.Source site.old input.old)
-        (of_site_input S.Site I.Source site.new input.new) result }
+    ensures does { RunDoes (of_all S.Site I.Source C.Clock site.old input.old clock.old)
+        (of_all S.Site I.Source C.Clock site.new input.new clock.new) result }
     ensures home { AllHome (S.areas site.new) }
 {
+    let when = clock.now();
     let script = script_of(alloc, input)?;
-    run_in(alloc, script, site)
+    run_in(alloc, script, when, site)
 }
 
 fn script_text(alloc: Global, line: u32, why: Why) -> Result<Text, NoMemory>
@@ -165,12 +162,26 @@ pub fn run_text(alloc: Global, came: &Result<RunReport, RunFault>) -> Result<Tex
     }
 }
 
-fn ending_status(ending: Result<Lsn, StoreFault>) -> Status
-    ensures { result ≡ ending_status ending }
+fn stop_status(stop: Stop) -> Status
+    ensures { result ≡ stop_status stop }
 {
-    match ending {
-        Ok(_) => Status::Done,
-        Err(why) => store_status(why),
+    match stop {
+        Stop::Store(fault) => store_status(fault),
+        Stop::Backup => Status::Device,
+    }
+}
+
+/// The status of a report: by the line by which a worker was stopped first; where none was, by how
+/// closing the store ended.
+fn ending_status(report: &RunReport) -> Status
+    ensures { result ≡ ending_status (first_told report.now.told) report.now.closed }
+{
+    match report.told.stop() {
+        Some((_, stop)) => stop_status(stop),
+        None => match report.closed {
+            Ok(_) => Status::Done,
+            Err(why) => store_status(why),
+        },
     }
 }
 
@@ -179,7 +190,7 @@ pub fn run_status(came: &Result<RunReport, RunFault>) -> Status
     ensures { result ≡ run_status came.now }
 {
     match came {
-        Ok(report) => ending_status(report.ending()),
+        Ok(report) => ending_status(report),
         Err(RunFault::Input(why)) => area_status(*why),
         Err(RunFault::Script(_, _)) => Status::Usage,
         Err(RunFault::Site(fault)) => area_status(fault.why),

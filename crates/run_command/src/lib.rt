@@ -2,8 +2,8 @@
 //! each line was answered.
 //!
 //! What a run does, over the whole outside and to a history, stands in `specs/Run.antt`, its lines in
-//! `specs/Report.antt`. It asks for the areas of a store once its script is taken and all memory that
-//! a refusal would need is there, and gives them back in any case.
+//! `specs/Report.antt`. It asks for the areas of a store and of its backups once its script is taken and
+//! all memory that a refusal would need is there, and gives them back in any case.
 //!
 //! Left to others: the grammar of scripts and the run of a line (`crew`), an open store
 //! (`shared_store`), texts and statuses of faults (`command_base`), and where the input and the site

@@ -4,14 +4,17 @@ ghost use Rattle.std.specs.Prelude.{◌≡◌, ◌∷◌, ◌++◌, codes, IfOk,
 ghost use Rattle.std.specs.List.{flat_map};
 ghost use Rattle.std.specs.Fmt.{decimal};
 ghost use Rattle.lsn_core.specs.Names.{lsn_bytes};
-ghost use Rattle.run_command.specs.Report.{insert_fault_text, accepted_text, grown_text, mark_fault_text, answer_text};
-ghost use Rattle.run_command.specs.Report.{answer_line, worker_lines, opened_line, last_line, report_text};
+ghost use Rattle.crew.specs.declared.answer.Stop.TheVariants as stop;
+ghost use Rattle.run_command.specs.Report.{insert_fault_text, accepted_text, grown_text, mark_fault_text};
+ghost use Rattle.run_command.specs.Report.{backup_text, backup_fault_text, stop_text, answer_text};
+ghost use Rattle.run_command.specs.Report.{answer_line, worker_lines, opened_line, closed_line, last_line, report_text};
 
 use crate::command::RunReport;
 use crate::told::Told;
-use command_base::{joined, refused_line, store_text};
-use crew::{Answer, Line};
-use lsn_core::{Lsn, MarkFault, NoMemory, Place, StoreFault, Text, lsn_text};
+use base_backup::BackupFault;
+use command_base::{area_text, backup_name, full_text, joined, refused_line, store_text};
+use crew::{Answer, Line, Stop};
+use lsn_core::{AreaFault, Lsn, MarkFault, NoMemory, Place, StoreFault, Text, lsn_text};
 use shared_store::InsertFault;
 use std::alloc::Global;
 
@@ -112,9 +115,51 @@ fn wrote_text(alloc: Global, count: u32) -> Result<Text, NoMemory>
     joined(alloc, &[b"wrote ", number.as_bytes()])
 }
 
-/// The answer to a line.
-fn answer_text(alloc: Global, answer: &Answer) -> Result<Text, NoMemory>
-    ensures { IfOk result (λ text. text ≡ answer_text answer.now) }
+/// A full backup was taken, between these places.
+fn backup_text(alloc: Global, start: Lsn, end: Lsn) -> Result<Text, NoMemory>
+    ensures { IfOk result (λ text. text ≡ backup_text start end) }
+{
+    let place = place_text(alloc, Place { start, end })?;
+    joined(alloc, &[b"backup ", place.as_bytes()])
+}
+
+/// The device of the area of this backup failed.
+fn backup_failed_text(alloc: Global, name: &[u8]) -> Result<Text, NoMemory>
+    ensures { IfOk result (λ text. text ≡ stop_text name.now stop.Backup) }
+{
+    area_text(
+        alloc,
+        backup_name(alloc, name)?.as_bytes(),
+        AreaFault::Failed,
+    )
+}
+
+/// Why a backup of this name was refused, or failed.
+fn backup_fault_text(alloc: Global, name: &[u8], fault: BackupFault) -> Result<Text, NoMemory>
+    ensures { IfOk result (λ text. text ≡ backup_fault_text name.now fault) }
+{
+    match fault {
+        BackupFault::NotEmpty => full_text(alloc, backup_name(alloc, name)?.as_bytes()),
+        BackupFault::WalFull(n) => mark_fault_text(alloc, MarkFault::WalFull(n)),
+        BackupFault::StoreFailed(area) => store_text(alloc, StoreFault::Failed(area)),
+        BackupFault::OutFailed => backup_failed_text(alloc, name),
+        BackupFault::NoMemory => store_text(alloc, StoreFault::NoMemory),
+    }
+}
+
+/// By what a line was stopped, which takes a backup of this name, if it takes one.
+fn stop_text(alloc: Global, name: &[u8], stop: Stop) -> Result<Text, NoMemory>
+    ensures { IfOk result (λ text. text ≡ stop_text name.now stop) }
+{
+    match stop {
+        Stop::Store(fault) => store_text(alloc, fault),
+        Stop::Backup => backup_failed_text(alloc, name),
+    }
+}
+
+/// The answer to a line that takes a backup of this name, if it takes one.
+fn answer_text(alloc: Global, name: &[u8], answer: &Answer) -> Result<Text, NoMemory>
+    ensures { IfOk result (λ text. text ≡ answer_text name.now answer.now) }
 {
     match answer {
         Answer::Accepted(place) => accepted_text(alloc, *place),
@@ -128,6 +173,11 @@ fn answer_text(alloc: Global, answer: &Answer) -> Result<Text, NoMemory>
         ),
         Answer::Wrote(count) => wrote_text(alloc, *count),
         Answer::CallFailed(why) => refused_text(alloc, store_text(alloc, *why)?.as_bytes()),
+        Answer::Backup(start, end) => backup_text(alloc, *start, *end),
+        Answer::BackupRefused(why) => refused_text(
+            alloc,
+            backup_fault_text(alloc, name, *why)?.as_bytes(),
+        ),
         Answer::NotRun => joined(alloc, &[b"not run"]),
     }
 }
@@ -138,7 +188,7 @@ fn answer_line(alloc: Global, name: &[u8], line: &Line, answer: &Answer) -> Resu
 {
     let number = line.number;
     let number = format!(in alloc; "{number}")?;
-    let answer = answer_text(alloc, answer)?;
+    let answer = answer_text(alloc, line.command.backup(), answer)?;
     joined(
         alloc,
         &[
@@ -174,16 +224,29 @@ fn push_told(alloc: Global, text: &mut Vec<u8>, told: &[Told]) -> Result<(), NoM
     Ok(())
 }
 
-/// The last line: where the WAL ends, or why it isn't known to be written.
-fn last_line(alloc: Global, ending: &Result<Lsn, StoreFault>) -> Result<Text, NoMemory>
-    ensures { IfOk result (λ text. text ≡ last_line ending.now) }
+/// How closing the store ended: where the WAL ends, or why it isn't known to be written.
+fn closed_line(alloc: Global, closed: &Result<Lsn, StoreFault>) -> Result<Text, NoMemory>
+    ensures { IfOk result (λ text. text ≡ closed_line closed.now) }
 {
-    match ending {
+    match closed {
         Ok(end) => {
             let end = lsn_text(alloc, *end)?;
             joined(alloc, &[b"wal ", end.as_bytes(), b"\n"])
         }
         Err(why) => refused_line(alloc, store_text(alloc, *why)?.as_bytes()),
+    }
+}
+
+/// The last line: by what a worker was stopped first; where none was, how closing the store ended.
+fn last_line(alloc: Global, report: &RunReport) -> Result<Text, NoMemory>
+    ensures { IfOk result (λ text. text ≡ last_line report.now) }
+{
+    match report.told.stop() {
+        Some((line, stop)) => {
+            let text = stop_text(alloc, line.command.backup(), stop)?;
+            refused_line(alloc, text.as_bytes())
+        }
+        None => closed_line(alloc, &report.closed),
     }
 }
 
@@ -201,6 +264,6 @@ pub fn report_text(alloc: Global, report: &RunReport) -> Result<Text, NoMemory>
 {
     let mut text = opened_line(alloc, report.opened)?.into_vec();
     push_told(alloc, &mut text, report.told.as_slice())?;
-    text.extend_from_slice(last_line(alloc, &report.ending())?.as_bytes())?;
+    text.extend_from_slice(last_line(alloc, report)?.as_bytes())?;
     Ok(Text::from_vec(text))
 }

@@ -1,12 +1,10 @@
 //! A script's workers with what their lines were answered.
 
-ghost use Rattle.std.specs.Prelude.{◌≡◌, slice_get};
-ghost use Rattle.std.specs.List.{filter_map};
-ghost use Rattle.crew.specs.Run.{stop_of};
-ghost use Rattle.run_command.specs.Report.{stops_told};
+ghost use Rattle.std.specs.Prelude.{◌≡◌};
+ghost use Rattle.std.specs.Option.{option_map};
+ghost use Rattle.run_command.specs.Report.{first_stop, first_told};
 
-use crew::{Answers, Task};
-use lsn_core::StoreFault;
+use crew::{Answers, Line, Stop, Task};
 use std::marker::Model;
 
 /// A worker's task, and the answers to its lines, one each.
@@ -17,13 +15,15 @@ pub struct Told {
 }
 
 impl Told {
-    /// The first fault by which the worker was stopped.
-    fn stop(&self) -> Option<StoreFault>
-        ensures { result ≡ slice_get (filter_map stop_of self.now.answers) 0 }
+    /// The first line by whose answer the worker was stopped, and by what.
+    fn stop(&self) -> Option<(&Line, Stop)>
+        ensures { option_map (λ x. (x.0.now, x.1)) result
+            ≡ first_stop self.now.task.lines self.now.answers }
     {
-        for answer in self.answers.as_slice() {
-            if let Some(fault) = answer.stop() {
-                return Some(fault);
+        let lines = self.task.lines.as_slice();
+        for (line, answer) in lines.iter().zip(self.answers.as_slice()) {
+            if let Some(stop) = answer.stop() {
+                return Some((line, stop));
             }
         }
         None
@@ -60,13 +60,13 @@ impl ToldTasks {
         &self.list
     }
 
-    /// The first fault by which a worker was stopped, in the order of the script.
-    pub fn stop(&self) -> Option<StoreFault>
-        ensures { result ≡ slice_get (stops_told self.now) 0 }
+    /// The first line, in the order of the script, by whose answer a worker was stopped, and by what.
+    pub fn stop(&self) -> Option<(&Line, Stop)>
+        ensures { option_map (λ x. (x.0.now, x.1)) result ≡ first_told self.now }
     {
         for told in &self.list {
-            if let Some(fault) = told.stop() {
-                return Some(fault);
+            if let Some(stop) = told.stop() {
+                return Some(stop);
             }
         }
         None

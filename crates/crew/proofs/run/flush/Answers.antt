@@ -1,7 +1,7 @@
 use Rattle.std.proofs.Common.{◌≡◌, [], true, arith}
 use Rattle.crew.specs.Running.{WentOn}
 use Rattle.crew.proofs.Steps.{went_nowhere, went_further, stood_still, knows_on}
-use Rattle.crew.proofs.Marks.{not_written}
+use Rattle.crew.proofs.Marks.{written, not_written}
 use Rattle.crew.proofs.run.flush.Goals as goal
 use Rattle.crew.proofs.run.flush.Goals.{then-is_some, else-is_some}
 
@@ -24,3 +24,6 @@ returns-in-Err g c =
     stood_still c.loop-k.pass c.write_page.new.pass c.loop-k.store c.write_page.new.self (knows_on c.args.pass.now c.loop-k.pass c.args.store.now c.loop-k.store [] c.loop-k.invariant.went) c.write_page.ensures.same
     c.write_page.ensures.seen c.write_page.ensures.whole c.write_page.ensures.accepted c.write_page.ensures.goes_on in
     not_written (g.J.OfStore.tells ≡ true) c.args.pass.now c.loop-k.pass c.write_page.new.pass c.args.store.now c.loop-k.store c.write_page.new.self c.args.count c.in-Err.fault c.loop-k.invariant.went still c.in-Err.ensures.cause
+
+pub returns : goal.returns
+returns g c = written (g.J.OfStore.tells ≡ true) c.args.pass.now c.loop-k.pass c.args.store.now c.loop-k.store c.args.count c.loop-k.wrote c.loop-k.invariant.went (omega (arith, c.loop-k.invariant.few, c.loop-k-test.false))

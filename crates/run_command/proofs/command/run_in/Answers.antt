@@ -1,30 +1,79 @@
 -- What was run on areas that were taken from a site and given back.
-use Rattle.std.proofs.Common.{◌≡◌, Result, IfOk, ◌∙◌, subst}
+use Rattle.std.proofs.Common.{◌≡◌, List, Result, IfOk, ◌∙◌, sym, ap, subst}
+use Rattle.vault.specs.Lending.{Names, AreOut}
 use Rattle.shared_store.specs.declared.begin.BeginWhy.{BeginWhy}
+use Rattle.crew.specs.declared.script.Line.{Line}
+use Rattle.crew.specs.Backups.{areas_asked, areas_of}
+use Rattle.command_base.specs.Outside.{of_site}
 use Rattle.run_command.specs.declared.command.RunReport.{RunReport}
-use Rattle.run_command.specs.Run.{tasks_told}
-use Rattle.run_command.specs.Inner.{task_list, all_tell, RunsOn}
-use Rattle.run_command.proofs.StoreLent.{five_out, store_back}
-use Rattle.run_command.proofs.RunAnswers.{ran_ok, ran_err}
+use Rattle.run_command.specs.declared.command.RunFault.TheVariants as run
+use Rattle.run_command.specs.Run.{backups_asked, tasks_told, RunAnswer}
+use Rattle.run_command.specs.Inner.{held_of, task_list, lines_in, all_tell, AreAsked, RunsOn, seen_at}
+use Rattle.run_command.proofs.Noted.{all_distinct, asked_of}
+use Rattle.run_command.proofs.StoreLent.{RunBack, run_out, out_back, asked_held, run_ends, untaken}
+use Rattle.run_command.proofs.RunAnswers.{ran_ok, ran_err, err_as}
+use Rattle.vault.proofs.LentAreas.{out_front}
 use Rattle.run_command.proofs.command.run_in.Goals as goal
+
+pub take_run-requires-clause-distinct : goal.take_run-requires-clause-distinct
+take_run-requires-clause-distinct g c κs within = all_distinct c.lines_in.result.now c.in_ok-names.names.items c.in_ok-names.ensures
+
+pub run_areas-held-requires-clause-held : goal.run_areas-held-requires-clause-held
+run_areas-held-requires-clause-held g c κs within =
+    let asked : AreAsked (lines_in c.in_ok-work.work.task) c.in_ok-names.names.items = subst (λ (ls : List Line). AreAsked ls c.in_ok-names.names.items) c.lines_in.ensures c.in_ok-names.ensures in
+    asked_held g.S.Site g.S.Area.Vault (lines_in c.in_ok-work.work.task) c.in_ok-names.names.items c.args.site.now c.take_run.new.site c.in_ok-held.held.items c.in_ok-held.names c.in_ok-held.areas asked c.in_ok-held.ensures.takes
 
 pub give_store-requires-after_bounds : goal.give_store-requires-after_bounds
 give_store-requires-after_bounds g c κs within =
-    five_out g.S.Area.Vault (g.S.Site.areas c.take_store.new.site) c.in_ok-names-2.names c.in_ok-names-2.areas c.run_areas-areas.result.0 c.in_ok-names-2.ensures.takes.out c.run_areas-areas.ensures.later
+    out_back g.S.Area.Vault (g.S.Site.areas c.take_run.new.site) c.run_areas-held.result.0.items (held_of c.in_ok-held.names c.run_areas-held.result.1)
+    (run_out g.S.Area.Vault (g.S.Site.areas c.take_run.new.site) c.in_ok-held.held.items c.run_areas-held.result.0.items c.in_ok-held.names c.in_ok-held.areas c.run_areas-held.result.1 c.in_ok-held.ensures.takes.out c.run_areas-held.ensures.held_later c.run_areas-held.ensures.later)
+
+pub give_all-requires-after_bounds : goal.give_all-requires-after_bounds
+give_all-requires-after_bounds g c κs within =
+    out_front g.S.Area.Vault (g.S.Site.areas c.take_run.new.site) (g.S.Site.areas c.give_store.new.site) c.run_areas-held.result.0.items (held_of c.in_ok-held.names c.run_areas-held.result.1)
+    (run_out g.S.Area.Vault (g.S.Site.areas c.take_run.new.site) c.in_ok-held.held.items c.run_areas-held.result.0.items c.in_ok-held.names c.in_ok-held.areas c.run_areas-held.result.1 c.in_ok-held.ensures.takes.out c.run_areas-held.ensures.held_later c.run_areas-held.ensures.later)
+    c.give_store.ensures.gives.areas
+
+pub returns-in_err-held-clause-answer : goal.returns-in_err-held-clause-answer
+returns-in_err-held-clause-answer g c = λ left rest reads now before behind has.
+    let asked : AreAsked (lines_in c.in_ok-work.work.task) c.in_ok-names.names.items = subst (λ (ls : List Line). AreAsked ls c.in_ok-names.names.items) c.lines_in.ensures c.in_ok-names.ensures in
+    let same : areas_asked (lines_in c.in_ok-work.work.task) ≡ backups_asked c.args.script = sym (asked_of c.in_ok-work.work.task) ∙ ap backups_asked c.in_ok-work.ensures.script in
+    let none = untaken g.S.Site g.S.Area.Vault (lines_in c.in_ok-work.work.task) c.args.script c.in_ok-names.names.items c.args.site.now c.take_run.new.site c.in_err-held.field-0.0 asked same c.in_err-held.ensures.takes in
+    err_as c.from_residual-in_err-held.result (run.Site c.in_err-held.field-0.0)
+    (RunAnswer c.args.when c.args.script (seen_at (of_site g.S.Site c.args.site.now) left reads before) (seen_at (of_site g.S.Site c.take_run.new.site) rest now behind))
+    c.from_residual-in_err-held.ensures.1 (has, none)
+
+pub returns-in-Ok-clause-site : goal.returns-in-Ok-clause-site
+returns-in-Ok-clause-site g c =
+    let asked : AreAsked (lines_in c.in_ok-work.work.task) c.in_ok-names.names.items = subst (λ (ls : List Line). AreAsked ls c.in_ok-names.names.items) c.lines_in.ensures c.in_ok-names.ensures in
+    let same : areas_asked (lines_in c.in_ok-work.work.task) ≡ backups_asked c.args.script = sym (asked_of c.in_ok-work.work.task) ∙ ap backups_asked c.in_ok-work.ensures.script in
+    let back = run_ends g.S.Site g.S.Area.Vault (lines_in c.in_ok-work.work.task) c.args.script c.in_ok-names.names.items c.args.site.now c.take_run.new.site c.give_store.new.site c.give_all.new.site c.in_ok-held.names c.in_ok-held.held.items c.run_areas-held.result.0.items
+    c.in_ok-held.areas c.run_areas-held.result.1 asked same c.requires.home c.in_ok-held.ensures.takes c.run_areas-held.ensures.held_later c.run_areas-held.ensures.later c.give_store.ensures.gives c.give_all.ensures.gives in
+    (back.site, back.later)
+
+pub returns-in-Err-clause-site : goal.returns-in-Err-clause-site
+returns-in-Err-clause-site g c =
+    let asked : AreAsked (lines_in c.in_ok-work.work.task) c.in_ok-names.names.items = subst (λ (ls : List Line). AreAsked ls c.in_ok-names.names.items) c.lines_in.ensures c.in_ok-names.ensures in
+    let same : areas_asked (lines_in c.in_ok-work.work.task) ≡ backups_asked c.args.script = sym (asked_of c.in_ok-work.work.task) ∙ ap backups_asked c.in_ok-work.ensures.script in
+    let back = run_ends g.S.Site g.S.Area.Vault (lines_in c.in_ok-work.work.task) c.args.script c.in_ok-names.names.items c.args.site.now c.take_run.new.site c.give_store.new.site c.give_all.new.site c.in_ok-held.names c.in_ok-held.held.items c.run_areas-held.result.0.items
+    c.in_ok-held.areas c.run_areas-held.result.1 asked same c.requires.home c.in_ok-held.ensures.takes c.run_areas-held.ensures.held_later c.run_areas-held.ensures.later c.give_store.ensures.gives c.give_all.ensures.gives in
+    (back.site, back.later)
 
 pub returns-in-Ok-clause-answer : goal.returns-in-Ok-clause-answer
 returns-in-Ok-clause-answer g c =
-    let a = c.in_ok-names-2.areas in
-    let b = c.run_areas-areas.result.0 in
-    let back = store_back g.S.Site g.S.Area.Vault c.args.site.now c.take_store.new.site c.give_store.new.site c.in_ok-names-2.names a b c.requires.home c.in_ok-names-2.ensures.takes c.give_store.ensures.gives in
-    let runs = subst (λ (r : Result RunReport BeginWhy). RunsOn g.S.Area.Vault (all_tell g.S.Area.Vault a) a b r) c.in-Ok.is c.run_areas-areas.ensures.runs in
-    let told = subst (λ (r : Result RunReport BeginWhy). IfOk r (λ report. tasks_told report.told ≡ task_list c.in_ok-work.work.task)) c.in-Ok.is c.run_areas-areas.ensures.script in
-    ran_ok g.S.Site g.S.Area.Vault c.args.script c.args.site.now c.give_store.new.site a b c.in-Ok.report back runs (told ∙ c.in_ok-work.ensures.script)
+    let asked : AreAsked (lines_in c.in_ok-work.work.task) c.in_ok-names.names.items = subst (λ (ls : List Line). AreAsked ls c.in_ok-names.names.items) c.lines_in.ensures c.in_ok-names.ensures in
+    let same : areas_asked (lines_in c.in_ok-work.work.task) ≡ backups_asked c.args.script = sym (asked_of c.in_ok-work.work.task) ∙ ap backups_asked c.in_ok-work.ensures.script in
+    let back = run_ends g.S.Site g.S.Area.Vault (lines_in c.in_ok-work.work.task) c.args.script c.in_ok-names.names.items c.args.site.now c.take_run.new.site c.give_store.new.site c.give_all.new.site c.in_ok-held.names c.in_ok-held.held.items c.run_areas-held.result.0.items
+    c.in_ok-held.areas c.run_areas-held.result.1 asked same c.requires.home c.in_ok-held.ensures.takes c.run_areas-held.ensures.held_later c.run_areas-held.ensures.later c.give_store.ensures.gives c.give_all.ensures.gives in
+    let runs = subst (λ (r : Result RunReport BeginWhy). RunsOn g.S.Area.Vault (all_tell g.S.Area.Vault c.in_ok-held.areas) c.args.when c.in_ok-held.areas c.run_areas-held.result.1 (areas_of g.S.Area.Vault c.in_ok-held.held.items) (areas_of g.S.Area.Vault c.run_areas-held.result.0.items) r) c.in-Ok.is c.run_areas-held.ensures.runs in
+    let told = subst (λ (r : Result RunReport BeginWhy). IfOk r (λ report. tasks_told report.told ≡ task_list c.in_ok-work.work.task)) c.in-Ok.is c.run_areas-held.ensures.script in
+    ran_ok g.S.Site g.S.Area.Vault c.args.when c.args.script c.args.site.now c.give_all.new.site c.in_ok-held.held.items c.run_areas-held.result.0.items c.in_ok-held.areas c.run_areas-held.result.1 c.in-Ok.report back runs (told ∙ c.in_ok-work.ensures.script)
 
 pub returns-in-Err-clause-answer : goal.returns-in-Err-clause-answer
 returns-in-Err-clause-answer g c =
-    let a = c.in_ok-names-2.areas in
-    let b = c.run_areas-areas.result.0 in
-    let back = store_back g.S.Site g.S.Area.Vault c.args.site.now c.take_store.new.site c.give_store.new.site c.in_ok-names-2.names a b c.requires.home c.in_ok-names-2.ensures.takes c.give_store.ensures.gives in
-    let runs = subst (λ (r : Result RunReport BeginWhy). RunsOn g.S.Area.Vault (all_tell g.S.Area.Vault a) a b r) c.in-Err.is c.run_areas-areas.ensures.runs in
-    ran_err g.S.Site g.S.Area.Vault c.args.script c.args.site.now c.give_store.new.site a b c.in-Err.why back runs
+    let asked : AreAsked (lines_in c.in_ok-work.work.task) c.in_ok-names.names.items = subst (λ (ls : List Line). AreAsked ls c.in_ok-names.names.items) c.lines_in.ensures c.in_ok-names.ensures in
+    let same : areas_asked (lines_in c.in_ok-work.work.task) ≡ backups_asked c.args.script = sym (asked_of c.in_ok-work.work.task) ∙ ap backups_asked c.in_ok-work.ensures.script in
+    let back = run_ends g.S.Site g.S.Area.Vault (lines_in c.in_ok-work.work.task) c.args.script c.in_ok-names.names.items c.args.site.now c.take_run.new.site c.give_store.new.site c.give_all.new.site c.in_ok-held.names c.in_ok-held.held.items c.run_areas-held.result.0.items
+    c.in_ok-held.areas c.run_areas-held.result.1 asked same c.requires.home c.in_ok-held.ensures.takes c.run_areas-held.ensures.held_later c.run_areas-held.ensures.later c.give_store.ensures.gives c.give_all.ensures.gives in
+    let runs = subst (λ (r : Result RunReport BeginWhy). RunsOn g.S.Area.Vault (all_tell g.S.Area.Vault c.in_ok-held.areas) c.args.when c.in_ok-held.areas c.run_areas-held.result.1 (areas_of g.S.Area.Vault c.in_ok-held.held.items) (areas_of g.S.Area.Vault c.run_areas-held.result.0.items) r) c.in-Err.is c.run_areas-held.ensures.runs in
+    ran_err g.S.Site g.S.Area.Vault c.args.when c.args.script c.args.site.now c.give_all.new.site c.in_ok-held.held.items c.run_areas-held.result.0.items c.in_ok-held.areas c.run_areas-held.result.1 c.in-Err.why back runs.1 runs.0

@@ -1,7 +1,7 @@
-use Rattle.std.proofs.Common.{◌≡◌, drop}
-use Rattle.std.specs.List.{filter_map}
-use Rattle.crew.specs.Run.{stop_of}
+use Rattle.std.proofs.Common.{◌≡◌}
+use Rattle.run_command.specs.Report.{first_stop}
 use Rattle.run_command.proofs.told.Told.stop.Given as goal
 
-abbrev pub invariant-loop-answer : goal.invariant-loop-answer
-invariant-loop-answer l = filter_map stop_of (drop l.answer-index l.self.answers) ≡ filter_map stop_of l.self.answers
+-- the lines before these stopped nothing
+abbrev pub invariant-loop-line : goal.invariant-loop-line
+invariant-loop-line l = first_stop l.line-iterator.a.rest.now l.line-iterator.b.rest.now ≡ first_stop l.self.task.lines l.self.answers

@@ -1,6 +1,6 @@
 -- The store's timeline is the one that is handed over, and it has one worker.
 use Rattle.run_command.specs.Inner.{all_tell}
-use Rattle.run_command.proofs.running.run_areas.Given as goal
+use Rattle.run_command.proofs.running.run_branded.Given as goal
 
 abbrev pub ghosts-run_named-J-OfTimeline : goal.ghosts-run_named-J-OfTimeline
 ghosts-run_named-J-OfTimeline g a = record { table = a.line }

@@ -1,0 +1,279 @@
+-- What lines leave of the areas of backups.
+use Rattle.std.proofs.Common.{◌≡◌, ◌≢◌, ℕ, ◌+◌, ◌≤◌, true, cond, Option, List, [], ◌∷◌, ◌++◌, length, take, Some, None, refl, ap, sym, subst, ◌∙◌, arith, inl, inr}
+use Rattle.lsn_core.specs.Causes.{Rose}
+use Rattle.lsn_core.specs.Files.{Files}
+use Rattle.lsn_core.specs.declared.lsn.Lsn.{Lsn}
+use Rattle.lsn_core.specs.declared.fault.MarkFault.{MarkFault}
+use Rattle.lsn_core.specs.declared.fault.MarkFault.TheVariants as mark
+use Rattle.vault.specs.Site.{Areas, AreaState}
+use Rattle.vault.specs.Lending.{Names, IsNoneOf}
+use Rattle.vault.proofs.SetAreas.{same_or_not}
+use Rattle.history.specs.Entry.{Entry}
+use Rattle.shared_store.specs.Seen.{accepted_by}
+use Rattle.shared_store.specs.declared.fault.InsertFault.{InsertFault}
+use Rattle.shared_store.specs.declared.fault.InsertFault.TheVariants as insert
+use Rattle.base_backup.specs.declared.fault.BackupFault.{BackupFault}
+use Rattle.base_backup.specs.declared.fault.BackupFault.TheVariants as backup
+use Rattle.std.specs.Prelude.{IsSome}
+use Rattle.std.specs.Ordering.{nat_cmp}
+use Rattle.std.specs.Cmp.Lexicographic.{slice_cmp, nat_list_cmp_total}
+use Rattle.std.specs.Cmp.{eq_by_cmp_equiv}
+use Rattle.std.specs.FinMap.{get, insert, empty, get-insert, get-empty}
+use Rattle.lsn_core.specs.Store.{Store, files_of}
+use Rattle.base_backup.specs.Backup.{HoldsNothing}
+use Rattle.base_backup.specs.Directory.{label_name, manifest_name, directory_of}
+use Rattle.command_base.specs.Areas.{backup_name}
+use Rattle.command_base.proofs.Told.{some_told, at_told}
+use Rattle.crew.specs.declared.script.Command.{Command}
+use Rattle.crew.specs.declared.script.Command.TheVariants as command
+use Rattle.crew.specs.declared.script.Line.{Line}
+use Rattle.crew.specs.declared.answer.Answer.{Answer}
+use Rattle.crew.specs.declared.answer.Answer.TheVariants.{Accepted, Refused, Grown, Stopped, Redo, CheckpointRefused, Wrote, CallFailed, Backup, BackupRefused, NotRun}
+use Rattle.crew.specs.declared.answer.Stop.TheVariants as stop
+use Rattle.crew.specs.Backups.{area_asked, areas_asked}
+use Rattle.crew.specs.Run.{Basis, HoldsBackup, OnlyAt, KeepsFiles, LineAnswer, Answered, insert_stop, mark_stop, StandsFor, BackupsStand, FailsFor, BackupFaultsRose, AnswersTellBackups}
+
+-- ---- names
+
+none_front : (n : List ℕ) (front rest : Names) → IsNoneOf n (front ++ rest) → IsNoneOf n front
+none_front n [] rest none = tt
+none_front n (first ∷ front) rest none = (none.0, none_front n front rest none.1)
+
+none_back : (n : List ℕ) (front rest : Names) → IsNoneOf n (front ++ rest) → IsNoneOf n rest
+none_back n [] rest none = none
+none_back n (first ∷ front) rest none = none_back n front rest none.1
+
+-- ---- one line
+
+at_name : (n : List ℕ) (held mid : Areas) → mid ≡ held → mid n ≡ held n
+at_name n held mid same = ap (λ (f : Areas). f n) same
+
+not_asked : (n name : List ℕ) (line : Command) → line ≡ command.Full name → IsNoneOf n (area_asked line) → n ≢ backup_name name
+not_asked n name line is none = (subst (λ (c : Command). IsNoneOf n (area_asked c)) is none).0
+
+line_stays : (tells : Type 0) (b : Basis) (w from : ℕ) (now : List Entry) (line : Command) (x : Answer) (made : List Entry) (held mid : Areas) (n : List ℕ) → LineAnswer tells b w from now line x made held mid → IsNoneOf n (area_asked line) → mid n ≡ held n
+line_stays tells b w from now line (Accepted place) made held mid n a none = at_name n held mid a.4
+line_stays tells b w from now line (Refused why) made held mid n a none = at_name n held mid a.4
+line_stays tells b w from now line (Grown k place) made held mid n a none = at_name n held mid a.5
+line_stays tells b w from now line (Stopped k why) made held mid n a none = at_name n held mid a.7
+line_stays tells b w from now line (Redo redo) made held mid n a none = at_name n held mid a.3
+line_stays tells b w from now line (CheckpointRefused why) made held mid n a none = at_name n held mid a.3
+line_stays tells b w from now line (Wrote k) made held mid n a none = at_name n held mid a.4
+line_stays tells b w from now line (CallFailed why) made held mid n a none = at_name n held mid a.3
+line_stays tells b w from now line (Backup start end) made held mid n a none = a.4.others n (not_asked n a.0 line a.1 none)
+line_stays tells b w from now line (BackupRefused why) made held mid n a none = a.3.others n (not_asked n a.0 line a.1 none)
+line_stays tells b w from now line NotRun made held mid n a none = at_name n held mid a.1
+
+same_faults : (n : List ℕ) (held mid : Areas) → mid n ≡ held n → (held n).faults ≤ (mid n).faults
+same_faults n held mid same = omega (arith, ap (λ (x : AreaState). x.faults) same)
+
+only_rises : (name n : List ℕ) (held mid : Areas) → OnlyAt name held mid → (held n).faults ≤ (mid n).faults
+only_rises name n held mid only =
+    elim (same_or_not n name) [
+      | inl is ↦ subst (λ (m : List ℕ). (held m).faults ≤ (mid m).faults) (sym is) only.later
+      | inr other ↦ same_faults n held mid (only.others n other)
+    ]
+
+line_rises : (tells : Type 0) (b : Basis) (w from : ℕ) (now : List Entry) (line : Command) (x : Answer) (made : List Entry) (held mid : Areas) (n : List ℕ) → LineAnswer tells b w from now line x made held mid → (held n).faults ≤ (mid n).faults
+line_rises tells b w from now line (Accepted place) made held mid n a = same_faults n held mid (at_name n held mid a.4)
+line_rises tells b w from now line (Refused why) made held mid n a = same_faults n held mid (at_name n held mid a.4)
+line_rises tells b w from now line (Grown k place) made held mid n a = same_faults n held mid (at_name n held mid a.5)
+line_rises tells b w from now line (Stopped k why) made held mid n a = same_faults n held mid (at_name n held mid a.7)
+line_rises tells b w from now line (Redo redo) made held mid n a = same_faults n held mid (at_name n held mid a.3)
+line_rises tells b w from now line (CheckpointRefused why) made held mid n a = same_faults n held mid (at_name n held mid a.3)
+line_rises tells b w from now line (Wrote k) made held mid n a = same_faults n held mid (at_name n held mid a.4)
+line_rises tells b w from now line (CallFailed why) made held mid n a = same_faults n held mid (at_name n held mid a.3)
+line_rises tells b w from now line (Backup start end) made held mid n a = only_rises (backup_name a.0) n held mid a.4
+line_rises tells b w from now line (BackupRefused why) made held mid n a = only_rises (backup_name a.0) n held mid a.3
+line_rises tells b w from now line NotRun made held mid n a = same_faults n held mid (at_name n held mid a.1)
+
+-- ---- lines
+
+area_stays : (tells : Type 0) (b : Basis) (w : ℕ) (h : List Entry) (from : ℕ) (lines : List Line) (answers : List Answer) (es : List Entry) (to : ℕ) (held new : Areas) (n : List ℕ) → Answered tells b w h from lines answers es to held new → IsNoneOf n (areas_asked lines)
+    → new n ≡ held n
+area_stays tells b w h from [] [] es to held new n a none = at_name n held new a.2
+area_stays tells b w h from [] (x ∷ answers) es to held new n a none = absurd a
+area_stays tells b w h from (l ∷ lines) [] es to held new n a none = absurd a
+area_stays tells b w h from (l ∷ lines) (x ∷ answers) es to held new n a none =
+    area_stays tells b w h a.0 lines answers a.2 to a.3 new n a.8 (none_back n (area_asked l.command) (areas_asked lines) none)
+    ∙ line_stays tells b w from (take a.0 h) l.command x a.1 held a.3 n a.7 (none_front n (area_asked l.command) (areas_asked lines) none)
+
+area_rises : (tells : Type 0) (b : Basis) (w : ℕ) (h : List Entry) (from : ℕ) (lines : List Line) (answers : List Answer) (es : List Entry) (to : ℕ) (held new : Areas) (n : List ℕ) → Answered tells b w h from lines answers es to held new → (held n).faults ≤ (new n).faults
+area_rises tells b w h from [] [] es to held new n a = same_faults n held new (at_name n held new a.2)
+area_rises tells b w h from [] (x ∷ answers) es to held new n a = absurd a
+area_rises tells b w h from (l ∷ lines) [] es to held new n a = absurd a
+area_rises tells b w h from (l ∷ lines) (x ∷ answers) es to held new n a =
+    omega (arith, line_rises tells b w from (take a.0 h) l.command x a.1 held a.3 n a.7, area_rises tells b w h a.0 lines answers a.2 to a.3 new n a.8)
+
+-- ---- areas with a file
+
+never_empty : (m : Files) (k v : List ℕ) → insert m k v ≢ empty
+never_empty m k v is =
+    let there : get (insert m k v) k ≡ Some v = get-insert nat_list_cmp_total m k v k ∙ ap (λ c. cond c (Some v) (get m k)) ((eq_by_cmp_equiv nat_list_cmp_total).refl k) in
+    let gone : get (insert m k v) k ≡ None = ap (λ (n : Files). get n k) is ∙ get-empty (slice_cmp nat_cmp) k in
+    absurd (let e : Some v ≡ None = sym there ∙ gone in cc)
+
+-- a backup's directory holds a file
+never_bare : (relseg : ℕ) (copy : Store) (label manifest : List ℕ) (m : Files) → m ≡ directory_of relseg copy label manifest → m ≢ empty
+never_bare relseg copy label manifest m is = λ none. never_empty (insert (files_of relseg copy) label_name label) manifest_name manifest (sym is ∙ none)
+
+line_keeps : (tells : Type 0) (b : Basis) (w from : ℕ) (now : List Entry) (line : Command) (x : Answer) (made : List Entry) (held mid : Areas) (n : List ℕ) (m : Files) → LineAnswer tells b w from now line x made held mid → (held n).files ≡ Some m → m ≢ empty
+    → (mid n).files ≡ (held n).files
+line_keeps tells b w from now line (Accepted place) made held mid n m a told some = ap (λ (s : AreaState). s.files) (at_name n held mid a.4)
+line_keeps tells b w from now line (Refused why) made held mid n m a told some = ap (λ (s : AreaState). s.files) (at_name n held mid a.4)
+line_keeps tells b w from now line (Grown k place) made held mid n m a told some = ap (λ (s : AreaState). s.files) (at_name n held mid a.5)
+line_keeps tells b w from now line (Stopped k why) made held mid n m a told some = ap (λ (s : AreaState). s.files) (at_name n held mid a.7)
+line_keeps tells b w from now line (Redo redo) made held mid n m a told some = ap (λ (s : AreaState). s.files) (at_name n held mid a.3)
+line_keeps tells b w from now line (CheckpointRefused why) made held mid n m a told some = ap (λ (s : AreaState). s.files) (at_name n held mid a.3)
+line_keeps tells b w from now line (Wrote k) made held mid n m a told some = ap (λ (s : AreaState). s.files) (at_name n held mid a.4)
+line_keeps tells b w from now line (CallFailed why) made held mid n m a told some = ap (λ (s : AreaState). s.files) (at_name n held mid a.3)
+line_keeps tells b w from now line (Backup start end) made held mid n m a told some =
+    elim (same_or_not n (backup_name a.0)) [
+      | inl is ↦ absurd (some (at_told (held n).files m (λ f. f ≡ empty) told (subst (λ (k : List ℕ). HoldsNothing (held k).files) (sym is) a.3)))
+      | inr other ↦ ap (λ (s : AreaState). s.files) (a.4.others n other)
+    ]
+line_keeps tells b w from now line (BackupRefused why) made held mid n m a told some =
+    elim (same_or_not n (backup_name a.0)) [
+      | inl is ↦ at_told (held n).files m (λ f. f ≢ empty → (mid n).files ≡ (held n).files) told (subst (λ (k : List ℕ). KeepsFiles (held k).files (mid k).files) (sym is) a.4) some
+      | inr other ↦ ap (λ (s : AreaState). s.files) (a.3.others n other)
+    ]
+line_keeps tells b w from now line NotRun made held mid n m a told some = ap (λ (s : AreaState). s.files) (at_name n held mid a.1)
+
+area_keeps : (tells : Type 0) (b : Basis) (w : ℕ) (h : List Entry) (from : ℕ) (lines : List Line) (answers : List Answer) (es : List Entry) (to : ℕ) (held new : Areas) (n : List ℕ) (m : Files) → Answered tells b w h from lines answers es to held new → (held n).files ≡ Some m → m ≢ empty
+    → (new n).files ≡ (held n).files
+area_keeps tells b w h from [] [] es to held new n m a told some = ap (λ (s : AreaState). s.files) (at_name n held new a.2)
+area_keeps tells b w h from [] (x ∷ answers) es to held new n m a told some = absurd a
+area_keeps tells b w h from (l ∷ lines) [] es to held new n m a told some = absurd a
+area_keeps tells b w h from (l ∷ lines) (x ∷ answers) es to held new n m a told some =
+    let here : (a.3 n).files ≡ (held n).files = line_keeps tells b w from (take a.0 h) l.command x a.1 held a.3 n m a.7 told some in
+    area_keeps tells b w h a.0 lines answers a.2 to a.3 new n m a.8 (here ∙ told) some ∙ here
+
+-- ---- backups that stand
+
+same_name : (line : Command) (a c : List ℕ) → line ≡ command.Full a → line ≡ command.Full c → a ≡ c
+same_name line a c first second = let e : command.Full a ≡ command.Full c = sym first ∙ second in cc
+
+-- what was taken behind so many entries was taken behind none
+sooner : (tells : Type 0) (b : Basis) (w before : ℕ) (now : List Entry) (name : List ℕ) (start end : Lsn) (files : Option Files) → HoldsBackup tells b w before now name start end files → HoldsBackup tells b w 0 now name start end files
+sooner tells b w before now name start end files t = record {
+  copy = t.copy;
+  checkpoint = t.checkpoint;
+  count = t.count;
+  entries = record {
+    first = t.entries.first;
+    last = t.entries.last;
+    stop = t.entries.stop;
+    entries = t.entries.entries;
+    number = t.entries.number;
+    later = omega arith;
+    there = t.entries.there;
+    number_last = t.entries.number_last;
+    behind = t.entries.behind;
+    there_last = t.entries.there_last;
+    number_stop = t.entries.number_stop;
+    behind_last = t.entries.behind_last;
+    there_stop = t.entries.there_stop;
+    start_is = t.entries.start_is;
+    checkpoint_is = t.entries.checkpoint_is;
+    end_is = t.entries.end_is;
+  };
+  directory = t.directory;
+  taken = t.taken;
+}
+
+keeps_told : (tells : Type 0) (b : Basis) (w before : ℕ) (now : List Entry) (name : List ℕ) (start end : Lsn) (files new : Option Files) → HoldsBackup tells b w before now name start end files → IsSome files → ((m : Files) → files ≡ Some m → m ≢ empty → new ≡ files)
+    → new ≡ files
+keeps_told tells b w before now name start end files new t some keeps =
+    let m = some_told files some in
+    keeps m.0 m.1 (never_bare _ _ _ _ m.0 (at_told files m.0 _ m.1 t.directory.files_are))
+
+stand_for : (tells : Type 0) (b : Basis) (w : ℕ) (h : List Entry) (from next : ℕ) (line : Line) (lines : List Line) (x : Answer) (made : List Entry) (held mid new : Areas) → next ≤ length h → LineAnswer tells b w from (take next h) line.command x made held mid
+    → ((n : List ℕ) → IsNoneOf n (areas_asked lines) → new n ≡ mid n) → ((n : List ℕ) (m : Files) → (mid n).files ≡ Some m → m ≢ empty → (new n).files ≡ (mid n).files) → StandsFor tells b w h line lines x new
+stand_for tells b w h from next line lines (Accepted place) made held mid new within a rest keeps = tt
+stand_for tells b w h from next line lines (Refused why) made held mid new within a rest keeps = tt
+stand_for tells b w h from next line lines (Grown k place) made held mid new within a rest keeps = tt
+stand_for tells b w h from next line lines (Stopped k why) made held mid new within a rest keeps = tt
+stand_for tells b w h from next line lines (Redo redo) made held mid new within a rest keeps = tt
+stand_for tells b w h from next line lines (CheckpointRefused why) made held mid new within a rest keeps = tt
+stand_for tells b w h from next line lines (Wrote k) made held mid new within a rest keeps = tt
+stand_for tells b w h from next line lines (CallFailed why) made held mid new within a rest keeps = tt
+stand_for tells b w h from next line lines (Backup start end) made held mid new within a rest keeps = λ name is.
+    let same : a.0 ≡ name = same_name line.command a.0 name a.1 is in
+    let files : Option Files = (mid (backup_name name)).files in
+    let taken : HoldsBackup tells b w from (take next h) name start end files = subst (λ (m : List ℕ). HoldsBackup tells b w from (take next h) m start end (mid (backup_name m)).files) same a.5 in (
+      next,
+      files,
+      within,
+      sooner tells b w from (take next h) name start end files taken,
+      λ still. elim still [
+        | inl some ↦ keeps_told tells b w from (take next h) name start end files (new (backup_name name)).files taken some (λ m told full. keeps (backup_name name) m told full)
+        | inr none ↦ ap (λ (y : AreaState). y.files) (rest (backup_name name) none)
+      ],
+    )
+stand_for tells b w h from next line lines (BackupRefused why) made held mid new within a rest keeps = tt
+stand_for tells b w h from next line lines NotRun made held mid new within a rest keeps = tt
+
+all_stand : (tells : Type 0) (b : Basis) (w : ℕ) (h : List Entry) (from : ℕ) (lines : List Line) (answers : List Answer) (es : List Entry) (to : ℕ) (held new : Areas) → Answered tells b w h from lines answers es to held new → BackupsStand tells b w h lines answers new
+all_stand tells b w h from [] answers es to held new a = tt
+all_stand tells b w h from (l ∷ lines) [] es to held new a = tt
+all_stand tells b w h from (l ∷ lines) (x ∷ answers) es to held new a = (
+  stand_for tells b w h from a.0 l lines x a.1 held a.3 new a.5 a.7 (λ n none. area_stays tells b w h a.0 lines answers a.2 to a.3 new n a.8 none) (λ n m told some. area_keeps tells b w h a.0 lines answers a.2 to a.3 new n m a.8 told some),
+  all_stand tells b w h a.0 lines answers a.2 to a.3 new a.8,
+)
+
+-- ---- areas that failed
+
+no_backup : (why : InsertFault) (P : Type 0) → insert_stop why ≡ Some stop.Backup → P
+no_backup (insert.NoFork n) P e = absurd cc
+no_backup (insert.ForkExists n) P e = absurd cc
+no_backup (insert.PastEnd n) P e = absurd cc
+no_backup (insert.NoBlock n) P e = absurd cc
+no_backup (insert.BadPage i n) P e = absurd cc
+no_backup (insert.BadFragment i j) P e = absurd cc
+no_backup insert.BlockCount P e = absurd cc
+no_backup insert.TwoRelations P e = absurd cc
+no_backup (insert.ForkFull n) P e = absurd cc
+no_backup (insert.StoreFull n) P e = absurd cc
+no_backup (insert.CutPastEnd n) P e = absurd cc
+no_backup insert.NoMemory P e = absurd cc
+no_backup (insert.SameBlock i) P e = absurd cc
+no_backup (insert.WalFull n) P e = absurd cc
+
+no_mark : (why : MarkFault) (P : Type 0) → mark_stop why ≡ Some stop.Backup → P
+no_mark (mark.Failed area) P e = absurd cc
+no_mark (mark.WalFull n) P e = absurd cc
+no_mark mark.NoMemory P e = absurd cc
+
+fails_for : (tells : Type 0) (b : Basis) (w from : ℕ) (now : List Entry) (line : Line) (x : Answer) (made : List Entry) (start held mid new : Areas) → LineAnswer tells b w from now line.command x made held mid → ((n : List ℕ) → (start n).faults ≤ (held n).faults)
+    → ((n : List ℕ) → (mid n).faults ≤ (new n).faults) → FailsFor line x start new
+fails_for tells b w from now line (Accepted place) made start held mid new a early late = λ e. absurd cc
+fails_for tells b w from now line (Refused why) made start held mid new a early late = λ e. no_backup why _ e
+fails_for tells b w from now line (Grown k place) made start held mid new a early late = λ e. absurd cc
+fails_for tells b w from now line (Stopped k why) made start held mid new a early late = λ e. no_backup why _ e
+fails_for tells b w from now line (Redo redo) made start held mid new a early late = λ e. absurd cc
+fails_for tells b w from now line (CheckpointRefused why) made start held mid new a early late = λ e. no_mark why _ e
+fails_for tells b w from now line (Wrote k) made start held mid new a early late = λ e. absurd cc
+fails_for tells b w from now line (CallFailed why) made start held mid new a early late = λ e. absurd cc
+fails_for tells b w from now line (Backup begun end) made start held mid new a early late = λ e. absurd cc
+fails_for tells b w from now line (BackupRefused backup.NotEmpty) made start held mid new a early late = λ e. absurd cc
+fails_for tells b w from now line (BackupRefused (backup.WalFull n)) made start held mid new a early late = λ e. absurd cc
+fails_for tells b w from now line (BackupRefused (backup.StoreFailed area)) made start held mid new a early late = λ e. absurd cc
+fails_for tells b w from now line (BackupRefused backup.OutFailed) made start held mid new a early late = λ e.
+    (a.0, a.1, omega (arith, a.5.0, early (backup_name a.0), late (backup_name a.0)))
+fails_for tells b w from now line (BackupRefused backup.NoMemory) made start held mid new a early late = λ e. absurd cc
+fails_for tells b w from now line NotRun made start held mid new a early late = λ e. absurd cc
+
+all_fail : (tells : Type 0) (b : Basis) (w : ℕ) (h : List Entry) (from : ℕ) (lines : List Line) (answers : List Answer) (es : List Entry) (to : ℕ) (start held new : Areas) → Answered tells b w h from lines answers es to held new → ((n : List ℕ) → (start n).faults ≤ (held n).faults)
+    → BackupFaultsRose lines answers start new
+all_fail tells b w h from [] answers es to start held new a early = tt
+all_fail tells b w h from (l ∷ lines) [] es to start held new a early = tt
+all_fail tells b w h from (l ∷ lines) (x ∷ answers) es to start held new a early = (
+  fails_for tells b w from (take a.0 h) l x a.1 start held a.3 new a.7 early (λ n. area_rises tells b w h a.0 lines answers a.2 to a.3 new n a.8),
+  all_fail tells b w h a.0 lines answers a.2 to start a.3 new a.8 (λ n. omega (arith, early n, line_rises tells b w from (take a.0 h) l.command x a.1 held a.3 n a.7)),
+)
+
+pub backups_told : AnswersTellBackups
+backups_told tells b w h found lines answers held new is = (
+  all_stand (tells ≡ true) b w h found lines answers (accepted_by w h) is.to held new is.answered,
+  all_fail (tells ≡ true) b w h found lines answers (accepted_by w h) is.to held held new is.answered (λ n. omega arith),
+)

@@ -1,0 +1,168 @@
+-- The areas of backups, each noted once.
+use Rattle.std.proofs.Common.{◌≡◌, ◌≢◌, ℕ, ◌≤◌, ◌⊎◌, Bool, true, false, not, List, [], ◌∷◌, ◌++◌, length, length-append, get_or, true≢false, Option, Some, None, refl, sym, ap, subst, ◌∙◌, arith, inl, inr}
+use Rattle.std.specs.Prelude.{bytes_eq, nat_eq, ◌||◌}
+use Rattle.std.proofs.lemmas.Bool.{eq-eqb}
+use Rattle.std.specs.List.{list_any}
+use Rattle.std.proofs.lemmas.List.{append-nil}
+use Rattle.std.proofs.lemmas.Grind.{flat_map-append}
+use Rattle.std.proofs.lemmas.Slice.Eq.{bytes_eq-Decides}
+use Rattle.vault.specs.Lending.{Names, IsOneOf, IsNoneOf, AreDistinct}
+use Rattle.command_base.specs.Areas.{wal_name, data_name, backup_name}
+use Rattle.crew.specs.declared.script.Command.{Command}
+use Rattle.crew.specs.declared.script.Command.TheVariants as command
+use Rattle.crew.specs.declared.script.Line.{Line}
+use Rattle.crew.specs.declared.script.Task.{Task}
+use Rattle.crew.specs.Backups.{area_asked, areas_asked}
+use Rattle.run_command.specs.Run.{store_asks, backups_asked}
+use Rattle.run_command.specs.Inner.{AreEachOnce, AddsAsked, AreAsked, task_list, lines_in}
+use Rattle.run_command.proofs.ToldLess.{one_front, one_back}
+use Rattle.run_command.proofs.StoreLent.{one_either}
+
+-- ---- one more name
+
+pub turned : (b : Bool) → not b ≡ true → b ≡ false
+turned true e = absurd cc
+turned false e = refl
+
+or_true : (a b : Bool) → (a || b) ≡ true → (a ≡ true) ⊎ (b ≡ true)
+or_true true b e = inl refl
+or_true false b e = inr e
+
+or_false : (a b : Bool) → (a || b) ≡ false → (a ≡ false) × (b ≡ false)
+or_false true b e = absurd cc
+or_false false b e = (refl, e)
+
+among : (name : List ℕ) (names : Names) → list_any (bytes_eq name) names ≡ true → IsOneOf name names
+among name [] e = absurd cc
+among name (first ∷ names) e =
+    elim (or_true (bytes_eq name first) (list_any (bytes_eq name) names) e) [
+      | inl here ↦ inl ((bytes_eq-Decides name first).0 here)
+      | inr later ↦ inr (among name names later)
+    ]
+
+not_among : (name : List ℕ) (names : Names) → list_any (bytes_eq name) names ≡ false → IsNoneOf name names
+not_among name [] e = tt
+not_among name (first ∷ names) e =
+    let both = or_false (bytes_eq name first) (list_any (bytes_eq name) names) e in
+    (λ is. absurd (let yes : bytes_eq name first ≡ true = (bytes_eq-Decides name first).1 is in cc (yes, both.0)), not_among name names both.1)
+
+none_push : (n name : List ℕ) (names : Names) → IsNoneOf n names → n ≢ name → IsNoneOf n (names ++ name ∷ [])
+none_push n name [] none other = (other, tt)
+none_push n name (first ∷ names) none other = (none.0, none_push n name names none.1 other)
+
+distinct_push : (name : List ℕ) (names : Names) → AreDistinct names → IsNoneOf name names → AreDistinct (names ++ name ∷ [])
+distinct_push name [] distinct none = (tt, tt)
+distinct_push name (first ∷ names) distinct none = (none_push first name names distinct.0 (λ is. none.0 (sym is)), distinct_push name names distinct.1 none.1)
+
+-- ---- what a command asks for
+
+pub asks_none : (command : Command) (names : Names) → area_asked command ≡ [] → AddsAsked command names names
+asks_none command names none = record {
+  distinct = λ d. d;
+  kept = λ n one. one;
+  added = λ n one. absurd (subst (λ (ns : Names). IsOneOf n ns) none one);
+  only = λ n one. inl one;
+}
+
+pub asks_noted : (name : List ℕ) (names : Names) → list_any (bytes_eq (backup_name name)) names ≡ true → AddsAsked (command.Full name) names names
+asks_noted name names e = record {
+  distinct = λ d. d;
+  kept = λ n one. one;
+  added = λ n one. elim one [
+    | inl is ↦ subst (λ (m : List ℕ). IsOneOf m names) (sym is) (among (backup_name name) names e)
+    | inr none ↦ absurd none
+  ];
+  only = λ n one. inl one;
+}
+
+pub asks_more : (name : List ℕ) (names new : Names) → list_any (bytes_eq (backup_name name)) names ≡ false → new ≡ names ++ backup_name name ∷ [] → AddsAsked (command.Full name) names new
+asks_more name names new e is = subst (λ (ns : Names). AddsAsked (command.Full name) names ns) (sym is) (record {
+  distinct = λ d. distinct_push (backup_name name) names d (not_among (backup_name name) names e);
+  kept = λ n one. one_front n names (backup_name name ∷ []) one;
+  added = λ n one. one_back n names (backup_name name ∷ []) one;
+  only = λ n one. one_either n names (backup_name name ∷ []) one;
+})
+
+-- ---- lines
+
+pub noted_none : AreEachOnce [] []
+noted_none = record { distinct = tt; all = λ n one. one; only = λ n one. one }
+
+asked_push : (lines : List Line) (line : Line) → areas_asked (lines ++ line ∷ []) ≡ areas_asked lines ++ area_asked line.command
+asked_push lines line = flat_map-append (λ (l : Line). area_asked l.command) lines (line ∷ []) ∙ ap (λ (ns : Names). areas_asked lines ++ ns) (append-nil (area_asked line.command))
+
+pub noted_more : (lines more : List Line) (line : Line) (names new : Names) → more ≡ lines ++ line ∷ [] → AreEachOnce (areas_asked lines) names → AddsAsked line.command names new → AreEachOnce (areas_asked more) new
+noted_more lines more line names new is each adds =
+    let asked : areas_asked more ≡ areas_asked lines ++ area_asked line.command = ap areas_asked is ∙ asked_push lines line in
+    subst (λ (ns : Names). AreEachOnce ns new) (sym asked) (record {
+      distinct = adds.distinct each.distinct;
+      all = λ n one. elim (one_either n (areas_asked lines) (area_asked line.command) one) [
+        | inl old ↦ adds.kept n (each.all n old)
+        | inr here ↦ adds.added n here
+      ];
+      only = λ n one. elim (adds.only n one) [
+        | inl old ↦ one_front n (areas_asked lines) (area_asked line.command) (each.only n old)
+        | inr here ↦ one_back n (areas_asked lines) (area_asked line.command) here
+      ];
+    })
+
+-- ---- beside the areas of the store
+
+a_backup : (command : Command) (n : List ℕ) → IsOneOf n (area_asked command) → (name : List ℕ) × (n ≡ backup_name name)
+a_backup (command.Insert order) n one = absurd one
+a_backup (command.Grow at count shape) n one = absurd one
+a_backup command.Checkpoint n one = absurd one
+a_backup (command.Flush count) n one = absurd one
+a_backup (command.Full name) n (inl is) = (name, is)
+a_backup (command.Full name) n (inr none) = absurd none
+
+backups_alone : (lines : List Line) (n : List ℕ) → IsOneOf n (areas_asked lines) → (name : List ℕ) × (n ≡ backup_name name)
+backups_alone [] n one = absurd one
+backups_alone (line ∷ lines) n one =
+    elim (one_either n (area_asked line.command) (areas_asked lines) one) [
+      | inl here ↦ a_backup line.command n here
+      | inr later ↦ backups_alone lines n later
+    ]
+
+-- names that differ at a place
+apart_at : (k : ℕ) (a b : List ℕ) → nat_eq (get_or a k 0) (get_or b k 0) ≡ false → a ≢ b
+apart_at k a b other = λ e. true≢false (sym (eq-eqb (get_or a k 0) (get_or b k 0) (ap (λ (xs : List ℕ). get_or xs k 0) e)) ∙ other)
+
+no_store : (name : List ℕ) → IsNoneOf (backup_name name) store_asks
+no_store name = (apart_at 0 (backup_name name) wal_name refl, (apart_at 0 (backup_name name) (data_name 0) refl, (apart_at 0 (backup_name name) (data_name 1) refl, (apart_at 0 (backup_name name) (data_name 2) refl, (apart_at 0 (backup_name name) (data_name 3) refl, tt)))))
+
+none_of_store : (lines : List Line) (n : List ℕ) → IsOneOf n (areas_asked lines) → IsNoneOf n store_asks
+none_of_store lines n one =
+    let is = backups_alone lines n one in
+    subst (λ (m : List ℕ). IsNoneOf m store_asks) (sym is.1) (no_store is.0)
+
+none_both : (n : List ℕ) (front rest : Names) → IsNoneOf n front → IsNoneOf n rest → IsNoneOf n (front ++ rest)
+none_both n [] rest first last = last
+none_both n (name ∷ front) rest first last = (first.0, none_both n front rest first.1 last)
+
+distinct_both : (front rest : Names) → AreDistinct front → AreDistinct rest → ((n : List ℕ) → IsOneOf n front → IsNoneOf n rest) → AreDistinct (front ++ rest)
+distinct_both [] rest first last apart = last
+distinct_both (name ∷ front) rest first last apart =
+    (none_both name front rest first.0 (apart name (inl refl)), distinct_both front rest first.1 last (λ n one. apart n (inr one)))
+
+store_distinct : AreDistinct store_asks
+store_distinct = (
+  (apart_at 0 wal_name (data_name 0) refl, (apart_at 0 wal_name (data_name 1) refl, (apart_at 0 wal_name (data_name 2) refl, (apart_at 0 wal_name (data_name 3) refl, tt)))),
+  (
+    (apart_at 4 (data_name 0) (data_name 1) refl, (apart_at 4 (data_name 0) (data_name 2) refl, (apart_at 4 (data_name 0) (data_name 3) refl, tt))),
+    ((apart_at 4 (data_name 1) (data_name 2) refl, (apart_at 4 (data_name 1) (data_name 3) refl, tt)), ((apart_at 4 (data_name 2) (data_name 3) refl, tt), (tt, tt))),
+  ),
+)
+
+pub all_distinct : (lines : List Line) (names : Names) → AreAsked lines names → AreDistinct names
+all_distinct lines names asked =
+    subst AreDistinct (sym asked.names_are) (distinct_both asked.backups store_asks asked.each.distinct store_distinct (λ n one. none_of_store lines n (asked.each.only n one)))
+
+pub five_at_least : (lines : List Line) (names : Names) → AreAsked lines names → 5 ≤ length names
+five_at_least lines names asked = omega (arith, ap (λ (ns : Names). length ns) asked.names_are, length-append asked.backups store_asks)
+
+-- ---- of a script
+
+pub asked_of : (task : Option Task) → backups_asked (task_list task) ≡ areas_asked (lines_in task)
+asked_of None = refl
+asked_of (Some task) = append-nil (areas_asked task.lines)
