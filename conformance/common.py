@@ -13,11 +13,11 @@ SEGMENT = "000000010000000000000001"
 ROOM = 8192 - 96
 
 
-def oracle(words, script=b""):
-    """(status, lines) of one call of the independent implementation, in the working folder."""
+def oracle(words, script=b"", moment=1700000000):
+    """(status, lines) of one call of the independent implementation, in the working folder, at a moment."""
     from oracle.cli import Program
 
-    called = Program(1700000000, io.BytesIO(script))
+    called = Program(moment, io.BytesIO(script))
     status = called.call(words)
     return status, [line.decode() for line in called.lines]
 

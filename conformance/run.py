@@ -4,16 +4,20 @@
 
 Each run makes a store with random options, runs one to three scripts of one worker on it, and
 replays its WAL, with both, each in a folder of its own. After each call the lines, the status and
-the bytes of `wal`, `o` and the data areas are compared, and at the end what the data areas hold with
-what `replay` wrote. Some scripts have one broken line, some stores can't be made.
+the bytes of `wal`, `o`, `b` and the data areas are compared, and at the end what the data areas hold
+with what `replay` wrote, and what `verify` of each backup prints. Some scripts have one broken line,
+some stores can't be made.
 Lines change one to four blocks by pages and fragments, grow and cut forks, or are refused in each way
-that a small store knows; checkpoints and flushes stand between them. Entries go on over pages; now and
-then one ends just at a page's end, or a few bytes before it.
+that a small store knows; checkpoints, flushes and full backups stand between them, at times into a
+folder that isn't empty. Entries go on over pages; now and then one ends just at a page's end, or a few
+bytes before it. The other implementation is told the moment that the program's backups have.
 At times a script is run by the program in one call and in two, which must write the same WAL.
 Not part of the gate. Skipped where the independent implementation (PGBACKUP_ORACLE) isn't there.
 """
+import calendar
 import copy
 import os
+import time
 
 from common import ROOM, compare, files, oracle, program
 
@@ -130,6 +134,13 @@ flush 1000001
 flush 1 1
 flush -1
 flush 00000000001
+full
+full A
+full a b
+full a-b
+full a.b
+full abcdefghijklmnopqrstuvwxyz0123456
+Full a
 summarize
 """.strip("\n").split("\n")
 BROKEN.append("change" + 17 * " 1/2@0+24:61")
@@ -327,9 +338,17 @@ def a_write(rnd, store):
     return "flush " + digits(rnd, rnd.choice([1, 2, 4, 7, rnd.randrange(1, 40), 1000]))
 
 
+def a_backup(rnd, store):
+    """A full backup, at times under a name that is taken. One is of fewer entries where it is refused."""
+    store.take(32 + 56 + 40)
+    return "full " + rnd.choice(["f1", "f2", "f_3", "x" * 32, "busy"])
+
+
 def a_line(rnd, store):
     """A line of a worker, or None where this store knows none of its kind."""
     kind = rnd.random()
+    if kind > 0.94:
+        return a_backup(rnd, store)
     if kind < 0.25:
         return a_creation(rnd, store)
     if kind < 0.35:
@@ -415,14 +434,27 @@ def init_words(rnd):
     return ["init"] + [word for option in options for word in option]
 
 
+def labels():
+    """The labels of our backups, by their files."""
+    return {name: data for name, data in files("ours/b").items() if name.endswith("/backup_label")}
+
+
+def moment_of(label):
+    """When a backup was taken, in seconds."""
+    text = label.split(b"START TIME: ")[1].split(b"\n")[0].decode()
+    return calendar.timegm(time.strptime(text, "%Y-%m-%d %H:%M:%S UTC"))
+
+
 def both(path, words, script=b""):
     """Calls both, and gives what differs as texts."""
+    before = labels()
     got = program(path, words, script, "ours")
+    moments = {moment_of(data) for name, data in labels().items() if name not in before}
     os.chdir("theirs")
-    wanted = oracle(words, script)
+    wanted = oracle(words, script, min(moments, default=1700000000))
     os.chdir("..")
     differences = [] if wanted == got else ["%s, not %s" % (got, wanted)]
-    for folder in ("wal", "o") + DATA:
+    for folder in ("wal", "o", "b") + DATA:
         if files("theirs/" + folder) != files("ours/" + folder):
             differences.append("the files of %s differ" % folder)
     return ["%s %s: %s" % (" ".join(words), script, difference) for difference in differences]
@@ -455,6 +487,10 @@ def one_run(path, rnd):
         for folder in ("ours", "theirs"):
             os.mkdir(folder + "/sums")
             open(folder + "/sums/x", "wb").close()
+    if rnd.random() < 0.5:
+        for folder in ("ours", "theirs"):
+            os.makedirs(folder + "/b/busy/pg_wal")
+            open(folder + "/b/busy/pg_wal/x", "wb").close()
     differences, store = both(path, init_words(rnd)), Store()
     for _ in range(rnd.randrange(1, 4)):
         differences += both(path, ["run"], a_script(rnd, store))
@@ -468,6 +504,8 @@ def one_run(path, rnd):
             differences.append("the data areas and %s differ" % out)
     if rnd.random() < 0.1:
         differences += both(path, ["replay", out])
+    for name in sorted(os.listdir("ours/b") if os.path.isdir("ours/b") else []):
+        differences += both(path, ["verify", name])
     if rnd.random() < 0.3:
         differences += in_two_calls(path, rnd)
     return differences
