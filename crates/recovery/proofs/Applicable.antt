@@ -5,8 +5,8 @@ use Rattle.std.proofs.lemmas.List.Elements.{All-nil, All-cons, All-head, All-tai
 use Rattle.wal_record.specs.declared.record.BlockRef.{BlockRef}
 use Rattle.wal_record.specs.declared.record.Body.{Body}
 use Rattle.wal_record.specs.declared.record.Body.TheVariants.{Image, Delta}
-use Rattle.wal_record.specs.Sound.{IsSound, IsSoundBlock, IsSoundBody}
-use Rattle.history.specs.Applied.{IsApplicable, IsApplicableBlock, IsApplicableBody}
+use Rattle.wal_record.specs.Sound.{IsSoundBlock, IsSoundBody}
+use Rattle.history.specs.Applied.{IsApplicableBlock, IsApplicableBody}
 
 body_applies : (body : Body) → IsSoundBody body → IsApplicableBody body
 body_applies (Image page) sound = tt

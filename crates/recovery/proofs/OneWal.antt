@@ -19,7 +19,8 @@ use Rattle.history.specs.Whole.{entry_of, whole}
 use Rattle.recovery.specs.declared.fault.RecoveryFault.{RecoveryFault}
 use Rattle.recovery.specs.declared.fault.RecoveryFault.TheVariants.{Damaged, Short, BadDelta, SettingsDamaged, Timeline, NotInit, Failed, NoMemory}
 use Rattle.recovery.specs.declared.replaying.ReadWal.{ReadWal}
-use Rattle.recovery.specs.Replay.{found_to, Reads, IsRead, replayed_to, ending_by, last_end, IsReadWal, IsDamagedBefore, EndsBefore, first_bad, HasBadDelta}
+use Rattle.recovery.specs.Onward.{replayed_to, ending_by}
+use Rattle.recovery.specs.Replay.{found_to, Reads, IsRead, last_end, IsReadWal, IsDamagedBefore, EndsBefore, first_bad, HasBadDelta}
 use Rattle.recovery.specs.Causes.{IsOfFiles, WalAnswer}
 use Rattle.recovery.specs.Laws.{HasOneWal}
 use Rattle.recovery.proofs.SoFar.{good_or_bad}

@@ -20,8 +20,9 @@ use Rattle.std.proofs.Math.Seq.{take-length}
 use Rattle.history.specs.Redo.{Redoes, redone, redo, redo_all}
 use Rattle.generic_redo.specs.Redo.{ref_redone}
 use Rattle.generic_redo.proofs.Folds.{refs_redone, refs_more}
-use Rattle.recovery.specs.declared.redo.Tally.{Tally}
-use Rattle.recovery.specs.Inside.{fork_tally, IsRecounted, IsTallyOf, IsRedone, RedoesCounted, RedoesNone, IsRefOf, IsChange}
+use Rattle.recovery.specs.declared.tally.Tally.{Tally}
+use Rattle.recovery.specs.Tally.{fork_tally, IsRecounted, IsTallyOf}
+use Rattle.recovery.specs.Inside.{IsRedone, RedoesCounted, RedoesNone, IsRefOf, IsChange}
 use Rattle.recovery.proofs.Tallies.{recounted, IsMoved}
 
 -- the fault that a function hands on is the one that it was handed

@@ -2,19 +2,19 @@
 use Rattle.std.proofs.Common.{◌≡◌, ℕ, ◌<◌, ◌≤◌, ◌^◌, inl, inr, Bool, true, false, cond, List, [], ◌∷◌, ◌++◌, Option, Some, None, IfSome, map, get_or, unwrap_or, refl, sym, ap, subst, ◌∙◌, arith}
 use Rattle.std.specs.Prelude.{nat_le}
 use Rattle.std.specs.FinMap.{empty, get-empty}
-use Rattle.std.proofs.lemmas.List.{map-append}
+use Rattle.std.proofs.lemmas.List.{map-append, append-nil, append_assoc}
 use Rattle.std.proofs.lemmas.Bool.{le-leb, lt-leb, cases_lt}
 use Rattle.byte_words.specs.Numbers.{◌>>=◌}
 use Rattle.byte_words.proofs.Fields.{bind_some}
 use Rattle.byte_words.specs.Told.{when_both_told, when_told}
 use Rattle.lsn_core.specs.Files.{Files}
-use Rattle.lsn_core.specs.Segment.{StoreSettings, segment_bytes}
+use Rattle.lsn_core.specs.Segment.{StoreSettings}
 use Rattle.lsn_core.specs.Store.{Store, ForkPages, fork_cmp}
 use Rattle.lsn_core.specs.Tip.{Tip}
 use Rattle.lsn_core.specs.declared.lsn.Lsn.{Lsn}
 use Rattle.pg_page.specs.Header.{lsn_of, zero_page}
 use Rattle.wal_record.specs.declared.record.Record.{Record}
-use Rattle.wal_record.specs.Tips.{first_tip, tip_after, tip_behind, IsWithin}
+use Rattle.wal_record.specs.Tips.{tip_after, tip_behind}
 use Rattle.wal_record.proofs.Tips.{tip_behind-append}
 use Rattle.wal_archive.specs.declared.fault.Damage.{Damage}
 use Rattle.wal_archive.specs.Rules.{Found, End, Gives, Bad}
@@ -24,9 +24,11 @@ use Rattle.history.specs.Redo.{redo, redo_all, AreBelow, AreRising}
 use Rattle.history.specs.Whole.{entry_of}
 use Rattle.history.proofs.RedoLaws.{tests_change_nothing}
 use Rattle.history.proofs.Stores.{lsn_of-zero_page}
-use Rattle.recovery.specs.Replay.{found_to, Reads, IsRead, replayed_to, ending_by, AllEndBy, last_end, IsDamagedBefore, EndsBefore, bad_behind, first_bad}
-use Rattle.recovery.specs.Reading.{IsReadTo}
-use Rattle.recovery.specs.Causes.{IsShort}
+use Rattle.recovery.specs.declared.reading.Beginning.{Beginning}
+use Rattle.recovery.specs.Onward.{begin_tip, is_at_place, is_set_behind, found_on, ReadsOn, IsReadFrom, replayed_to, ending_by, AllEndBy, end_from, StandsWithin, IsReadFromTo, HasDamageFrom, EndsEarlyFrom}
+use Rattle.recovery.specs.Replay.{bad_behind, first_bad}
+use Rattle.recovery.specs.Recovered.{first_bad_redo}
+use Rattle.recovery.specs.Causes.{IsShortFrom}
 use Rattle.recovery.specs.Inside.{IsTaken}
 use Rattle.recovery.proofs.Redoing.{redo_all-push}
 
@@ -137,21 +139,23 @@ taken_is (Some target) tip rs all = refl
 -- ---- a reading that goes on
 
 -- these entries were read up to a tip; they end one behind the other
-pub record IsReadSoFar (s : StoreSettings) (upto : Option Lsn) (files : Option Files) (tip : Tip) (entries : List Record) : Type 0 where
-  pub passed : IfSome files (λ m. Reads s m upto (first_tip s.segment) entries tip)
-  pub tip_is : tip ≡ tip_behind (first_tip s.segment) entries
+pub record IsReadSoFar (s : StoreSettings) (begin : Beginning) (upto : Option Lsn) (files : Option Files) (tip : Tip) (entries : List Record) : Type 0 where
+  pub passed : IfSome files (λ m. ReadsOn s m upto (is_at_place begin) (begin_tip s.segment begin) entries tip)
+  pub tip_is : tip ≡ tip_behind (begin_tip s.segment begin) entries
   pub below : AllEndBy entries tip.end
-  pub rising : AreRising (segment_bytes s.segment) entries
+  pub least : (begin_tip s.segment begin).end ≤ tip.end
+  pub rising : AreRising (begin_tip s.segment begin).end entries
 
-told_start : (s : StoreSettings) (upto : Option Lsn) (files : Option Files) → IfSome files (λ m. Reads s m upto (first_tip s.segment) [] (first_tip s.segment))
-told_start s upto None = tt
-told_start s upto (Some m) = refl
+told_start : (s : StoreSettings) (begin : Beginning) (upto : Option Lsn) (files : Option Files) → IfSome files (λ m. ReadsOn s m upto (is_at_place begin) (begin_tip s.segment begin) [] (begin_tip s.segment begin))
+told_start s begin upto None = tt
+told_start s begin upto (Some m) = refl
 
-pub none_read : (s : StoreSettings) (upto : Option Lsn) (files : Option Files) → IsReadSoFar s upto files (first_tip s.segment) []
-none_read s upto files = record {
-  passed = told_start s upto files;
+pub none_read : (s : StoreSettings) (begin : Beginning) (upto : Option Lsn) (files : Option Files) → IsReadSoFar s begin upto files (begin_tip s.segment begin) []
+none_read s begin upto files = record {
+  passed = told_start s begin upto files;
   tip_is = refl;
   below = tt;
+  least = omega arith;
   rising = tt;
 }
 
@@ -159,67 +163,88 @@ pub none_taken : (upto : Option Lsn) → taken upto [] ≡ []
 none_taken None = refl
 none_taken (Some target) = refl
 
-reads_push : (s : StoreSettings) (files : Files) (upto : Option Lsn) (tip : Tip) (rs : List Record) (mid : Tip) (r : Record) → Reads s files upto tip rs mid → found_to s files upto mid ≡ Gives r → Reads s files upto tip (rs ++ (r ∷ [])) (tip_after mid r)
-reads_push s files upto tip [] mid r reads gives =
-    subst (λ (t : Tip). Reads s files upto t (r ∷ []) (tip_after mid r)) reads (gives, refl)
-reads_push s files upto tip (q ∷ rs) mid r reads gives = (reads.0, reads_push s files upto (tip_after tip q) rs mid r reads.1 gives)
+-- once an entry was read the cursor isn't set any more
+pub not_set : (set : Bool) (rs : List Record) (r : Record) → is_set_behind set (rs ++ (r ∷ [])) ≡ false
+not_set false rs r = refl
+not_set true [] r = refl
+not_set true (q ∷ rs) r = refl
+
+pub none_set : (set : Bool) → is_set_behind set [] ≡ set
+none_set false = refl
+none_set true = refl
+
+reads_push : (s : StoreSettings) (files : Files) (upto : Option Lsn) (set : Bool) (tip : Tip) (rs : List Record) (mid : Tip) (r : Record) → ReadsOn s files upto set tip rs mid → found_on s files upto (is_set_behind set rs) mid ≡ Gives r
+    → ReadsOn s files upto set tip (rs ++ (r ∷ [])) (tip_after mid r)
+reads_push s files upto false tip [] mid r reads gives =
+    subst (λ (t : Tip). ReadsOn s files upto false t (r ∷ []) (tip_after mid r)) reads (gives, refl)
+reads_push s files upto true tip [] mid r reads gives =
+    subst (λ (t : Tip). ReadsOn s files upto true t (r ∷ []) (tip_after mid r)) reads (gives, refl)
+reads_push s files upto false tip (q ∷ rs) mid r reads gives = (reads.0, reads_push s files upto false (tip_after tip q) rs mid r reads.1 gives)
+reads_push s files upto true tip (q ∷ rs) mid r reads gives = (reads.0, reads_push s files upto false (tip_after tip q) rs mid r reads.1 gives)
 
 rising_push : (place end : ℕ) (rs : List Record) (r : Record) → AreRising place rs → place ≤ end → AllEndBy rs end → end < r.end.0 → r.end.0 < 2 ^ 64 → AreRising place (rs ++ (r ∷ []))
 rising_push place end [] r rising le below lt fits = (omega (arith, le, lt), (fits, tt))
 rising_push place end (q ∷ rs) r rising le below lt fits = (rising.0, (rising.1.0, rising_push q.end.0 end rs r rising.1.1 below.0 below.1 lt fits))
 
 -- one more entry
-pub one_more : (s : StoreSettings) (upto : Option Lsn) (files : Option Files) (tip : Tip) (entries : List Record) (r : Record) → IsReadSoFar s upto files tip entries → segment_bytes s.segment ≤ tip.end → tip.end < r.end.0 → r.end.0 < 2 ^ 64
-    → IfSome files (λ m. found_to s m upto tip ≡ Gives r) → IsReadSoFar s upto files (tip_after tip r) (entries ++ (r ∷ []))
-one_more s upto files tip entries r so least later fits found = record {
-  passed = when_both_told files (λ m. Reads s m upto (first_tip s.segment) entries tip) (λ m. found_to s m upto tip ≡ Gives r) (λ m. Reads s m upto (first_tip s.segment) (entries ++ (r ∷ [])) (tip_after tip r))
-      (λ m passed gives. reads_push s m upto (first_tip s.segment) entries tip r passed gives) so.passed found;
-  tip_is = ap (λ (t : Tip). tip_after t r) so.tip_is ∙ sym (tip_behind-append (first_tip s.segment) entries (r ∷ []));
+pub one_more : (s : StoreSettings) (begin : Beginning) (upto : Option Lsn) (files : Option Files) (tip : Tip) (entries : List Record) (r : Record) → IsReadSoFar s begin upto files tip entries → tip.end < r.end.0 → r.end.0 < 2 ^ 64
+    → IfSome files (λ m. found_on s m upto (is_set_behind (is_at_place begin) entries) tip ≡ Gives r) → IsReadSoFar s begin upto files (tip_after tip r) (entries ++ (r ∷ []))
+one_more s begin upto files tip entries r so later fits found = record {
+  passed = when_both_told files (λ m. ReadsOn s m upto (is_at_place begin) (begin_tip s.segment begin) entries tip) (λ m. found_on s m upto (is_set_behind (is_at_place begin) entries) tip ≡ Gives r)
+      (λ m. ReadsOn s m upto (is_at_place begin) (begin_tip s.segment begin) (entries ++ (r ∷ [])) (tip_after tip r))
+      (λ m passed gives. reads_push s m upto (is_at_place begin) (begin_tip s.segment begin) entries tip r passed gives) so.passed found;
+  tip_is = ap (λ (t : Tip). tip_after t r) so.tip_is ∙ sym (tip_behind-append (begin_tip s.segment begin) entries (r ∷ []));
   below = all_push entries r r.end.0 (all_later entries tip.end r.end.0 (omega (arith, later)) so.below) (omega arith);
-  rising = rising_push (segment_bytes s.segment) tip.end entries r so.rising least so.below later fits;
+  least = omega (arith, so.least, later);
+  rising = rising_push (begin_tip s.segment begin).end tip.end entries r so.rising so.least so.below later fits;
 }
 
 -- ---- where it ends
 
-pub read_at : (s : StoreSettings) (upto : Option Lsn) (files : Option Files) (entries : List Record) (tip : Tip) (found : Found)
-    → IfSome files (λ m. Reads s m upto (first_tip s.segment) entries tip) → IfSome files (λ m. found_to s m upto tip ≡ found) → IfSome files (λ m. IsRead s m upto entries tip found)
-read_at s upto files entries tip found passed behind =
-    when_both_told files (λ m. Reads s m upto (first_tip s.segment) entries tip) (λ m. found_to s m upto tip ≡ found) (λ m. IsRead s m upto entries tip found)
+pub read_at : (s : StoreSettings) (begin : Beginning) (upto : Option Lsn) (files : Option Files) (entries : List Record) (tip : Tip) (found : Found)
+    → IfSome files (λ m. ReadsOn s m upto (is_at_place begin) (begin_tip s.segment begin) entries tip) → IfSome files (λ m. found_on s m upto (is_set_behind (is_at_place begin) entries) tip ≡ found)
+    → IfSome files (λ m. IsReadFrom s m begin upto entries tip found)
+read_at s begin upto files entries tip found passed behind =
+    when_both_told files (λ m. ReadsOn s m upto (is_at_place begin) (begin_tip s.segment begin) entries tip) (λ m. found_on s m upto (is_set_behind (is_at_place begin) entries) tip ≡ found)
+    (λ m. IsReadFrom s m begin upto entries tip found)
     (λ m reads is. record { reads = reads; behind = is }) passed behind
 
-pub at_end : (s : StoreSettings) (upto : Option Lsn) (files : Option Files) (tip : Tip) (entries : List Record) → IsReadSoFar s upto files tip entries → IsWithin s.segment tip
-    → IfSome files (λ m. found_to s m upto tip ≡ End) → replayed_to upto tip ≤ tip.end → IsReadTo s files upto entries tip
-at_end s upto files tip entries so within ends reached = record {
-  archive = read_at s upto files entries tip End so.passed ends;
+pub at_end : (s : StoreSettings) (begin : Beginning) (upto : Option Lsn) (files : Option Files) (tip : Tip) (entries : List Record) → IsReadSoFar s begin upto files tip entries
+    → StandsWithin s.segment (is_set_behind (is_at_place begin) entries) tip
+    → IfSome files (λ m. found_on s m upto (is_set_behind (is_at_place begin) entries) tip ≡ End) → replayed_to upto tip ≤ tip.end → IsReadFromTo s files begin upto entries tip
+at_end s begin upto files tip entries so within ends reached = record {
+  archive = read_at s begin upto files entries tip End so.passed ends;
   tip = so.tip_is;
   ends = so.below;
   reached = reached;
   within = within;
 }
 
-pub at_damage : (s : StoreSettings) (upto : Option Lsn) (files : Option Files) (tip : Tip) (entries : List Record) (damage : Damage) → IsReadSoFar s upto files tip entries → IfSome files (λ m. found_to s m upto tip ≡ Bad damage)
-    → IfSome files (λ m. IsDamagedBefore s m upto damage)
-at_damage s upto files tip entries damage so broken =
-    when_told files (λ m. IsRead s m upto entries tip (Bad damage)) (λ m. IsDamagedBefore s m upto damage)
-    (λ m read. record { entries = entries; last = tip; read = read }) (read_at s upto files entries tip (Bad damage) so.passed broken)
+pub at_damage : (s : StoreSettings) (begin : Beginning) (upto : Option Lsn) (files : Option Files) (tip : Tip) (entries : List Record) (damage : Damage) → IsReadSoFar s begin upto files tip entries
+    → IfSome files (λ m. found_on s m upto (is_set_behind (is_at_place begin) entries) tip ≡ Bad damage) → IfSome files (λ m. HasDamageFrom s m begin upto damage)
+at_damage s begin upto files tip entries damage so broken =
+    when_told files (λ m. IsReadFrom s m begin upto entries tip (Bad damage)) (λ m. HasDamageFrom s m begin upto damage)
+    (λ m read. record { entries = entries; last = tip; read = read }) (read_at s begin upto files entries tip (Bad damage) so.passed broken)
 
-at_short : (s : StoreSettings) (files : Option Files) (tip : Tip) (entries : List Record) (end target : Lsn) → IsReadSoFar s (Some target) files tip entries → IfSome files (λ m. found_to s m (Some target) tip ≡ End)
-    → end.0 ≡ tip.end → tip.end < target.0 → IfSome files (λ m. EndsBefore s m end target)
-at_short s files tip entries end target so ends is short =
-    when_told files (λ m. IsRead s m (Some target) entries tip End) (λ m. EndsBefore s m end target)
-    (λ m read. record { entries = entries; last = tip; read = read; end_is = is; short = omega (arith, is, short) }) (read_at s (Some target) files entries tip End so.passed ends)
+at_short : (s : StoreSettings) (begin : Beginning) (files : Option Files) (tip : Tip) (entries : List Record) (end target : Lsn) → IsReadSoFar s begin (Some target) files tip entries
+    → IfSome files (λ m. found_on s m (Some target) (is_set_behind (is_at_place begin) entries) tip ≡ End)
+    → end.0 ≡ tip.end → tip.end < target.0 → IfSome files (λ m. EndsEarlyFrom s m begin end target)
+at_short s begin files tip entries end target so ends is short =
+    when_told files (λ m. IsReadFrom s m begin (Some target) entries tip End) (λ m. EndsEarlyFrom s m begin end target)
+    (λ m read. record { entries = entries; last = tip; read = read; end_is = is; short = omega (arith, is, short) }) (read_at s begin (Some target) files entries tip End so.passed ends)
 
-pub ends_short : (s : StoreSettings) (upto : Option Lsn) (files : Option Files) (tip : Tip) (entries : List Record) (end target : Lsn) → IsReadSoFar s upto files tip entries → IfSome files (λ m. found_to s m upto tip ≡ End)
-    → upto ≡ Some target → end.0 ≡ tip.end → tip.end < target.0 → IfSome files (λ m. IsShort s m upto end target)
-ends_short s upto files tip entries end target so ends to is short =
+pub ends_short : (s : StoreSettings) (begin : Beginning) (upto : Option Lsn) (files : Option Files) (tip : Tip) (entries : List Record) (end target : Lsn) → IsReadSoFar s begin upto files tip entries
+    → IfSome files (λ m. found_on s m upto (is_set_behind (is_at_place begin) entries) tip ≡ End)
+    → upto ≡ Some target → end.0 ≡ tip.end → tip.end < target.0 → IfSome files (λ m. IsShortFrom s m begin upto end target)
+ends_short s begin upto files tip entries end target so ends to is short =
     when_told files _ _ (λ m e. (to, e))
-    (at_short s files tip entries end target (subst (λ (u : Option Lsn). IsReadSoFar s u files tip entries) to so)
-    (subst (λ (u : Option Lsn). IfSome files (λ m. found_to s m u tip ≡ End)) to ends) is short)
+    (at_short s begin files tip entries end target (subst (λ (u : Option Lsn). IsReadSoFar s begin u files tip entries) to so)
+    (subst (λ (u : Option Lsn). IfSome files (λ m. found_on s m u (is_set_behind (is_at_place begin) entries) tip ≡ End)) to ends) is short)
 
 -- ---- a replay that goes on
 
-pub end_push : (mib : ℕ) (rs : List Record) (r : Record) → last_end mib (rs ++ (r ∷ [])) ≡ r.end.0
-end_push mib rs r = ap (λ (t : Tip). t.end) (tip_behind-append (first_tip mib) rs (r ∷ []))
+pub end_push : (mib : ℕ) (begin : Beginning) (rs : List Record) (r : Record) → end_from mib begin (rs ++ (r ∷ [])) ≡ r.end.0
+end_push mib begin rs r = ap (λ (t : Tip). t.end) (tip_behind-append (begin_tip mib begin) rs (r ∷ []))
 
 pub map_push : (rs : List Record) (r : Record) → map entry_of (rs ++ (r ∷ [])) ≡ map entry_of rs ++ (entry_of r ∷ [])
 map_push rs r = map-append entry_of rs (r ∷ [])
@@ -239,6 +264,20 @@ rising_ending place to (r ∷ rs) rising = either_rising (nat_le r.end.0 to) pla
 pub rising_taken : (place : ℕ) (upto : Option Lsn) (rs : List Record) → AreRising place rs → AreRising place (taken upto rs)
 rising_taken place None rs rising = rising
 rising_taken place (Some target) rs rising = rising_ending place target.0 rs rising
+
+-- the first entry that can't be redone
+pub bad_redo-here : (store : Store) (rs : List Record) (next : Store) (r : Record) → redo_all store rs ≡ Some next → redo next r ≡ None → first_bad_redo store (rs ++ (r ∷ [])) ≡ Some r.start.0
+bad_redo-here store [] next r redone none =
+    let same : store ≡ next = cc in
+    ap (λ (o : Option Store). bad_behind r.start.0 o (λ s. first_bad_redo s [])) (ap (λ (s : Store). redo s r) same ∙ none)
+bad_redo-here store (q ∷ rs) next r redone none =
+    let b = bind_some (redo store q) (λ s. redo_all s rs) next redone in
+    ap (λ (o : Option Store). bad_behind q.start.0 o (λ s. first_bad_redo s (rs ++ (r ∷ [])))) b.1 ∙ bad_redo-here b.0 rs next r b.2 none
+
+pub bad_redo-more : (store : Store) (rs : List Record) (r : Record) (place : ℕ) → first_bad_redo store rs ≡ Some place → first_bad_redo store (rs ++ (r ∷ [])) ≡ Some place
+bad_redo-more store [] r place bad = absurd cc
+bad_redo-more store (q ∷ rs) r place bad =
+    bad_more_of q.start.0 place (redo store q) (λ s. first_bad_redo s rs) (λ s. first_bad_redo s (rs ++ (r ∷ []))) (λ s b. bad_redo-more s rs r place b) bad
 
 -- from nothing on the test of LSNs changes nothing
 pub none_newer : (place : ℕ) → AreBelow place empty
@@ -265,3 +304,42 @@ first_unredone place rs mid r rising more made none =
 
 pub bad_kept : (rs : List Record) (r : Record) (place : ℕ) → first_bad empty (map entry_of rs) ≡ Some place → first_bad empty (map entry_of (rs ++ (r ∷ []))) ≡ Some place
 bad_kept rs r place bad = ap (first_bad empty) (map_push rs r) ∙ bad-more empty (map entry_of rs) (entry_of r) place bad
+
+-- ---- over the empty store
+
+rising_front : (place : ℕ) (rs qs : List Record) → AreRising place (rs ++ qs) → AreRising place rs
+rising_front place [] qs rising = tt
+rising_front place (r ∷ rs) qs rising = (rising.0, (rising.1.0, rising_front r.end.0 rs qs rising.1.1))
+
+bad_kept_all : (rs qs : List Record) (place : ℕ) → first_bad empty (map entry_of rs) ≡ Some place → first_bad empty (map entry_of (rs ++ qs)) ≡ Some place
+bad_kept_all rs [] place bad = ap (λ (l : List Record). first_bad empty (map entry_of l)) (append-nil rs) ∙ bad
+bad_kept_all rs (q ∷ qs) place bad =
+    ap (λ (l : List Record). first_bad empty (map entry_of l)) (sym (append_assoc rs (q ∷ []) qs))
+    ∙ bad_kept_all (rs ++ (q ∷ [])) qs place (bad_kept rs q place bad)
+
+bad_behind_all : (place at : ℕ) (rs qs : List Record) (mid : Store) → AreRising place (rs ++ qs) → redo_all empty rs ≡ Some mid → first_bad_redo mid qs ≡ Some at → first_bad empty (map entry_of (rs ++ qs)) ≡ Some at
+bad_behind_all place at rs [] mid rising made bad = absurd cc
+bad_behind_all place at rs (q ∷ qs) mid rising made bad =
+    go (λ next pushed later. bad_behind_all place at (rs ++ (q ∷ [])) qs next (subst (AreRising place) (sym (append_assoc rs (q ∷ []) qs)) rising) pushed later) (redo mid q) refl bad
+  where
+    again : rs ++ (q ∷ qs) ≡ (rs ++ (q ∷ [])) ++ qs
+    again = sym (append_assoc rs (q ∷ []) qs)
+
+    rises : AreRising place ((rs ++ (q ∷ [])) ++ qs)
+    rises = subst (AreRising place) again rising
+
+    pushed : (o : Option Store) → redo mid q ≡ o → redo_all empty (rs ++ (q ∷ [])) ≡ o
+    pushed o is = redo_all-push empty rs q ∙ ap (λ (x : Option Store). x >>= λ t. redo t q) made ∙ is
+
+    go : ((next : Store) → redo_all empty (rs ++ (q ∷ [])) ≡ Some next → first_bad_redo next qs ≡ Some at → first_bad empty (map entry_of ((rs ++ (q ∷ [])) ++ qs)) ≡ Some at) → (o : Option Store) → redo mid q ≡ o → bad_behind q.start.0 o (λ next. first_bad_redo next qs) ≡ Some at → first_bad empty (map entry_of (rs ++ (q ∷ qs))) ≡ Some at
+    go more None is here =
+        ap (λ (l : List Record). first_bad empty (map entry_of l)) again
+        ∙ bad_kept_all (rs ++ (q ∷ [])) qs at
+        (first_unredone place rs mid q (rising_front place rs (q ∷ qs) rising) (rising_front place (rs ++ (q ∷ [])) qs rises) made is ∙ here)
+    go more (Some next) is later =
+        ap (λ (l : List Record). first_bad empty (map entry_of l)) again
+        ∙ more next (pushed (Some next) is) later
+
+-- the first entry that can't be redone over it is the first that can't be applied to it
+pub bad_applied : (place at : ℕ) (rs : List Record) → AreRising place rs → first_bad_redo empty rs ≡ Some at → first_bad empty (map entry_of rs) ≡ Some at
+bad_applied place at rs rising bad = bad_behind_all place at [] rs empty rising refl bad

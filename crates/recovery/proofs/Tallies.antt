@@ -20,8 +20,9 @@ use Rattle.history.specs.declared.op.Item.{Item}
 use Rattle.history.proofs.Counts.{page_count-insert, page_count-empty}
 use Rattle.history.proofs.Stores.{get_here, fork_self}
 use Rattle.generic_redo.specs.Redo.{block_ref, block_redone, ref_redone}
-use Rattle.recovery.specs.declared.redo.Tally.{Tally}
-use Rattle.recovery.specs.Inside.{fork_tally, IsRecounted, IsTallyOf, IsRefOf, IsOfFork}
+use Rattle.recovery.specs.declared.tally.Tally.{Tally}
+use Rattle.recovery.specs.Tally.{fork_tally, IsRecounted, IsTallyOf}
+use Rattle.recovery.specs.Inside.{IsRefOf, IsOfFork}
 
 -- ---- one fork alone is another
 

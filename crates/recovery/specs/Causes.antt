@@ -14,7 +14,10 @@ use Rattle.wal_reader.specs.Settings.{IsSettingsOf, settings_causes as wal_refus
 use Rattle.recovery.specs.declared.fault.RecoveryFault.{RecoveryFault}
 use Rattle.recovery.specs.declared.fault.RecoveryFault.TheVariants.{Damaged, Short, BadDelta, SettingsDamaged, Timeline, NotInit, Failed, NoMemory}
 use Rattle.recovery.specs.declared.replaying.ReadWal.{ReadWal}
-use Rattle.recovery.specs.Replay.{IsReadWal, IsDamagedBefore, EndsBefore, HasBadDelta}
+use Rattle.recovery.specs.declared.reading.Beginning.{Beginning}
+use Rattle.recovery.specs.declared.reading.Beginning.TheVariants.{FirstEntry}
+use Rattle.recovery.specs.Onward.{HasDamageFrom, EndsEarlyFrom}
+use Rattle.recovery.specs.Replay.{IsReadWal, IsDamagedBefore, HasBadDelta}
 
 -- when a call refuses what the area holds: the archive, with segments of so many MiB, is damaged;
 -- it ends at a place before the target; the entry at a place can't be applied; the settings are
@@ -57,19 +60,32 @@ abbrev pub area_fault_of : AreaFault → RecoveryFault
 area_fault_of area.Failed = Failed
 area_fault_of area.NoMemory = NoMemory
 
--- ---- a replay by settings that are known
+-- ---- by settings that are known
 
-abbrev pub IsShort : StoreSettings → Files → Option Lsn → Lsn → Lsn → Type 0
-IsShort s files upto end target = (upto ≡ Some target) × EndsBefore s files end target
+-- the target is past where the archive ends
+abbrev pub IsShortFrom :
+    StoreSettings → Files → Beginning → Option Lsn → Lsn → Lsn → Type 0
+IsShortFrom s files begin upto end target =
+    (upto ≡ Some target) × EndsEarlyFrom s files begin end target
 
-abbrev pub replay_causes : StoreSettings → Option Lsn → Option Files → RecoveryCauses
-replay_causes s upto files = record {
-  damaged = λ mib damage. (mib ≡ s.segment) × IfSome files (λ m. IsDamagedBefore s m upto damage);
-  short = λ end target. IfSome files (λ m. IsShort s m upto end target);
-  bad = λ place. IfSome files (λ m. HasBadDelta s m upto place);
+-- a reading is refused for what the archive is, and never for what an entry says
+abbrev pub reading_causes : StoreSettings → Beginning → Option Lsn → Option Files → RecoveryCauses
+reading_causes s begin upto files = record {
+  damaged = λ mib damage.
+      (mib ≡ s.segment) × IfSome files (λ m. HasDamageFrom s m begin upto damage);
+  short = λ end target. IfSome files (λ m. IsShortFrom s m begin upto end target);
+  bad = λ place. ⊥;
   settings = ⊥;
   timeline = λ name. ⊥;
   missing = ⊥;
+}
+
+abbrev pub IsShort : StoreSettings → Files → Option Lsn → Lsn → Lsn → Type 0
+IsShort s files upto end target = IsShortFrom s files FirstEntry upto end target
+
+abbrev pub replay_causes : StoreSettings → Option Lsn → Option Files → RecoveryCauses
+replay_causes s upto files = record (reading_causes s FirstEntry upto files) {
+  bad = λ place. IfSome files (λ m. HasBadDelta s m upto place);
 }
 
 abbrev pub ReplayAnswer :

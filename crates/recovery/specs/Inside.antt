@@ -1,6 +1,10 @@
 -- What the crate's private functions answer: no public contract cites these.
-use Rattle.std.specs.Prelude.{◌≡◌, ℕ, ◌+◌, ◌-◌, ◌<◌, ◌≤◌, ◌⊎◌, List, map, length, Option, Some, None, Result, Ok, Err, IfSome}
-use Rattle.std.specs.FinMap.{len}
+use Rattle.std.specs.Prelude.{◌≡◌, ℕ, ◌<◌, ◌≤◌, ◌⊎◌, List, map, length, Option, Some, None, Result, Ok, Err, IfSome}
+use Rattle.lsn_core.specs.Causes.{Rose}
+use Rattle.lsn_core.specs.declared.fault.AreaFault.TheVariants as area
+use Rattle.lsn_core.specs.declared.pages.Pages.{Ghosts as PagesGhosts}
+use Rattle.lsn_core.specs.Files.{Files}
+use Rattle.lsn_core.specs.Segment.{StoreSettings}
 use Rattle.lsn_core.specs.Store.{Store}
 use Rattle.lsn_core.specs.Tip.{Tip}
 use Rattle.lsn_core.specs.declared.ids.ForkId.{ForkId}
@@ -15,17 +19,23 @@ use Rattle.wal_reader.specs.declared.fault.WalFault.{WalFault}
 use Rattle.wal_reader.specs.Cursor.{Cursor, Steps}
 use Rattle.history.specs.Apply.{main_fork}
 use Rattle.history.specs.Entry.{Change}
-use Rattle.history.specs.Pages.{page_count}
-use Rattle.history.specs.Redo.{redo}
+use Rattle.history.specs.Redo.{redo, AreRising}
 use Rattle.history.specs.Whole.{item_of, act_with}
 use Rattle.generic_redo.specs.Redo.{block_ref}
 use Rattle.recovery.specs.declared.fault.RecoveryFault.{RecoveryFault}
 use Rattle.recovery.specs.declared.fault.RecoveryFault.TheVariants.{Damaged, Short, BadDelta, SettingsDamaged, Timeline, NotInit, Failed, NoMemory}
-use Rattle.recovery.specs.declared.redo.Tally.{Tally}
+use Rattle.recovery.specs.declared.tally.Tally.{Tally}
+use Rattle.recovery.specs.declared.reading.Beginning.{Beginning}
 use Rattle.recovery.specs.declared.replaying.Replayed.{Replayed}
 use Rattle.recovery.specs.declared.replaying.Progress.{Progress}
-use Rattle.recovery.specs.Replay.{replayed_to}
-use Rattle.recovery.specs.Causes.{fault_of}
+use Rattle.recovery.specs.declared.fault.ReplayFault.{ReplayFault}
+use Rattle.recovery.specs.declared.fault.ReplayFault.TheVariants.{Wal, Out}
+use Rattle.recovery.specs.declared.listener.Listener.{Ghosts as ListenerGhosts}
+use Rattle.recovery.specs.Tally.{IsTallyOf}
+use Rattle.recovery.specs.Onward.{begin_tip, replayed_to}
+use Rattle.recovery.specs.Causes.{RecoveryCauses, CauseOf, fault_of, reading_causes}
+use Rattle.recovery.specs.Replayed.{IsHeard}
+use Rattle.recovery.specs.Recovered.{IsRecovered, HasBadRedo}
 
 -- a WAL that was read up to a place was read up to its target
 abbrev pub IsAtTarget : Option Lsn → ℕ → Type 0
@@ -65,21 +75,6 @@ EndAnswer upto tip (Err Failed) = ⊥
 EndAnswer upto tip (Err NoMemory) = ⊥
 
 -- ---- one entry redone
-
--- what a fork of so many blocks counts, or a missing one
-abbrev pub fork_tally : Option ℕ → Tally
-fork_tally None = record { forks = 0; pages = 0 }
-fork_tally (Some blocks) = record { forks = 1; pages = blocks }
-
--- a fork counts this now, in place of that before
-pub record IsRecounted (before now old new : Tally) : Type 0 where
-  pub forks : new.forks ≡ old.forks + now.forks - before.forks
-  pub pages : new.pages ≡ old.pages + now.pages - before.pages
-
--- as many forks and pages as a store has
-pub record IsTallyOf (tally : Tally) (store : Store) : Type 0 where
-  pub forks : tally.forks ≡ len store
-  pub pages : tally.pages ≡ page_count store
 
 -- a change of a store can be made, and what it leaves is shown, and counted where the store was
 pub record IsRedone
@@ -167,3 +162,41 @@ FinishAnswer upto tip progress (Err (Timeline name)) = ⊥
 FinishAnswer upto tip progress (Err NotInit) = ⊥
 FinishAnswer upto tip progress (Err Failed) = ⊥
 FinishAnswer upto tip progress (Err NoMemory) = ⊥
+
+-- ---- a replay from a beginning on
+
+-- what it came to, with what the entries that were read are told by: they end one behind the other,
+-- and a listener heard them
+pub record IsRedoneFrom
+    {P L : Type 0} (p : PagesGhosts P) (l : ListenerGhosts L) (s : StoreSettings)
+    (files : Option Files) (begin : Beginning) (upto : Option Lsn) (counted : Tally)
+    (before behind : P) (ear later : L) (replayed : Replayed)
+    : Type 0 where
+  pub recovered : IsRecovered p s files begin upto counted before behind replayed
+  pub rising : AreRising (begin_tip s.segment begin).end recovered.entries
+  pub heard : IsHeard l.heard recovered.entries ear later
+
+-- an entry can't be redone, of entries that end one behind the other
+pub record HasRisingBad
+    (shows : Store → Type 0) (s : StoreSettings) (files : Files)
+    (begin : Beginning) (upto : Option Lsn) (place : Lsn)
+    : Type 0 where
+  pub bad : HasBadRedo shows s files begin upto place
+  pub rising : AreRising (begin_tip s.segment begin).end bad.entries
+
+abbrev pub rising_causes : (Store → Type 0)
+    → StoreSettings → Beginning → Option Lsn → Option Files → RecoveryCauses
+rising_causes shows s begin upto files = record (reading_causes s begin upto files) {
+  bad = λ place. IfSome files (λ m. HasRisingBad shows s m begin upto place);
+}
+
+abbrev pub RedoesFrom : {V P L : Type 0} → Ghosts V → PagesGhosts P → ListenerGhosts L
+    → StoreSettings → Beginning → Option Lsn → Tally → V → V → P → P → L → L
+    → Result Replayed ReplayFault → Type 0
+RedoesFrom g p l s begin upto counted old now before behind ear later (Ok replayed) =
+    IsRedoneFrom p l s (g.files old) begin upto counted before behind ear later replayed
+RedoesFrom g p l s begin upto counted old now before behind ear later (Err (Wal why)) =
+    CauseOf (rising_causes (p.shows before) s begin upto (g.files old)) (g.faults old)
+    (g.faults now) why
+RedoesFrom g p l s begin upto counted old now before behind ear later (Err (Out why)) =
+    why ≡ area.Failed → Rose (p.faults before) (p.faults behind)

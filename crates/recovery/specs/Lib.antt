@@ -1,6 +1,9 @@
+pub mod Onward
 pub mod Replay
 pub mod Causes
 pub mod Reading
 pub mod Replayed
+pub mod Recovered
+pub mod Tally
 pub mod Inside
 pub mod Laws

@@ -19,7 +19,8 @@ use Rattle.recovery.specs.declared.fault.ReplayFault.{ReplayFault}
 use Rattle.recovery.specs.declared.fault.ReplayFault.TheVariants.{Wal, Out}
 use Rattle.recovery.specs.declared.listener.Listener.{Ghosts as ListenerGhosts}
 use Rattle.recovery.specs.declared.replaying.Replayed.{Replayed}
-use Rattle.recovery.specs.Replay.{replayed_to, ending_by, last_end, HasBadDelta}
+use Rattle.recovery.specs.Onward.{replayed_to, ending_by}
+use Rattle.recovery.specs.Replay.{last_end, HasBadDelta}
 use Rattle.recovery.specs.Reading.{IsReadTo}
 use Rattle.recovery.specs.Causes.{RecoveryCauses, CauseOf, replay_causes}
 

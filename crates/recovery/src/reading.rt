@@ -1,9 +1,10 @@
-//! The entries of a WAL read up to a target.
+//! The entries of a WAL read from a beginning on, up to a target.
 
 ghost use Rattle.std.specs.Prelude.{◌≡◌, ◌≤◌, ◌↔◌, IsTrue, None};
 ghost use Rattle.vault.specs.Frame.{OnlyReads};
 ghost use Rattle.recovery.specs.Causes.{SettingsAnswer};
-ghost use Rattle.recovery.specs.Reading.{ReadsThrough};
+ghost use Rattle.recovery.specs.Onward.{cursor_from};
+ghost use Rattle.recovery.specs.Reading.{Reads, ReadsThrough};
 ghost use Rattle.recovery.specs.Inside.{IsAtTarget, StepsTo, EndAnswer};
 
 use crate::fault::{RecoveryFault, fault_of};
@@ -12,6 +13,27 @@ use std::alloc::Global;
 use vault::Vault;
 use wal_reader::{WalCursor, read_settings};
 use wal_record::Record;
+
+/// Where a reading of the WAL begins.
+#[derive(Clone, Copy, Debug, PartialEq, Eq)]
+pub enum Beginning {
+    /// With the WAL's first entry.
+    FirstEntry,
+    /// At this place, also where no entry starts there. The link of an entry there isn't tested.
+    AtPlace(Lsn),
+}
+
+impl Beginning {
+    /// The cursor with which a reading of the WAL of these settings begins.
+    pub(crate) fn cursor(self, settings: &Settings) -> WalCursor
+        ensures { result ≡ cursor_from settings.now self }
+    {
+        match self {
+            Beginning::FirstEntry => WalCursor::first(settings),
+            Beginning::AtPlace(from) => WalCursor::at(settings, from),
+        }
+    }
+}
 
 /// Whether no more is read of a WAL that was read up to a place.
 fn is_reached(upto: Option<Lsn>, end: Lsn) -> bool
@@ -55,9 +77,26 @@ pub fn whole_to(upto: Option<Lsn>, tip: WalTip) -> Result<WalTip, RecoveryFault>
     Ok(tip)
 }
 
-/// Reads the WAL of these settings from its first entry up to the first end at or past the target,
-/// or to its end where no target is given, and changes nothing: the tip behind all that was read.
-/// It holds one entry of the WAL.
+/// Reads the WAL of these settings from a beginning on up to the first end at or past the target, or
+/// to its end where no target is given, and changes nothing: the tip behind all that was read. It
+/// holds one entry of the WAL.
+pub fn read_from<V: Vault>(
+    alloc: Global,
+    wal: &mut V,
+    settings: &Settings,
+    begin: Beginning,
+    upto: Option<Lsn>,
+) -> Result<WalTip, RecoveryFault>
+    ensures answer { Reads V.Vault settings.now begin upto wal.old wal.new result }
+    ensures reads { OnlyReads V.Vault wal.old wal.new }
+{
+    let size = settings.segment();
+    let mut cursor = begin.cursor(settings);
+    while let Some(_entry) = next_to(alloc, wal, &mut cursor, size, upto)? {}
+    whole_to(upto, cursor.tip())
+}
+
+/// The same from the WAL's first entry on.
 pub fn read_through<V: Vault>(
     alloc: Global,
     wal: &mut V,
@@ -67,10 +106,7 @@ pub fn read_through<V: Vault>(
     ensures answer { ReadsThrough V.Vault settings.now upto wal.old wal.new result }
     ensures reads { OnlyReads V.Vault wal.old wal.new }
 {
-    let size = settings.segment();
-    let mut cursor = WalCursor::first(settings);
-    while let Some(_entry) = next_to(alloc, wal, &mut cursor, size, upto)? {}
-    whole_to(upto, cursor.tip())
+    read_from(alloc, wal, settings, Beginning::FirstEntry, upto)
 }
 
 /// The settings of the WAL.

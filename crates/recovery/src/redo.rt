@@ -7,47 +7,14 @@ ghost use Rattle.history.specs.Redo.{redo};
 ghost use Rattle.generic_redo.specs.declared.fault.RedoFault.TheVariants.{BadDelta};
 ghost use Rattle.generic_redo.specs.Redo.{ref_redone};
 ghost use Rattle.generic_redo.specs.Causes.{HasRedoCause};
-ghost use Rattle.recovery.specs.Inside.{fork_tally, IsRecounted, RedoesCounted, RedoesNone, IsRefOf, IsChange, IsOfFork};
+ghost use Rattle.recovery.specs.Inside.{RedoesCounted, RedoesNone, IsRefOf, IsChange, IsOfFork};
 
+use crate::tally::Tally;
 use generic_redo::{RedoFault, redo_block};
 use history::main_fork;
-use lsn_core::{AreaFault, ForkId, NoMemory, Pages};
+use lsn_core::{AreaFault, ForkId, Pages};
 use smgr_redo::redo_storage;
 use wal_record::{BlockRef, Kind, Record};
-
-/// How many forks and pages there are, where they are counted from none on.
-#[derive(Clone, Copy)]
-pub struct Tally {
-    pub forks: u64,
-    pub pages: u64,
-}
-
-/// What a fork of so many blocks counts, or a missing one.
-fn fork_tally(blocks: Option<u32>) -> Tally
-    ensures { result ≡ fork_tally blocks }
-{
-    match blocks {
-        Some(count) => Tally {
-            forks: 1,
-            pages: count as u64,
-        },
-        None => Tally { forks: 0, pages: 0 },
-    }
-}
-
-impl Tally {
-    /// Counts a fork that has so many blocks now, in place of so many before.
-    fn recount(&mut self, before: Option<u32>, now: Option<u32>) -> Result<(), NoMemory>
-        ensures { OnOk result (IsRecounted (fork_tally before) (fork_tally now) self.old self.new) }
-    {
-        let (before, now) = (fork_tally(before), fork_tally(now));
-        let forks = self.forks.checked_add(now.forks).ok_or(NoMemory)?;
-        let pages = self.pages.checked_add(now.pages).ok_or(NoMemory)?;
-        self.forks = forks.saturating_sub(before.forks);
-        self.pages = pages.saturating_sub(before.pages);
-        Ok(())
-    }
-}
 
 /// Redoes an entry's block reference of a number, counted from 0, of this fork.
 fn redo_ref<P: Pages>(

@@ -1,24 +1,24 @@
-//! Replay of a WAL from its beginning into pages.
+//! Replay of a WAL, from its first entry or from a place on, into pages.
 
 ghost use Rattle.std.specs.Prelude.{◌≡◌, ◌≤◌, ◌<◌, ◌^◌, ◌↔◌, IsTrue, [], ◌∷◌, length, None, IfSome, OnOk};
 ghost use Rattle.lsn_core.specs.Causes.{HasCause};
-ghost use Rattle.lsn_core.specs.Segment.{segment_bytes};
 ghost use Rattle.vault.specs.Frame.{OnlyReads};
 ghost use Rattle.history.specs.Applied.{IsApplicable};
 ghost use Rattle.recovery.specs.Causes.{Replays};
 ghost use Rattle.recovery.specs.Replayed.{ReplaysInto, IsHeard, HearsReplay};
-ghost use Rattle.recovery.specs.Inside.{IsTaken, Adds, Takes, FinishAnswer};
+ghost use Rattle.recovery.specs.Recovered.{RecoversInto};
+ghost use Rattle.recovery.specs.Inside.{IsTaken, Adds, Takes, FinishAnswer, RedoesFrom};
 
 use crate::fault::{RecoveryFault, ReplayFault};
 use crate::listener::{Deaf, Listener};
-use crate::reading::{next_to, whole_to};
-use crate::redo::{Tally, redo_entry};
+use crate::reading::{Beginning, next_to, whole_to};
+use crate::redo::redo_entry;
+use crate::tally::Tally;
 use generic_redo::RedoFault;
 use history::PageMap;
-use lsn_core::{AreaFault, Lsn, Pages, SegSize, Settings, WalTip};
+use lsn_core::{AreaFault, Lsn, Pages, Settings, WalTip};
 use std::alloc::Global;
 use vault::Vault;
-use wal_reader::WalCursor;
 use wal_record::Record;
 
 /// What a replay came to: where the last entry ends that ends at the target or before it, or where
@@ -62,16 +62,13 @@ fn is_taken(upto: Option<Lsn>, end: Lsn) -> bool
 }
 
 impl Progress {
-    /// Nothing yet, of a WAL with segments of that size.
-    fn new(size: SegSize) -> Progress
-        ensures end { result.end.0 ≡ segment_bytes size }
-        ensures forks { result.tally.forks ≡ 0 }
-        ensures pages { result.tally.pages ≡ 0 }
-        ensures bad { result.bad ≡ None }
+    /// Nothing yet, from this place on, and so many forks and pages.
+    fn new(begin: Lsn, counted: Tally) -> Progress
+        ensures { result ≡ record { end = begin; tally = counted; bad = None } }
     {
         Progress {
-            end: Lsn(size.bytes()),
-            tally: Tally { forks: 0, pages: 0 },
+            end: begin,
+            tally: counted,
             bad: None,
         }
     }
@@ -143,12 +140,67 @@ impl Progress {
     }
 }
 
-/// Reads the WAL of these settings from its first entry up to the first end at or past the target,
-/// or to its end where no target is given, and redoes over the pages the entries that end at the
-/// target or before it. The whole of it is read before it is told that an entry can't be redone: a
-/// damaged archive, and one that ends before the target, come first; the pages then have the
-/// entries before that one, and of it the blocks before the one that can't be redone. It holds one
-/// entry of the WAL.
+/// Reads the WAL of these settings from a beginning on up to the first end at or past the target, or
+/// to its end where no target is given, and redoes over the pages the entries that end at the
+/// target or before it. A listener is told each entry that is read, in order, before that is redone.
+fn redo_from<V: Vault, P: Pages, L: Listener>(
+    alloc: Global,
+    wal: &mut V,
+    settings: &Settings,
+    begin: Beginning,
+    upto: Option<Lsn>,
+    target: &mut P,
+    counted: Tally,
+    listener: &mut L,
+) -> Result<Replayed, ReplayFault>
+    requires none { IfSome (L.heard listener.old) (λ es. es ≡ []) }
+    ensures answer { RedoesFrom V.Vault P.Pages L.Listener settings.now begin upto counted
+        wal.old wal.new target.old target.new listener.old listener.new result }
+    ensures reads { OnlyReads V.Vault wal.old wal.new }
+    ensures kept { P.keeps target.old target.new }
+    ensures later { P.faults target.old ≤ P.faults target.new }
+{
+    let size = settings.segment();
+    let mut cursor = begin.cursor(settings);
+    let first = cursor.tip();
+    let mut progress = Progress::new(first.end, counted);
+    while let Some(record) = next_to(alloc, wal, &mut cursor, size, upto)? {
+        progress.take(target, upto, &record, listener)?;
+    }
+    let last = cursor.tip();
+    Ok(progress.finish(upto, last)?)
+}
+
+/// Reads the WAL of these settings from a beginning on up to the first end at or past the target, or
+/// to its end where no target is given, and redoes over the pages the entries that end at the
+/// target or before it: an image is restored, a delta is done where the page's LSN is below the
+/// entry's end. Of the store that the pages show so many forks and pages are counted, and what the
+/// answer counts goes on from there. The whole of the WAL is read before it is told that an entry
+/// can't be redone: a damaged archive, and one that ends before the target, come first; the pages
+/// then have the entries before that one, and of it the blocks before the one that can't be redone.
+/// It holds one entry of the WAL.
+pub fn recover<V: Vault, P: Pages>(
+    alloc: Global,
+    wal: &mut V,
+    settings: &Settings,
+    begin: Beginning,
+    upto: Option<Lsn>,
+    target: &mut P,
+    counted: Tally,
+) -> Result<Replayed, ReplayFault>
+    ensures answer { RecoversInto V.Vault P.Pages settings.now begin upto counted
+        wal.old wal.new target.old target.new result }
+    ensures reads { OnlyReads V.Vault wal.old wal.new }
+    ensures kept { P.keeps target.old target.new }
+    ensures later { P.faults target.old ≤ P.faults target.new }
+{
+    redo_from(
+        alloc, wal, settings, begin, upto, target, counted, &mut Deaf,
+    )
+}
+
+/// Replays the WAL of these settings from its first entry on, over pages that show a store: over the
+/// empty one they show then what the WAL makes from nothing.
 pub fn replay<V: Vault, P: Pages>(
     alloc: Global,
     wal: &mut V,
@@ -182,13 +234,17 @@ pub fn replay_heard<V: Vault, P: Pages, L: Listener>(
     ensures kept { P.keeps target.old target.new }
     ensures later { P.faults target.old ≤ P.faults target.new }
 {
-    let size = settings.segment();
-    let mut cursor = WalCursor::first(settings);
-    let mut progress = Progress::new(size);
-    while let Some(record) = next_to(alloc, wal, &mut cursor, size, upto)? {
-        progress.take(target, upto, &record, listener)?;
-    }
-    Ok(progress.finish(upto, cursor.tip())?)
+    let begin = Beginning::FirstEntry;
+    redo_from(
+        alloc,
+        wal,
+        settings,
+        begin,
+        upto,
+        target,
+        Tally::none(),
+        listener,
+    )
 }
 
 /// The same into an empty store in memory, which is answered.

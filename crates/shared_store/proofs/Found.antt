@@ -21,7 +21,8 @@ use Rattle.history.proofs.Histories.{tip_over_read}
 use Rattle.fuzzy_copies.specs.Orderly.{AllEndBy}
 use Rattle.journal.specs.Journal.{EndsWith, IsTold}
 use Rattle.journal.proofs.Begun.{found_told}
-use Rattle.recovery.specs.Replay.{IsRead, Reads, AllEndBy as EndBy}
+use Rattle.recovery.specs.Onward.{AllEndBy as EndBy}
+use Rattle.recovery.specs.Replay.{IsRead, Reads}
 use Rattle.recovery.specs.Reading.{IsReadTo}
 use Rattle.recovery.specs.Replayed.{ShowsWhole}
 use Rattle.recovery.proofs.SoFar.{all_kept}
