@@ -1,0 +1,32 @@
+//! What holds of every reading of a WAL that begins at one of its entries, of every restore of a
+//! sound copy, and of the store that a directory's files hold.
+
+ghost use Rattle.backup_restore.specs.Completed.{RestoresAreReplays, SoundCopiesAreCompleted};
+ghost use Rattle.backup_restore.specs.Directories.{FilesHoldOneStore, StoresAreHeld};
+ghost use Rattle.backup_restore.specs.Onwards.{EntriesAreFoundAtTheirStart, ReadingGoesOn};
+ghost use Rattle.backup_restore.specs.Onwards.{ReadingFromEntryIsRest};
+
+/// Where a WAL is read from its beginning and has an entry, a cursor that is set at this entry's
+/// start finds it and then all that stand behind it, whatever the files are.
+pub fn reading_goes_on_from_entries()
+    ensures found { EntriesAreFoundAtTheirStart }
+    ensures on { ReadingGoesOn }
+    ensures rest { ReadingFromEntryIsRest }
+{}
+
+/// A restore of a sound copy makes what a replay of the whole WAL to the same place makes, and
+/// leaves the files of that.
+pub fn sound_copies_are_completed()
+    ensures completed { SoundCopiesAreCompleted }
+    ensures replays { RestoresAreReplays }
+{}
+
+/// Files hold one store at most.
+pub fn directories_hold_one_store()
+    ensures { FilesHoldOneStore }
+{}
+
+/// Files that have the segment files of a store, and no other ones, hold that store.
+pub fn stores_are_held_by_their_files()
+    ensures { StoresAreHeld }
+{}
