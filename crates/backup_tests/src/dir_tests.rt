@@ -1,6 +1,6 @@
 //! Directories of backups that an independent implementation took and changed.
 
-use chain_check::{ChainFault, FileWhy, ManifestWhy, Member, check_dir};
+use chain_check::{ChainFault, FileWhy, ManifestWhy, Member, Refusal, check_dir};
 use lsn_core::{AreaFault, NoMemory, Text};
 use std::alloc::Global;
 use std::test::Fail;
@@ -74,11 +74,12 @@ const FILES: &[Change<'static>] = &[
 ];
 
 /// Its manifest.
-const WHOLE: &[u8] =
+pub(crate) const WHOLE: &[u8] =
     b"{ \"PostgreSQL-Backup-Manifest-Version\": 2,\n\"System-Identifier\": 7,\n\"Files\": [\n{ \"Path\": \"backup_label\", \"Size\": 200, \"Last-Modified\": \"2023-11-14 22:13:20 GMT\", \"Checksum-Algorithm\": \"SHA256\", \"Checksum\": \"67c229648f8e61f45608cf991942190ffcf72fc04da937b9742d4ef0ea009838\" },\n{ \"Path\": \"base/5/16384\", \"Size\": 81920, \"Last-Modified\": \"2023-11-14 22:13:20 GMT\", \"Checksum-Algorithm\": \"SHA256\", \"Checksum\": \"bf94afaf36ca0898ef37004c61c67ee0edea74010eef3655b1030e41f3dbf214\" }\n],\n\"WAL-Ranges\": [\n{ \"Timeline\": 1, \"Start-LSN\": \"0/1003B0\", \"End-LSN\": \"0/100430\" }\n],\n\"Manifest-Checksum\": \"95fe2d883e5dac53bbb8338896e8139cf01aa2b54520fd1fe1ed690cff39cf32\"}\n";
 
 /// What a directory is, its manifest, how its other files are changed, and what the check tells: the
-/// name, the manifest's start and end and the number of rows, or the fault.
+/// name, the manifest's start and end and the number of rows, or the fault, and how many files were
+/// found as listed before it.
 type Case<'a> = (&'a str, &'a [u8], &'a [Change<'a>], &'a str);
 
 static DIRECTORIES: [Case; 30] = [
@@ -87,37 +88,37 @@ static DIRECTORIES: [Case; 30] = [
         "a byte of a file changed",
         WHOLE,
         &[Change::Write(MAIN, 100, b"x")],
-        "FileSum base/5/16384",
+        "FileSum base/5/16384 after 1",
     ),
     (
         "its last byte cut",
         WHOLE,
         &[Change::Cut(MAIN, 81919)],
-        "FileSize base/5/16384 81919 81920",
+        "FileSize base/5/16384 81919 81920 after 1",
     ),
     (
         "a byte behind it",
         WHOLE,
         &[Change::Write(MAIN, 81920, b"\0")],
-        "FileSize base/5/16384 81921 81920",
+        "FileSize base/5/16384 81921 81920 after 1",
     ),
     (
         "a file removed",
         WHOLE,
         &[Change::Remove(MAIN)],
-        "FileMissing base/5/16384",
+        "FileMissing base/5/16384 after 1",
     ),
     (
         "a file added",
         WHOLE,
         &[Change::Write(b"base/5/9", 0, b"")],
-        "FileExtra base/5/9",
+        "FileExtra base/5/9 after 2",
     ),
     (
         "a file added before one removed",
         WHOLE,
         &[Change::Write(b"a", 0, b""), Change::Remove(MAIN)],
-        "FileMissing base/5/16384",
+        "FileMissing base/5/16384 after 1",
     ),
     (
         "a file in the folder of the WAL",
@@ -129,79 +130,79 @@ static DIRECTORIES: [Case; 30] = [
         "a file beside it",
         WHOLE,
         &[Change::Write(b"pg_wal0", 0, b"x")],
-        "FileExtra pg_wal0",
+        "FileExtra pg_wal0 after 2",
     ),
     (
         "a byte of the label changed",
         WHOLE,
         &[Change::Write(LABEL, 150, b"X")],
-        "FileSum backup_label",
+        "FileSum backup_label after 0",
     ),
     (
         "the label changed and a later file cut",
         WHOLE,
         &[Change::Write(LABEL, 150, b"X"), Change::Cut(MAIN, 81919)],
-        "FileSum backup_label",
+        "FileSum backup_label after 0",
     ),
     (
         "a digit in the manifest changed",
         b"{ \"PostgreSQL-Backup-Manifest-Version\": 2,\n\"System-Identifier\": 7,\n\"Files\": [\n{ \"Path\": \"backup_label\", \"Size\": 200, \"Last-Modified\": \"2023-11-14 22:13:20 GMT\", \"Checksum-Algorithm\": \"SHA256\", \"Checksum\": \"67c229648f8e61f45608cf991942190ffcf72fc04da937b9742d4ef0ea009838\" },\n{ \"Path\": \"base/5/16384\", \"Size\": 91920, \"Last-Modified\": \"2023-11-14 22:13:20 GMT\", \"Checksum-Algorithm\": \"SHA256\", \"Checksum\": \"bf94afaf36ca0898ef37004c61c67ee0edea74010eef3655b1030e41f3dbf214\" }\n],\n\"WAL-Ranges\": [\n{ \"Timeline\": 1, \"Start-LSN\": \"0/1003B0\", \"End-LSN\": \"0/100430\" }\n],\n\"Manifest-Checksum\": \"95fe2d883e5dac53bbb8338896e8139cf01aa2b54520fd1fe1ed690cff39cf32\"}\n",
         &[],
-        "ManifestDamaged Sum",
+        "ManifestDamaged Sum after 0",
     ),
     (
         "its last line end cut",
         b"{ \"PostgreSQL-Backup-Manifest-Version\": 2,\n\"System-Identifier\": 7,\n\"Files\": [\n{ \"Path\": \"backup_label\", \"Size\": 200, \"Last-Modified\": \"2023-11-14 22:13:20 GMT\", \"Checksum-Algorithm\": \"SHA256\", \"Checksum\": \"67c229648f8e61f45608cf991942190ffcf72fc04da937b9742d4ef0ea009838\" },\n{ \"Path\": \"base/5/16384\", \"Size\": 81920, \"Last-Modified\": \"2023-11-14 22:13:20 GMT\", \"Checksum-Algorithm\": \"SHA256\", \"Checksum\": \"bf94afaf36ca0898ef37004c61c67ee0edea74010eef3655b1030e41f3dbf214\" }\n],\n\"WAL-Ranges\": [\n{ \"Timeline\": 1, \"Start-LSN\": \"0/1003B0\", \"End-LSN\": \"0/100430\" }\n],\n\"Manifest-Checksum\": \"95fe2d883e5dac53bbb8338896e8139cf01aa2b54520fd1fe1ed690cff39cf32\"}",
         &[],
-        "ManifestDamaged Lines",
+        "ManifestDamaged Lines after 0",
     ),
     (
         "no manifest",
         WHOLE,
         &[Change::Remove(MANIFEST)],
-        "NoManifest",
+        "NoManifest after 0",
     ),
     (
         "no JSON",
         b"{ \"PostgreSQL-Backup-Manifest-Version\": 2,\n\"System-Identifier\": 7,\n\"Files: [\n{ \"Path\": \"backup_label\", \"Size\": 200, \"Last-Modified\": \"2023-11-14 22:13:20 GMT\", \"Checksum-Algorithm\": \"SHA256\", \"Checksum\": \"67c229648f8e61f45608cf991942190ffcf72fc04da937b9742d4ef0ea009838\" },\n{ \"Path\": \"base/5/16384\", \"Size\": 81920, \"Last-Modified\": \"2023-11-14 22:13:20 GMT\", \"Checksum-Algorithm\": \"SHA256\", \"Checksum\": \"bf94afaf36ca0898ef37004c61c67ee0edea74010eef3655b1030e41f3dbf214\" }\n],\n\"WAL-Ranges\": [\n{ \"Timeline\": 1, \"Start-LSN\": \"0/1003B0\", \"End-LSN\": \"0/100430\" }\n],\n\"Manifest-Checksum\": \"7fc89b57926da003ceb0d3ae6b847fdc24483a5327b180dc9b659ab57f379362\"}\n",
         &[],
-        "ManifestDamaged Json",
+        "ManifestDamaged Json after 0",
     ),
     (
         "another version",
         b"{ \"PostgreSQL-Backup-Manifest-Version\": 3,\n\"System-Identifier\": 7,\n\"Files\": [\n{ \"Path\": \"backup_label\", \"Size\": 200, \"Last-Modified\": \"2023-11-14 22:13:20 GMT\", \"Checksum-Algorithm\": \"SHA256\", \"Checksum\": \"67c229648f8e61f45608cf991942190ffcf72fc04da937b9742d4ef0ea009838\" },\n{ \"Path\": \"base/5/16384\", \"Size\": 81920, \"Last-Modified\": \"2023-11-14 22:13:20 GMT\", \"Checksum-Algorithm\": \"SHA256\", \"Checksum\": \"bf94afaf36ca0898ef37004c61c67ee0edea74010eef3655b1030e41f3dbf214\" }\n],\n\"WAL-Ranges\": [\n{ \"Timeline\": 1, \"Start-LSN\": \"0/1003B0\", \"End-LSN\": \"0/100430\" }\n],\n\"Manifest-Checksum\": \"603f94db48c1b37c583f5fbda72080f474db98a491d155d870a107ee294c762e\"}\n",
         &[],
-        "ManifestVersion 3",
+        "ManifestVersion 3 after 0",
     ),
     (
         "another shape",
         b"{ \"PostgreSQL-Backup-Manifest-Version\": 2,\n\"System-Identifier\": \"7\",\n\"Files\": [\n{ \"Path\": \"backup_label\", \"Size\": 200, \"Last-Modified\": \"2023-11-14 22:13:20 GMT\", \"Checksum-Algorithm\": \"SHA256\", \"Checksum\": \"67c229648f8e61f45608cf991942190ffcf72fc04da937b9742d4ef0ea009838\" },\n{ \"Path\": \"base/5/16384\", \"Size\": 81920, \"Last-Modified\": \"2023-11-14 22:13:20 GMT\", \"Checksum-Algorithm\": \"SHA256\", \"Checksum\": \"bf94afaf36ca0898ef37004c61c67ee0edea74010eef3655b1030e41f3dbf214\" }\n],\n\"WAL-Ranges\": [\n{ \"Timeline\": 1, \"Start-LSN\": \"0/1003B0\", \"End-LSN\": \"0/100430\" }\n],\n\"Manifest-Checksum\": \"33c32fe90ee229c29707fdc0d1a52a68f5592c865315e55114ac6b485abc2626\"}\n",
         &[],
-        "ManifestDamaged Shape",
+        "ManifestDamaged Shape after 0",
     ),
     (
         "an unknown kind of sum",
         b"{ \"PostgreSQL-Backup-Manifest-Version\": 2,\n\"System-Identifier\": 7,\n\"Files\": [\n{ \"Path\": \"backup_label\", \"Size\": 200, \"Last-Modified\": \"2023-11-14 22:13:20 GMT\", \"Checksum-Algorithm\": \"CRC32C\", \"Checksum\": \"67c229648f8e61f45608cf991942190ffcf72fc04da937b9742d4ef0ea009838\" },\n{ \"Path\": \"base/5/16384\", \"Size\": 81920, \"Last-Modified\": \"2023-11-14 22:13:20 GMT\", \"Checksum-Algorithm\": \"SHA256\", \"Checksum\": \"bf94afaf36ca0898ef37004c61c67ee0edea74010eef3655b1030e41f3dbf214\" }\n],\n\"WAL-Ranges\": [\n{ \"Timeline\": 1, \"Start-LSN\": \"0/1003B0\", \"End-LSN\": \"0/100430\" }\n],\n\"Manifest-Checksum\": \"d592b88cfdcce5531f5502e48e105b6ca09d8f7a43094a217c32bc7a971e330f\"}\n",
         &[],
-        "ManifestDamaged SumKind",
+        "ManifestDamaged SumKind after 0",
     ),
     (
         "another timeline",
         b"{ \"PostgreSQL-Backup-Manifest-Version\": 2,\n\"System-Identifier\": 7,\n\"Files\": [\n{ \"Path\": \"backup_label\", \"Size\": 200, \"Last-Modified\": \"2023-11-14 22:13:20 GMT\", \"Checksum-Algorithm\": \"SHA256\", \"Checksum\": \"67c229648f8e61f45608cf991942190ffcf72fc04da937b9742d4ef0ea009838\" },\n{ \"Path\": \"base/5/16384\", \"Size\": 81920, \"Last-Modified\": \"2023-11-14 22:13:20 GMT\", \"Checksum-Algorithm\": \"SHA256\", \"Checksum\": \"bf94afaf36ca0898ef37004c61c67ee0edea74010eef3655b1030e41f3dbf214\" }\n],\n\"WAL-Ranges\": [\n{ \"Timeline\": 2, \"Start-LSN\": \"0/1003B0\", \"End-LSN\": \"0/100430\" }\n],\n\"Manifest-Checksum\": \"41e16ce9dbc81221101ea8af22aecd8c939eb3f30f1cac8e6f43a3cbd2ff5c07\"}\n",
         &[],
-        "TimelineDiffers 2",
+        "TimelineDiffers 2 after 0",
     ),
     (
         "the label without a row",
         b"{ \"PostgreSQL-Backup-Manifest-Version\": 2,\n\"System-Identifier\": 7,\n\"Files\": [\n{ \"Path\": \"base/5/16384\", \"Size\": 81920, \"Last-Modified\": \"2023-11-14 22:13:20 GMT\", \"Checksum-Algorithm\": \"SHA256\", \"Checksum\": \"bf94afaf36ca0898ef37004c61c67ee0edea74010eef3655b1030e41f3dbf214\" }\n],\n\"WAL-Ranges\": [\n{ \"Timeline\": 1, \"Start-LSN\": \"0/1003B0\", \"End-LSN\": \"0/100430\" }\n],\n\"Manifest-Checksum\": \"258c96e3b75ccdbca1ddb11359b2726fd4c4cbfd8aa007ca166cbccfd6013bde\"}\n",
         &[],
-        "FileMissing backup_label",
+        "FileMissing backup_label after 1",
     ),
     (
         "a file added too",
         b"{ \"PostgreSQL-Backup-Manifest-Version\": 2,\n\"System-Identifier\": 7,\n\"Files\": [\n{ \"Path\": \"base/5/16384\", \"Size\": 81920, \"Last-Modified\": \"2023-11-14 22:13:20 GMT\", \"Checksum-Algorithm\": \"SHA256\", \"Checksum\": \"bf94afaf36ca0898ef37004c61c67ee0edea74010eef3655b1030e41f3dbf214\" }\n],\n\"WAL-Ranges\": [\n{ \"Timeline\": 1, \"Start-LSN\": \"0/1003B0\", \"End-LSN\": \"0/100430\" }\n],\n\"Manifest-Checksum\": \"258c96e3b75ccdbca1ddb11359b2726fd4c4cbfd8aa007ca166cbccfd6013bde\"}\n",
         &[Change::Write(b"a", 0, b"")],
-        "FileMissing backup_label",
+        "FileMissing backup_label after 1",
     ),
     (
         "line 4 of the label changed, with its sum",
@@ -211,7 +212,7 @@ static DIRECTORIES: [Case; 30] = [
             0,
             b"START WAL LOCATION: 0/1003B0 (file 000000010000000000000001)\nCHECKPOINT LOCATION: 0/1003D0\nBACKUP METHOD: streamed\nBACKUP FROM: standby\nSTART TIME: 2023-11-14 22:13:20 UTC\nLABEL: f1\nSTART TIMELINE: 1\n",
         )],
-        "LabelDamaged 4",
+        "LabelDamaged 4 after 2",
     ),
     (
         "another start in line 1, with its sum",
@@ -221,7 +222,7 @@ static DIRECTORIES: [Case; 30] = [
             0,
             b"START WAL LOCATION: 0/1003B8 (file 000000010000000000000001)\nCHECKPOINT LOCATION: 0/1003D0\nBACKUP METHOD: streamed\nBACKUP FROM: primary\nSTART TIME: 2023-11-14 22:13:20 UTC\nLABEL: f1\nSTART TIMELINE: 1\n",
         )],
-        "LabelDamaged 1",
+        "LabelDamaged 1 after 2",
     ),
     (
         "both",
@@ -231,19 +232,19 @@ static DIRECTORIES: [Case; 30] = [
             0,
             b"START WAL LOCATION: 0/1003B8 (file 000000010000000000000001)\nCHECKPOINT LOCATION: 0/1003D0\nBACKUP METHOD: streamed\nBACKUP FROM: standby\nSTART TIME: 2023-11-14 22:13:20 UTC\nLABEL: f1\nSTART TIMELINE: 1\n",
         )],
-        "LabelDamaged 4",
+        "LabelDamaged 4 after 2",
     ),
     (
         "no whole pages, with their sum",
         b"{ \"PostgreSQL-Backup-Manifest-Version\": 2,\n\"System-Identifier\": 7,\n\"Files\": [\n{ \"Path\": \"backup_label\", \"Size\": 200, \"Last-Modified\": \"2023-11-14 22:13:20 GMT\", \"Checksum-Algorithm\": \"SHA256\", \"Checksum\": \"67c229648f8e61f45608cf991942190ffcf72fc04da937b9742d4ef0ea009838\" },\n{ \"Path\": \"base/5/16384\", \"Size\": 81919, \"Last-Modified\": \"2023-11-14 22:13:20 GMT\", \"Checksum-Algorithm\": \"SHA256\", \"Checksum\": \"ca42caa6e034e737cf4ff3551ee8fc7a6715066068acdfb87f3b29dc61045161\" }\n],\n\"WAL-Ranges\": [\n{ \"Timeline\": 1, \"Start-LSN\": \"0/1003B0\", \"End-LSN\": \"0/100430\" }\n],\n\"Manifest-Checksum\": \"7c212cd6d5a20d2953b62f6315ee0d6f62ff6bd86a8de3446b899882b07f5684\"}\n",
         &[Change::Cut(MAIN, 81919)],
-        "FileDamaged base/5/16384 PageLength",
+        "FileDamaged base/5/16384 PageLength after 2",
     ),
     (
         "an incremental file",
         b"{ \"PostgreSQL-Backup-Manifest-Version\": 2,\n\"System-Identifier\": 7,\n\"Files\": [\n{ \"Path\": \"backup_label\", \"Size\": 200, \"Last-Modified\": \"2023-11-14 22:13:20 GMT\", \"Checksum-Algorithm\": \"SHA256\", \"Checksum\": \"67c229648f8e61f45608cf991942190ffcf72fc04da937b9742d4ef0ea009838\" },\n{ \"Path\": \"base/5/INCREMENTAL.9_init.1\", \"Size\": 3, \"Last-Modified\": \"2023-11-14 22:13:20 GMT\", \"Checksum-Algorithm\": \"SHA256\", \"Checksum\": \"ba7816bf8f01cfea414140de5dae2223b00361a396177a9cb410ff61f20015ad\" },\n{ \"Path\": \"base/5/16384\", \"Size\": 81920, \"Last-Modified\": \"2023-11-14 22:13:20 GMT\", \"Checksum-Algorithm\": \"SHA256\", \"Checksum\": \"bf94afaf36ca0898ef37004c61c67ee0edea74010eef3655b1030e41f3dbf214\" }\n],\n\"WAL-Ranges\": [\n{ \"Timeline\": 1, \"Start-LSN\": \"0/1003B0\", \"End-LSN\": \"0/100430\" }\n],\n\"Manifest-Checksum\": \"088f11ad63d8ea782bf9aa9183213acffd02f9b6b30ea101b776ea129417eb08\"}\n",
         &[Change::Write(b"base/5/INCREMENTAL.9_init.1", 0, b"abc")],
-        "FileDamaged base/5/INCREMENTAL.9_init.1 Form",
+        "FileDamaged base/5/INCREMENTAL.9_init.1 Form after 3",
     ),
     (
         "a file of such a name that no fork has",
@@ -267,7 +268,7 @@ static DIRECTORIES: [Case; 30] = [
         "another sum of that kind",
         b"{ \"PostgreSQL-Backup-Manifest-Version\": 2,\n\"System-Identifier\": 7,\n\"Files\": [\n{ \"Path\": \"backup_label\", \"Size\": 200, \"Last-Modified\": \"2023-11-14 22:13:20 GMT\", \"Checksum-Algorithm\": \"SHA256\", \"Checksum\": \"67c229648f8e61f45608cf991942190ffcf72fc04da937b9742d4ef0ea009838\" },\n{ \"Path\": \"base/5/16384\", \"Size\": 81920, \"Last-Modified\": \"2023-11-14 22:13:20 GMT\", \"Checksum-Algorithm\": \"SHA384\", \"Checksum\": \"099005ce3355c8cf8233ae4ed71d66a1e7409467ca0998ac7cf37f9c3af79335c765e68e0a2e977eeab23b01506ab33e\" }\n],\n\"WAL-Ranges\": [\n{ \"Timeline\": 1, \"Start-LSN\": \"0/1003B0\", \"End-LSN\": \"0/100430\" }\n],\n\"Manifest-Checksum\": \"df64eff79b486e883845e8ca902c1941227f0f7628d7af24c7761b8d16e95929\"}\n",
         &[],
-        "FileSum base/5/16384",
+        "FileSum base/5/16384 after 1",
     ),
 ];
 
@@ -327,6 +328,16 @@ fn fault_line(alloc: Global, fault: &ChainFault) -> Result<Vec<u8>, NoMemory> {
     }
 }
 
+/// The line of a refusal: its fault and, where the files decide it, how many were found as listed.
+fn refusal_line(alloc: Global, refusal: &Refusal) -> Result<Vec<u8>, NoMemory> {
+    let mut line = fault_line(alloc, &refusal.fault)?;
+    if !matches!(refusal.fault, ChainFault::Failed) {
+        let checked = refusal.checked;
+        line.extend_from_slice(format!(in alloc; " after {checked}")?.as_bytes())?;
+    }
+    Ok(line)
+}
+
 /// The line of a member.
 fn member_line(alloc: Global, member: &Member) -> Result<Vec<u8>, NoMemory> {
     let manifest = &member.manifest;
@@ -340,12 +351,12 @@ fn told(alloc: Global, area: &mut MemVault) -> Result<Vec<u8>, NoMemory> {
     let name = Text::copied(alloc, b"f1")?;
     match check_dir(alloc, area, &name) {
         Ok(member) => member_line(alloc, &member),
-        Err(fault) => fault_line(alloc, &fault),
+        Err(refusal) => refusal_line(alloc, &refusal),
     }
 }
 
 /// The directory with this manifest, and changed. A call is to fail, counted from 1; 0 is none.
-fn directory(
+pub(crate) fn directory(
     alloc: Global,
     manifest: &[u8],
     changes: &[Change],

@@ -7,6 +7,8 @@
 #![tactic(auto)]
 
 #[cfg(test)]
+mod chain_tests;
+#[cfg(test)]
 mod dir_tests;
 #[cfg(test)]
 mod label_tests;

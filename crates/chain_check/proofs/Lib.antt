@@ -5,5 +5,6 @@ mod Others
 mod ForkFiles
 mod Manifests
 mod Listed
+mod Counted
 mod OneText
 mod Once

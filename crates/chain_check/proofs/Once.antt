@@ -13,11 +13,12 @@ use Rattle.manifest.specs.declared.fault.ManifestFault.{ManifestFault}
 use Rattle.manifest.specs.declared.fault.ManifestFault.TheVariants as manifest
 use Rattle.manifest.specs.declared.listing.FileRow.{FileRow}
 use Rattle.chain_check.specs.Directory.{manifest_path, label_path, HasManifest, HasForm, IsLabelFrom, IsAsListed}
-use Rattle.chain_check.specs.Refusals.{fault_of, chain_fault_read, RefusesManifest, RefusesLine, HasFormFault, IsFirstForm, listing_fault, RefusedFor, IsOfFiles}
+use Rattle.chain_check.specs.Refusals.{fault_of, chain_fault_read, RefusesManifest, RefusesLine, HasFormFault, IsFirstForm, listing_fault, rows_checked, RefusedFor, IsCheckedBefore, HasRefusal, IsOfFiles}
 use Rattle.chain_check.specs.declared.fault.ManifestWhy.{ManifestWhy}
 use Rattle.chain_check.specs.declared.fault.ManifestWhy.TheVariants.{Lines, Sum, Json, Shape, SumKind}
 use Rattle.chain_check.specs.declared.fault.FileWhy.{FileWhy}
 use Rattle.chain_check.specs.declared.fault.FileWhy.TheVariants.{Form, PageLength}
+use Rattle.chain_check.specs.declared.refusal.Refusal.{Refusal}
 use Rattle.chain_check.specs.declared.fault.ChainFault.{ChainFault}
 use Rattle.chain_check.specs.declared.fault.ChainFault.TheVariants.{NoManifest, ManifestDamaged, ManifestVersion, TimelineDiffers, FileMissing, FileSize, FileSum, FileExtra, LabelDamaged, FileDamaged, Failed, NoMemory}
 use Rattle.chain_check.specs.declared.member.Member.{Member}
@@ -101,6 +102,12 @@ same_member : (a b : Member) → a.name ≡ b.name → a.label ≡ b.label → a
 same_member a b n l m =
     let same : member_with a.name a.label a.manifest ≡ member_with b.name b.label b.manifest = rw (n, l, m) refl in
     same
+
+abbrev refused_at : ChainFault → ℕ → Refusal
+refused_at fault checked = record { fault = fault; checked = checked }
+
+same_refusal : (a b : Refusal) → a.fault ≡ b.fault → a.checked ≡ b.checked → a ≡ b
+same_refusal a b f c = let same : refused_at a.fault a.checked ≡ refused_at b.fault b.checked = rw (f, c) refl in same
 
 read_fault : (why : ManifestWhy) → fault_of why ≢ manifest.NoMemory
 read_fault Lines e = cc
@@ -205,5 +212,33 @@ module _ (law : TextsHaveOneManifest) where
   pub not_both : (files : Files) (member : Member) (fault : ChainFault) → IsOfFiles fault → IsAsListed files member → RefusedFor files fault → ⊥
   not_both files member fault of is was = listed_stage files member fault is (stage_of files fault of was)
 
-  pub one_refusal : (files : Files) (fault other : ChainFault) → IsOfFiles fault → IsOfFiles other → RefusedFor files fault → RefusedFor files other → fault ≡ other
-  one_refusal files fault other of on is was = stage_once files fault other (stage_of files fault of is) (stage_of files other on was)
+  one_fault : (files : Files) (fault other : ChainFault) → IsOfFiles fault → IsOfFiles other → RefusedFor files fault → RefusedFor files other → fault ≡ other
+  one_fault files fault other of on is was = stage_once files fault other (stage_of files fault of is) (stage_of files other on was)
+
+  -- how many rows of the manifest have files as listed
+  abbrev Counted : Files → ℕ → Type 0
+  Counted files checked = (m : Listing) × HasManifest files m × (checked ≡ rows_checked files m.files)
+
+  rows_once : (files : Files) (n k : ℕ) → Counted files n → Counted files k → n ≡ k
+  rows_once files n k is was =
+      is.2 ∙ (ap (λ (m : Listing). rows_checked files m.files) (manifest_once law files is.0 was.0 is.1 was.1) ∙ sym was.2)
+
+  checked_once : (files : Files) (fault : ChainFault) (n k : ℕ) → IsOfFiles fault → IsCheckedBefore files fault n → IsCheckedBefore files fault k → n ≡ k
+  checked_once files NoManifest n k of is was = is ∙ sym was
+  checked_once files (ManifestDamaged why) n k of is was = is ∙ sym was
+  checked_once files (ManifestVersion v) n k of is was = is ∙ sym was
+  checked_once files (TimelineDiffers v) n k of is was = is ∙ sym was
+  checked_once files (FileMissing path) n k of is was = rows_once files n k is was
+  checked_once files (FileSize path have listed) n k of is was = rows_once files n k is was
+  checked_once files (FileSum path) n k of is was = rows_once files n k is was
+  checked_once files (FileExtra path) n k of is was = rows_once files n k is was
+  checked_once files (LabelDamaged line) n k of is was = rows_once files n k is was
+  checked_once files (FileDamaged path why) n k of is was = rows_once files n k is was
+  checked_once files Failed n k of is was = absurd (of.0 refl)
+  checked_once files NoMemory n k of is was = absurd (of.1 refl)
+
+  pub one_refusal : (files : Files) (refusal other : Refusal) → IsOfFiles refusal.fault → IsOfFiles other.fault → HasRefusal files refusal → HasRefusal files other → refusal ≡ other
+  one_refusal files refusal other of on is was =
+      let fault = one_fault files refusal.fault other.fault of on is.0 was.0 in
+      same_refusal refusal other fault
+      (checked_once files other.fault refusal.checked other.checked on (subst (λ (f : ChainFault). IsCheckedBefore files f refusal.checked) fault is.1) was.1)

@@ -12,7 +12,8 @@ use Rattle.manifest.specs.Reading.{ReadAnswers}
 use Rattle.manifest.specs.declared.fault.ManifestFault.TheVariants as manifest
 use Rattle.manifest.specs.declared.listing.FileRow.{FileRow}
 use Rattle.chain_check.specs.Directory.{manifest_path, label_path, HasManifest, HasForm, IsLabelFrom}
-use Rattle.chain_check.specs.Refusals.{fault_of, RefusesManifest, RefusesLine, IsFirstForm, listing_fault}
+use Rattle.chain_check.specs.Refusals.{fault_of, rows_fault, rows_checked, others_fault, listing_fault, RefusesManifest, RefusesLine, IsFirstForm, HasRefusal}
+use Rattle.chain_check.specs.declared.refusal.Refusal.{Refusal}
 use Rattle.chain_check.specs.declared.fault.ChainFault.{ChainFault}
 use Rattle.chain_check.specs.declared.fault.ChainFault.TheVariants.{NoManifest, ManifestDamaged, ManifestVersion, TimelineDiffers, FileMissing, FileSize, FileSum, FileExtra, LabelDamaged, FileDamaged, Failed, NoMemory}
 
@@ -34,6 +35,19 @@ Answers found (Err (FileExtra path)) = found ≡ Some (FileExtra path)
 Answers found (Err Failed) = Unit {0}
 Answers found (Err NoMemory) = Unit {0}
 Answers found (Err fault) = ⊥
+
+-- how many rows stand before the one with this fault
+abbrev pub CountsRows : Files → List FileRow → ChainFault → ℕ → Type 0
+CountsRows files rows Failed checked = Unit {0}
+CountsRows files rows NoMemory checked = Unit {0}
+CountsRows files rows fault checked = checked ≡ rows_checked files rows
+
+-- the first fault of the rows' files, and how many stand before it
+abbrev pub RowsAnswer : Files → List FileRow → Result (Unit {0}) Refusal → Type 0
+RowsAnswer files rows (Ok done) = rows_fault files rows ≡ None
+RowsAnswer files rows (Err refusal) =
+    Answers (rows_fault files rows) (Err refusal.fault)
+    × CountsRows files rows refusal.fault refusal.checked
 
 -- what a text is read as, or refused for
 abbrev pub TextAnswer : List ℕ → Result Listing ChainFault → Type 0
@@ -75,16 +89,24 @@ FormsAnswer rows (Err Failed) = Unit {0}
 FormsAnswer rows (Err NoMemory) = Unit {0}
 FormsAnswer rows (Err fault) = ⊥
 
--- what is judged behind the manifest: the label where nothing is wrong, or the first fault
-abbrev pub ListedAnswer : Files → Listing → Result Label ChainFault → Type 0
+-- what is judged behind the listed files: the label where nothing is wrong, or the first fault
+abbrev pub BehindAnswer : Files → Listing → Result Label ChainFault → Type 0
+BehindAnswer files m (Ok label) =
+    (others_fault files m.files ≡ None)
+    × IsLabelFrom m.start (bytes_of files label_path) label
+    × AllByRecursion HasForm m.files
+BehindAnswer files m (Err (LabelDamaged line)) =
+    (others_fault files m.files ≡ None) × RefusesLine m.start (bytes_of files label_path) line
+BehindAnswer files m (Err (FileDamaged path why)) =
+    (label : Label) × (others_fault files m.files ≡ None)
+    × IsLabelFrom m.start (bytes_of files label_path) label
+    × IsFirstForm m.files path why
+BehindAnswer files m (Err fault) = Answers (others_fault files m.files) (Err fault)
+
+-- what is judged behind the manifest: the label where nothing is wrong, or why it is refused
+abbrev pub ListedAnswer : Files → Listing → Result Label Refusal → Type 0
 ListedAnswer files m (Ok label) =
     (listing_fault files m.files ≡ None)
     × IsLabelFrom m.start (bytes_of files label_path) label
     × AllByRecursion HasForm m.files
-ListedAnswer files m (Err (LabelDamaged line)) =
-    (listing_fault files m.files ≡ None) × RefusesLine m.start (bytes_of files label_path) line
-ListedAnswer files m (Err (FileDamaged path why)) =
-    (label : Label) × (listing_fault files m.files ≡ None)
-    × IsLabelFrom m.start (bytes_of files label_path) label
-    × IsFirstForm m.files path why
-ListedAnswer files m (Err fault) = Answers (listing_fault files m.files) (Err fault)
+ListedAnswer files m (Err refusal) = HasManifest files m → HasRefusal files refusal

@@ -3,3 +3,4 @@ pub mod Directory
 pub mod Refusals
 pub mod Inside
 pub mod Laws
+pub mod Chain

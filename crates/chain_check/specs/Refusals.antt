@@ -1,8 +1,8 @@
 -- What a directory of a backup is refused for: the first fault, in the order in which the parts of
 -- a directory are judged.
-use Rattle.std.specs.Prelude.{◌≡◌, ◌≢◌, ◌⊎◌, ℕ, ◌%◌, true, false, List, [], ◌∷◌, length, not, ◌==◌, Option, Some, None, Result, Ok, Err, if◌then◌else◌}
-use Rattle.std.specs.List.{find}
-use Rattle.std.specs.Option.{option_map, option_or}
+use Rattle.std.specs.Prelude.{◌≡◌, ◌≢◌, ◌⊎◌, ℕ, ◌%◌, true, false, List, [], ◌∷◌, length, not, ◌==◌, Option, Some, None, Result, Ok, Err, IfErr, if◌then◌else◌}
+use Rattle.std.specs.List.{find, position_or_len}
+use Rattle.std.specs.Option.{option_map, option_or, is_some}
 use Rattle.std.specs.FinMap.{get, keys}
 use Rattle.lsn_core.specs.Files.{Files}
 use Rattle.lsn_core.specs.Causes.{Rose}
@@ -23,6 +23,7 @@ use Rattle.chain_check.specs.declared.fault.ManifestWhy.{ManifestWhy}
 use Rattle.chain_check.specs.declared.fault.ManifestWhy.TheVariants.{Lines, Sum, Json, Shape, SumKind}
 use Rattle.chain_check.specs.declared.fault.FileWhy.{FileWhy}
 use Rattle.chain_check.specs.declared.fault.FileWhy.TheVariants.{Form, PageLength}
+use Rattle.chain_check.specs.declared.refusal.Refusal.{Refusal}
 use Rattle.chain_check.specs.declared.fault.ChainFault.{ChainFault}
 use Rattle.chain_check.specs.declared.fault.ChainFault.TheVariants.{NoManifest, ManifestDamaged, ManifestVersion, TimelineDiffers, FileMissing, FileSize, FileSum, FileExtra, LabelDamaged, FileDamaged, Failed, NoMemory}
 
@@ -59,6 +60,11 @@ abbrev pub rows_fault : Files → List FileRow → Option ChainFault
 rows_fault files [] = None
 rows_fault files (row ∷ rows) = option_or (row_fault files row) (rows_fault files rows)
 
+-- how many of the rows, in their order, stand before the first whose file isn't as listed; all of
+-- them, where each is
+abbrev pub rows_checked : Files → List FileRow → ℕ
+rows_checked files rows = position_or_len (λ row. is_some (row_fault files row)) rows
+
 -- a label that isn't listed is missing
 abbrev pub label_row_fault : List FileRow → Option ChainFault
 label_row_fault rows = if is_listed rows label_path then None else Some (FileMissing label_path)
@@ -68,10 +74,12 @@ abbrev pub extra_fault : Files → List FileRow → Option ChainFault
 extra_fault files rows =
     option_map (λ name. FileExtra name) (find (λ name. not (may_stand rows name)) (keys files))
 
--- the first fault of the rows, of the label's row, of the other files, in this order
+-- the first fault of the label's row and of the other files, and, before these, of the rows
+abbrev pub others_fault : Files → List FileRow → Option ChainFault
+others_fault files rows = option_or (label_row_fault rows) (extra_fault files rows)
+
 abbrev pub listing_fault : Files → List FileRow → Option ChainFault
-listing_fault files rows =
-    option_or (rows_fault files rows) (option_or (label_row_fault rows) (extra_fault files rows))
+listing_fault files rows = option_or (rows_fault files rows) (others_fault files rows)
 
 -- ---- the label
 
@@ -127,10 +135,27 @@ RefusedFor files (FileDamaged path why) =
 RefusedFor files Failed = Unit {0}
 RefusedFor files NoMemory = Unit {0}
 
--- what a check of a directory answers: the member of that name that it is, or its first fault
-abbrev pub DirAnswer : Files → List ℕ → Result Member ChainFault → Type 0
+-- how many files are found as listed before each fault: none before those of the manifest; a
+-- device that failed and want of memory tell no number
+abbrev pub IsCheckedBefore : Files → ChainFault → ℕ → Type 0
+IsCheckedBefore files NoManifest checked = checked ≡ 0
+IsCheckedBefore files (ManifestDamaged why) checked = checked ≡ 0
+IsCheckedBefore files (ManifestVersion v) checked = checked ≡ 0
+IsCheckedBefore files (TimelineDiffers v) checked = checked ≡ 0
+IsCheckedBefore files Failed checked = Unit {0}
+IsCheckedBefore files NoMemory checked = Unit {0}
+IsCheckedBefore files fault checked =
+    (m : Listing) × HasManifest files m × (checked ≡ rows_checked files m.files)
+
+-- the directory is refused for this fault, behind so many files
+abbrev pub HasRefusal : Files → Refusal → Type 0
+HasRefusal files refusal =
+    RefusedFor files refusal.fault × IsCheckedBefore files refusal.fault refusal.checked
+
+-- what a check of a directory answers: the member of that name that it is, or why it is refused
+abbrev pub DirAnswer : Files → List ℕ → Result Member Refusal → Type 0
 DirAnswer files name (Ok member) = (member.name ≡ name) × IsAsListed files member
-DirAnswer files name (Err fault) = RefusedFor files fault
+DirAnswer files name (Err refusal) = HasRefusal files refusal
 
 -- a fault that the files decide, and not a device that failed or want of memory
 abbrev pub IsOfFiles : ChainFault → Type 0
@@ -140,7 +165,14 @@ IsOfFiles fault = (fault ≢ Failed) × (fault ≢ NoMemory)
 abbrev pub FailsRisen : {T : Type 0} → ℕ → ℕ → Result T ChainFault → Type 0
 FailsRisen before now result = result ≡ Err Failed → Rose before now
 
+abbrev pub RefusesRisen : {T : Type 0} → ℕ → ℕ → Result T Refusal → Type 0
+RefusesRisen before now result = IfErr result (λ refusal. refusal.fault ≡ Failed → Rose before now)
+
 -- ---- the faults of what is called
+
+-- a fault before any listed file
+abbrev pub refusal_of : ChainFault → Refusal
+refusal_of fault = record { fault = fault; checked = 0 }
 
 abbrev pub chain_fault_of : AreaFault → ChainFault
 chain_fault_of area.Failed = Failed

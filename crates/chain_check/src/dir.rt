@@ -5,35 +5,60 @@ ghost use Rattle.std.specs.Ordering.{nat_cmp};
 ghost use Rattle.std.specs.Cmp.Lexicographic.{slice_cmp};
 ghost use Rattle.std.specs.List.Sorted.{IsSortedByKey};
 ghost use Rattle.vault.specs.Frame.{OnlyReads};
-ghost use Rattle.chain_check.specs.Refusals.{DirAnswer, FailsRisen};
-ghost use Rattle.chain_check.specs.Inside.{path_of, ListedAnswer};
+ghost use Rattle.chain_check.specs.Refusals.{DirAnswer, FailsRisen, RefusesRisen};
+ghost use Rattle.chain_check.specs.Inside.{path_of, BehindAnswer, ListedAnswer};
 
 use crate::fault::ChainFault;
 use crate::forms::check_forms;
 use crate::label::label_of;
-use crate::listing::{check_listing, manifest_of};
+use crate::listing::{check_others, manifest_of};
 use crate::member::Member;
+use crate::refusal::Refusal;
+use crate::rows::check_rows;
 use backup_label::Label;
 use lsn_core::Text;
 use manifest::Manifest;
 use std::alloc::Global;
 use vault::Vault;
 
-/// The label of a directory with this manifest, or the first fault behind that of the manifest.
-fn listed_label<V: Vault>(
+/// The label of a directory with this manifest, or the first fault behind those of the listed
+/// files.
+fn label_behind<V: Vault>(
     alloc: Global,
     area: &mut V,
     manifest: &Manifest,
 ) -> Result<Label, ChainFault>
     requires { IsSortedByKey path_of (slice_cmp nat_cmp) manifest.now.files }
-    ensures answer { IfSome (V.files area.old) (λ m. ListedAnswer m manifest.now result) }
+    ensures answer { IfSome (V.files area.old) (λ m. BehindAnswer m manifest.now result) }
     ensures reads { OnlyReads V.Vault area.old area.new }
     ensures cause { FailsRisen (V.faults area.old) (V.faults area.new) result }
 {
-    check_listing(alloc, area, &manifest.files)?;
+    check_others(alloc, area, &manifest.files)?;
     let label = label_of(alloc, area, manifest.start)?;
     check_forms(alloc, &manifest.files)?;
     Ok(label)
+}
+
+/// The label of a directory with this manifest, or the first fault behind that of the manifest, and
+/// how many listed files were found as listed before it.
+fn listed_label<V: Vault>(
+    alloc: Global,
+    area: &mut V,
+    manifest: &Manifest,
+) -> Result<Label, Refusal>
+    requires { IsSortedByKey path_of (slice_cmp nat_cmp) manifest.now.files }
+    ensures answer { IfSome (V.files area.old) (λ m. ListedAnswer m manifest.now result) }
+    ensures reads { OnlyReads V.Vault area.old area.new }
+    ensures cause { RefusesRisen (V.faults area.old) (V.faults area.new) result }
+{
+    check_rows(alloc, area, &manifest.files)?;
+    match label_behind(alloc, area, manifest) {
+        Ok(label) => Ok(label),
+        Err(fault) => Err(Refusal {
+            fault,
+            checked: manifest.files.len() as u64,
+        }),
+    }
 }
 
 /// Checks the directory of the backup of a name (PostgreSQL manual, pg_verifybackup; the order:
@@ -42,12 +67,13 @@ fn listed_label<V: Vault>(
 /// its sum, `backup_label` is listed, no other file is there but `backup_manifest` and those below
 /// `pg_wal/`, the label is of its grammar and tells the manifest's start, no path is that of a fork
 /// in the incremental form, and the files of forks are of whole pages. Otherwise it errs with the
-/// first fault, in the order of `ChainFault`. `Failed` comes only where the area's count of faults
-/// rose. The area is only read, each listed file in pieces of at most 65,536 bytes.
-pub fn check_dir<V: Vault>(alloc: Global, area: &mut V, name: &Text) -> Result<Member, ChainFault>
+/// first fault, in the order of `ChainFault`, and with how many files were found as listed before
+/// it. `Failed` comes only where the area's count of faults rose. The area is only read, each
+/// listed file in pieces of at most 65,536 bytes.
+pub fn check_dir<V: Vault>(alloc: Global, area: &mut V, name: &Text) -> Result<Member, Refusal>
     ensures answer { IfSome (V.files area.old) (λ m. DirAnswer m name.now result) }
     ensures reads { OnlyReads V.Vault area.old area.new }
-    ensures cause { FailsRisen (V.faults area.old) (V.faults area.new) result }
+    ensures cause { RefusesRisen (V.faults area.old) (V.faults area.new) result }
 {
     let manifest = manifest_of(alloc, area)?;
     let label = listed_label(alloc, area, &manifest)?;

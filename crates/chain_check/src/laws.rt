@@ -6,7 +6,7 @@ ghost use Rattle.chain_check.specs.Laws.{RefusalsAreOne};
 use manifest::manifests_are_read_again;
 
 /// A directory that is as listed is one member of a name, and isn't refused; one that isn't is
-/// refused for one fault. Want of memory and failing devices are aside.
+/// refused for one fault, behind one number of files. Want of memory and failing devices are aside.
 pub fn directories_have_one_answer()
     ensures one { DirectoriesAreOneMember }
     ensures apart { ListedIsNotRefused }

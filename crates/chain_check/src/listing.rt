@@ -7,13 +7,12 @@ ghost use Rattle.std.specs.List.Sorted.{IsSortedByKey};
 ghost use Rattle.lsn_core.specs.Causes.{HasCause};
 ghost use Rattle.vault.specs.Frame.{OnlyReads};
 ghost use Rattle.chain_check.specs.Directory.{manifest_path};
-ghost use Rattle.chain_check.specs.Refusals.{listing_fault, FailsRisen};
+ghost use Rattle.chain_check.specs.Refusals.{others_fault, FailsRisen};
 ghost use Rattle.chain_check.specs.Inside.{path_of, Answers, IsFile, TextAnswer, ManifestAnswer};
 ghost use Rattle.chain_check.specs.Inside.{NeverFails};
 
 use crate::extra::{MANIFEST, check_extra, check_label_row};
 use crate::fault::ChainFault;
-use crate::rows::check_rows;
 use lsn_core::AreaFault;
 use manifest::{FileRow, Manifest, read_manifest};
 use std::alloc::Global;
@@ -58,18 +57,17 @@ pub(crate) fn manifest_of<V: Vault>(alloc: Global, area: &mut V) -> Result<Manif
     }
 }
 
-/// Errs with the first fault of the files of the rows, of the label's row, of the other files.
-pub(crate) fn check_listing<V: Vault>(
+/// Errs with the first fault of the label's row and of the files beside those of the rows.
+pub(crate) fn check_others<V: Vault>(
     alloc: Global,
     area: &mut V,
     rows: &[FileRow],
 ) -> Result<(), ChainFault>
     requires { IsSortedByKey path_of (slice_cmp nat_cmp) rows.now }
-    ensures answer { IfSome (V.files area.old) (λ m. Answers (listing_fault m rows.now) result) }
+    ensures answer { IfSome (V.files area.old) (λ m. Answers (others_fault m rows.now) result) }
     ensures reads { OnlyReads V.Vault area.old area.new }
     ensures cause { FailsRisen (V.faults area.old) (V.faults area.new) result }
 {
-    check_rows(alloc, area, rows)?;
     check_label_row(alloc, rows)?;
     check_extra(alloc, area, rows)
 }

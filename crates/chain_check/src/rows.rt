@@ -2,10 +2,11 @@
 
 ghost use Rattle.std.specs.Prelude.{◌^◌, ◌<◌, ◌≤◌, length, IfSome};
 ghost use Rattle.vault.specs.Frame.{OnlyReads};
-ghost use Rattle.chain_check.specs.Refusals.{row_fault, rows_fault, FailsRisen};
-ghost use Rattle.chain_check.specs.Inside.{Answers};
+ghost use Rattle.chain_check.specs.Refusals.{row_fault, FailsRisen, RefusesRisen};
+ghost use Rattle.chain_check.specs.Inside.{Answers, RowsAnswer};
 
 use crate::fault::ChainFault;
+use crate::refusal::Refusal;
 use crate::sums::has_sum;
 use byte_words::zeros;
 use lsn_core::Text;
@@ -42,23 +43,28 @@ fn check_row<V: Vault>(
     Ok(())
 }
 
-/// Errs with the first row, in their order, whose file isn't as listed.
+/// Errs with the first row, in their order, whose file isn't as listed, and with how many rows
+/// stand before it.
 fn check_each<V: Vault>(
     alloc: Global,
     area: &mut V,
     rows: &[FileRow],
     buffer: &mut [u8],
-) -> Result<(), ChainFault>
+) -> Result<(), Refusal>
     requires some { 0 < length buffer.old }
     requires most { length buffer.old ≤ 2 ^ 20 }
-    ensures answer { IfSome (V.files area.old) (λ m. Answers (rows_fault m rows.now) result) }
+    ensures answer { IfSome (V.files area.old) (λ m. RowsAnswer m rows.now result) }
     ensures reads { OnlyReads V.Vault area.old area.new }
-    ensures cause { FailsRisen (V.faults area.old) (V.faults area.new) result }
+    ensures cause { RefusesRisen (V.faults area.old) (V.faults area.new) result }
 {
     let mut left = rows;
+    let mut checked = 0;
     while let Some((row, behind)) = left.split_first() {
-        check_row(alloc, area, row, buffer)?;
+        if let Err(fault) = check_row(alloc, area, row, buffer) {
+            return Err(Refusal { fault, checked });
+        }
         left = behind;
+        checked += 1;
     }
     Ok(())
 }
@@ -68,10 +74,10 @@ pub(crate) fn check_rows<V: Vault>(
     alloc: Global,
     area: &mut V,
     rows: &[FileRow],
-) -> Result<(), ChainFault>
-    ensures answer { IfSome (V.files area.old) (λ m. Answers (rows_fault m rows.now) result) }
+) -> Result<(), Refusal>
+    ensures answer { IfSome (V.files area.old) (λ m. RowsAnswer m rows.now result) }
     ensures reads { OnlyReads V.Vault area.old area.new }
-    ensures cause { FailsRisen (V.faults area.old) (V.faults area.new) result }
+    ensures cause { RefusesRisen (V.faults area.old) (V.faults area.new) result }
 {
     let mut buffer = zeros(alloc, PIECE)?;
     check_each(alloc, area, rows, &mut buffer)
