@@ -27,7 +27,7 @@ const BEHIND_FIRST: WalTip = WalTip {
 };
 
 /// The settings of that WAL.
-fn settings() -> Option<Settings>
+pub fn settings() -> Option<Settings>
     ensures { IfSome result (λ s. s.segment ≡ 1) }
 {
     Settings::new(SegSize::new(1)?, 131_072, 7)

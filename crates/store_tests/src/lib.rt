@@ -1,6 +1,6 @@
-//! The tests of the partitions of a store and of its data areas, through their public calls alone.
-//! A crate with tests is proved twice, so they stand in a crate of their own, apart from those of
-//! the base and of the program, which are proved beside it.
+//! The tests of the partitions of a store, of its data areas and of its machine of steps, through
+//! their public calls alone. A crate with tests is proved twice, so they stand in a crate of their
+//! own, apart from those of the base and of the program, which are proved beside it.
 //!
 //! A test shows what no clause says: that a call succeeds where memory is there, and bytes and
 //! places that come from an independent implementation of the formats or from the layout alone.
@@ -8,6 +8,8 @@
 
 #[cfg(test)]
 mod flushed;
+#[cfg(test)]
+mod machine_tests;
 #[cfg(test)]
 mod partition_tests;
 #[cfg(test)]

@@ -1,0 +1,170 @@
+-- The laws of the machine.
+use Rattle.std.proofs.Common.{◌≡◌, ℕ, ◌≤◌, ◌^◌, ◌-◌, Bool, cond, List, [], ◌∷◌, ◌++◌, Option, Some, None, refl, ap, sym, subst, ◌∙◌, arith, append_assoc}
+use Rattle.std.specs.Prelude.{nat_le, not, ◌||◌}
+use Rattle.std.specs.List.{All}
+use Rattle.std.specs.Option.{is_some}
+use Rattle.std.specs.FinMap.{empty}
+use Rattle.std.proofs.lemmas.List.{append-nil}
+use Rattle.std.proofs.lemmas.List.Elements.{All-nil, All-cons}
+use Rattle.lsn_core.specs.declared.ids.BlockId.{BlockId}
+use Rattle.wal_record.specs.Tips.{wal_limit}
+use Rattle.history.specs.declared.op.Op.{Op}
+use Rattle.history.specs.Entry.{RedoMark, Online, BackupEnd, Entry}
+use Rattle.history.specs.Apply.{apply_all}
+use Rattle.history.specs.Laws.{applied_up_to}
+use Rattle.history.specs.Whole.{whole}
+use Rattle.history.proofs.Pushes.{all_first, all_rest, all_weaker}
+use Rattle.partitions.specs.Parts.{partition_of}
+use Rattle.fuzzy_copies.specs.Logged.{history_of}
+use Rattle.fuzzy_copies.specs.Orderly.{IsOrderly, AllEndBy}
+use Rattle.fuzzy_copies.specs.Recovered.{recovered_records}
+use Rattle.fuzzy_copies.specs.Sound.{IsSoundCopy}
+use Rattle.fuzzy_copies.proofs.Restored.{sound_restored, logs_whole}
+use Rattle.store_core.specs.declared.step.Asked.{Asked}
+use Rattle.store_core.specs.declared.step.Step.{Step}
+use Rattle.store_core.specs.declared.step.Step.TheVariants as step
+use Rattle.store_core.specs.declared.reply.Refusal.{Refusal}
+use Rattle.store_core.specs.declared.reply.Reply.{Reply}
+use Rattle.store_core.specs.State.{Backup, Worker, Finished, State, first_state, records_of}
+use Rattle.store_core.specs.Parts.{Turn, next_write}
+use Rattle.store_core.specs.Refusals.{judged, is_past_room}
+use Rattle.store_core.specs.Steps.{inserted, mark_record, written, started, is_behind, completed, is_listed, listed, is_within, copied, is_complete, ended, step_of, behind_steps, machine_after}
+use Rattle.history.specs.Whole.{is_named}
+use Rattle.store_core.specs.Laws.{MayRun, IsSoundFor, IsRestored, MachinesKeepTheirFacts, FinishedBackupsAreSound, FinishedBackupsStay, RestoredBackupsAreWhole}
+use Rattle.store_core.proofs.Runs.{first}
+use Rattle.store_core.proofs.Follows.{facts_of}
+use Rattle.store_core.proofs.Keeps.{IsMachine, choose, steps_keep, machine_first}
+
+machine_of : (mib : ℕ) (steps : List Step) → MayRun mib steps → IsMachine (machine_after mib steps)
+machine_of mib steps may = steps_keep (first_state mib) steps may.pages (machine_first mib may.segment)
+
+pub machines_keep : MachinesKeepTheirFacts
+machines_keep mib steps may =
+    let s = machine_after mib steps in
+    let is = machine_of mib steps may in
+    record { store = is.run.store; made = is.run.made; parts = λ q l. facts_of q s.mib s.history is.run (s.parts q) (is.parts q l) }
+
+pub backups_sound : FinishedBackupsAreSound
+backups_sound mib steps may = (machine_of mib steps may).finished
+
+-- ---- what stays
+
+-- the history and the finished backups go on
+record Extends (before behind : State) : Type 0 where
+  entries : List Entry
+  history : behind.history ≡ before.history ++ entries
+  backups : List Finished
+  finished : behind.finished ≡ before.finished ++ backups
+
+same : (s : State) → Extends s s
+same s = record { entries = []; history = sym (append-nil s.history); backups = []; finished = sym (append-nil s.finished) }
+
+on : (a b c : State) → Extends a b → Extends b c → Extends a c
+on a b c x y = record {
+  entries = x.entries ++ y.entries;
+  history = y.history ∙ ap (λ (h : List Entry). h ++ y.entries) x.history ∙ append_assoc a.history x.entries y.entries;
+  backups = x.backups ++ y.backups;
+  finished = y.finished ∙ ap (λ (f : List Finished). f ++ y.backups) x.finished ∙ append_assoc a.finished x.backups y.backups;
+}
+
+-- one entry more, and nothing finished
+entered : (s t : State) (e : Entry) → t.history ≡ s.history ++ (e ∷ []) → t.finished ≡ s.finished → Extends s t
+entered s t e history finished = record { entries = e ∷ []; history = history; backups = []; finished = finished ∙ sym (append-nil s.finished) }
+
+kept : (s t : State) → t.history ≡ s.history → t.finished ≡ s.finished → Extends s t
+kept s t history finished = record { entries = []; history = history ∙ sym (append-nil s.history); backups = []; finished = finished ∙ sym (append-nil s.finished) }
+
+test_either : (s : State) (t : Bool) (x y : State × Reply) → Extends s x.0 → Extends s y.0 → Extends s (cond t x y).0
+test_either s t x y one other = choose (λ (z : State × Reply). Extends s z.0) t x y (λ k. one) (λ k. other)
+
+inserted_on : (s : State) (worker : ℕ) (command : Op) (o : Option Refusal) → Extends s (inserted s worker command o).0
+inserted_on s worker command (Some why) = same s
+inserted_on s worker command None = entered s _ _ refl refl
+
+written_on : (s : State) (q : ℕ) (o : Option Turn) → Extends s (written s q o).0
+written_on s q None = same s
+written_on s q (Some turn) = kept s _ refl refl
+
+started_on : (s : State) (number : ℕ) (w : Worker) → Extends s (started s number w).0
+started_on s number w = test_either s (is_some w.redo || is_some w.backup) _ _ (same s) (test_either s (is_past_room s (mark_record s (RedoMark 1))) _ _ (same s) (entered s _ _ refl refl))
+
+completed_on : (s : State) (number : ℕ) (what : Asked) (o : Option ℕ) → Extends s (completed s number what o).0
+completed_on s number what None = same s
+completed_on s number what (Some redo) = test_either s (is_behind s redo) _ _ (same s) (test_either s (is_past_room s (mark_record s (Online redo))) _ _ (same s) (entered s _ _ refl refl))
+
+listed_on : (s : State) (number q : ℕ) (o : Option Backup) → Extends s (listed s number q o).0
+listed_on s number q None = same s
+listed_on s number q (Some b) = test_either s (is_listed b q) _ _ (same s) (kept s _ refl refl)
+
+copied_on : (s : State) (number : ℕ) (at : BlockId) (o : Option Backup) → Extends s (copied s number at o).0
+copied_on s number at None = same s
+copied_on s number at (Some b) = test_either s (not (is_listed b (partition_of at.fork.rel)) || (not (is_within b at) || is_named at b.copied)) _ _ (same s) (kept s _ refl refl)
+
+ended_on : (s : State) (number : ℕ) (o : Option Backup) → Extends s (ended s number o).0
+ended_on s number None = same s
+ended_on s number (Some b) =
+    test_either s (not (is_complete b)) _ _ (same s)
+    (test_either s (is_past_room s (mark_record s (BackupEnd b.start))) _ _ (same s) (record { entries = _ ∷ []; history = refl; backups = _ ∷ []; finished = refl }))
+
+step_on : (s : State) (x : Step) → Extends s (step_of s x).0
+step_on s (step.Insert worker command) = inserted_on s worker command (judged s command)
+step_on s (step.WritePage q) = test_either s (nat_le 4 q) _ _ (same s) (written_on s q (next_write (s.parts q) (s.parts q).works (s.parts q).dirty))
+step_on s (step.Clean q) = test_either s (nat_le 4 q) _ _ (same s) (kept s _ refl refl)
+step_on s (step.Redo worker) = started_on s worker (s.workers worker)
+step_on s (step.Begin worker what) = completed_on s worker what (s.workers worker).redo
+step_on s (step.ListForks worker q) = test_either s (nat_le 4 q) _ _ (same s) (listed_on s worker q (s.workers worker).backup)
+step_on s (step.CopyBlock worker at) = copied_on s worker at (s.workers worker).backup
+step_on s (step.End worker) = ended_on s worker (s.workers worker).backup
+
+steps_on : (s : State) (steps : List Step) → Extends s (behind_steps s steps)
+steps_on s [] = same s
+steps_on s (x ∷ steps) = on s (step_of s x).0 (behind_steps (step_of s x).0 steps) (step_on s x) (steps_on (step_of s x).0 steps)
+
+steps_both : (s : State) (xs ys : List Step) → behind_steps s (xs ++ ys) ≡ behind_steps (behind_steps s xs) ys
+steps_both s [] ys = refl
+steps_both s (x ∷ xs) ys = steps_both (step_of s x).0 xs ys
+
+all_front : {X : Type 0} (P : X → Type 0) (xs ys : List X) → All P (xs ++ ys) → All P xs
+all_front P [] ys all = All-nil P
+all_front P (x ∷ xs) ys all = All-cons P x xs (all_first P x (xs ++ ys) all) (all_front P xs ys (all_rest P x (xs ++ ys) all))
+
+pub backups_stay : FinishedBackupsStay
+backups_stay mib steps more may =
+    let before = machine_after mib steps in
+    let behind = machine_after mib (steps ++ more) in
+    let goes : Extends before behind = subst (Extends before) (sym (steps_both (first_state mib) steps more)) (steps_on before more) in
+    record {
+      entries = goes.entries;
+      history = goes.history;
+      backups = goes.backups;
+      finished = goes.finished;
+      sound = all_front (IsSoundFor behind.history) before.finished goes.backups (subst (All (IsSoundFor behind.history)) goes.finished (backups_sound mib (steps ++ more) may));
+    }
+
+-- ---- what is restored
+
+restored : (s : State) → IsMachine s → (b : Finished) → IsSoundFor s.history b → (place : ℕ) → b.end ≤ place → IsRestored s b place
+restored s is b sound place far =
+    let run = is.run in
+    let own = run.own in
+    let h = history_of (first s.mib) own in
+    let orderly = subst (IsOrderly 0) run.grown run.orderly in
+    let made = ap (apply_all empty) (sym run.grown) ∙ run.made in
+    let ends = all_weaker (λ (e : Entry). e.end ≤ wal_limit s.mib) (λ (e : Entry). e.end ≤ 2 ^ 64 - 1) h (λ e k. (let m = is.segment.most in omega (arith, k, m))) (subst (AllEndBy (wal_limit s.mib)) run.grown run.within) in
+    let here = subst (λ (x : List Entry). IsSoundCopy b.copy x b.start b.end) run.grown sound in
+    let one : recovered_records b.copy (records_of s) b.start place ≡ applied_up_to empty s.history place =
+    subst (λ (x : List Entry). recovered_records b.copy (records_of (with_history s x)) b.start place ≡ applied_up_to empty x place) (sym run.grown)
+    (sound_restored s.mib (first s.mib) own run.store b.copy b.start b.end place orderly run.logged made ends here far) in
+    let two : whole (records_of s) place ≡ applied_up_to empty s.history place =
+    subst (λ (x : List Entry). whole (records_of (with_history s x)) place ≡ applied_up_to empty x place) (sym run.grown)
+    (logs_whole s.mib (first s.mib) own run.store place orderly run.logged made) in
+    record { same = one ∙ sym two; told = two }
+  where
+    with_history : State → List Entry → State
+    with_history s history = record { mib = s.mib; history = history; parts = s.parts; workers = s.workers; finished = s.finished }
+
+pub backups_whole : RestoredBackupsAreWhole
+backups_whole mib steps may =
+    let s = machine_after mib steps in
+    let is = machine_of mib steps may in
+    all_weaker (IsSoundFor s.history) (λ (b : Finished). (place : ℕ) → b.end ≤ place → IsRestored s b place) s.finished (λ b sound place far. restored s is b sound place far) is.finished

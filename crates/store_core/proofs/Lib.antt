@@ -1,0 +1,16 @@
+pub mod Judged
+pub mod Dirty
+pub mod Behind
+pub mod Caused
+pub mod Runs
+pub mod Follows
+pub mod Copies
+pub mod Logs
+pub mod Crews
+pub mod Showing
+pub mod Good
+pub mod Taking
+pub mod Accepting
+pub mod Stored
+pub mod Keeps
+pub mod Holds

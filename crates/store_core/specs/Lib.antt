@@ -1,0 +1,8 @@
+pub mod Refusals
+pub mod State
+pub mod Parts
+pub mod Steps
+pub mod Facts
+pub mod Laws
+pub mod Inside
+pub mod Shown

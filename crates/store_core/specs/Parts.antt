@@ -1,0 +1,106 @@
+-- What entries and writes leave of a partition.
+use Rattle.std.specs.Prelude.{ℕ, max, List, [], ◌∷◌, ◌++◌, not, Option, Some, None}
+use Rattle.std.specs.List.{filter}
+use Rattle.std.specs.Option.{unwrap_or}
+use Rattle.std.specs.Ordering.{nat_cmp, ordering_then}
+use Rattle.std.specs.declared.cmp.Ordering.{Ordering}
+use Rattle.std.specs.declared.cmp.Ordering.TheVariants.{Less, Equal, Greater}
+use Rattle.lsn_core.specs.declared.ids.BlockId.{BlockId}
+use Rattle.lsn_core.specs.Store.{Store, fork_cmp}
+use Rattle.lsn_core.specs.Blocks.{page_put, with_fork, with_cut}
+use Rattle.history.specs.declared.op.Item.{Item}
+use Rattle.history.specs.Entry.{Act, Create, Truncate, Change, Mark}
+use Rattle.history.specs.Apply.{main_fork, page_at, apply_act}
+use Rattle.fuzzy_copies.specs.Touches.{act_cuts}
+use Rattle.store_core.specs.declared.step.Work.{Work}
+use Rattle.store_core.specs.declared.step.Work.TheVariants.{Make, Cut}
+use Rattle.store_core.specs.declared.reply.Wrote.{Wrote}
+use Rattle.store_core.specs.declared.reply.Wrote.TheVariants as wrote
+use Rattle.store_core.specs.State.{Part}
+
+-- ---- in frames
+
+-- blocks in order: by fork and number
+abbrev pub block_cmp : BlockId → BlockId → Ordering
+block_cmp a b = ordering_then (fork_cmp a.fork b.fork) (nat_cmp a.block b.block)
+
+-- blocks in order with one more, which may be among them
+abbrev pub placed_by : Ordering → BlockId → BlockId → List BlockId → List BlockId → List BlockId
+placed_by Less at first rest more = at ∷ first ∷ rest
+placed_by Equal at first rest more = first ∷ rest
+placed_by Greater at first rest more = first ∷ more
+
+abbrev pub with_dirty : BlockId → List BlockId → List BlockId
+with_dirty at [] = at ∷ []
+with_dirty at (first ∷ rest) = placed_by (block_cmp at first) at first rest (with_dirty at rest)
+
+abbrev pub items_dirty : List BlockId → List Item → List BlockId
+items_dirty dirty [] = dirty
+items_dirty dirty (item ∷ items) = items_dirty (with_dirty item.at dirty) items
+
+-- the dirty blocks after an act: those that it changed are among them, those that it cut off aren't
+abbrev pub dirty_after : List BlockId → Act → List BlockId
+dirty_after dirty (Create fork) = dirty
+dirty_after dirty (Truncate rel count) =
+    filter (λ at. not (act_cuts at.fork at.block (Truncate rel count))) dirty
+dirty_after dirty (Change items) = items_dirty dirty items
+dirty_after dirty (Mark marking) = dirty
+
+-- the works after it: a creation enters one, and so does each truncation
+abbrev pub works_after : List Work → Act → List Work
+works_after works (Create fork) = works ++ (Make fork ∷ [])
+works_after works (Truncate rel count) = works ++ (Cut (main_fork rel) count ∷ [])
+works_after works (Change items) = works
+works_after works (Mark marking) = works
+
+-- a partition after an act in its frames, by an entry that ends at a place
+abbrev pub part_after : ℕ → Act → Part → Part
+part_after end act part = record {
+  frames = unwrap_or (apply_act end part.frames act) part.frames;
+  disk = part.disk;
+  dirty = dirty_after part.dirty act;
+  works = works_after part.works act;
+  point = part.point;
+}
+
+-- ---- on disk
+
+abbrev pub work_done : Work → Store → Store
+work_done (Make fork) disk = with_fork disk fork
+work_done (Cut fork count) disk = with_cut disk fork count
+
+abbrev pub wrote_work : Work → Wrote
+wrote_work (Make fork) = wrote.Made fork
+wrote_work (Cut fork count) = wrote.Cut fork count
+
+-- what was written, and the partition behind it
+pub record Turn : Type 0 where
+  pub part : Part
+  pub wrote : Wrote
+
+abbrev pub with_disk : Part → Store → List BlockId → List Work → Part
+with_disk part disk dirty works =
+    record { frames = part.frames; disk = disk; dirty = dirty; works = works; point = part.point }
+
+-- the first work is done, and, where there is none, the page of the first dirty block is written;
+-- None where nothing is dirty or pending
+abbrev pub next_write : Part → List Work → List BlockId → Option Turn
+next_write part (work ∷ works) dirty = Some (record {
+  part = with_disk part (work_done work part.disk) dirty works;
+  wrote = wrote_work work;
+})
+next_write part [] (at ∷ dirty) = Some (record {
+  part = with_disk part (page_put at (page_at part.frames at) part.disk) dirty [];
+  wrote = wrote.Page at;
+})
+next_write part [] [] = None
+
+-- all is written, as of a redo point
+abbrev pub cleaned : ℕ → Part → Part
+cleaned redo part = record {
+  frames = part.frames;
+  disk = part.frames;
+  dirty = [];
+  works = [];
+  point = max part.point redo;
+}
