@@ -1,5 +1,5 @@
 -- What the words of the command line ask for (profile).
-use Rattle.std.specs.Prelude.{ℕ, ◌+◌, ◌*◌, Bool, List, [], ◌∷◌, Option, Some, None, codes, bytes_eq, if◌then◌else◌}
+use Rattle.std.specs.Prelude.{ℕ, ◌+◌, ◌*◌, Bool, List, [], ◌∷◌, Option, Some, None, codes, bytes_eq, ◌&&◌, if◌then◌else◌}
 use Rattle.std.specs.Option.{option_map}
 use Rattle.byte_words.specs.Numbers.{◌>>=◌}
 use Rattle.byte_words.specs.Cuts.{cut_at}
@@ -12,12 +12,14 @@ use Rattle.command_line.specs.declared.words.Command.TheVariants as command
 use Rattle.command_line.specs.Options.{none_given, options_in, IsInRange}
 
 -- a new store, a script to be run, a replay to an output of that name, up to a target where one is
--- given, or the check of the backup of a name
+-- given, the check of the backup of a name, or the backup of the second name restored to an output of
+-- the first, up to a target where one is given
 pub data Asked : Type 0 where
   Init : InitOptions → Asked
   Run : Asked
   Replay : Option Lsn → List ℕ → Asked
   Verify : List ℕ → Asked
+  Restore : Option Lsn → List ℕ → List ℕ → Asked
 
 -- what the words behind the command's name ask
 abbrev pub init_asked : List (List ℕ) → Option Asked
@@ -68,6 +70,30 @@ verify_asked [] = None
 verify_asked (name ∷ []) = verify_name name
 verify_asked (name ∷ (more ∷ words)) = None
 
+abbrev pub restore_to : Option Lsn → List ℕ → List ℕ → Option Asked
+restore_to target out member =
+    if is_name out && is_name member then Some (Restore target out member) else None
+
+abbrev pub restore_up_to : List ℕ → List ℕ → List ℕ → Option Asked
+restore_up_to value out member = lsn_value value >>= λ target. restore_to (Some target) out member
+
+-- the option stands before the names, between them or behind them
+abbrev pub restore_with : List ℕ → List ℕ → List ℕ → List ℕ → Option Asked
+restore_with first second third fourth =
+    if is_target first then restore_up_to second third fourth
+    else (if is_target second then restore_up_to third first fourth
+    else (if is_target third then restore_up_to fourth first second else None))
+
+-- one backup is taken so far
+abbrev pub restore_asked : List (List ℕ) → Option Asked
+restore_asked [] = None
+restore_asked (out ∷ []) = None
+restore_asked (out ∷ (member ∷ [])) = restore_to None out member
+restore_asked (first ∷ (second ∷ (third ∷ []))) = None
+restore_asked (first ∷ (second ∷ (third ∷ (fourth ∷ [])))) =
+    restore_with first second third fourth
+restore_asked (first ∷ (second ∷ (third ∷ (fourth ∷ (more ∷ words))))) = None
+
 -- what the words ask, None where they aren't taken
 abbrev pub asked : List (List ℕ) → Option Asked
 asked [] = None
@@ -75,7 +101,8 @@ asked (word ∷ words) =
     if bytes_eq word (codes "init") then init_asked words
     else (if bytes_eq word (codes "run") then run_asked words
     else (if bytes_eq word (codes "replay") then replay_asked words
-    else (if bytes_eq word (codes "verify") then verify_asked words else None)))
+    else (if bytes_eq word (codes "verify") then verify_asked words
+    else (if bytes_eq word (codes "restore") then restore_asked words else None))))
 
 -- a command asks for this
 abbrev pub asks : Command → Asked
@@ -83,6 +110,7 @@ asks (command.Init options) = Init options
 asks command.Run = Run
 asks (command.Replay upto name) = Replay upto name.now
 asks (command.Verify name) = Verify name.now
+asks (command.Restore upto out member) = Restore upto out.now member.now
 
 -- the options of a command are in their ranges
 abbrev pub HasRange : Command → Type 0
@@ -90,3 +118,4 @@ HasRange (command.Init options) = IsInRange options
 HasRange command.Run = Unit {0}
 HasRange (command.Replay upto name) = Unit {0}
 HasRange (command.Verify name) = Unit {0}
+HasRange (command.Restore upto out member) = Unit {0}

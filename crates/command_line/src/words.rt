@@ -3,6 +3,7 @@
 ghost use Rattle.std.specs.Prelude.{◌≡◌, IfSome};
 ghost use Rattle.std.specs.Option.{option_map};
 ghost use Rattle.command_line.specs.Words.{init_asked, run_asked, lsn_value, replay_to, replay_up_to, is_target, replay_with, replay_asked, verify_name, verify_asked, asked};
+ghost use Rattle.command_line.specs.Words.{restore_to, restore_up_to, restore_with, restore_asked};
 ghost use Rattle.command_line.specs.Words.{asks, HasRange};
 
 use crate::options::{InitOptions, options_of};
@@ -21,6 +22,9 @@ pub enum Command<'a> {
     Replay(Option<Lsn>, &'a [u8]),
     /// The directory of the backup of this name checked.
     Verify(&'a [u8]),
+    /// Restored up to the target, where one is given, to an output of the first name: the backup of
+    /// the second name, and the WAL from its start on.
+    Restore(Option<Lsn>, &'a [u8], &'a [u8]),
 }
 
 fn init_of(words: &[Text]) -> Option<Command<'_>>
@@ -119,6 +123,64 @@ fn verify_of(words: &[Text]) -> Option<Command<'_>>
     }
 }
 
+fn restore_to<'a>(target: Option<Lsn>, out: &'a [u8], member: &'a [u8]) -> Option<Command<'a>>
+    ensures asked { option_map asks result ≡ restore_to target out.now member.now }
+    ensures range { IfSome result HasRange }
+{
+    if is_name(out) && is_name(member) {
+        return Some(Command::Restore(target, out, member));
+    }
+    None
+}
+
+fn restore_up_to<'a>(value: &[u8], out: &'a [u8], member: &'a [u8]) -> Option<Command<'a>>
+    ensures asked { option_map asks result ≡ restore_up_to value.now out.now member.now }
+    ensures range { IfSome result HasRange }
+{
+    let target = lsn_in(value)?;
+    restore_to(Some(target), out, member)
+}
+
+/// The option stands before the names, between them or behind them.
+fn restore_with<'a>(
+    first: &'a [u8],
+    second: &'a [u8],
+    third: &'a [u8],
+    fourth: &'a [u8],
+) -> Option<Command<'a>>
+    ensures asked { option_map asks result
+        ≡ restore_with first.now second.now third.now fourth.now }
+    ensures range { IfSome result HasRange }
+{
+    if is_target(first) {
+        return restore_up_to(second, third, fourth);
+    }
+    if is_target(second) {
+        return restore_up_to(third, first, fourth);
+    }
+    if is_target(third) {
+        return restore_up_to(fourth, first, second);
+    }
+    None
+}
+
+/// One backup is taken so far.
+fn restore_of(words: &[Text]) -> Option<Command<'_>>
+    ensures asked { option_map asks result ≡ restore_asked words.now }
+    ensures range { IfSome result HasRange }
+{
+    match words {
+        [out, member] => restore_to(None, out.as_bytes(), member.as_bytes()),
+        [first, second, third, fourth] => restore_with(
+            first.as_bytes(),
+            second.as_bytes(),
+            third.as_bytes(),
+            fourth.as_bytes(),
+        ),
+        _ => None,
+    }
+}
+
 /// The command that the words ask for. None exactly where they aren't taken.
 pub fn command_of(words: &[Text]) -> Option<Command<'_>>
     ensures asked { option_map asks result ≡ asked words.now }
@@ -137,6 +199,9 @@ pub fn command_of(words: &[Text]) -> Option<Command<'_>>
     }
     if word == b"verify".as_slice() {
         return verify_of(others);
+    }
+    if word == b"restore".as_slice() {
+        return restore_of(others);
     }
     None
 }

@@ -2,7 +2,7 @@
 
 use crate::areas::area_note;
 use crate::lines::note;
-use chain_check::{ChainFault, FileWhy, ManifestWhy};
+use chain_check::{ChainFault, FileWhy, LinkFault, ManifestWhy, Refusal};
 use command_base::joined;
 use lsn_core::{AreaFault, NoMemory, Text};
 use std::alloc::Global;
@@ -26,49 +26,75 @@ fn file_text(why: FileWhy) -> &'static [u8] {
     }
 }
 
+/// A backup, and what is told behind what is wrong with it.
+#[derive(Clone, Copy)]
+struct Judged<'a> {
+    backup: &'a [u8],
+    behind: &'a [u8],
+}
+
 /// A file of the backup, and what is wrong with it.
 fn file_note(
     alloc: Global,
-    backup: &[u8],
+    of: &Judged,
     path: &[u8],
     wrong: &[u8],
     next: &[u8],
 ) -> Result<Text, NoMemory> {
-    note(alloc, &[b"file ", backup, b"/", path, b" ", wrong], next)
-}
-
-/// Its manifest, and what is wrong with that.
-fn manifest_note(alloc: Global, backup: &[u8], wrong: &[u8]) -> Result<Text, NoMemory> {
-    let wrong = joined(alloc, &[b"is refused: ", wrong])?;
-    file_note(
+    note(
         alloc,
-        backup,
-        b"backup_manifest",
-        wrong.as_bytes(),
-        USE_ANOTHER,
+        &[b"file ", of.backup, b"/", path, b" ", wrong, of.behind],
+        next,
     )
 }
 
-/// The directory of this name isn't as its manifest lists it.
-pub fn directory_note(alloc: Global, backup: &[u8], fault: &ChainFault) -> Result<Text, NoMemory> {
+/// Its manifest, and what is wrong with that.
+fn manifest_note(alloc: Global, of: &Judged, wrong: &[u8]) -> Result<Text, NoMemory> {
+    let wrong = joined(alloc, &[b"is refused: ", wrong])?;
+    file_note(alloc, of, b"backup_manifest", wrong.as_bytes(), USE_ANOTHER)
+}
+
+/// The directory of this name isn't as its manifest lists it. How many listed files were checked
+/// before the fault is told too, where that is known.
+pub fn directory_note(alloc: Global, backup: &[u8], refusal: &Refusal) -> Result<Text, NoMemory> {
+    match refusal.fault {
+        ChainFault::Failed => area_note(alloc, backup, AreaFault::Failed),
+        ChainFault::NoMemory => area_note(alloc, backup, AreaFault::NoMemory),
+        _ => {
+            let checked = refusal.checked;
+            let behind = format!(in alloc; " (listed files checked before: {checked})")?;
+            let of = Judged {
+                backup,
+                behind: behind.as_bytes(),
+            };
+            refused_note(alloc, &of, &refusal.fault)
+        }
+    }
+}
+
+/// The directory isn't as its manifest lists it.
+fn refused_note(alloc: Global, of: &Judged, fault: &ChainFault) -> Result<Text, NoMemory> {
     match fault {
         ChainFault::NoManifest => note(
             alloc,
-            &[b"backup ", backup, b" has no file backup_manifest"],
+            &[
+                b"backup ",
+                of.backup,
+                b" has no file backup_manifest",
+                of.behind,
+            ],
             b"it was not completed, or is no backup: take another one",
         ),
-        ChainFault::ManifestDamaged(why) => manifest_note(alloc, backup, manifest_text(*why)),
+        ChainFault::ManifestDamaged(why) => manifest_note(alloc, of, manifest_text(*why)),
         ChainFault::ManifestVersion(_) | ChainFault::TimelineDiffers(_) => {
-            number_note(alloc, backup, fault)
+            number_note(alloc, of, fault)
         }
-        ChainFault::Failed => area_note(alloc, backup, AreaFault::Failed),
-        ChainFault::NoMemory => area_note(alloc, backup, AreaFault::NoMemory),
-        _ => listed_note(alloc, backup, fault),
+        _ => listed_note(alloc, of, fault),
     }
 }
 
 /// The manifest's version or timeline is another one.
-fn number_note(alloc: Global, backup: &[u8], fault: &ChainFault) -> Result<Text, NoMemory> {
+fn number_note(alloc: Global, of: &Judged, fault: &ChainFault) -> Result<Text, NoMemory> {
     let wrong = match fault {
         ChainFault::ManifestVersion(version) => {
             format!(in alloc; "its version is {version}, and only 2 is read")?
@@ -78,54 +104,59 @@ fn number_note(alloc: Global, backup: &[u8], fault: &ChainFault) -> Result<Text,
         }
         _ => return Err(NoMemory),
     };
-    manifest_note(alloc, backup, wrong.as_bytes())
+    manifest_note(alloc, of, wrong.as_bytes())
 }
 
 /// A file isn't as it is listed.
-fn listed_note(alloc: Global, backup: &[u8], fault: &ChainFault) -> Result<Text, NoMemory> {
+fn listed_note(alloc: Global, of: &Judged, fault: &ChainFault) -> Result<Text, NoMemory> {
     match fault {
         ChainFault::FileMissing(path) => {
             let wrong = b"is missing, or is the label and not listed";
-            file_note(alloc, backup, path.as_bytes(), wrong, USE_ANOTHER)
+            file_note(alloc, of, path.as_bytes(), wrong, USE_ANOTHER)
         }
         ChainFault::FileSize(path, have, listed) => {
             let wrong = format!(in alloc; "has {have} bytes, and {listed} are listed")?;
-            file_note(
-                alloc,
-                backup,
-                path.as_bytes(),
-                wrong.as_bytes(),
-                USE_ANOTHER,
-            )
+            file_note(alloc, of, path.as_bytes(), wrong.as_bytes(), USE_ANOTHER)
         }
         ChainFault::FileSum(path) => {
             let wrong = b"has the listed size and another checksum than is listed";
-            file_note(alloc, backup, path.as_bytes(), wrong, USE_ANOTHER)
+            file_note(alloc, of, path.as_bytes(), wrong, USE_ANOTHER)
         }
         ChainFault::FileExtra(path) => {
             let next = b"take it out of the backup, if it doesn't belong there";
-            file_note(alloc, backup, path.as_bytes(), b"is not listed", next)
+            file_note(alloc, of, path.as_bytes(), b"is not listed", next)
         }
         ChainFault::LabelDamaged(line) => {
             let wrong = format!(in alloc; "is refused at line {line}")?;
-            file_note(
-                alloc,
-                backup,
-                b"backup_label",
-                wrong.as_bytes(),
-                USE_ANOTHER,
-            )
+            file_note(alloc, of, b"backup_label", wrong.as_bytes(), USE_ANOTHER)
         }
         ChainFault::FileDamaged(path, why) => {
             let wrong = joined(alloc, &[b"is refused: ", file_text(*why)])?;
-            file_note(
-                alloc,
-                backup,
-                path.as_bytes(),
-                wrong.as_bytes(),
-                USE_ANOTHER,
-            )
+            file_note(alloc, of, path.as_bytes(), wrong.as_bytes(), USE_ANOTHER)
         }
         _ => Err(NoMemory),
+    }
+}
+
+/// The backup can't be restored alone.
+pub fn link_note(alloc: Global, backup: &[u8], why: LinkFault) -> Result<Text, NoMemory> {
+    match why {
+        LinkFault::TimelineDiffers(timeline) => {
+            let told = format!(in alloc; " tells timeline {timeline}, and only 1 is read")?;
+            note(
+                alloc,
+                &[b"file ", backup, b"/backup_label", told.as_bytes()],
+                b"use another backup",
+            )
+        }
+        LinkFault::FirstIncremental => note(
+            alloc,
+            &[
+                b"backup ",
+                backup,
+                b" is incremental: its label names a prior",
+            ],
+            b"restore a full backup; chains of several backups are not restored yet",
+        ),
     }
 }

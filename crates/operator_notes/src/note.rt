@@ -1,15 +1,15 @@
 //! The note on what the program came to.
 
 use crate::areas::{area_note, memory_note, not_empty_note, store_note, take_note};
-use crate::directory::directory_note;
+use crate::directory::{directory_note, link_note};
 use crate::lines::note;
 use crate::script::script_note;
 use crate::usage::usage_of;
-use crate::wal::wal_note;
+use crate::wal::{early_note, wal_note};
 use command_base::{backup_name, output_name};
 use crew::Stop;
 use lsn_core::{AreaFault, NoMemory, Text};
-use pgbackup_cli::{Answer, InitFault, ReplayFault, VerifyFault};
+use pgbackup_cli::{Answer, InitFault, ReplayFault, RestoreFault, VerifyFault};
 use run_command::{RunFault, RunReport};
 use shared_store::BeginWhy;
 use std::alloc::Global;
@@ -25,9 +25,11 @@ pub fn note_of(alloc: Global, words: &[Text], answer: &Answer) -> Result<Text, N
         Answer::Run(Ok(report)) => ending_note(alloc, report),
         Answer::Replay(Err(fault)) => replay_note(alloc, output_of(words), fault),
         Answer::Verify(Err(fault)) => verify_note(alloc, last_of(words), fault),
-        Answer::Init(Ok(_)) | Answer::Replay(Ok(_)) | Answer::Verify(Ok(_)) => Ok(Text::from_vec(
-            Vec::new(alloc),
-        )),
+        Answer::Restore(Err(fault)) => restore_note(alloc, names_in(words), fault),
+        Answer::Init(Ok(_))
+        | Answer::Replay(Ok(_))
+        | Answer::Verify(Ok(_))
+        | Answer::Restore(Ok(_)) => Ok(Text::from_vec(Vec::new(alloc))),
     }
 }
 
@@ -89,11 +91,15 @@ fn last_of(words: &[Text]) -> &[u8] {
     }
 }
 
+fn is_target(word: &Text) -> bool {
+    word.as_bytes() == b"--target".as_slice()
+}
+
 /// The name of the output in the words of `replay`, in which the option and its value may stand
 /// behind it.
 fn output_of(words: &[Text]) -> &[u8] {
     match words {
-        [_, name, option, _] if option.as_bytes() == b"--target".as_slice() => name.as_bytes(),
+        [_, name, option, _] if is_target(option) => name.as_bytes(),
         _ => last_of(words),
     }
 }
@@ -110,8 +116,38 @@ fn replay_note(alloc: Global, output: &[u8], fault: &ReplayFault) -> Result<Text
 fn verify_note(alloc: Global, name: &[u8], fault: &VerifyFault) -> Result<Text, NoMemory> {
     match fault {
         VerifyFault::Site(fault) => take_note(alloc, fault),
-        VerifyFault::Directory(fault) => {
-            directory_note(alloc, backup_name(alloc, name)?.as_bytes(), fault)
+        VerifyFault::Directory(refusal) => {
+            directory_note(alloc, backup_name(alloc, name)?.as_bytes(), refusal)
         }
+    }
+}
+
+/// The names of the output and of the backup in the words of `restore`, in which the option and its
+/// value may stand before, between or behind them.
+fn names_in(words: &[Text]) -> (&[u8], &[u8]) {
+    match words {
+        [_, option, _, out, name] if is_target(option) => (out.as_bytes(), name.as_bytes()),
+        [_, out, option, _, name] if is_target(option) => (out.as_bytes(), name.as_bytes()),
+        [_, out, name, ..] => (out.as_bytes(), name.as_bytes()),
+        _ => (b"", b""),
+    }
+}
+
+fn restore_note(
+    alloc: Global,
+    names: (&[u8], &[u8]),
+    fault: &RestoreFault,
+) -> Result<Text, NoMemory> {
+    let output = output_name(alloc, names.0)?;
+    let backup = backup_name(alloc, names.1)?;
+    match fault {
+        RestoreFault::Site(fault) => take_note(alloc, fault),
+        RestoreFault::Directory(refusal) => directory_note(alloc, backup.as_bytes(), refusal),
+        RestoreFault::Chain(why) => link_note(alloc, backup.as_bytes(), *why),
+        RestoreFault::Early(target, end) => early_note(alloc, *target, *end),
+        RestoreFault::NotEmpty => not_empty_note(alloc, output.as_bytes()),
+        RestoreFault::Wal(fault) => wal_note(alloc, *fault),
+        RestoreFault::Backup(why) => area_note(alloc, backup.as_bytes(), *why),
+        RestoreFault::Out(why) => area_note(alloc, output.as_bytes(), *why),
     }
 }

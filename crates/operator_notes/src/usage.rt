@@ -27,8 +27,15 @@ const VERIFY: &[u8] = b"usage: pgbackup verify NAME
   NAME: 1 to 32 of a to z, 0 to 9 and _
 ";
 
+const RESTORE: &[u8] = b"usage: pgbackup restore [--target LSN] OUT MEMBER
+  restores the backup in b/MEMBER and the WAL from its start on, and writes the relation files that
+  they make to o/OUT
+  LSN: where to stop, at the backup's end or past it (the WAL's end)
+  OUT, MEMBER: 1 to 32 of a to z, 0 to 9 and _
+";
+
 const HELP: &[u8] = b"usage: pgbackup help [COMMAND]
-  prints how a command is used, or all of them: init, run, replay, verify
+  prints how a command is used, or all of them: init, run, replay, verify, restore
 ";
 
 /// How this command is used; None where there is no command of that name.
@@ -44,6 +51,9 @@ fn command_usage(name: &[u8]) -> Option<&'static [u8]> {
     }
     if name == b"verify".as_slice() {
         return Some(VERIFY);
+    }
+    if name == b"restore".as_slice() {
+        return Some(RESTORE);
     }
     None
 }
@@ -61,6 +71,6 @@ fn command_in(words: &[Text]) -> Option<&'static [u8]> {
 pub fn usage_of(alloc: Global, words: &[Text]) -> Result<Text, NoMemory> {
     match command_in(words) {
         Some(usage) => joined(alloc, &[usage]),
-        None => joined(alloc, &[INIT, RUN, REPLAY, VERIFY, HELP]),
+        None => joined(alloc, &[INIT, RUN, REPLAY, VERIFY, RESTORE, HELP]),
     }
 }

@@ -133,6 +133,22 @@ fn short_note(alloc: Global, end: Lsn, target: Lsn) -> Result<Text, NoMemory> {
     )
 }
 
+/// The target of a restore, or where none is given the WAL's end, is before the backup's end.
+pub fn early_note(alloc: Global, target: Lsn, end: Lsn) -> Result<Text, NoMemory> {
+    let target = lsn_text(alloc, target)?;
+    let end = lsn_text(alloc, end)?;
+    note(
+        alloc,
+        &[
+            b"the target, or else the WAL's end, is ",
+            target.as_bytes(),
+            b", before the backup's end ",
+            end.as_bytes(),
+        ],
+        b"give a target at or past the backup's end, or bring the later segment files to wal",
+    )
+}
+
 /// The WAL can't be read, or not replayed.
 pub fn wal_note(alloc: Global, fault: RecoveryFault) -> Result<Text, NoMemory> {
     match fault {

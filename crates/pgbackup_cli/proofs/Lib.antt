@@ -7,3 +7,6 @@ pub mod OneVerify
 pub mod OneInit
 pub mod OneRun
 pub mod NewWal
+pub mod ReadOnce
+pub mod LentThree
+pub mod RestoredOut

@@ -24,7 +24,8 @@ use Rattle.recovery.specs.declared.fault.RecoveryFault.{RecoveryFault}
 use Rattle.recovery.specs.declared.fault.RecoveryFault.TheVariants as wal
 use Rattle.recovery.specs.declared.replaying.ReadWal.{ReadWal}
 use Rattle.recovery.specs.Causes.{IsOfFiles, HasSettings, WalCause}
-use Rattle.recovery.specs.Replay.{AllEndBy, ending_by, last_end, Reads, IsRead, IsReadWal}
+use Rattle.recovery.specs.Onward.{AllEndBy, ending_by}
+use Rattle.recovery.specs.Replay.{last_end, Reads, IsRead, IsReadWal}
 use Rattle.recovery.proofs.SoFar.{all_kept}
 use Rattle.recovery.proofs.OneWal.{same_lsn, one_wal}
 use Rattle.shared_store.specs.Begin.{BeginCause, HasNoEntry}

@@ -3,9 +3,10 @@ use Rattle.std.proofs.Common.{◌≡◌, List, ℕ, true, Some, Result, Ok, Err,
 use Rattle.lsn_core.specs.Files.{Files}
 use Rattle.vault.specs.declared.lending.TakeFault.{TakeFault}
 use Rattle.vault.specs.Site.{AreaState}
+use Rattle.chain_check.specs.declared.refusal.Refusal.{Refusal}
 use Rattle.chain_check.specs.declared.fault.ChainFault.{ChainFault}
 use Rattle.chain_check.specs.declared.fault.ChainFault.TheVariants as chain
-use Rattle.chain_check.specs.Refusals.{IsOfFiles, RefusedFor}
+use Rattle.chain_check.specs.Refusals.{IsOfFiles, HasRefusal}
 use Rattle.chain_check.specs.Laws.{DirectoriesAreOneMember, ListedIsNotRefused, RefusalsAreOne}
 use Rattle.command_base.specs.Areas.{backup_name}
 use Rattle.command_base.proofs.Told.{some_told, at_told}
@@ -41,8 +42,8 @@ same_report one_member name a b files first second =
 found_of : VerifyReport → Result VerifyReport VerifyFault
 found_of report = Ok report
 
-refused_by : ChainFault → Result VerifyReport VerifyFault
-refused_by fault = Err (verify.Directory fault)
+refused_by : Refusal → Result VerifyReport VerifyFault
+refused_by refusal = Err (verify.Directory refusal)
 
 -- ---- the answers
 
@@ -56,12 +57,12 @@ verify_once one_member not_refused one_refusal name Untaken Also old new other f
     ap found_of (same_report one_member name a b files (at_told old.files files (VerifyDone name a) told first) (at_told old.files files (VerifyDone name b) told second))
 verify_once one_member not_refused one_refusal name Untaken Also old new other files (Ok a) (Err (verify.Directory g)) told first second own also =
     let done = at_told old.files files (VerifyDone name a) told first in
-    absurd (not_refused files done.member g (of_directory g also) done.listed (at_told old.files files (λ m. RefusedFor m g) told second.refused))
+    absurd (not_refused files done.member g.fault (of_directory g.fault also) done.listed (at_told old.files files (λ m. HasRefusal m g) told second.refused).0)
 verify_once one_member not_refused one_refusal name Untaken Also old new other files (Err (verify.Directory f)) (Ok b) told first second own also =
     let done = at_told old.files files (VerifyDone name b) told second in
-    absurd (not_refused files done.member f (of_directory f own) done.listed (at_told old.files files (λ m. RefusedFor m f) told first.refused))
+    absurd (not_refused files done.member f.fault (of_directory f.fault own) done.listed (at_told old.files files (λ m. HasRefusal m f) told first.refused).0)
 verify_once one_member not_refused one_refusal name Untaken Also old new other files (Err (verify.Directory f)) (Err (verify.Directory g)) told first second own also =
-    ap refused_by (one_refusal files f g (of_directory f own) (of_directory g also) (at_told old.files files (λ m. RefusedFor m f) told first.refused) (at_told old.files files (λ m. RefusedFor m g) told second.refused))
+    ap refused_by (one_refusal files f g (of_directory f.fault own) (of_directory g.fault also) (at_told old.files files (λ m. HasRefusal m f) told first.refused) (at_told old.files files (λ m. HasRefusal m g) told second.refused))
 
 pub one_verify : DirectoriesAreOneMember → ListedIsNotRefused → RefusalsAreOne → HasOneVerify
 one_verify one_member not_refused one_refusal name old new other a b told first second own also =

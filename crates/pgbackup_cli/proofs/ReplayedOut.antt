@@ -1,8 +1,6 @@
 -- A replay into an area that was empty leaves just the files of what it shows.
-use Rattle.std.proofs.Common.{◌≡◌, ◌≢◌, ℕ, ◌<◌, ◌≤◌, true, List, Option, Some, None, IsSome, IfSome, option_map, Result, Ok, Err, refl, ap, sym, subst, ◌∙◌, arith}
-use Rattle.std.specs.Ordering.{nat_cmp}
-use Rattle.std.specs.Cmp.Lexicographic.{slice_cmp}
-use Rattle.std.specs.FinMap.{empty, get, get-empty}
+use Rattle.std.proofs.Common.{◌≡◌, ◌≢◌, ℕ, ◌<◌, ◌≤◌, true, Option, Some, None, IsSome, IfSome, option_map, Result, Ok, Err, refl, ap, sym, subst, ◌∙◌, arith}
+use Rattle.std.specs.FinMap.{empty}
 use Rattle.lsn_core.specs.Causes.{Rose}
 use Rattle.lsn_core.specs.Files.{Files}
 use Rattle.lsn_core.specs.Segment.{StoreSettings}
@@ -10,14 +8,14 @@ use Rattle.lsn_core.specs.declared.fault.AreaFault.{AreaFault}
 use Rattle.lsn_core.specs.declared.fault.AreaFault.TheVariants.{Failed, NoMemory}
 use Rattle.lsn_core.specs.declared.lsn.Lsn.{Lsn}
 use Rattle.lsn_core.specs.declared.pages.Pages.{Ghosts as Pages}
-use Rattle.lsn_core.specs.Store.{Store, fork_cmp, files_of}
+use Rattle.lsn_core.specs.Store.{Store, files_of}
 use Rattle.vault.specs.Area.{Related}
 use Rattle.vault.specs.Frame.{AgreeBut}
 use Rattle.vault.specs.declared.area.Vault.{Ghosts}
-use Rattle.rel_files.specs.Forks.{IsForkPath, Holds}
+use Rattle.rel_files.specs.Forks.{IsForkPath}
 use Rattle.rel_files.specs.Shown.{AreFilesOf, HoldsStore, ShowsStore, KeepsOthers}
 use Rattle.rel_files.specs.declared.forks.Forks.{Forks}
-use Rattle.rel_files.proofs.WholeStores.{nothing_is_held, files_are_exact}
+use Rattle.backup_restore.proofs.Outputs.{empty_held, empty_shown, files_shown, told_empty}
 use Rattle.wal_archive.specs.Rules.{End}
 use Rattle.recovery.specs.declared.fault.RecoveryFault.{RecoveryFault}
 use Rattle.recovery.specs.declared.fault.ReplayFault.{ReplayFault as Unreplayed}
@@ -34,53 +32,23 @@ use Rattle.pgbackup_cli.specs.Replay.{ReplayResult, ReplayAreas, ReplayRead, Rep
 use Rattle.pgbackup_cli.specs.Inner.{Never, replay_areas_in, AnswersReplay, FinishAnswer}
 use Rattle.pgbackup_cli.proofs.ReplayCauses.{rises, replay_told}
 
-none_some : {X : Type 0} (x : X) → None ≡ Some x → ⊥
-none_some x e = absurd cc
-
--- files without any hold the empty store
-pub empty_held : (relseg : ℕ) (told : Option Files) → told ≡ Some empty → AreFilesOf relseg told empty
-empty_held relseg told is = record { files = empty; are_told = is; hold = nothing_is_held relseg empty (λ path named. get-empty (slice_cmp nat_cmp) path) }
-
--- and show it
-pub empty_shown : {V : Type 0} (g : Ghosts V) (forks : Forks V) → HoldsStore g forks empty → ShowsStore g forks empty
-empty_shown g forks held = record { holds = held; whole = λ fork pages is. absurd (none_some pages (sym (get-empty fork_cmp fork) ∙ is)) }
-
--- files that differ from none in segment files alone are just those of the store that they hold
-only_forks : (new : Files) → AgreeBut IsForkPath empty new → (path : List ℕ) → (IsForkPath path → ⊥) → get new path ≡ None
-only_forks new same path other = same path other ∙ get-empty (slice_cmp nat_cmp) path
-
-related_to : (R : Files → Files → Type 0) (old new : Option Files) (m n : Files) → old ≡ Some m → new ≡ Some n → Related R old new → R m n
-related_to R old new m n is now related = subst (λ (o : Option Files). Related R (Some m) o) now (subst (λ (o : Option Files). Related R o new) is related)
-
-pub files_shown : {V : Type 0} (g : Ghosts V) (old new : Forks V) (store : Store) → 0 < old.relseg → g.files old.area ≡ Some empty → KeepsOthers g old new → ShowsStore g new store
-    → g.files new.area ≡ Some (files_of old.relseg store)
-files_shown g old new store some none kept shown =
-    let held = shown.holds.files in
-    let same : Holds old.relseg held.files store = subst (λ (n : ℕ). Holds n held.files store) kept.relseg held.hold in
-    let agree : AgreeBut IsForkPath empty held.files = related_to (AgreeBut IsForkPath) (g.files old.area) (g.files new.area) empty held.files none held.are_told kept.area.files in
-    held.are_told ∙ ap (λ (m : Files). Some m) (files_are_exact old.relseg held.files store some same (only_forks held.files agree))
-
 -- ---- how a replay ends
 
-none_or_empty : (R : Files → Files → Type 0) (old new : Option Files) → IfSome old (λ m. m ≡ empty) → Related R old new → option_map (λ m. empty) new ≡ old
+pub none_or_empty : (R : Files → Files → Type 0) (old new : Option Files) → IfSome old (λ m. m ≡ empty) → Related R old new → option_map (λ m. empty) new ≡ old
 none_or_empty R None None clear related = refl
 none_or_empty R None (Some n) clear related = elim related [ ]
 none_or_empty R (Some m) None clear related = elim related [ ]
 none_or_empty R (Some m) (Some n) clear related = ap (λ (f : Files). Some f) (sym clear)
 
-told_empty : (told : Option Files) → IfSome told (λ m. m ≡ empty) → IsSome told → told ≡ Some empty
-told_empty None clear some = absurd (cc)
-told_empty (Some m) clear some = ap (λ (f : Files). Some f) clear
-
-never_full : (told now : Option Files) → IfSome told (λ m. m ≡ empty) → IfSome told (λ m. m ≢ empty → now ≡ told)
+pub never_full : (told now : Option Files) → IfSome told (λ m. m ≡ empty) → IfSome told (λ m. m ≢ empty → now ≡ told)
 never_full None now clear = tt
 never_full (Some m) now clear = λ full. absurd (full clear)
 
-area_rises : (a b c d : ℕ) (why : AreaFault) → a ≤ b → c ≤ d → AreaCause b c why → AreaCause a d why
+pub area_rises : (a b c d : ℕ) (why : AreaFault) → a ≤ b → c ≤ d → AreaCause b c why → AreaCause a d why
 area_rises a b c d Failed low high rose = rises a b c d low high rose
 area_rises a b c d NoMemory low high cause = tt
 
-area_cause : (before now : ℕ) (why : AreaFault) → (why ≡ Failed → Rose before now) → AreaCause before now why
+pub area_cause : (before now : ℕ) (why : AreaFault) → (why ≡ Failed → Rose before now) → AreaCause before now why
 area_cause before now Failed cause = cause refl
 area_cause before now NoMemory cause = tt
 

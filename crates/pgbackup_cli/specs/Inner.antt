@@ -1,6 +1,6 @@
 -- What private functions answer to those that call them. None of it stands in the contract of a
 -- public call.
-use Rattle.std.specs.Prelude.{◌≡◌, ℕ, List, Option, Result, Ok, Err, IfSome}
+use Rattle.std.specs.Prelude.{◌≡◌, ℕ, ◌<◌, ◌≤◌, ◌⊎◌, List, Option, Some, None, Result, Ok, Err, IfSome}
 use Rattle.std.specs.Option.{option_map}
 use Rattle.std.specs.FinMap.{empty, insert}
 use Rattle.lsn_core.specs.Files.{Files}
@@ -8,6 +8,8 @@ use Rattle.lsn_core.specs.Names.{segment_name_bytes}
 use Rattle.lsn_core.specs.declared.lsn.Lsn.{Lsn}
 use Rattle.lsn_core.specs.Segment.{StoreSettings, IsSegmentMib, IsRelseg}
 use Rattle.lsn_core.specs.declared.fault.AreaFault.{AreaFault}
+use Rattle.lsn_core.specs.declared.fault.AreaFault.TheVariants.{NoMemory}
+use Rattle.lsn_core.specs.Tip.{Tip}
 use Rattle.vault.specs.declared.area.Vault.{Ghosts as Vaults}
 use Rattle.vault.specs.declared.site.Site.{Ghosts as Sites}
 use Rattle.vault.specs.declared.stream.Sink.{Ghosts as Sinks}
@@ -15,21 +17,33 @@ use Rattle.vault.specs.declared.stream.Clock.{Ghosts as Clocks}
 use Rattle.vault.specs.Stream.{Tells}
 use Rattle.vault.specs.declared.lending.TakeFault.{TakeFault}
 use Rattle.vault.specs.Area.{after_write}
-use Rattle.vault.specs.Site.{state_in}
+use Rattle.vault.specs.Site.{AreaState, state_in}
 use Rattle.recovery.specs.declared.replaying.Replayed.{Replayed}
 use Rattle.recovery.specs.declared.fault.ReplayFault.{ReplayFault as Unreplayed}
 use Rattle.recovery.specs.declared.fault.ReplayFault.TheVariants as unreplayed
-use Rattle.recovery.specs.Causes.{HasSettings}
+use Rattle.recovery.specs.declared.reading.Beginning.TheVariants.{AtPlace}
+use Rattle.recovery.specs.Onward.{IsReadFromTo, replayed_to}
+use Rattle.recovery.specs.Causes.{CauseOf, HasSettings}
+use Rattle.wal_record.specs.declared.record.Record.{Record}
+use Rattle.chain_check.specs.Chain.{IsChainOfOne, alone_fault}
+use Rattle.chain_check.specs.Directory.{IsAsListed}
+use Rattle.chain_check.specs.declared.member.Member.{Member}
+use Rattle.backup_restore.specs.declared.fault.RestoreFault.{RestoreFault as Unrestored}
+use Rattle.backup_restore.specs.declared.fault.RestoreFault.TheVariants as unrestored
+use Rattle.backup_restore.specs.Restored.{RestoreAreas}
 use Rattle.wal_writer.specs.Log.{Ready}
 use Rattle.pgbackup_cli.specs.declared.init.InitFault.{InitFault}
 use Rattle.pgbackup_cli.specs.declared.replay.ReplayReport.{ReplayReport}
 use Rattle.pgbackup_cli.specs.declared.replay.ReplayFault.{ReplayFault}
 use Rattle.pgbackup_cli.specs.declared.replay.ReplayFault.TheVariants as replay
-use Rattle.command_base.specs.Areas.{AreaCause}
+use Rattle.pgbackup_cli.specs.declared.restore.RestoreFault.{RestoreFault}
+use Rattle.pgbackup_cli.specs.declared.restore.RestoreFault.TheVariants as restore
+use Rattle.command_base.specs.Areas.{AreaCause, AreaFails, IsClear, IsFull}
 use Rattle.command_base.specs.Outside.{Outside, of_site}
 use Rattle.pgbackup_cli.specs.Init.{InitResult, InitAreas, InitAnswer, IsTornIn, new_wal, first_entry, settings_name, settings_file, segment_name, segment_file}
 use Rattle.pgbackup_cli.specs.Replay.{ReplayResult, ReplayAreas, ReplayAnswer}
-use Rattle.pgbackup_cli.specs.Verify.{VerifyResult, VerifyAnswer}
+use Rattle.pgbackup_cli.specs.Verify.{VerifyResult, VerifyAnswer, DirectoryRefused}
+use Rattle.pgbackup_cli.specs.Restore.{RestoreResult, RestoreAnswer, IsOfMember, IsLate, EndsAt, reading_causes_from}
 
 -- ---- the outside, as far as a call sees it
 
@@ -150,3 +164,106 @@ FinishAnswer vaults (Err (unreplayed.Wal f)) old new (Ok report) = ⊥
 abbrev pub AnswersVerify : {V : Type 0} → Vaults V → List ℕ → V → V → VerifyResult → Type 0
 AnswersVerify vaults name area now r =
     VerifyAnswer name Never (state_in vaults area) (state_in vaults now) r
+
+-- ---- `restore`
+
+abbrev pub restore_areas_in : {V : Type 0} → Vaults V → V → V → V → RestoreAreas
+restore_areas_in vaults wal backup out = record {
+  wal = state_in vaults wal;
+  backup = state_in vaults backup;
+  out = state_in vaults out;
+}
+
+-- why `restore` comes to its answer over the areas of the WAL, of the backup and of the output
+abbrev pub AnswersRestore : {V : Type 0} → Vaults V → Option Lsn → List ℕ
+    → V → V → V → V → V → V → RestoreResult → Type 0
+AnswersRestore vaults upto name wal backup out wal_now backup_now out_now r =
+    RestoreAnswer upto name Never (restore_areas_in vaults wal backup out)
+    (restore_areas_in vaults wal_now backup_now out_now) r
+
+-- a member that may be restored, of which an area holds the directory
+pub record IsMemberIn (name : List ℕ) (area : AreaState) (member : Member) : Type 0 where
+  pub listed : IfSome area.files (λ files. (member.name ≡ name) × IsAsListed files member)
+  pub alone : IsChainOfOne member
+
+-- the directory in an area is that of such a member, or is refused
+abbrev pub MemberAnswer :
+    List ℕ → AreaState → AreaState → Result Member RestoreFault → Type 0
+MemberAnswer name old new (Ok member) = IsMemberIn name old member
+MemberAnswer name old new (Err (restore.Directory refusal)) = DirectoryRefused old new refusal
+MemberAnswer name old new (Err (restore.Chain why)) =
+    IsOfMember name old (λ member. alone_fault member.label ≡ Some why)
+MemberAnswer name old new (Err (restore.Out why)) = why ≡ NoMemory
+MemberAnswer name old new (Err fault) = ⊥
+
+abbrev pub AnswersMember :
+    {V : Type 0} → Vaults V → List ℕ → V → V → Result Member RestoreFault → Type 0
+AnswersMember vaults name area now r =
+    MemberAnswer name (state_in vaults area) (state_in vaults now) r
+
+-- a place that is known is at an end or past it, or is refused
+abbrev pub AnswersPlace : Option Lsn → Lsn → Result (Unit {0}) RestoreFault → Type 0
+AnswersPlace upto end (Ok done) = IfSome upto (λ target. end.0 ≤ target.0)
+AnswersPlace upto end (Err (restore.Early target over)) =
+    (upto ≡ Some target) × (over ≡ end) × (target.0 < end.0)
+AnswersPlace upto end (Err fault) = ⊥
+
+-- a member can be restored up to a target, as far as is known before anything is written
+pub record IsReady (upto : Option Lsn) (member : Member) (wal out : AreaState) (s : StoreSettings)
+    : Type 0 where
+  pub late : IsLate upto member
+  pub clear : IsClear out
+  pub given : HasSettings wal.files s
+  pub entries : List Record
+  pub last : Tip
+  pub read : IsReadFromTo s wal.files (AtPlace member.label.start) upto entries last
+  pub reached : member.manifest.end ≤ replayed_to upto last
+
+-- so it can, or is refused
+abbrev pub ReadyAnswer : Option Lsn → Member → AreaState → AreaState → AreaState → AreaState
+    → Result StoreSettings RestoreFault → Type 0
+ReadyAnswer upto member wal out wal_now out_now (Ok settings) =
+    IsReady upto member wal out settings
+ReadyAnswer upto member wal out wal_now out_now (Err (restore.Early target end)) =
+    (end.0 ≡ member.manifest.end) × (target.0 < end.0)
+    × ((upto ≡ Some target) ⊎ ((upto ≡ None) × EndsAt wal out member.label.start target))
+ReadyAnswer upto member wal out wal_now out_now (Err restore.NotEmpty) =
+    IsLate upto member × IsFull out
+ReadyAnswer upto member wal out wal_now out_now (Err (restore.Wal why)) =
+    IsLate upto member × IsClear out
+    × CauseOf (reading_causes_from upto wal.files member.label.start) wal.faults wal_now.faults why
+ReadyAnswer upto member wal out wal_now out_now (Err (restore.Out why)) =
+    AreaFails out out_now why
+ReadyAnswer upto member wal out wal_now out_now (Err fault) = ⊥
+
+abbrev pub AnswersReady : {V : Type 0} → Vaults V → Option Lsn → Member → V → V → V → V
+    → Result StoreSettings RestoreFault → Type 0
+AnswersReady vaults upto member wal out wal_now out_now r =
+    ReadyAnswer upto member (state_in vaults wal) (state_in vaults out)
+    (state_in vaults wal_now) (state_in vaults out_now) r
+
+-- what is known before anything is written, or why nothing is
+abbrev pub AnswersRestorable : {V : Type 0} → Vaults V → Option Lsn → List ℕ
+    → V → V → V → V → V → V → Result (Member × StoreSettings) RestoreFault → Type 0
+AnswersRestorable vaults upto name wal backup out wal_now backup_now out_now (Ok p) =
+    IsMemberIn name (state_in vaults backup) p.0
+    × IsReady upto p.0 (state_in vaults wal) (state_in vaults out) p.1
+AnswersRestorable vaults upto name wal backup out wal_now backup_now out_now (Err fault) =
+    AnswersRestore vaults upto name wal backup out wal_now backup_now out_now (Err fault)
+
+-- how a restore into an area ends: what was written is as it was, or, where the WAL couldn't be
+-- redone, it is taken away
+abbrev pub EndsRestore :
+    {V : Type 0} → Vaults V → Result Replayed Unrestored → V → V → RestoreResult → Type 0
+EndsRestore vaults (Ok r) old new (Ok report) =
+    (vaults.files new ≡ vaults.files old) × (report ≡ reported r)
+EndsRestore vaults (Ok r) old new (Err (restore.Out why)) =
+    AreaCause (vaults.faults old) (vaults.faults new) why
+EndsRestore vaults (Err (unrestored.Backup f)) old new result = result ≡ Err (restore.Backup f)
+EndsRestore vaults (Err (unrestored.Out f)) old new result =
+    (vaults.faults new ≡ vaults.faults old) × (result ≡ Err (restore.Out f))
+EndsRestore vaults (Err (unrestored.Wal f)) old new (Err (restore.Wal why)) =
+    (vaults.files new ≡ option_map (λ m. empty) (vaults.files old)) × (why ≡ f)
+EndsRestore vaults (Err (unrestored.Wal f)) old new (Err (restore.Out why)) =
+    AreaCause (vaults.faults old) (vaults.faults new) why
+EndsRestore vaults came old new result = ⊥

@@ -16,7 +16,8 @@ use Rattle.history.specs.Pages.{page_count}
 use Rattle.history.specs.Whole.{whole}
 use Rattle.lsn_core.specs.Tip.{Tip}
 use Rattle.recovery.specs.Reading.{IsReadTo}
-use Rattle.recovery.specs.Replay.{IsReadWal, replayed_to, ending_by, last_end}
+use Rattle.recovery.specs.Onward.{replayed_to, ending_by}
+use Rattle.recovery.specs.Replay.{IsReadWal, last_end}
 use Rattle.recovery.specs.Causes.{HasSettings, WalCause}
 use Rattle.recovery.specs.declared.replaying.ReadWal.{ReadWal}
 use Rattle.command_base.specs.declared.status.Status.{Status}
@@ -135,12 +136,13 @@ replay_fault_text out (replay.Out why) = area_text out why
 abbrev pub counts_text : ReplayReport → List ℕ
 counts_text report = decimal report.forks ++ (32 ∷ decimal report.pages)
 
-abbrev pub replayed_line : ReplayReport → List ℕ
-replayed_line report =
-    codes "replayed " ++ (lsn_bytes report.end.0 ++ (32 ∷ (counts_text report ++ (10 ∷ []))))
+-- the line of a report, behind what was done
+abbrev pub made_line : List ℕ → ReplayReport → List ℕ
+made_line done report =
+    done ++ (lsn_bytes report.end.0 ++ (32 ∷ (counts_text report ++ (10 ∷ []))))
 
 abbrev pub replay_text : List ℕ → ReplayResult → List ℕ
-replay_text out (Ok report) = replayed_line report
+replay_text out (Ok report) = made_line (codes "replayed ") report
 replay_text out (Err fault) = refused_line (replay_fault_text out fault)
 
 abbrev pub replay_status : ReplayResult → Status

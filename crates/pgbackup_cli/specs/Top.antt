@@ -7,7 +7,7 @@ use Rattle.pgbackup_cli.specs.declared.answer.Answer.TheVariants as answer
 use Rattle.command_base.specs.declared.status.Status.{Status}
 use Rattle.command_base.specs.declared.status.Status.TheVariants as status
 use Rattle.command_line.specs.declared.options.InitOptions.{InitOptions}
-use Rattle.command_line.specs.Words.{Asked, Init, Run, Replay, Verify, asked}
+use Rattle.command_line.specs.Words.{Asked, Init, Run, Replay, Verify, Restore, asked}
 use Rattle.command_base.specs.Areas.{output_name}
 use Rattle.command_base.specs.Outside.{Outside, LeavesSite, Prints}
 use Rattle.command_base.specs.Faults.{refused_line, area_status}
@@ -15,6 +15,7 @@ use Rattle.pgbackup_cli.specs.Init.{InitResult, InitDoes, init_text, init_status
 use Rattle.run_command.specs.Run.{RunResult, RunDoes, run_text, run_status}
 use Rattle.pgbackup_cli.specs.Replay.{ReplayResult, ReplayDoes, replay_text, replay_status}
 use Rattle.pgbackup_cli.specs.Verify.{VerifyResult, VerifyDoes, verify_text, verify_status}
+use Rattle.pgbackup_cli.specs.Restore.{RestoreResult, RestoreDoes, restore_text, restore_status}
 
 -- what was asked was done, and this is the answer
 abbrev pub DoesAsked : Option Asked → Outside → Outside → Answer → Type 0
@@ -26,15 +27,19 @@ DoesAsked (Some (Replay upto name)) old new came =
     (r : ReplayResult) × (came ≡ answer.Replay r) × ReplayDoes upto name old new r
 DoesAsked (Some (Verify name)) old new came =
     (r : VerifyResult) × (came ≡ answer.Verify r) × VerifyDoes name old new r
+DoesAsked (Some (Restore upto out name)) old new came =
+    (r : RestoreResult) × (came ≡ answer.Restore r) × RestoreDoes upto out name old new r
 
 -- the area of the output that is asked for
 abbrev pub output_asked : Option Asked → List ℕ
 output_asked (Some (Replay upto name)) = output_name name
+output_asked (Some (Restore upto out name)) = output_name out
 output_asked words = []
 
 -- the name of the backup that is asked for
 abbrev pub backup_asked : Option Asked → List ℕ
 backup_asked (Some (Verify name)) = name
+backup_asked (Some (Restore upto out name)) = name
 backup_asked words = []
 
 -- the lines of an answer
@@ -44,6 +49,7 @@ text_of words (answer.Init r) = init_text r
 text_of words (answer.Run r) = run_text r
 text_of words (answer.Replay r) = replay_text (output_asked words) r
 text_of words (answer.Verify r) = verify_text (backup_asked words) r
+text_of words (answer.Restore r) = restore_text (backup_asked words) (output_asked words) r
 
 -- the status of an answer
 abbrev pub answer_status : Answer → Status
@@ -52,6 +58,7 @@ answer_status (answer.Init r) = init_status r
 answer_status (answer.Run r) = run_status r
 answer_status (answer.Replay r) = replay_status r
 answer_status (answer.Verify r) = verify_status r
+answer_status (answer.Restore r) = restore_status r
 
 -- the status of an answer and of its printing: a sink that fails gives Device whatever else
 -- happened

@@ -7,9 +7,9 @@ use Rattle.lsn_core.specs.Files.{Files}
 use Rattle.lsn_core.specs.Names.{lsn_bytes}
 use Rattle.vault.specs.Site.{AreaState}
 use Rattle.chain_check.specs.Directory.{IsAsListed}
-use Rattle.chain_check.specs.Refusals.{RefusedFor}
+use Rattle.chain_check.specs.Refusals.{HasRefusal}
 use Rattle.chain_check.specs.declared.member.Member.{Member}
-use Rattle.chain_check.specs.declared.fault.ChainFault.{ChainFault}
+use Rattle.chain_check.specs.declared.refusal.Refusal.{Refusal}
 use Rattle.chain_check.specs.declared.fault.ChainFault.TheVariants.{Failed}
 use Rattle.command_base.specs.declared.status.Status.{Status}
 use Rattle.command_base.specs.declared.status.Status.TheVariants as status
@@ -42,11 +42,11 @@ pub record VerifyDone (name : List ℕ) (report : VerifyReport) (files : Files) 
   pub listed : IsAsListed files member
   pub told : report ≡ report_of member
 
--- the directory is refused for this fault, which is its first one; or its area failed, or memory ran
--- out
-pub record DirectoryRefused (old new : AreaState) (fault : ChainFault) : Type 0 where
-  pub refused : IfSome old.files (λ files. RefusedFor files fault)
-  pub failed : fault ≡ Failed → Rose old.faults new.faults
+-- the directory is refused for this fault, which is its first one, behind so many files that are as
+-- listed; or its area failed, or memory ran out
+pub record DirectoryRefused (old new : AreaState) (refusal : Refusal) : Type 0 where
+  pub refused : IfSome old.files (λ files. HasRefusal files refusal)
+  pub failed : refusal.fault ≡ Failed → Rose old.faults new.faults
 
 -- why `verify` of a backup of this name comes to its answer, where an area that isn't handed out
 -- means this
@@ -54,7 +54,7 @@ abbrev pub VerifyAnswer :
     List ℕ → Untakens → AreaState → AreaState → VerifyResult → Type 0
 VerifyAnswer name Untaken old new (Ok report) = IfSome old.files (VerifyDone name report)
 VerifyAnswer name Untaken old new (Err (verify.Site fault)) = Untaken fault
-VerifyAnswer name Untaken old new (Err (verify.Directory fault)) = DirectoryRefused old new fault
+VerifyAnswer name Untaken old new (Err (verify.Directory refusal)) = DirectoryRefused old new refusal
 
 -- the same of the whole outside, in this area
 abbrev pub VerifyRan : List ℕ → List ℕ → Outside → Outside → VerifyResult → Type 0
@@ -85,7 +85,7 @@ verified_line name report = kind_line name (kind_text report.incremental) (range
 
 abbrev pub verify_fault_text : List ℕ → VerifyFault → List ℕ
 verify_fault_text name (verify.Site fault) = take_text fault
-verify_fault_text name (verify.Directory fault) = directory_text name fault
+verify_fault_text name (verify.Directory refusal) = directory_text name refusal.fault
 
 abbrev pub verify_text : List ℕ → VerifyResult → List ℕ
 verify_text name (Ok report) = verified_line name report
@@ -94,4 +94,4 @@ verify_text name (Err fault) = refused_line (verify_fault_text name fault)
 abbrev pub verify_status : VerifyResult → Status
 verify_status (Ok report) = status.Done
 verify_status (Err (verify.Site fault)) = area_status fault.why
-verify_status (Err (verify.Directory fault)) = directory_status fault
+verify_status (Err (verify.Directory refusal)) = directory_status refusal.fault

@@ -6,6 +6,7 @@ ghost use Rattle.pgbackup_cli.specs.Top.{output_asked, backup_asked, text_of, an
 
 use crate::init::{InitFault, init_status, init_text};
 use crate::replay::{ReplayFault, ReplayReport, replay_status, replay_text};
+use crate::restore::{RestoreFault, restore_status, restore_text};
 use crate::verify::{VerifyFault, VerifyReport, verify_status, verify_text};
 use command_base::{Status, area_status, output_name, refused_line};
 use command_line::{Command, command_of};
@@ -26,6 +27,8 @@ pub enum Answer {
     Replay(Result<ReplayReport, ReplayFault>),
     /// A backup was checked.
     Verify(Result<VerifyReport, VerifyFault>),
+    /// A backup was restored.
+    Restore(Result<ReplayReport, RestoreFault>),
 }
 
 /// The area of the output that is asked for, empty where none is.
@@ -33,7 +36,7 @@ fn output_asked(alloc: Global, words: &[Text]) -> Result<Text, NoMemory>
     ensures { IfOk result (λ area. area ≡ output_asked (asked words.now)) }
 {
     match command_of(words) {
-        Some(Command::Replay(_, name)) => output_name(alloc, name),
+        Some(Command::Replay(_, name) | Command::Restore(_, name, _)) => output_name(alloc, name),
         Some(Command::Init(_) | Command::Run | Command::Verify(_)) | None => {
             Ok(Text::from_vec(Vec::new(alloc)))
         }
@@ -45,7 +48,7 @@ fn backup_asked(words: &[Text]) -> &[u8]
     ensures { result.now ≡ backup_asked (asked words.now) }
 {
     match command_of(words) {
-        Some(Command::Verify(name)) => name,
+        Some(Command::Verify(name) | Command::Restore(_, _, name)) => name,
         Some(Command::Init(_) | Command::Run | Command::Replay(_, _)) | None => b"",
     }
 }
@@ -60,6 +63,10 @@ pub fn text_of(alloc: Global, words: &[Text], answer: &Answer) -> Result<Text, N
         Answer::Run(came) => run_text(alloc, came),
         Answer::Replay(came) => replay_text(alloc, output_asked(alloc, words)?.as_bytes(), came),
         Answer::Verify(came) => verify_text(alloc, backup_asked(words), came),
+        Answer::Restore(came) => {
+            let out = output_asked(alloc, words)?;
+            restore_text(alloc, backup_asked(words), out.as_bytes(), came)
+        }
     }
 }
 
@@ -72,6 +79,7 @@ fn answer_status(answer: &Answer) -> Status
         Answer::Run(came) => run_status(came),
         Answer::Replay(came) => replay_status(came),
         Answer::Verify(came) => verify_status(came),
+        Answer::Restore(came) => restore_status(came),
     }
 }
 

@@ -39,7 +39,7 @@ fn of_backup(alloc: Global, fault: &[u8], name: &[u8], text: &[u8]) -> Result<Te
 }
 
 /// The same with a number behind.
-fn with_number(alloc: Global, fault: &[u8], name: &[u8], number: u64) -> Result<Text, NoMemory>
+pub fn with_number(alloc: Global, fault: &[u8], name: &[u8], number: u64) -> Result<Text, NoMemory>
     ensures { IfOk result (λ line. line ≡ with_number fault.now name.now number) }
 {
     let number = format!(in alloc; "{number}")?;

@@ -7,7 +7,7 @@ ghost use Rattle.vault.specs.Site.{AllHome};
 ghost use Rattle.pgbackup_cli.specs.declared.replay.ReplayFault.TheVariants as replay;
 ghost use Rattle.command_base.specs.Areas.{wal_name};
 ghost use Rattle.command_base.specs.Outside.{of_site, Works};
-ghost use Rattle.pgbackup_cli.specs.Replay.{ReplayRan, ReplayDoes, replay_fault_text, replayed_line, replay_text, replay_status};
+ghost use Rattle.pgbackup_cli.specs.Replay.{ReplayRan, ReplayDoes, replay_fault_text, made_line, replay_text, replay_status};
 ghost use Rattle.pgbackup_cli.specs.Inner.{AnswersPrepared, AnswersReplay, FinishAnswer};
 
 use command_base::{
@@ -23,8 +23,8 @@ use rel_files::Forks;
 use std::alloc::Global;
 use vault::{Held, Site, TakeFault, Vault, give_two, take_all, two_of};
 
-/// What a replay came to: where the last entry ends that ends at the target or before it (where
-/// there is none, where the WAL begins), and how many forks and pages there are.
+/// What a replay or a restore came to: where the last entry ends that ends at the target or before
+/// it (where there is none, where its reading began), and how many forks and pages there are.
 #[derive(Clone, Copy, Debug, PartialEq, Eq)]
 pub struct ReplayReport {
     pub end: Lsn,
@@ -199,15 +199,16 @@ fn replay_fault_text(alloc: Global, out: &[u8], fault: &ReplayFault) -> Result<T
     }
 }
 
-fn replayed_line(alloc: Global, report: &ReplayReport) -> Result<Text, NoMemory>
-    ensures { IfOk result (λ text. text ≡ replayed_line report.now) }
+/// The line of a report, behind what was done.
+pub fn made_line(alloc: Global, done: &[u8], report: &ReplayReport) -> Result<Text, NoMemory>
+    ensures { IfOk result (λ text. text ≡ made_line done.now report.now) }
 {
     let end = lsn_text(alloc, report.end)?;
     let (forks, pages) = (report.forks, report.pages);
     let counts = format!(in alloc; "{forks} {pages}")?;
     joined(
         alloc,
-        &[b"replayed ", end.as_bytes(), b" ", counts.as_bytes(), b"\n"],
+        &[done, end.as_bytes(), b" ", counts.as_bytes(), b"\n"],
     )
 }
 
@@ -220,7 +221,7 @@ pub fn replay_text(
     ensures { IfOk result (λ text. text ≡ replay_text out.now came.now) }
 {
     match came {
-        Ok(report) => replayed_line(alloc, report),
+        Ok(report) => made_line(alloc, b"replayed ", report),
         Err(fault) => refused_line(alloc, replay_fault_text(alloc, out, fault)?.as_bytes()),
     }
 }

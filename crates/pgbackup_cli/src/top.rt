@@ -10,6 +10,7 @@ ghost use Rattle.pgbackup_cli.specs.Inner.{TellsIn};
 use crate::answer::{Answer, exit_status, text_of};
 use crate::init::init;
 use crate::replay::replay;
+use crate::restore::restore;
 use crate::verify::verify;
 use command_base::Status;
 use command_line::{Command, command_of};
@@ -41,6 +42,9 @@ fn work<S: Site, I: Source, C: Clock>(
         Some(Command::Run) => Answer::Run(run(alloc, site, input, clock)),
         Some(Command::Replay(upto, name)) => Answer::Replay(replay(alloc, upto, name, site)),
         Some(Command::Verify(name)) => Answer::Verify(verify(alloc, name, site)),
+        Some(Command::Restore(upto, out, name)) => {
+            Answer::Restore(restore(alloc, upto, out, name, site))
+        }
     }
 }
 

@@ -4,6 +4,7 @@ ghost use Rattle.std.specs.Prelude.{◌≡◌, [], IfOk};
 ghost use Rattle.vault.specs.Frame.{OnlyReads};
 ghost use Rattle.vault.specs.Site.{AllHome};
 ghost use Rattle.chain_check.specs.declared.fault.ChainFault.TheVariants as chain;
+ghost use Rattle.chain_check.specs.Refusals.{refusal_of};
 ghost use Rattle.pgbackup_cli.specs.declared.verify.VerifyFault.TheVariants as verify;
 ghost use Rattle.command_base.specs.Areas.{backup_name};
 ghost use Rattle.command_base.specs.Outside.{of_site, Works};
@@ -13,7 +14,7 @@ ghost use Rattle.pgbackup_cli.specs.Verify.{verify_fault_text, verify_text, veri
 ghost use Rattle.pgbackup_cli.specs.Inner.{AnswersVerify};
 
 use crate::directory::{directory_status, directory_text};
-use chain_check::{ChainFault, Member, check_dir};
+use chain_check::{ChainFault, Member, Refusal, check_dir};
 use command_base::{Status, area_status, backup_name, joined, refused_line, take_text};
 use lsn_core::{Lsn, NoMemory, Text, lsn_text};
 use std::alloc::Global;
@@ -38,7 +39,7 @@ pub enum VerifyFault {
     /// The site didn't hand out the area of its directory.
     Site(TakeFault),
     /// Its directory isn't as its manifest lists it, the area failed, or memory ran out.
-    Directory(ChainFault),
+    Directory(Refusal),
 }
 
 impl From<TakeFault> for VerifyFault {
@@ -49,19 +50,19 @@ impl From<TakeFault> for VerifyFault {
     }
 }
 
-impl From<ChainFault> for VerifyFault {
-    ghost from_gives = { λ fault e. e ≡ verify.Directory fault };
+impl From<Refusal> for VerifyFault {
+    ghost from_gives = { λ refusal e. e ≡ verify.Directory refusal };
 
-    fn from(fault: ChainFault) -> Self {
-        VerifyFault::Directory(fault)
+    fn from(refusal: Refusal) -> Self {
+        VerifyFault::Directory(refusal)
     }
 }
 
 impl From<NoMemory> for VerifyFault {
-    ghost from_gives = { λ _ e. e ≡ verify.Directory chain.NoMemory };
+    ghost from_gives = { λ _ e. e ≡ verify.Directory (refusal_of chain.NoMemory) };
 
     fn from(_: NoMemory) -> Self {
-        VerifyFault::Directory(ChainFault::NoMemory)
+        VerifyFault::Directory(Refusal::from(ChainFault::NoMemory))
     }
 }
 
@@ -168,7 +169,7 @@ fn verify_fault_text(alloc: Global, name: &[u8], fault: &VerifyFault) -> Result<
 {
     match fault {
         VerifyFault::Site(fault) => take_text(alloc, fault),
-        VerifyFault::Directory(fault) => directory_text(alloc, name, fault),
+        VerifyFault::Directory(refusal) => directory_text(alloc, name, &refusal.fault),
     }
 }
 
@@ -193,6 +194,6 @@ pub fn verify_status(came: &Result<VerifyReport, VerifyFault>) -> Status
     match came {
         Ok(_) => Status::Done,
         Err(VerifyFault::Site(fault)) => area_status(fault.why),
-        Err(VerifyFault::Directory(fault)) => directory_status(fault),
+        Err(VerifyFault::Directory(refusal)) => directory_status(&refusal.fault),
     }
 }

@@ -30,6 +30,8 @@ mod replay_files_tests;
 #[cfg(test)]
 mod replay_tests;
 #[cfg(test)]
+mod restore_tests;
+#[cfg(test)]
 mod run_faults_tests;
 #[cfg(test)]
 mod store_tests;

@@ -1,11 +1,11 @@
 //! What an operator is told on standard error: printed texts, which no clause speaks of.
 
 use crate::calls::words_in;
-use chain_check::{ChainFault, ManifestWhy};
+use chain_check::{ChainFault, LinkFault, ManifestWhy, Refusal};
 use crew::Why;
 use lsn_core::{Lsn, NoMemory, SegSize, StoreArea, StoreFault, Text};
 use operator_notes::note_of;
-use pgbackup_cli::{Answer, InitFault, ReplayFault, VerifyFault};
+use pgbackup_cli::{Answer, InitFault, ReplayFault, RestoreFault, VerifyFault};
 use recovery::RecoveryFault;
 use run_command::RunFault;
 use shared_store::BeginWhy;
@@ -13,9 +13,9 @@ use std::alloc::Global;
 use test_areas::Wrong;
 use wal_archive::{Broken, Damage};
 
-/// A refusal, by the words of its command.
+/// What a command was refused for.
 #[derive(Clone, Copy)]
-enum Refusal {
+enum Refused {
     Words,
     Made,
     Script(u32, Why),
@@ -24,16 +24,20 @@ enum Refusal {
     Damaged(u64),
     Full,
     Backup(ManifestWhy),
-    Sum(&'static str),
+    Sum(&'static str, u64),
+    Device,
+    Early(u64, u64),
+    Prior,
+    Copy,
 }
 
 /// The words of a command, why it was refused, and what is told.
-type Case = (&'static str, Refusal, &'static str);
+type Case = (&'static str, Refused, &'static str);
 
-static CASES: [Case; 9] = [
+static CASES: [Case; 13] = [
     (
         "help verify",
-        Refusal::Words,
+        Refused::Words,
         "usage: pgbackup verify NAME
   checks that the backup in b/NAME is what its manifest lists, each file with its size and checksum
   NAME: 1 to 32 of a to z, 0 to 9 and _
@@ -41,89 +45,126 @@ static CASES: [Case; 9] = [
     ),
     (
         "init",
-        Refusal::Made,
+        Refused::Made,
         "pgbackup: error: folder wal holds a file: there is a store here, or what is left of one
 pgbackup: hint: run init in another folder, or empty wal first if it holds no WAL that is needed
 ",
     ),
     (
         "run",
-        Refusal::Script(3, Why::NoWorker),
+        Refused::Script(3, Why::NoWorker),
         "pgbackup: error: line 3 of the script is refused: a command stands before the first worker
 pgbackup: hint: put a line \"worker NAME\" before it
 ",
     ),
     (
         "run",
-        Refusal::Data(2),
+        Refused::Data(2),
         "pgbackup: error: a call of the system failed on data2
 pgbackup: hint: mend what the system says is wrong there, and try again
 ",
     ),
     (
         "replay p --target 0/1006A1",
-        Refusal::Short(0x10_06A0, 0x10_06A1),
+        Refused::Short(0x10_06A0, 0x10_06A1),
         "pgbackup: error: the WAL ends at 0/1006A0, before the target 0/1006A1
 pgbackup: hint: give a target at or before that end, or bring the later segment files to wal
 ",
     ),
     (
         "replay p",
-        Refusal::Damaged(0x100_0108),
+        Refused::Damaged(0x100_0108),
         "pgbackup: error: the WAL is damaged at 0/1000108: the entry's checksum isn't that of its bytes
 pgbackup: hint: bring the segment file back from a copy, or replay up to a target before that place
 ",
     ),
     (
         "replay p --target 0/1006A1",
-        Refusal::Full,
+        Refused::Full,
         "pgbackup: error: folder o/p is not empty
 pgbackup: hint: empty it if nothing there is needed, or choose another name
 ",
     ),
     (
         "verify f1",
-        Refusal::Backup(ManifestWhy::Sum),
-        "pgbackup: error: file b/f1/backup_manifest is refused: its checksum isn't that of its lines
+        Refused::Backup(ManifestWhy::Sum),
+        "pgbackup: error: file b/f1/backup_manifest is refused: its checksum isn't that of its lines (listed files checked before: 0)
 pgbackup: hint: bring the file back from a copy of the backup, or use another backup
 ",
     ),
     (
         "verify f1",
-        Refusal::Sum("base/5/16384"),
-        "pgbackup: error: file b/f1/base/5/16384 has the listed size and another checksum than is listed
+        Refused::Sum("base/5/16384", 12),
+        "pgbackup: error: file b/f1/base/5/16384 has the listed size and another checksum than is listed (listed files checked before: 12)
 pgbackup: hint: bring the file back from a copy of the backup, or use another backup
 ",
     ),
+    (
+        "verify f1",
+        Refused::Device,
+        "pgbackup: error: a call of the system failed on b/f1
+pgbackup: hint: mend what the system says is wrong there, and try again
+",
+    ),
+    (
+        "restore r f1 --target 0/10042F",
+        Refused::Early(0x10_042F, 0x10_0430),
+        "pgbackup: error: the target, or else the WAL's end, is 0/10042F, before the backup's end 0/100430
+pgbackup: hint: give a target at or past the backup's end, or bring the later segment files to wal
+",
+    ),
+    (
+        "restore --target 0/100430 r f1",
+        Refused::Prior,
+        "pgbackup: error: backup b/f1 is incremental: its label names a prior
+pgbackup: hint: restore a full backup; chains of several backups are not restored yet
+",
+    ),
+    (
+        "restore r --target 0/100430 f1",
+        Refused::Copy,
+        "pgbackup: error: folder o/r is not empty
+pgbackup: hint: empty it if nothing there is needed, or choose another name
+",
+    ),
 ];
+
+/// A check of a directory that isn't taken, behind so many files.
+fn refused_behind(fault: ChainFault, checked: u64) -> Answer {
+    Answer::Verify(Err(VerifyFault::Directory(Refusal { fault, checked })))
+}
 
 /// A replay of a WAL that isn't taken.
 fn unread(fault: RecoveryFault) -> Answer {
     Answer::Replay(Err(ReplayFault::Wal(fault)))
 }
 
-fn answer_of(alloc: Global, refusal: &Refusal) -> Result<Answer, NoMemory> {
+fn answer_of(alloc: Global, refusal: &Refused) -> Result<Answer, NoMemory> {
     Ok(match *refusal {
-        Refusal::Words => Answer::Usage,
-        Refusal::Made => Answer::Init(Err(InitFault::AlreadyInit)),
-        Refusal::Script(line, why) => Answer::Run(Err(RunFault::Script(line, why))),
-        Refusal::Data(q) => {
+        Refused::Words => Answer::Usage,
+        Refused::Made => Answer::Init(Err(InitFault::AlreadyInit)),
+        Refused::Script(line, why) => Answer::Run(Err(RunFault::Script(line, why))),
+        Refused::Data(q) => {
             let fault = StoreFault::Failed(StoreArea::Data(q));
             Answer::Run(Err(RunFault::Begin(BeginWhy::Data(fault))))
         }
-        Refusal::Short(end, target) => unread(RecoveryFault::Short(Lsn(end), Lsn(target))),
-        Refusal::Damaged(at) => {
+        Refused::Short(end, target) => unread(RecoveryFault::Short(Lsn(end), Lsn(target))),
+        Refused::Damaged(at) => {
             let damage = Damage::Broken(Lsn(at), Broken::Crc);
             unread(RecoveryFault::Damaged(SegSize::standard(), damage))
         }
-        Refusal::Full => Answer::Replay(Err(ReplayFault::NotEmpty)),
-        Refusal::Backup(why) => {
-            Answer::Verify(Err(VerifyFault::Directory(ChainFault::ManifestDamaged(why))))
-        }
-        Refusal::Sum(path) => {
+        Refused::Full => Answer::Replay(Err(ReplayFault::NotEmpty)),
+        Refused::Backup(why) => refused_behind(ChainFault::ManifestDamaged(why), 0),
+        Refused::Sum(path, checked) => {
             let path = Text::copied(alloc, path.as_bytes())?;
-            Answer::Verify(Err(VerifyFault::Directory(ChainFault::FileSum(path))))
+            refused_behind(ChainFault::FileSum(path), checked)
         }
+        Refused::Device => refused_behind(ChainFault::Failed, 3),
+        Refused::Early(target, end) => {
+            Answer::Restore(Err(RestoreFault::Early(Lsn(target), Lsn(end))))
+        }
+        Refused::Prior => Answer::Restore(Err(RestoreFault::Chain(LinkFault::FirstIncremental))),
+        Refused::Copy => Answer::Restore(Err(RestoreFault::NotEmpty)),
     })
 }
 
