@@ -3,6 +3,7 @@ pub mod PageLists
 pub mod Contents
 pub mod Segments
 pub mod Stores
+pub mod WholePages
 pub mod Lengths
 pub mod Manifests
 pub mod Texts

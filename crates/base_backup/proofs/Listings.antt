@@ -1,9 +1,9 @@
 -- Rows of a backup's files, in order, and with distinct paths.
-use Rattle.std.proofs.Common.{◌≡◌, ◌≢◌, ℕ, ◌+◌, ◌-◌, ◌/◌, ◌^◌, ◌<◌, ◌≤◌, true, false, List, [], ◌∷◌, ◌++◌, map, length, get_or, codes, Option, Some, None, IfSome, zero, suc, refl, sym, ap, subst, ◌∙◌, arith}
+use Rattle.std.proofs.Common.{◌≡◌, ◌≢◌, ℕ, ◌+◌, ◌-◌, ◌/◌, ◌^◌, ◌<◌, ◌≤◌, true, false, List, [], ◌∷◌, ◌++◌, map, length, get_or, codes, Option, Some, None, IfSome, Ok, zero, suc, refl, sym, ap, subst, ◌∙◌, arith}
 use Rattle.std.specs.Prelude.{◌==◌, slice_index_or}
 use Rattle.std.specs.Str.{IsUtf8}
 use Rattle.std.specs.Char.{is_ascii_hexdigit}
-use Rattle.std.specs.List.{All, AllByRecursion, AllPass, IsDistinct, list_all}
+use Rattle.std.specs.List.{AllByRecursion, AllPass, IsDistinct, list_all}
 use Rattle.std.specs.List.Sorted.{IsPermutation, IsSortedByKey, IsStrictlySortedBy}
 use Rattle.std.specs.declared.cmp.Ordering.{Ordering}
 use Rattle.std.specs.declared.cmp.Ordering.TheVariants.{Less, Equal, Greater}
@@ -23,7 +23,7 @@ use Rattle.sha2.proofs.Facts256.{length-sha256}
 use Rattle.hex.specs.Hex.{encode_lower, lower_digits, is_hex_digit}
 use Rattle.hex.proofs.HexLemmas.{decode_of-ok, length-encode_with}
 use Rattle.lsn_core.specs.Files.{Files}
-use Rattle.lsn_core.specs.Segment.{StoreSettings}
+use Rattle.lsn_core.specs.Segment.{IsRelseg, StoreSettings}
 use Rattle.lsn_core.specs.Names.{fork_path_bytes, IsNamed}
 use Rattle.lsn_core.specs.Store.{Store, fork_files, files_of, segment_content, segment_count, store_files}
 use Rattle.lsn_core.specs.declared.ids.ForkId.{ForkId}
@@ -33,15 +33,18 @@ use Rattle.lsn_core.proofs.StoreFiles.{same_name, names_tie, distinct_files}
 use Rattle.manifest.specs.Kinds.{is_sum}
 use Rattle.manifest.specs.Shape.{is_path}
 use Rattle.backup_label.specs.Time.{IsTimeText}
+use Rattle.manifest.specs.Reading.{ReadAnswers}
+use Rattle.manifest.specs.Laws.{HasSmallNumbers, WrittenManifestsAreRead}
 use Rattle.manifest.specs.Text.{IsWritable, IsWritableRow, manifest_text}
 use Rattle.manifest.specs.declared.kinds.SumKind.TheVariants.{Sha256}
 use Rattle.manifest.specs.declared.listing.FileRow.{FileRow}
 use Rattle.shared_store.specs.declared.receipt.Redo.{Redo}
 use Rattle.base_backup.specs.Directory.{directory_of, full_manifest, label_name, listed_files, manifest_name, row_of}
-use Rattle.base_backup.specs.Inside.{AddsLabel, AreListable, Finishes, HoldsCopy, IsNamedFork, Lacks, ListsRows, path_of, with_file}
+use Rattle.base_backup.specs.Inside.{AddsLabel, AreListable, Finishes, HoldsCopy, IsNamedFork, IsWholeFork, Lacks, ListsRows, path_of, with_file}
 use Rattle.base_backup.proofs.Digests.{spelled}
 use Rattle.base_backup.proofs.Segments.{absent, named_at}
 use Rattle.base_backup.proofs.Stores.{named_copy}
+use Rattle.base_backup.proofs.WholePages.{all_from, sizes_fit, whole_copy}
 use Rattle.base_backup.proofs.Texts.{path_text, good_path, never_named, time_is_text}
 
 -- ---- sums
@@ -68,10 +71,6 @@ good_sum bytes =
 
 pub row_good : (modified path bytes : List ℕ) → IsUtf8 modified → IsUtf8 path → is_path path ≡ true → IsWritableRow (row_of modified (path, bytes))
 row_good modified path bytes m u p = record { path = u; good_path = p; modified = m; sum = good_sum bytes }
-
-all_from : {A : Type 0} (P : A → Type 0) (xs : List A) → AllByRecursion P xs → All P xs
-all_from P [] all = All-nil P
-all_from P (x ∷ xs) all = All-cons P x xs all.0 (all_from P xs all.1)
 
 all_map : {A B : Type 0} (f : A → B) (P : B → Type 0) (xs : List A) → AllByRecursion (λ x. P (f x)) xs → AllByRecursion P (map f xs)
 all_map f P [] all = tt
@@ -130,11 +129,12 @@ alone : (name : List ℕ) → IsDistinct same_name (name ∷ [])
 unfolding IsDistinct
 alone name = (tt, tt)
 
-pub listable : (relseg : ℕ) (store : Store) (modified label : List ℕ) (rows : List FileRow) → 0 < relseg → AllByRecursion IsNamedFork (entries store) → IsUtf8 modified → rows ≡ map (row_of modified) (listed_files relseg store label) → AreListable rows
-listable relseg store modified label rows some named plain is =
+pub listable : (relseg : ℕ) (store : Store) (modified label : List ℕ) (rows : List FileRow) → IsRelseg relseg → AllByRecursion IsNamedFork (entries store) → AllByRecursion IsWholeFork (entries store) → IsUtf8 modified → length label < 2 ^ 64
+    → rows ≡ map (row_of modified) (listed_files relseg store label) → AreListable rows
+listable relseg store modified label rows range named whole plain fits is =
     let files = store_files relseg store in
     let all = listed_files relseg store label in
-    let good = paths_good relseg store some named in
+    let good = paths_good relseg store range.least named in
     subst AreListable (sym is) (record {
       writable =
           all_from IsWritableRow (map (row_of modified) all) (all_map (row_of modified) IsWritableRow all
@@ -143,7 +143,10 @@ listable relseg store modified label rows some named plain is =
           (row_good modified label_name label plain label_good.0 label_good.1, tt)));
       distinct =
           subst (IsDistinct same_name) (sym (map_rows modified all ∙ map-append (λ (f : List ℕ × List ℕ). f.0) files ((label_name, label) ∷ [])))
-          (distinct_append same_name (map (λ f. f.0) files) (label_name ∷ []) (distinct_files relseg store some (named_copy store named)) (alone label_name) (apart_all files good));
+          (distinct_append same_name (map (λ f. f.0) files) (label_name ∷ []) (distinct_files relseg store range.least (named_copy store named)) (alone label_name) (apart_all files good));
+      small =
+          all_from (λ (row : FileRow). row.size < 2 ^ 64) (map (row_of modified) all) (all_map (row_of modified) (λ (row : FileRow). row.size < 2 ^ 64) all
+          (all_append (λ (f : List ℕ × List ℕ). length f.1 < 2 ^ 64) files ((label_name, label) ∷ []) (sizes_fit relseg store range whole) (fits, tt)));
     })
 
 -- ---- rows in order
@@ -210,6 +213,28 @@ manifest_good system rows sorted start end are rises moved order = record {
   rises = rises;
 }
 
+-- and its numbers are small
+manifest_small : (system : ℕ) (rows sorted : List FileRow) (start end : Lsn) → AreListable rows → IsPermutation rows sorted → system < 2 ^ 64 → start.0 < 2 ^ 64 → end.0 < 2 ^ 64 → HasSmallNumbers (full_manifest system sorted start end)
+manifest_small system rows sorted start end are moved s a b = record {
+  system = s;
+  sizes = All-permutation (λ (row : FileRow). row.size < 2 ^ 64) rows sorted moved are.small;
+  start = a;
+  end = b;
+}
+
+-- it is listed so, and read again
+pub lists_rows : WrittenManifestsAreRead → (system : ℕ) (rows sorted : List FileRow) (start end : Lsn) (text : List ℕ) → AreListable rows → start.0 < end.0 → system < 2 ^ 64 → start.0 < 2 ^ 64 → end.0 < 2 ^ 64 → IsPermutation rows sorted → IsSortedByKey path_of (slice_cmp nat_cmp) sorted
+    → text ≡ manifest_text (full_manifest system sorted start end) → ListsRows system rows start end text
+lists_rows written system rows sorted start end text are rises s a b moved order is =
+    let m = full_manifest system sorted start end in
+    record {
+      sorted = sorted;
+      same = moved;
+      order = rows_rise rows sorted are moved order;
+      text_is = is;
+      read = subst (λ (x : List ℕ). ReadAnswers 2 x (Ok m)) (sym is) (written m (manifest_good system rows sorted start end are rises moved order) (manifest_small system rows sorted start end are moved s a b));
+    }
+
 -- ---- an area of a copy
 
 not_there : (relseg : ℕ) (copy : Store) (name : List ℕ) → ((path : List ℕ) → IsGoodPath path → same_name name path ≡ false) → 0 < relseg → AllByRecursion IsNamedFork (entries copy) → get (files_of relseg copy) name ≡ None
@@ -244,26 +269,30 @@ all_rows modified label relseg copy rows more rows_are more_is =
     more_is ∙ (ap (λ (l : List FileRow). l ++ (row_of modified (label_name, label) ∷ [])) rows_are ∙ sym (map-append (row_of modified) (store_files relseg copy) ((label_name, label) ∷ [])))
 
 -- the rows of a copy and its label can be listed
-pub rows_listable : (settings : StoreSettings) (redo : Redo) (name : List ℕ) (when : ℕ) (modified : List ℕ) (copy : Store) (old mid : Option Files) (rows more : List FileRow) → 0 < settings.relseg → IsTimeText when (codes "GMT") modified → HoldsCopy settings.relseg copy modified old rows
+pub rows_listable : (settings : StoreSettings) (redo : Redo) (name : List ℕ) (when : ℕ) (modified : List ℕ) (copy : Store) (old mid : Option Files) (rows more : List FileRow) → IsRelseg settings.relseg → IsTimeText when (codes "GMT") modified → HoldsCopy settings.relseg copy modified old rows
     → AddsLabel settings redo name when modified old mid rows more → AreListable more
-rows_listable settings redo name when modified copy old mid rows more some moment held adds =
-    listable settings.relseg copy modified adds.text more some held.named (time_is_text when (codes "GMT") modified (IsUtf8-are_ascii (codes "GMT") refl) moment) (all_rows modified adds.text settings.relseg copy rows more held.listed adds.listed)
+rows_listable settings redo name when modified copy old mid rows more range moment held adds =
+    listable settings.relseg copy modified adds.text more range held.named held.whole (time_is_text when (codes "GMT") modified (IsUtf8-are_ascii (codes "GMT") refl) moment) adds.fits (all_rows modified adds.text settings.relseg copy rows more held.listed adds.listed)
 
 pub finished : (settings : StoreSettings) (redo : Redo) (end : Lsn) (name : List ℕ) (when : ℕ) (modified : List ℕ) (old mid new : Option Files) (rows more : List FileRow) (count : ℕ) (text : List ℕ) → IsTimeText when (codes "GMT") modified
     → AddsLabel settings redo name when modified old mid rows more → count ≡ length more → ListsRows settings.system more redo.redo end text → new ≡ with_file manifest_name text mid → Finishes settings name when modified old new redo end rows count
 finished settings redo end name when modified old mid new rows more count text moment adds counted lists stands copy held = record {
+  named = named_copy copy held.named;
+  whole = whole_copy copy held.whole;
   begun = adds.label.begun;
   begun_at = adds.label.begun_at;
   modified = modified;
   modified_at = moment;
   label = adds.text;
   label_is = adds.label.text_is;
+  label_read = adds.label.read;
   rows = lists.sorted;
   listed = record {
     same = subst (λ (l : List FileRow). IsPermutation l lists.sorted) (all_rows modified adds.text settings.relseg copy rows more held.listed adds.listed) lists.same;
     order = lists.order;
   };
   counted = counted ∙ sym (length_permutation more lists.sorted lists.same);
+  manifest_read = subst (λ (x : List ℕ). ReadAnswers 2 x (Ok (full_manifest settings.system lists.sorted redo.redo end))) lists.text_is lists.read;
   files_are =
       subst (λ (o : Option Files). IfSome o (λ m. m ≡ directory_of settings.relseg copy adds.text (manifest_text (full_manifest settings.system lists.sorted redo.redo end))))
       (sym (stands ∙ (ap (λ (x : List ℕ). with_file manifest_name x mid) lists.text_is ∙ ap (with_file manifest_name (manifest_text (full_manifest settings.system lists.sorted redo.redo end))) adds.stands)))

@@ -1,5 +1,5 @@
 -- What writing a manifest leaves of it.
-use Rattle.std.proofs.Common.{◌≡◌, ℕ, ◌≤◌, cond, List, Option, Some, None, Result, Err, sym, ap, subst, ◌∙◌, arith, inl, inr}
+use Rattle.std.proofs.Common.{◌≡◌, ℕ, ◌≤◌, cond, List, Option, Some, None, sym, ap, subst, ◌∙◌, arith, inl, inr}
 use Rattle.std.specs.Option.{option_map}
 use Rattle.std.specs.Cmp.Lexicographic.{nat_list_cmp_total}
 use Rattle.std.specs.FinMap.{get, insert, remove, get-remove}
@@ -9,19 +9,13 @@ use Rattle.lsn_core.specs.declared.fault.AreaFault.{AreaFault}
 use Rattle.lsn_core.specs.declared.fault.AreaFault.TheVariants as area
 use Rattle.lsn_core.proofs.StoreFiles.{name_itself}
 use Rattle.vault.specs.declared.area.Vault.{Ghosts}
-use Rattle.vault.specs.Area.{Related, after_remove}
+use Rattle.vault.specs.Area.{after_remove}
 use Rattle.base_backup.specs.Directory.{manifest_name}
 use Rattle.base_backup.specs.Backup.{KeepsManifest, RoseTwice}
 use Rattle.base_backup.specs.Inside.{FailsToWrite, Lacks, LeavesText, TellAlike, Withdraws, with_file}
 use Rattle.base_backup.proofs.Steps.{kept_same}
 
 -- ---- areas that tell alike
-
-pub alike : (R : Files → Files → Type 0) (old new : Option Files) → Related R old new → TellAlike old new
-alike R None None is = tt
-alike R (Some m) (Some n) is = tt
-alike R None (Some n) is = absurd is
-alike R (Some m) None is = absurd is
 
 alike_map : (f : Files → Files) (files : Option Files) → TellAlike files (option_map f files)
 alike_map f None = tt
@@ -96,8 +90,3 @@ left_behind g text a b c area.Failed files le (inr rose) = inr (omega (arith, le
 left_behind g text a b c area.NoMemory files le (inl kept) = inl (subst (λ (o : Option Files). KeepsManifest o (g.files c)) files kept)
 left_behind g text a b c area.NoMemory files le (inr (inl rose)) = inr (inl (before (g.faults a) (g.faults b) (g.faults c) le rose))
 left_behind g text a b c area.NoMemory files le (inr (inr put)) = inr (inr (put ∙ ap (with_file manifest_name text) files))
-
--- ---- why
-
-abbrev err : (T : Type 0) → AreaFault → Result T AreaFault
-err T why = Err why

@@ -31,7 +31,7 @@ use Rattle.history.specs.Entry.{Entry}
 use Rattle.manifest.specs.declared.listing.FileRow.{FileRow}
 use Rattle.shared_store.specs.Copied.{listed_length}
 use Rattle.base_backup.specs.Backup.{HoldsNothing}
-use Rattle.base_backup.specs.Inside.{ArePagesCopied, IsPageCopied, Lacks, LacksFork, PutsFiles, PutsFork, PutsStore, ListsForks, IsForkListed, IsNamedFork, CopiesStore}
+use Rattle.base_backup.specs.Inside.{ArePagesCopied, IsPageCopied, Lacks, LacksFork, PutsFiles, PutsFork, PutsStore, ListsForks, IsForkListed, IsNamedFork, IsWholeFork, CopiesStore}
 use Rattle.base_backup.proofs.PageLists.{pages_later}
 use Rattle.base_backup.proofs.Segments.{puts_none, puts_on}
 
@@ -79,7 +79,7 @@ not_before (e ∷ es) l rest order =
 
 -- ---- what is found
 
-found_one : (P : ForkId × ForkPages → Type 0) (es : Copies) (q : ForkId) (pages : ForkPages) → AllByRecursion P es → find fork_cmp q es ≡ Some pages → (e : ForkId × ForkPages) × P e × (q ≡ e.0) × (pages ≡ e.1)
+pub found_one : (P : ForkId × ForkPages → Type 0) (es : Copies) (q : ForkId) (pages : ForkPages) → AllByRecursion P es → find fork_cmp q es ≡ Some pages → (e : ForkId × ForkPages) × P e × (q ≡ e.0) × (pages ≡ e.1)
 found_one P [] q pages all is = absurd cc
 found_one P (e ∷ es) q pages all is =
     elim (same_fork q e.0) as (λ b. same_fork q e.0 ≡ b → cond b (Some e.1) (find fork_cmp q es) ≡ Some pages → (x : ForkId × ForkPages) × P x × (q ≡ x.0) × (pages ≡ x.1)) [
@@ -100,6 +100,7 @@ named_copy copy all fork pages is =
 pub record StoreSoFar (tells : Type 0) (seen : List Entry) (from relseg : ℕ) (list left : List ForkLen) (modified : List ℕ) (old new : Option Files) (rows : List FileRow) : Type 0 where
   pub done : List (ForkId × ForkPages)
   pub named : AllByRecursion (λ e. IsNamed e.0 (length e.1)) done
+  pub whole : AllByRecursion IsWholeFork done
   pub all : map (λ e. record { fork = e.0; blocks = length e.1 }) done ++ left ≡ list
   pub pages : tells → AllByRecursion (λ e. ArePagesCopied seen from e.0 0 e.1) done
   pub puts : PutsFiles modified (flat_map (fork_files relseg) done) old new [] rows
@@ -108,6 +109,7 @@ pub store_begun : (tells : Type 0) (seen : List Entry) (from relseg : ℕ) (list
 store_begun tells seen from relseg list modified files rows none = record {
   done = [];
   named = tt;
+  whole = tt;
   all = refl;
   pages = λ t. tt;
   puts = subst (λ (r : List FileRow). PutsFiles modified [] files files [] r) (sym none) (puts_none modified files []);
@@ -129,6 +131,7 @@ store_further tells s t from relseg list left rest fork modified a b c r v is p 
     record {
       done = far.done ++ (e ∷ []);
       named = all_append IsNamedFork far.done (e ∷ []) far.named (adds.named, tt);
+      whole = all_append IsWholeFork far.done (e ∷ []) far.whole (adds.copies.sized, tt);
       all = map_push far.done e rest ∙ (ap (λ (l : ForkLen). map len_of far.done ++ (l ∷ rest)) same ∙ (ap (λ (l : List ForkLen). map len_of far.done ++ l) (sym is) ∙ far.all));
       pages = λ tells. all_append (λ (x : ForkId × ForkPages). ArePagesCopied t from x.0 0 x.1) far.done (e ∷ []) (all_later s t from far.done p (far.pages tells)) (adds.copies.copied tells, tt);
       puts =
@@ -171,6 +174,7 @@ store_put tells seen from relseg list left modified old new rows order none far 
     record {
       copy = copy;
       named = subst (AllByRecursion IsNamedFork) (sym is) far.named;
+      whole = subst (AllByRecursion IsWholeFork) (sym is) far.whole;
       lengths = ap (map len_of) is ∙ (sym (append-nil (map len_of far.done)) ∙ all);
       pages = λ t. subst (AllByRecursion (λ (x : ForkId × ForkPages). ArePagesCopied seen from x.0 0 x.1)) (sym is) (far.pages t);
       puts = subst (λ (fs : List (List ℕ × List ℕ)). PutsFiles modified fs old new [] rows) (sym (files_by relseg far.done sorted)) far.puts;
@@ -226,6 +230,7 @@ store_copied tells s t from relseg list modified old new rows nothing p lists pu
       copy = copy;
       held = record {
         named = puts.named;
+        whole = puts.whole;
         stand = stands_of old new (store_files relseg copy) nothing puts.puts.stand;
         listed = puts.puts.listed;
       };

@@ -1,10 +1,10 @@
 -- A whole backup, from what its steps do.
-use Rattle.std.proofs.Common.{◌≡◌, ℕ, ◌<◌, ◌≤◌, List, Option, Some, None, Result, IfErr, refl, sym, subst, ◌∙◌, arith, inl, inr}
+use Rattle.std.proofs.Common.{◌≡◌, ℕ, ◌≤◌, List, Option, Some, None, Result, IfErr, refl, sym, subst, ◌∙◌, arith, inl, inr}
 use Rattle.std.specs.Result.{IsErrAnd}
 use Rattle.std.proofs.lemmas.List.{append-nil}
 use Rattle.lsn_core.specs.Files.{Files}
 use Rattle.lsn_core.specs.Names.{segment_number}
-use Rattle.lsn_core.specs.Segment.{StoreSettings}
+use Rattle.lsn_core.specs.Segment.{IsRelseg, StoreSettings}
 use Rattle.lsn_core.specs.Sizes.{most_segments}
 use Rattle.lsn_core.specs.declared.fault.AreaFault.{AreaFault}
 use Rattle.lsn_core.specs.declared.fault.AreaFault.TheVariants as area
@@ -100,10 +100,10 @@ publish_failed g whole text old mid new r why is kept le all left = err_cause r 
 
 -- ---- a backup that was run
 
-pub can_finish : (tells : Type 0) (worker : ℕ) (old new : Opened) (modified : List ℕ) (files : Option Files) (redo : Redo) (end : Lsn) (rows : List FileRow) (settings : StoreSettings) → settings ≡ new.settings → 0 < settings.relseg → IsRun tells worker old new modified files redo end rows
+pub can_finish : (tells : Type 0) (worker : ℕ) (old new : Opened) (modified : List ℕ) (files : Option Files) (redo : Redo) (end : Lsn) (rows : List FileRow) (settings : StoreSettings) → settings ≡ new.settings → IsRelseg settings.relseg → IsRun tells worker old new modified files redo end rows
     → CanFinish settings modified files redo end rows
-can_finish tells worker old new modified files redo end rows settings same some run = record {
-  relseg = some;
+can_finish tells worker old new modified files redo end rows settings same range run = record {
+  relseg = range;
   copy = run.copy;
   held = subst (λ (s : StoreSettings). HoldsCopy s.relseg run.copy modified files rows) (sym same) run.held;
   rises = run.rises;

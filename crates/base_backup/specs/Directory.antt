@@ -1,5 +1,5 @@
 -- The directory of a full backup (PostgreSQL manual, pg_basebackup; Backup Manifest Format).
-use Rattle.std.specs.Prelude.{◌≡◌, ℕ, List, [], ◌∷◌, ◌++◌, map, length, codes, Option, Some, None, IfSome}
+use Rattle.std.specs.Prelude.{◌≡◌, ℕ, List, [], ◌∷◌, ◌++◌, map, length, codes, Option, Some, None, IfSome, Ok}
 use Rattle.std.specs.List.Sorted.{IsPermutation, IsStrictlySortedBy}
 use Rattle.std.specs.Ordering.{nat_cmp}
 use Rattle.std.specs.Cmp.Lexicographic.{slice_cmp}
@@ -7,15 +7,18 @@ use Rattle.std.specs.FinMap.{insert}
 use Rattle.sha2.specs.Sha256.{sha256}
 use Rattle.hex.specs.Hex.{encode_lower}
 use Rattle.lsn_core.specs.Files.{Files}
+use Rattle.lsn_core.specs.Laws.{HasNamedForks}
 use Rattle.lsn_core.specs.Segment.{StoreSettings}
 use Rattle.lsn_core.specs.Store.{Store, store_files, files_of}
 use Rattle.lsn_core.specs.declared.lsn.Lsn.{Lsn}
+use Rattle.rel_files.specs.Forks.{HasWholePages}
 use Rattle.backup_label.specs.declared.label.Label.{Label}
-use Rattle.backup_label.specs.Label.{label_text}
+use Rattle.backup_label.specs.Label.{HasNoLineEnd, IsLabel, label_text}
 use Rattle.backup_label.specs.Time.{IsTimeText}
 use Rattle.manifest.specs.declared.kinds.SumKind.TheVariants.{Sha256}
 use Rattle.manifest.specs.declared.listing.FileRow.{FileRow}
 use Rattle.manifest.specs.Listing.{Listing}
+use Rattle.manifest.specs.Reading.{ReadAnswers}
 use Rattle.manifest.specs.Text.{manifest_text}
 
 abbrev pub label_name : List ℕ
@@ -75,17 +78,24 @@ directory_of relseg copy label manifest =
     insert (insert (files_of relseg copy) label_name label) manifest_name manifest
 
 -- files are the directory of a full backup of these pages, which was begun at a moment under a name.
--- It starts at a place and its checkpoint at another, ends at a third, and lists so many files
+-- It starts at a place and its checkpoint at another, ends at a third, and lists so many files. The
+-- copy can be kept as files: its forks' numbers and lengths fit, and its pages are whole. Label and
+-- manifest are read as what they were written from, the label where the name is one line
 pub record IsFullBackup (settings : StoreSettings) (name : List ℕ) (when : ℕ) (copy : Store)
     (start checkpoint end : Lsn) (count : ℕ) (files : Option Files) : Type 0 where
+  pub named : HasNamedForks copy
+  pub whole : HasWholePages copy
   pub begun : List ℕ
   pub begun_at : IsTimeText when (codes "UTC") begun
   pub modified : List ℕ
   pub modified_at : IsTimeText when (codes "GMT") modified
   pub label : List ℕ
   pub label_is : label ≡ label_text (full_label start checkpoint begun name) settings.segment
+  pub label_read : HasNoLineEnd name → IsLabel label (full_label start checkpoint begun name)
   pub rows : List FileRow
   pub listed : AreRowsOf modified (listed_files settings.relseg copy label) rows
   pub counted : count ≡ length rows
+  pub manifest_read : ReadAnswers 2 (manifest_text (full_manifest settings.system rows start end))
+      (Ok (full_manifest settings.system rows start end))
   pub files_are : IfSome files (λ m. m ≡ directory_of settings.relseg copy label
       (manifest_text (full_manifest settings.system rows start end)))

@@ -1,5 +1,5 @@
 -- What the crate's private functions answer: no public contract cites these.
-use Rattle.std.specs.Prelude.{◌≡◌, ℕ, ◌+◌, ◌*◌, ◌-◌, ◌<◌, ◌≤◌, min, ◌⊎◌, false, List, [], ◌∷◌, ◌++◌, map, length, codes, Option, Some, None, IfSome, unwrap_or}
+use Rattle.std.specs.Prelude.{◌≡◌, ℕ, ◌+◌, ◌*◌, ◌-◌, ◌^◌, ◌<◌, ◌≤◌, min, ◌⊎◌, false, List, [], ◌∷◌, ◌++◌, map, length, codes, Option, Some, None, IfSome, unwrap_or, Ok}
 use Rattle.std.specs.List.{All, AllByRecursion, IsDistinct, flat_map, range_with_len}
 use Rattle.std.specs.List.Sorted.{IsPermutation, IsStrictlySortedBy}
 use Rattle.std.specs.Option.{option_map}
@@ -17,7 +17,7 @@ use Rattle.lsn_core.specs.Blocks.{block_of, block_count}
 use Rattle.lsn_core.specs.Causes.{Rose}
 use Rattle.lsn_core.specs.Files.{Files}
 use Rattle.lsn_core.specs.Names.{fork_path_bytes, segment_number, IsNamed}
-use Rattle.lsn_core.specs.Segment.{StoreSettings}
+use Rattle.lsn_core.specs.Segment.{IsRelseg, StoreSettings}
 use Rattle.lsn_core.specs.Sizes.{most_segments}
 use Rattle.lsn_core.specs.Store.{Store, ForkPages, fork_cmp, fork_files, files_of, segment_content, store_files, with_files}
 use Rattle.lsn_core.specs.declared.ids.ForkId.{ForkId}
@@ -34,8 +34,9 @@ use Rattle.vault.specs.Area.{Related, after_write, after_remove}
 use Rattle.pg_page.specs.Header.{zero_page}
 use Rattle.history.specs.Entry.{Entry}
 use Rattle.fuzzy_copies.specs.Taken.{IsBlockCopied, IsListed, IsTaken}
-use Rattle.backup_label.specs.Label.{label_text}
+use Rattle.backup_label.specs.Label.{HasNoLineEnd, IsLabel, label_text}
 use Rattle.backup_label.specs.Time.{IsTimeText}
+use Rattle.manifest.specs.Reading.{ReadAnswers}
 use Rattle.manifest.specs.Text.{IsWritableRow, manifest_text}
 use Rattle.manifest.specs.declared.kinds.SumKind.TheVariants as kind
 use Rattle.manifest.specs.declared.listing.FileRow.{FileRow}
@@ -112,11 +113,15 @@ ArePagesCopied seen from fork block [] = Unit {0}
 ArePagesCopied seen from fork block (page ∷ pages) =
     IsPageCopied seen from fork block page × ArePagesCopied seen from fork (block + 1) pages
 
--- so many pages, each of 8192 bytes
+-- each page has 8192 bytes
+abbrev pub ArePagesWhole : ForkPages → Type 0
+ArePagesWhole pages = AllByRecursion (λ page. length page ≡ 8192) pages
+
+-- so many pages, which are whole
 pub record AreCopies (tells : Type 0) (seen : List Entry) (from : ℕ) (fork : ForkId)
     (block count : ℕ) (pages : ForkPages) : Type 0 where
   pub many : length pages ≡ count
-  pub sized : AllByRecursion (λ page. length page ≡ 8192) pages
+  pub sized : ArePagesWhole pages
   pub copied : tells → ArePagesCopied seen from fork block pages
 
 -- their bytes were added to others
@@ -177,6 +182,10 @@ LacksFork files fork = (seg : ℕ) → IsNamed fork seg → Lacks files (fork_pa
 abbrev pub IsNamedFork : ForkId × ForkPages → Type 0
 IsNamedFork e = IsNamed e.0 (length e.1)
 
+-- a fork's pages are whole
+abbrev pub IsWholeFork : ForkId × ForkPages → Type 0
+IsWholeFork e = ArePagesWhole e.1
+
 -- the first files of a fork, so many
 abbrev pub first_files : ℕ → ForkId → ForkPages → ℕ → List (List ℕ × List ℕ)
 first_files relseg fork pages count =
@@ -212,6 +221,7 @@ pub record PutsStore (tells : Type 0) (seen : List Entry) (from relseg : ℕ) (l
     (modified : List ℕ) (old new : Option Files) (rows : List FileRow) : Type 0 where
   pub copy : Store
   pub named : AllByRecursion IsNamedFork (entries copy)
+  pub whole : AllByRecursion IsWholeFork (entries copy)
   pub lengths : map (λ e. record { fork = e.0; blocks = length e.1 }) (entries copy) ≡ list
   pub pages : tells → AllByRecursion (λ e. ArePagesCopied seen from e.0 0 e.1) (entries copy)
   pub puts : PutsFiles modified (store_files relseg copy) old new [] rows
@@ -263,6 +273,7 @@ pub record IsCopiedSoFar (seen : List Entry) (from : ℕ) (copy : Store) : Type 
 pub record HoldsCopy (relseg : ℕ) (copy : Store) (modified : List ℕ) (files : Option Files)
     (rows : List FileRow) : Type 0 where
   pub named : AllByRecursion IsNamedFork (entries copy)
+  pub whole : AllByRecursion IsWholeFork (entries copy)
   pub stand : IfSome files (λ m. m ≡ files_of relseg copy)
   pub listed : rows ≡ map (row_of modified) (store_files relseg copy)
 
@@ -303,7 +314,7 @@ EndCause g old new fault.NoMemory = Unit {0}
 -- a copy's files stand, and can be listed
 pub record CanFinish (settings : StoreSettings) (modified : List ℕ) (files : Option Files)
     (redo : Redo) (end : Lsn) (rows : List FileRow) : Type 0 where
-  pub relseg : 0 < settings.relseg
+  pub relseg : IsRelseg settings.relseg
   pub copy : Store
   pub held : HoldsCopy settings.relseg copy modified files rows
   pub rises : redo.redo.0 < end.0
@@ -318,35 +329,39 @@ Finishes settings name when modified old new redo end rows count =
 
 -- ---- the label
 
--- the text of a label
+-- the text of a label, which is read as that label where the name is one line
 pub record IsLabelOf (settings : StoreSettings) (redo : Redo) (name : List ℕ) (when : ℕ)
     (text : List ℕ) : Type 0 where
   pub begun : List ℕ
   pub begun_at : IsTimeText when (codes "UTC") begun
   pub text_is : text ≡ label_text (full_label redo.redo redo.at begun name) settings.segment
+  pub read : HasNoLineEnd name → IsLabel text (full_label redo.redo redo.at begun name)
 
--- a label was written and listed
+-- a label was written and listed; its bytes can be counted
 pub record AddsLabel (settings : StoreSettings) (redo : Redo) (name : List ℕ) (when : ℕ)
     (modified : List ℕ) (old new : Option Files) (before rows : List FileRow) : Type 0 where
   pub text : List ℕ
   pub label : IsLabelOf settings redo name when text
+  pub fits : length text < 2 ^ 64
   pub stands : new ≡ with_file label_name text old
   pub listed : rows ≡ before ++ (row_of modified (label_name, text) ∷ [])
 
 -- ---- the manifest
 
--- rows that a manifest can list: with distinct paths
+-- rows that a manifest can list: with distinct paths, and sizes below 2^64
 pub record AreListable (rows : List FileRow) : Type 0 where
   pub writable : All IsWritableRow rows
   pub distinct : IsDistinct (eq_by_cmp (slice_cmp nat_cmp)) (map path_of rows)
+  pub small : All (λ row. row.size < 2 ^ 64) rows
 
--- a manifest that lists them, in order of their paths
+-- a manifest that lists them, in order of their paths, and is read as it was written
 pub record ListsRows (system : ℕ) (rows : List FileRow) (start end : Lsn) (text : List ℕ)
     : Type 0 where
   pub sorted : List FileRow
   pub same : IsPermutation rows sorted
   pub order : IsStrictlySortedBy (slice_cmp nat_cmp) (map path_of sorted)
   pub text_is : text ≡ manifest_text (full_manifest system sorted start end)
+  pub read : ReadAnswers 2 text (Ok (full_manifest system sorted start end))
 
 -- either both of two areas tell their files, or neither
 abbrev pub TellAlike : Option Files → Option Files → Type 0

@@ -9,9 +9,9 @@ ghost use Rattle.base_backup.specs.Directory.{label_name};
 ghost use Rattle.base_backup.specs.Inside.{Lacks, SparesManifest, IsLabelOf, AddsLabel, AreListable, ListsRows};
 
 use crate::rows::{file_row, sort_rows};
-use backup_label::{Label, time_text, write_label};
+use backup_label::{Label, time_text, write_label, written_labels_are_read};
 use lsn_core::{AreaFault, Lsn, NoMemory, Settings, Text};
-use manifest::{FileRow, Manifest, write_manifest};
+use manifest::{FileRow, Manifest, manifests_are_read_again, write_manifest};
 use sha2::{Digest, Sha256};
 use shared_store::Redo;
 use std::alloc::Global;
@@ -32,6 +32,8 @@ fn label_text(
     requires when { when ≤ 253402207199 }
     ensures { IfOk result (λ text. IsLabelOf settings redo name.now when text.items) }
 {
+    // known: a label of one-line texts is read as it was written
+    written_labels_are_read();
     let label = Label {
         start: redo.redo,
         checkpoint: redo.at,
@@ -83,6 +85,8 @@ pub(crate) fn manifest_text(
     ensures { IfOk result (λ text.
         ListsRows settings.system rows.items start end text.items) }
 {
+    // known: a manifest is read as it was written
+    manifests_are_read_again();
     let mut rows = rows;
     sort_rows(&mut rows);
     let manifest = Manifest {

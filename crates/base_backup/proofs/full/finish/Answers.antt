@@ -5,7 +5,7 @@ use Rattle.base_backup.proofs.Whole.{publish_failed}
 use Rattle.base_backup.proofs.full.finish.Goals as goal
 
 pub add_label-requires-clause-missing : goal.add_label-requires-clause-missing
-add_label-requires-clause-missing g c = λ κs lives. label_missing c.args.settings.relseg c.requires.run.copy c.args.modified.now (g.V.Vault.files c.args.out.now) c.args.rows.items c.requires.run.relseg c.requires.run.held
+add_label-requires-clause-missing g c = λ κs lives. label_missing c.args.settings.relseg c.requires.run.copy c.args.modified.now (g.V.Vault.files c.args.out.now) c.args.rows.items c.requires.run.relseg.least c.requires.run.held
 
 pub manifest_text-requires-clause-rows : goal.manifest_text-requires-clause-rows
 manifest_text-requires-clause-rows g c =
@@ -15,7 +15,7 @@ manifest_text-requires-clause-rows g c =
 pub publish-requires : goal.publish-requires
 publish-requires g c = (
   search rules,
-  manifest_missing c.args.settings.relseg c.requires.run.copy c.args.modified.now c.in_ok-add_label.ensures.added.text (g.V.Vault.files c.args.out.now) (g.V.Vault.files c.add_label.new.out) c.args.rows.items c.requires.run.relseg c.requires.run.held
+  manifest_missing c.args.settings.relseg c.requires.run.copy c.args.modified.now c.in_ok-add_label.ensures.added.text (g.V.Vault.files c.args.out.now) (g.V.Vault.files c.add_label.new.out) c.args.rows.items c.requires.run.relseg.least c.requires.run.held
       c.in_ok-add_label.ensures.added.stands,
 )
 

@@ -14,7 +14,7 @@ returns-in_err-modified-clause-left g c = on_err c.from_residual-in_err-modified
 pub finish-requires-clause-run : goal.finish-requires-clause-run
 finish-requires-clause-run g c = λ κs lives.
     can_finish (g.J.OfStore.tells ≡ true) c.args.pass.now.worker c.args.store.now c.run_backup.new.store c.in_ok-modified.modified (g.V.Vault.files c.run_backup.new.out) c.in_ok-redo.redo c.in_ok-redo.end c.in_ok-redo.rows.items c.settings-settings.result
-    c.settings-settings.ensures (omega arith) c.in_ok-redo.ensures.run
+    c.settings-settings.ensures (record { least = omega arith; most = omega arith }) c.in_ok-redo.ensures.run
 
 pub returns-in_err-files-clause-left : goal.returns-in_err-files-clause-left
 returns-in_err-files-clause-left g c =
