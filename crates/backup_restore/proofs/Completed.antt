@@ -23,10 +23,10 @@ use Rattle.backup_restore.proofs.Rising.{wal_rises, parted_at, replayed_in, rest
 
 -- ---- what is found up to a target
 
-gives_or_end : (f : Found) (r : Record) → f ≡ Gives r → f ≡ End → ⊥
+pub gives_or_end : (f : Found) (r : Record) → f ≡ Gives r → f ≡ End → ⊥
 gives_or_end f r a b = (let c : ◌≡◌ {A = Found} End (Gives r) = sym b ∙ a in absurd cc)
 
-same_gives : (f : Found) (r q : Record) → f ≡ Gives r → f ≡ Gives q → r ≡ q
+pub same_gives : (f : Found) (r q : Record) → f ≡ Gives r → f ≡ Gives q → r ≡ q
 same_gives f r q a b = (let c : ◌≡◌ {A = Found} (Gives r) (Gives q) = sym a ∙ b in cc)
 
 gives_before : (reached : Bool) (f : Found) (r : Record) → (if reached then End else f) ≡ Gives r → f ≡ Gives r
@@ -50,12 +50,12 @@ ended_there s files (Some target) set tip last ends = elim (ends_before (nat_le 
 
 -- ---- a reading up to a target, and the one to the end
 
-set_on : (set : Bool) (r : Record) (rs : List Record) → is_set_behind set (r ∷ rs) ≡ is_set_behind false rs
+pub set_on : (set : Bool) (r : Record) (rs : List Record) → is_set_behind set (r ∷ rs) ≡ is_set_behind false rs
 set_on true r rs = refl
 set_on false r rs = refl
 
 -- nothing was read, and then this is found
-found_none : (s : StoreSettings) (files : Files) (upto : Option Lsn) (set : Bool) (tip last : Tip) (f : Found) → last ≡ tip → found_on s files upto (is_set_behind set []) last ≡ f → found_on s files upto set tip ≡ f
+pub found_none : (s : StoreSettings) (files : Files) (upto : Option Lsn) (set : Bool) (tip last : Tip) (f : Found) → last ≡ tip → found_on s files upto (is_set_behind set []) last ≡ f → found_on s files upto set tip ≡ f
 found_none s files upto set tip last f none found =
     subst (λ (t : Tip). found_on s files upto set t ≡ f) none (subst (λ b. found_on s files upto b last ≡ f) (none_set set) found)
 

@@ -1,5 +1,5 @@
 -- The segment files of a fork, one behind the other.
-use Rattle.std.proofs.Common.{◌≡◌, ◌≢◌, ℕ, zero, suc, ◌+◌, ◌-◌, ◌/◌, ◌<◌, ◌≤◌, min, inl, inr, Bool, true, false, cond, List, [], ◌∷◌, ◌++◌, length, take, Option, IfSome, refl, sym, ap, subst, ◌∙◌, arith}
+use Rattle.std.proofs.Common.{◌≡◌, ◌≢◌, ℕ, zero, suc, ◌+◌, ◌-◌, ◌*◌, ◌/◌, ◌<◌, ◌≤◌, min, inl, inr, Bool, true, false, cond, List, [], ◌∷◌, ◌++◌, length, take, Option, IfSome, refl, sym, ap, subst, ◌∙◌, arith}
 use Rattle.std.specs.Prelude.{◌⊎◌}
 use Rattle.std.specs.List.{flat_map, range_with_len}
 use Rattle.std.specs.FinMap.{insert, contains_key}
@@ -53,6 +53,7 @@ module _ {P : Type 0} (shows : P → Store → Type 0) where
     pub told : IfSome files (λ m. IsPutSoFar relseg m fork before behind seg count all)
     pub few : count ≤ relseg
     pub below : seg + count ≤ all
+    pub place : all ≡ seg * relseg + count
     pub within : all ≤ most_pages
 
   first_put : (relseg : ℕ) (m : Files) (fork : ForkId) (before behind : P) (count : ℕ) → PutsPages shows relseg m fork 0 0 before behind count → count ≡ min (pages_held relseg (segment_bytes m fork 0)) (most_pages - 0) → IsPutSoFar relseg m fork before behind 0 count count
@@ -71,6 +72,7 @@ module _ {P : Type 0} (shows : P → Store → Type 0) where
         (λ m put is. first_put relseg m fork before behind count put is) puts.put puts.all;
     few = puts.few;
     below = omega arith;
+    place = omega arith;
     within = omega (arith, puts.within);
   }
 
@@ -118,6 +120,7 @@ module _ {P : Type 0} (shows : P → Store → Type 0) where
         (when_both_told files (λ m. PutsPages shows relseg m fork (seg + 1) all b c more) (λ m. more ≡ min (pages_held relseg (segment_bytes m fork (seg + 1))) (most_pages - all)) _ (λ m p q. (p, q)) puts.put puts.all);
     few = puts.few;
     below = omega (arith, kept.below, some, is);
+    place = (let next : (seg + 1) * relseg ≡ seg * relseg + relseg = omega arith in omega (arith, kept.place, is, next));
     within = omega (arith, kept.within, puts.within);
   }
 
@@ -158,7 +161,7 @@ module _ {P : Type 0} (shows : P → Store → Type 0) where
     pages = pages_up_to relseg m fork seg ++ take count (pages_in relseg (segment_bytes m fork seg));
     are = put_all relseg m fork a b seg count all less within so;
     counted = counted_all relseg m fork a b seg count all so;
-    put = λ s none shown. so.put s (subst (shows a) (new_fork s fork none) (made s shown));
+    put = λ s none shown. so.put s (subst (shows a) (new_fork s fork none) (made s none shown));
   }
 
   -- no more pages than a fork may have

@@ -1,13 +1,17 @@
-mod Heads
+pub mod Heads
 mod Starts
 mod Unlinked
-mod Onwards
+pub mod Onwards
 mod PageReads
+mod Behind
+mod Pieces
+mod Made
 mod Segments
 mod ForkCopies
 mod StoreCopies
 pub mod Outputs
-mod Rising
+pub mod Rising
 mod Completed
 mod Directories
 mod WrittenStores
+mod OneAnswer

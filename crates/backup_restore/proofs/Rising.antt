@@ -22,7 +22,7 @@ use Rattle.backup_restore.proofs.Onwards.{passed}
 
 -- ---- they rise
 
-reads_rise : (s : StoreSettings) (files : Files) (tip : Tip) (rs : List Record) (last : Tip) → IsSegmentMib s.segment → IsReached s.segment tip → ReadsOn s files tip rs last → RecordsRise tip.end rs
+pub reads_rise : (s : StoreSettings) (files : Files) (tip : Tip) (rs : List Record) (last : Tip) → IsSegmentMib s.segment → IsReached s.segment tip → ReadsOn s files tip rs last → RecordsRise tip.end rs
 reads_rise s files tip [] last size is walk = tt
 reads_rise s files tip (r ∷ rs) last size is walk =
     let g = passed s files tip r size.least is.ends walk.0 in
@@ -31,7 +31,7 @@ reads_rise s files tip (r ∷ rs) last size is walk =
     let most : r.end.0 ≤ wal_limit s.segment = given.reached.within.most in
     (omega (arith, g.start, st.is, st.later), omega (arith, g.start, g.end, g.behind.start), omega (arith, most, size.most), reads_rise s files (tip_after tip r) rs last size given.reached walk.1)
 
-rise_from : (a b : ℕ) (rs : List Record) → a ≤ b → RecordsRise b rs → RecordsRise a rs
+pub rise_from : (a b : ℕ) (rs : List Record) → a ≤ b → RecordsRise b rs → RecordsRise a rs
 rise_from a b [] le rise = tt
 rise_from a b (r ∷ rs) le rise = (omega (arith, le, rise.0), rise.1, rise.2, rise.3)
 
@@ -78,7 +78,7 @@ replayed_past from place (r ∷ rs) rise =
     let more = replayed_past from place rs (rise_from from r.end.0 rs (omega (arith, rise.0, rise.1)) rise.3) in
     ap (λ b. cond (b && nat_le r.end.0 place) (r ∷ replayed_in from place rs) (replayed_in from place rs)) is ∙ ap (λ (l : List Record). cond (nat_le r.end.0 place) (r ∷ l) l) more
 
-starts_behind : (last : ℕ) (older : List Record) (r : Record) (later : List Record) → RecordsRise last (older ++ (r ∷ later)) → last ≤ r.start.0
+pub starts_behind : (last : ℕ) (older : List Record) (r : Record) (later : List Record) → RecordsRise last (older ++ (r ∷ later)) → last ≤ r.start.0
 starts_behind last [] r later rise = rise.0
 starts_behind last (q ∷ older) r later rise = (let more = starts_behind q.end.0 older r later rise.3 in omega (arith, more, rise.0, rise.1))
 

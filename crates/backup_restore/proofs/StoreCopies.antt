@@ -28,6 +28,7 @@ use Rattle.recovery.specs.Tally.{fork_tally, IsRecounted, IsTallyOf}
 use Rattle.recovery.proofs.Tallies.{none_counted}
 use Rattle.backup_restore.specs.Copy.{first_path, IsForkIn}
 use Rattle.backup_restore.specs.Inside.{IsForkPut, PutsFork, IsNamedPut, AddsNamed, IsCopied, CopiesStore}
+use Rattle.backup_restore.proofs.Segments.{always}
 
 or_none : (b : Bool) → (b || false) ≡ true → b ≡ true
 or_none true e = refl
@@ -197,10 +198,6 @@ module _ (shown mid : Store → Type 0) (relseg : ℕ) (m : Files) (done : List 
 
 abbrev pub CopiedSoFar : {P : Type 0} → (P → Store → Type 0) → ℕ → Option Files → List (List ℕ) → P → P → Tally → Type 0
 CopiedSoFar shows relseg files done before behind tally = shows before empty → IfSome files (λ m. IsCopiedUpTo (shows behind) relseg m done tally)
-
-always : (files : Option Files) (Q : Files → Type 0) → ((m : Files) → Q m) → IfSome files Q
-always None Q all = tt
-always (Some m) Q all = all m
 
 module _ {P : Type 0} (shows : P → Store → Type 0) where
   pub names_begun : (relseg : ℕ) (files : Option Files) (p : P) (tally : Tally) → tally ≡ fork_tally None → CopiedSoFar shows relseg files [] p p tally

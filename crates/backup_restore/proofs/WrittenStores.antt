@@ -20,7 +20,7 @@ use Rattle.backup_restore.proofs.Directories.{up_to_longer}
 
 -- ---- the bytes of whole pages, cut into pages again
 
-abbrev HaveSize : ℕ → ForkPages → Type 0
+abbrev pub HaveSize : ℕ → ForkPages → Type 0
 HaveSize size pages = AllByRecursion (λ page. length page ≡ size) pages
 
 cut_again : (size first : ℕ) (before : List ℕ) (pages : ForkPages) → length before ≡ first * size → HaveSize size pages → map (λ n. take size (drop (n * size) (before ++ flat pages))) (range_with_len first (length pages)) ≡ pages
@@ -35,7 +35,7 @@ cut_again size first before (page ∷ pages) long all =
     ap (λ (p : List ℕ). p ∷ map (λ n. take size (drop (n * size) (before ++ (page ++ flat pages)))) (range_with_len (first + 1) (length pages))) here
     ∙ ap (λ (ps : ForkPages). page ∷ ps) rest
 
-flat_length : (size : ℕ) (pages : ForkPages) → HaveSize size pages → length (flat pages) ≡ length pages * size
+pub flat_length : (size : ℕ) (pages : ForkPages) → HaveSize size pages → length (flat pages) ≡ length pages * size
 flat_length size [] all = omega arith
 flat_length size (page ∷ pages) all = length-append page (flat pages) ∙ omega (arith, all.0, flat_length size pages all.1)
 
@@ -50,13 +50,13 @@ pages_again relseg pages few whole =
 
 -- ---- the pages of a segment
 
-abbrev part : ℕ → ForkPages → ℕ → ForkPages
+abbrev pub part : ℕ → ForkPages → ℕ → ForkPages
 part relseg pages seg = take relseg (drop (seg * relseg) pages)
 
-part_length : (relseg : ℕ) (pages : ForkPages) (seg : ℕ) → length (part relseg pages seg) ≡ min relseg (length pages - seg * relseg)
+pub part_length : (relseg : ℕ) (pages : ForkPages) (seg : ℕ) → length (part relseg pages seg) ≡ min relseg (length pages - seg * relseg)
 part_length relseg pages seg = length-take relseg (drop (seg * relseg) pages) ∙ ap (min relseg) (length-drop (seg * relseg) pages)
 
-part_whole : (relseg : ℕ) (pages : ForkPages) (seg : ℕ) → AreWhole pages → AreWhole (part relseg pages seg)
+pub part_whole : (relseg : ℕ) (pages : ForkPages) (seg : ℕ) → AreWhole pages → AreWhole (part relseg pages seg)
 part_whole relseg pages seg whole =
     All-take (λ page. length page ≡ 8192) relseg (drop (seg * relseg) pages) (All-drop (λ page. length page ≡ 8192) (seg * relseg) pages whole)
 
@@ -81,7 +81,7 @@ none_past relseg pages seg past =
     ap (λ (ps : ForkPages). flat (take relseg ps)) (drop_all (seg * relseg) pages past)
     ∙ ap flat (take_all relseg [] (omega arith))
 
-content_or_none : (relseg : ℕ) (pages : ForkPages) (seg : ℕ) → 0 < relseg → unwrap_or (segment_in relseg seg (Some pages)) [] ≡ segment_content relseg pages seg
+pub content_or_none : (relseg : ℕ) (pages : ForkPages) (seg : ℕ) → 0 < relseg → unwrap_or (segment_in relseg seg (Some pages)) [] ≡ segment_content relseg pages seg
 content_or_none relseg pages seg some = elim (cases_lt seg (segment_count relseg (length pages))) [
   | inl less ↦ ap (λ (b : Bool). unwrap_or (cond b (Some (segment_content relseg pages seg)) None) []) (lt-ltb seg (segment_count relseg (length pages)) less)
   | inr past ↦

@@ -1,21 +1,21 @@
 -- What the crate's functions answer to one another.
-use Rattle.std.specs.Prelude.{◌≡◌, ◌≤◌, ◌<◌, ◌⊎◌, ℕ, ◌-◌, ◌*◌, ◌/◌, min, Bool, true, false, List, ◌++◌, take, drop, length, Option, Result, Ok, Err, IfSome}
+use Rattle.std.specs.Prelude.{◌≡◌, ◌≤◌, ◌⊎◌, ℕ, ◌-◌, ◌*◌, ◌/◌, min, false, List, ◌++◌, take, drop, length, Option, Result, Ok, Err, IfSome}
 use Rattle.std.specs.FinMap.{empty, insert, contains_key}
-use Rattle.lsn_core.specs.Blocks.{page_put, with_fork}
+use Rattle.lsn_core.specs.Blocks.{with_fork}
 use Rattle.lsn_core.specs.Causes.{Rose}
 use Rattle.lsn_core.specs.Files.{Files}
 use Rattle.lsn_core.specs.Names.{IsNamed}
 use Rattle.lsn_core.specs.Segment.{StoreSettings}
 use Rattle.lsn_core.specs.Store.{Store, ForkPages}
-use Rattle.lsn_core.specs.Shown.{Turns}
 use Rattle.lsn_core.specs.declared.fault.AreaFault.TheVariants.{Failed}
-use Rattle.lsn_core.specs.declared.ids.BlockId.{BlockId}
 use Rattle.lsn_core.specs.declared.ids.ForkId.{ForkId}
 use Rattle.lsn_core.specs.declared.lsn.Lsn.{Lsn}
 use Rattle.lsn_core.specs.declared.pages.Pages.{Ghosts as PagesGhosts}
 use Rattle.vault.specs.Area.{bytes_of}
 use Rattle.vault.specs.Site.{state_in}
 use Rattle.vault.specs.declared.area.Vault.{Ghosts}
+use Rattle.rel_files.specs.Forks.{HasWholePages}
+use Rattle.rel_files.specs.Shown.{AreFilesOf}
 use Rattle.recovery.specs.declared.fault.ReplayFault.{ReplayFault}
 use Rattle.recovery.specs.declared.fault.ReplayFault.TheVariants as replay
 use Rattle.recovery.specs.declared.reading.Beginning.TheVariants.{AtPlace}
@@ -43,20 +43,29 @@ CopyCause before now out_before out_now (Out why) = why ≡ Failed → Rose out_
 
 -- ---- pages
 
--- a page was read of a file, its number counted from 0; or the file doesn't have it whole
-abbrev pub IsPageIn : List ℕ → ℕ → List ℕ → Bool → Type 0
-IsPageIn bytes n page true =
-    (n < length bytes / 8192) × (page ≡ take 8192 (drop (n * 8192) bytes))
-IsPageIn bytes n page false = length bytes / 8192 ≤ n
+-- told files hold a store whose pages are whole
+pub record IsShownIn (relseg : ℕ) (told : Option Files) (store : Store) : Type 0 where
+  pub files : AreFilesOf relseg told store
+  pub whole : HasWholePages store
 
-abbrev pub ReadsPage : Option Files → List ℕ → ℕ → List ℕ → Bool → Type 0
-ReadsPage files name n page there = IfSome files (λ m. IsPageIn (bytes_of m name) n page there)
+-- an area's files do
+abbrev pub area_shows : {V : Type 0} → Ghosts V → ℕ → V → Store → Type 0
+area_shows g relseg area store = IsShownIn relseg (g.files area) store
 
-abbrev pub PutsPage : {P : Type 0} → (P → Store → Type 0) → P → P → BlockId → List ℕ → Type 0
-PutsPage shows before behind at page = Turns shows before behind (page_put at page)
+-- pages of a file were read into a piece, from one on, counted from 0: as many as stand there
+-- whole, but at most so many
+pub record ArePagesIn (bytes : List ℕ) (n most : ℕ) (piece : List ℕ) (count : ℕ) : Type 0 where
+  pub counted : count ≡ min most (length bytes / 8192 - n)
+  pub are : take (count * 8192) piece ≡ take (count * 8192) (drop (n * 8192) bytes)
 
+abbrev pub ReadsPages : Option Files → List ℕ → ℕ → ℕ → List ℕ → ℕ → Type 0
+ReadsPages files name n most piece count =
+    IfSome files (λ m. ArePagesIn (bytes_of m name) n most piece count)
+
+-- an empty fork was made over each store without it
 abbrev pub MakesFork : {P : Type 0} → (P → Store → Type 0) → P → P → ForkId → Type 0
-MakesFork shows before behind fork = Turns shows before behind (λ s. with_fork s fork)
+MakesFork shows before behind fork =
+    (s : Store) → contains_key s fork ≡ false → shows before s → shows behind (with_fork s fork)
 
 -- ---- a fork
 
@@ -136,29 +145,17 @@ CopiesStore shows relseg files before behind tally =
 
 -- ---- the whole
 
--- the copy is made, and something holds of the pages and of what is counted then
-pub record CopiesThen {P : Type 0} (shows : P → Store → Type 0)
-    (relseg : ℕ) (files : Option Files) (before : P) (next : P → Tally → Type 0)
-    : Type 0 where
-  pub mid : P
-  pub counted : Tally
-  pub copied : CopiesStore shows relseg files before mid counted
-  pub then : next mid counted
-
--- over pages
-abbrev pub RestoresPages : {V P : Type 0} → Ghosts V → PagesGhosts P
-    → StoreSettings → Lsn → Option Lsn → V → V → V → V → P → P
+-- the WAL was redone over pages from a place on, or wasn't
+abbrev pub RedoesOver : {V P : Type 0} → Ghosts V → PagesGhosts P
+    → StoreSettings → Lsn → Option Lsn → Tally → V → V → P → P
     → Result Replayed RestoreFault → Type 0
-RestoresPages g p s start upto wal backup wal_now backup_now before behind (Ok replayed) =
-    CopiesThen p.shows s.relseg (g.files backup) before (λ mid counted.
-    IsRecovered p s (g.files wal) (AtPlace start) upto counted mid behind replayed)
-RestoresPages g p s start upto wal backup wal_now backup_now before behind (Err (Wal why)) =
-    CopiesThen p.shows s.relseg (g.files backup) before (λ mid counted.
-    CauseOf (redo_causes (p.shows mid) s (AtPlace start) upto (g.files wal)) (g.faults wal)
-    (g.faults wal_now) why)
-RestoresPages g p s start upto wal backup wal_now backup_now before behind (Err (Backup why)) =
-    why ≡ Failed → Rose (g.faults backup) (g.faults backup_now)
-RestoresPages g p s start upto wal backup wal_now backup_now before behind (Err (Out why)) =
+RedoesOver g p s start upto counted wal wal_now before behind (Ok replayed) =
+    IsRecovered p s (g.files wal) (AtPlace start) upto counted before behind replayed
+RedoesOver g p s start upto counted wal wal_now before behind (Err (Wal why)) =
+    CauseOf (redo_causes (p.shows before) s (AtPlace start) upto (g.files wal)) (g.faults wal)
+    (g.faults wal_now) why
+RedoesOver g p s start upto counted wal wal_now before behind (Err (Backup why)) = ⊥
+RedoesOver g p s start upto counted wal wal_now before behind (Err (Out why)) =
     why ≡ Failed → Rose (p.faults before) (p.faults behind)
 
 -- over areas

@@ -4,3 +4,4 @@ pub mod Onwards
 pub mod Inside
 pub mod Completed
 pub mod Directories
+pub mod Laws

@@ -1,146 +1,172 @@
-//! The store that the directory of a backup holds, copied into pages.
+//! The store that the directory of a backup holds, copied into the files of an output.
 
-ghost use Rattle.std.specs.Prelude.{◌≡◌, ◌≤◌, ◌<◌, ◌-◌, ◌^◌, IfOk, OnOk, IfErr, IfSome};
+ghost use Rattle.std.specs.Prelude.{◌≡◌, ◌≤◌, ◌<◌, ◌*◌, ℕ, false, IfOk, OnOk, IfErr, IfSome};
+ghost use Rattle.std.specs.Option.{option_map};
 ghost use Rattle.std.specs.FinMap.{keys};
+ghost use Rattle.lsn_core.specs.Names.{fork_path_bytes, IsNamed};
 ghost use Rattle.lsn_core.specs.Segment.{IsRelseg};
-ghost use Rattle.vault.specs.Frame.{OnlyReads};
-ghost use Rattle.backup_restore.specs.Inside.{CopyCause, ReadsPage, PutsPage, MakesFork};
+ghost use Rattle.vault.specs.Area.{after_write};
+ghost use Rattle.vault.specs.Frame.{OnlyReads, ChangesOnly};
+ghost use Rattle.rel_files.specs.Forks.{IsForkPath};
+ghost use Rattle.backup_restore.specs.Inside.{CopyCause, ReadsPages, MakesFork, area_shows};
 ghost use Rattle.backup_restore.specs.Inside.{PutsSegment, PutsFork, AddsNamed, CopiesStore};
 
 use crate::fault::RestoreFault;
-use lsn_core::{BlockId, ForkId, Pages, Text, fork_path, path_fork};
+use lsn_core::{ForkId, NoMemory, PAGE, Text, fork_path, path_fork};
 use recovery::Tally;
 use std::alloc::Global;
 use vault::Vault;
 
-/// Reads a page of a number, counted from 0, of the file of this name. False exactly where the file
-/// doesn't have it whole.
-fn read_page<V: Vault>(
+/// How many pages are copied at once: 64 KiB.
+const PIECE: u32 = 8;
+
+/// The path of a segment file of a fork.
+fn segment_path(alloc: Global, fork: &ForkId, seg: u32) -> Result<Text, NoMemory>
+    ensures named { IsNamed fork.now seg }
+    ensures path { IfOk result (λ path. path ≡ fork_path_bytes fork.now seg false) }
+{
+    // known: the numbers of a relation fit, and aren't 0
+    let _numbers = (fork.rel.db(), fork.rel.rel());
+    fork_path(alloc, *fork, seg, false)
+}
+
+/// Reads pages of the file of this name from a number on, counted from 0: as many as stand there
+/// whole, but at most so many, and says how many.
+fn read_pages<V: Vault>(
     area: &mut V,
     name: &[u8],
     number: u32,
-    into: &mut [u8; 8192],
-) -> Result<bool, RestoreFault>
-    ensures page { IfOk result (ReadsPage (V.files area.old) name.now number into.new) }
+    most: u32,
+    into: &mut [u8; 65536],
+) -> Result<u32, RestoreFault>
+    requires { most ≤ 8 }
+    ensures pages { IfOk result (ReadsPages (V.files area.old) name.now number most into.new) }
+    ensures few { IfOk result (λ count. count ≤ most) }
     ensures reads { OnlyReads V.Vault area.old area.new }
     ensures cause { IfErr result (CopyCause (V.faults area.old) (V.faults area.new) 0 0) }
 {
-    match area.read_at(name, u64::from(number) * 8192, into) {
-        Ok(count) => Ok(count == 8192),
+    match area.read_at(name, u64::from(number) * PAGE, into) {
+        Ok(count) => Ok(most.min(count / 8192)),
         Err(why) => Err(RestoreFault::Backup(why)),
     }
 }
 
-/// Puts a page at a block.
-fn put_page<P: Pages>(target: &mut P, at: BlockId, page: &[u8; 8192]) -> Result<(), RestoreFault>
-    requires { at.block < 2 ^ 32 - 1 }
-    ensures put { OnOk result (PutsPage P.shows target.old target.new at page.now) }
-    ensures kept { P.keeps target.old target.new }
-    ensures later { P.faults target.old ≤ P.faults target.new }
-    ensures cause { IfErr result (CopyCause 0 0 (P.faults target.old) (P.faults target.new)) }
+/// Writes bytes into a segment file of this path, from the page of a number on. No bytes make an
+/// empty file.
+fn write_piece<V: Vault>(
+    out: &mut V,
+    path: &[u8],
+    number: u32,
+    piece: &[u8],
+) -> Result<(), RestoreFault>
+    requires { IsForkPath path.now }
+    ensures written { OnOk result (V.files out.new
+        ≡ option_map (after_write path.now (number * 8192) piece.now) (V.files out.old)) }
+    ensures kept { ChangesOnly V.Vault IsForkPath out.old out.new }
+    ensures later { V.faults out.old ≤ V.faults out.new }
+    ensures cause { IfErr result (CopyCause 0 0 (V.faults out.old) (V.faults out.new)) }
 {
-    match target.write_block(at, page) {
+    match out.write_at(path, u64::from(number) * PAGE, piece) {
         Ok(()) => Ok(()),
         Err(why) => Err(RestoreFault::Out(why)),
     }
 }
 
 /// Makes an empty fork.
-fn make_fork<P: Pages>(target: &mut P, fork: &ForkId) -> Result<(), RestoreFault>
-    ensures made { OnOk result (MakesFork P.shows target.old target.new fork.now) }
-    ensures kept { P.keeps target.old target.new }
-    ensures later { P.faults target.old ≤ P.faults target.new }
-    ensures cause { IfErr result (CopyCause 0 0 (P.faults target.old) (P.faults target.new)) }
+fn make_fork<V: Vault>(alloc: Global, out: &mut V, fork: &ForkId) -> Result<(), RestoreFault>
+    ensures made { OnOk result ((relseg : ℕ) → 0 < relseg
+        → MakesFork (area_shows V.Vault relseg) out.old out.new fork.now) }
+    ensures kept { ChangesOnly V.Vault IsForkPath out.old out.new }
+    ensures later { V.faults out.old ≤ V.faults out.new }
+    ensures cause { IfErr result (CopyCause 0 0 (V.faults out.old) (V.faults out.new)) }
 {
-    match target.make(*fork) {
-        Ok(()) => Ok(()),
-        Err(why) => Err(RestoreFault::Out(why)),
-    }
+    let path = segment_path(alloc, fork, 0)?;
+    write_piece(out, path.as_bytes(), 0, &[])
 }
 
-/// Puts the pages of a segment file of a fork behind the pages that are there, so many, as far as
-/// they are read: how many it put.
-fn copy_segment<V: Vault, P: Pages>(
+/// Copies the pages of a segment file of a fork, whose files before it are full, behind those that
+/// are there, as far as they are read: how many it copied.
+fn copy_segment<V: Vault>(
     alloc: Global,
     area: &mut V,
     relseg: u32,
     fork: &ForkId,
     seg: u32,
     first: u32,
-    target: &mut P,
+    out: &mut V,
 ) -> Result<u32, RestoreFault>
-    ensures put { IfOk result (PutsSegment P.shows relseg (V.files area.old) fork.now seg first
-        target.old target.new) }
+    requires range { IsRelseg relseg }
+    requires place { first ≡ seg * relseg }
+    ensures put { IfOk result (PutsSegment (area_shows V.Vault relseg) relseg (V.files area.old)
+        fork.now seg first out.old out.new) }
     ensures reads { OnlyReads V.Vault area.old area.new }
-    ensures kept { P.keeps target.old target.new }
-    ensures later { P.faults target.old ≤ P.faults target.new }
+    ensures kept { ChangesOnly V.Vault IsForkPath out.old out.new }
+    ensures later { V.faults out.old ≤ V.faults out.new }
     ensures cause { IfErr result (CopyCause (V.faults area.old) (V.faults area.new)
-        (P.faults target.old) (P.faults target.new)) }
+        (V.faults out.old) (V.faults out.new)) }
 {
-    let path = fork_path(alloc, *fork, seg, false)?;
+    let path = segment_path(alloc, fork, seg)?;
     let most = relseg.min(u32::MAX - first);
-    let mut page = [0; 8192];
+    let mut piece = [0; 65536];
     let mut count = 0;
     while count < most {
-        if !read_page(area, path.as_bytes(), count, &mut page)? {
+        let asked = PIECE.min(most - count);
+        let got = read_pages(area, path.as_bytes(), count, asked, &mut piece)?;
+        if got == 0 {
             return Ok(count);
         }
-        let at = BlockId {
-            fork: *fork,
-            block: first + count,
-        };
-        put_page(target, at, &page)?;
-        count += 1;
+        write_piece(out, path.as_bytes(), count, &piece[..got as usize * 8192])?;
+        count += got;
     }
     Ok(count)
 }
 
-/// Makes a fork and puts all its pages: how many they are.
-fn copy_fork<V: Vault, P: Pages>(
+/// Makes a fork and copies all its pages: how many they are.
+fn copy_fork<V: Vault>(
     alloc: Global,
     area: &mut V,
     relseg: u32,
     fork: &ForkId,
-    target: &mut P,
+    out: &mut V,
 ) -> Result<u32, RestoreFault>
     requires { IsRelseg relseg }
-    ensures put { IfOk result
-        (PutsFork P.shows relseg (V.files area.old) fork.now target.old target.new) }
+    ensures put { IfOk result (PutsFork (area_shows V.Vault relseg) relseg (V.files area.old)
+        fork.now out.old out.new) }
     ensures reads { OnlyReads V.Vault area.old area.new }
-    ensures kept { P.keeps target.old target.new }
-    ensures later { P.faults target.old ≤ P.faults target.new }
+    ensures kept { ChangesOnly V.Vault IsForkPath out.old out.new }
+    ensures later { V.faults out.old ≤ V.faults out.new }
     ensures cause { IfErr result (CopyCause (V.faults area.old) (V.faults area.new)
-        (P.faults target.old) (P.faults target.new)) }
+        (V.faults out.old) (V.faults out.new)) }
 {
-    make_fork(target, fork)?;
+    make_fork(alloc, out, fork)?;
     let mut seg = 0;
-    let mut count = copy_segment(alloc, area, relseg, fork, seg, 0, target)?;
+    let mut count = copy_segment(alloc, area, relseg, fork, seg, 0, out)?;
     let mut all = count;
     while count == relseg {
         seg += 1;
-        count = copy_segment(alloc, area, relseg, fork, seg, all, target)?;
+        count = copy_segment(alloc, area, relseg, fork, seg, all, out)?;
         all += count;
     }
     Ok(all)
 }
 
 /// Copies the fork whose first file has this name, if one has, and counts it.
-fn copy_named<V: Vault, P: Pages>(
+fn copy_named<V: Vault>(
     alloc: Global,
     area: &mut V,
     relseg: u32,
     name: &[u8],
-    target: &mut P,
+    out: &mut V,
     tally: &mut Tally,
 ) -> Result<(), RestoreFault>
     requires { IsRelseg relseg }
-    ensures added { OnOk result (AddsNamed P.shows relseg (V.files area.old) name.now
-        target.old target.new tally.old tally.new) }
+    ensures added { OnOk result (AddsNamed (area_shows V.Vault relseg) relseg (V.files area.old)
+        name.now out.old out.new tally.old tally.new) }
     ensures reads { OnlyReads V.Vault area.old area.new }
-    ensures kept { P.keeps target.old target.new }
-    ensures later { P.faults target.old ≤ P.faults target.new }
+    ensures kept { ChangesOnly V.Vault IsForkPath out.old out.new }
+    ensures later { V.faults out.old ≤ V.faults out.new }
     ensures cause { IfErr result (CopyCause (V.faults area.old) (V.faults area.new)
-        (P.faults target.old) (P.faults target.new)) }
+        (V.faults out.old) (V.faults out.new)) }
 {
     let Some((fork, seg, incr)) = path_fork(name) else {
         return Ok(());
@@ -148,7 +174,7 @@ fn copy_named<V: Vault, P: Pages>(
     if seg != 0 || incr {
         return Ok(());
     }
-    let count = copy_fork(alloc, area, relseg, &fork, target)?;
+    let count = copy_fork(alloc, area, relseg, &fork, out)?;
     tally.recount(None, Some(count))?;
     Ok(())
 }
@@ -166,27 +192,28 @@ fn names_of<V: Vault>(alloc: Global, area: &mut V) -> Result<Vec<Text>, RestoreF
     }
 }
 
-/// Copies what the directory of a backup in an area holds, at so many blocks a file, into pages that
-/// show no fork: how many forks and pages that are. It reads and writes a page at a time.
-pub fn copy_store<V: Vault, P: Pages>(
+/// Copies what the directory of a backup in an area holds, at so many blocks a file, into an output's
+/// area whose files hold no fork: how many forks and pages that are. It reads and writes 64 KiB at a
+/// time.
+pub fn copy_store<V: Vault>(
     alloc: Global,
     area: &mut V,
     relseg: u32,
-    target: &mut P,
+    out: &mut V,
 ) -> Result<Tally, RestoreFault>
     requires { IsRelseg relseg }
     ensures copied { IfOk result
-        (CopiesStore P.shows relseg (V.files area.old) target.old target.new) }
+        (CopiesStore (area_shows V.Vault relseg) relseg (V.files area.old) out.old out.new) }
     ensures reads { OnlyReads V.Vault area.old area.new }
-    ensures kept { P.keeps target.old target.new }
-    ensures later { P.faults target.old ≤ P.faults target.new }
+    ensures kept { ChangesOnly V.Vault IsForkPath out.old out.new }
+    ensures later { V.faults out.old ≤ V.faults out.new }
     ensures cause { IfErr result (CopyCause (V.faults area.old) (V.faults area.new)
-        (P.faults target.old) (P.faults target.new)) }
+        (V.faults out.old) (V.faults out.new)) }
 {
     let names = names_of(alloc, area)?;
     let mut tally = Tally::none();
     for name in &names {
-        copy_named(alloc, area, relseg, name.as_bytes(), target, &mut tally)?;
+        copy_named(alloc, area, relseg, name.as_bytes(), out, &mut tally)?;
     }
     Ok(tally)
 }

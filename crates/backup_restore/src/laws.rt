@@ -1,8 +1,9 @@
 //! What holds of every reading of a WAL that begins at one of its entries, of every restore of a
-//! sound copy, and of the store that a directory's files hold.
+//! sound copy, of the store that a directory's files hold, and of two restores of the same files.
 
 ghost use Rattle.backup_restore.specs.Completed.{RestoresAreReplays, SoundCopiesAreCompleted};
 ghost use Rattle.backup_restore.specs.Directories.{FilesHoldOneStore, StoresAreHeld};
+ghost use Rattle.backup_restore.specs.Laws.{RestoresHaveOneAnswer};
 ghost use Rattle.backup_restore.specs.Onwards.{EntriesAreFoundAtTheirStart, ReadingGoesOn};
 ghost use Rattle.backup_restore.specs.Onwards.{ReadingFromEntryIsRest};
 
@@ -29,4 +30,10 @@ pub fn directories_hold_one_store()
 /// Files that have the segment files of a store, and no other ones, hold that store.
 pub fn stores_are_held_by_their_files()
     ensures { StoresAreHeld }
+{}
+
+/// Two restores of the same files of a backup and of the WAL, up to the same target, answer the same
+/// and leave the same files.
+pub fn restores_have_one_answer()
+    ensures { RestoresHaveOneAnswer }
 {}

@@ -4,7 +4,8 @@
 //! `specs/Copy.antt` says which store a directory holds, `specs/Restored.antt` what `restore` leaves
 //! in an output and why it is refused. Laws: a reading from an entry's start on is the rest of the
 //! WAL (`specs/Onwards.antt`), a restore of a sound copy leaves what a replay of the whole WAL makes
-//! (`specs/Completed.antt`), and files hold one store (`specs/Directories.antt`).
+//! (`specs/Completed.antt`), files hold one store (`specs/Directories.antt`), and restores of the same
+//! files answer the same (`specs/Laws.antt`).
 //!
 //! Left to others: whether a directory is as its manifest lists it (`chain_check`), how the WAL is
 //! read and an entry redone (`recovery`), and where pages stand in files (`rel_files`).
@@ -17,7 +18,7 @@ mod restoring;
 
 pub use fault::RestoreFault;
 pub use laws::{
-    directories_hold_one_store, reading_goes_on_from_entries, sound_copies_are_completed,
-    stores_are_held_by_their_files,
+    directories_hold_one_store, reading_goes_on_from_entries, restores_have_one_answer,
+    sound_copies_are_completed, stores_are_held_by_their_files,
 };
 pub use restoring::restore;

@@ -4,35 +4,33 @@ ghost use Rattle.std.specs.Prelude.{◌≡◌, ◌≤◌, IfSome};
 ghost use Rattle.std.specs.FinMap.{empty};
 ghost use Rattle.vault.specs.Frame.{OnlyReads, ChangesOnly};
 ghost use Rattle.rel_files.specs.Forks.{IsForkPath};
-ghost use Rattle.backup_restore.specs.Inside.{Restores, RestoresPages};
+ghost use Rattle.backup_restore.specs.Inside.{Restores, RedoesOver};
 
 use crate::copying::copy_store;
 use crate::fault::RestoreFault;
 use lsn_core::{Lsn, Pages, Settings};
-use recovery::{Beginning, Replayed, recover};
+use recovery::{Beginning, Replayed, Tally, recover};
 use rel_files::Forks;
 use std::alloc::Global;
 use vault::Vault;
 
-/// Copies the store that a backup's directory holds into pages that show no fork, and redoes over it
-/// the WAL from a place on.
-fn restore_pages<V: Vault, P: Pages>(
+/// Redoes over pages the WAL of these settings from a place on, up to a target, or to its end where
+/// none is given. So many forks and pages were counted of them before.
+fn redo_over<V: Vault, P: Pages>(
     alloc: Global,
     wal: &mut V,
-    backup: &mut V,
     settings: &Settings,
     start: Lsn,
     upto: Option<Lsn>,
+    counted: Tally,
     target: &mut P,
 ) -> Result<Replayed, RestoreFault>
-    ensures answer { RestoresPages V.Vault P.Pages settings.now start upto wal.old backup.old
-        wal.new backup.new target.old target.new result }
-    ensures wal { OnlyReads V.Vault wal.old wal.new }
-    ensures backup { OnlyReads V.Vault backup.old backup.new }
+    ensures answer { RedoesOver V.Vault P.Pages settings.now start upto counted wal.old wal.new
+        target.old target.new result }
+    ensures reads { OnlyReads V.Vault wal.old wal.new }
     ensures kept { P.keeps target.old target.new }
     ensures later { P.faults target.old ≤ P.faults target.new }
 {
-    let counted = copy_store(alloc, backup, settings.relseg(), target)?;
     let begin = Beginning::AtPlace(start);
     Ok(recover(alloc, wal, settings, begin, upto, target, counted)?)
 }
@@ -42,8 +40,8 @@ fn restore_pages<V: Vault, P: Pages>(
 /// files of the backup's forks are copied, and the entries redone over them that start at the place
 /// or past it and end at the target or before it. It takes the backup as it is: whether it is as its
 /// manifest lists it is left to the caller, and so is making durable what was written, and what a
-/// refusal left. It holds a page, an entry of the WAL, the names of the backup's files and the
-/// lengths of the forks.
+/// refusal left. It holds 64 KiB of a file, or an entry of the WAL, the names of the backup's files
+/// and the lengths of the forks.
 pub fn restore<V: Vault>(
     alloc: Global,
     wal: &mut V,
@@ -60,7 +58,13 @@ pub fn restore<V: Vault>(
     ensures backup { OnlyReads V.Vault backup.old backup.new }
     ensures kept { ChangesOnly V.Vault IsForkPath out result.0 }
 {
-    let mut forks = Forks::new(alloc, out, settings.relseg());
-    let came = restore_pages(alloc, wal, backup, settings, start, upto, &mut forks);
+    let relseg = settings.relseg();
+    let mut out = out;
+    let counted = match copy_store(alloc, backup, relseg, &mut out) {
+        Ok(counted) => counted,
+        Err(why) => return (out, Err(why)),
+    };
+    let mut forks = Forks::new(alloc, out, relseg);
+    let came = redo_over(alloc, wal, settings, start, upto, counted, &mut forks);
     (forks.area(), came)
 }

@@ -1,15 +1,16 @@
 use Rattle.std.proofs.Common.{◌+◌, ◌-◌, ◌≤◌}
-use Rattle.vault.specs.Frame.{OnlyReads}
-use Rattle.backup_restore.specs.Inside.{MakesFork}
+use Rattle.vault.specs.Frame.{OnlyReads, ChangesOnly}
+use Rattle.rel_files.specs.Forks.{IsForkPath}
+use Rattle.backup_restore.specs.Inside.{MakesFork, area_shows}
 use Rattle.backup_restore.proofs.ForkCopies.{KeepsFork}
 use Rattle.backup_restore.proofs.copying.copy_fork.Given as goal
 
 -- the fork was made, and the files so far were put
 abbrev pub invariant-loop-count : goal.invariant-loop-count
 invariant-loop-count g l =
-    (mid : g.row.P.Denot) × MakesFork g.P.Pages.shows l.fn.target mid l.fork
-    × KeepsFork g.P.Pages.shows l.relseg (g.V.Vault.files l.fn.area) l.fork mid l.target l.seg l.count l.all
-    × OnlyReads g.V.Vault l.fn.area l.area × g.P.Pages.keeps l.fn.target l.target × (g.P.Pages.faults l.fn.target ≤ g.P.Pages.faults l.target)
+    (mid : g.row.V.Denot) × MakesFork (area_shows g.V.Vault l.relseg) l.fn.out mid l.fork
+    × KeepsFork (area_shows g.V.Vault l.relseg) l.relseg (g.V.Vault.files l.fn.area) l.fork mid l.out l.seg l.count l.all
+    × OnlyReads g.V.Vault l.fn.area l.area × ChangesOnly g.V.Vault IsForkPath l.fn.out l.out × (g.V.Vault.faults l.fn.out ≤ g.V.Vault.faults l.out)
 
 abbrev pub decreases-loop-count : goal.decreases-loop-count
 decreases-loop-count g l = 4294967295 + l.relseg - l.all + l.count - l.relseg

@@ -1,0 +1,23 @@
+-- That restores of the same files answer the same.
+use Rattle.std.specs.Prelude.{◌≡◌, Option, Some, IsSome}
+use Rattle.lsn_core.specs.Files.{Files}
+use Rattle.lsn_core.specs.Segment.{StoreSettings}
+use Rattle.lsn_core.specs.declared.lsn.Lsn.{Lsn}
+use Rattle.recovery.specs.declared.replaying.Replayed.{Replayed}
+use Rattle.backup_restore.specs.Restored.{RestoreAreas, IsRestored}
+
+-- a restore of these files of a backup and of the WAL, whose output tells its files
+pub record IsRestoreOf (wal backup : Files) (old : RestoreAreas) : Type 0 where
+  pub wal_told : old.wal.files ≡ Some wal
+  pub backup_told : old.backup.files ≡ Some backup
+  pub out_told : IsSome old.out.files
+
+-- two restores of the same files from the same place on, up to the same target, answer the same and
+-- leave the same files
+abbrev pub RestoresHaveOneAnswer : Type 0
+RestoresHaveOneAnswer =
+    (s : StoreSettings) (start : Lsn) (upto : Option Lsn) (wal backup : Files)
+    (old new before behind : RestoreAreas) (one other : Replayed)
+    → IsRestoreOf wal backup old → IsRestoreOf wal backup before
+    → IsRestored s start upto old new one → IsRestored s start upto before behind other
+    → (one ≡ other) × (new.out.files ≡ behind.out.files)
