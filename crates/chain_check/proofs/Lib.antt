@@ -2,7 +2,7 @@ mod Pieces
 mod Searched
 mod Sorted
 mod Others
-mod ForkFiles
+pub mod ForkFiles
 mod Manifests
 mod Listed
 mod Counted

@@ -1,0 +1,9 @@
+pub mod Lines
+pub mod SoundRuns
+pub mod Settled
+pub mod Reading
+pub mod Members
+pub mod RestoredRuns
+pub mod ListedFiles
+pub mod Replays
+pub mod LaterRuns

@@ -1,0 +1,134 @@
+-- The backups that a run answered are sound for the records of its WAL.
+use Rattle.std.proofs.Common.{◌≡◌, ℕ, zero, suc, ◌&&◌, true, List, [], ◌∷◌, ◌++◌, map, length, take, drop, append_assoc, Option, Some, is_some, sym, ap, subst, ◌∙◌, arith, inr}
+use Rattle.std.specs.Prelude.{◌==◌}
+use Rattle.std.specs.List.{All, list_any, slice_get}
+use Rattle.std.specs.FinMap.{empty}
+use Rattle.std.proofs.lemmas.Bool.{and_from, or_left, or_right, eq-eqb}
+use Rattle.std.proofs.lemmas.List.{map-append, length-map, take-append-drop}
+use Rattle.std.proofs.lemmas.List.Folds.{list_any-append}
+use Rattle.std.proofs.Math.Seq.{take-append_seam}
+use mathlib.Core.List.{IsPrefix}
+use Rattle.lsn_core.specs.Segment.{StoreSettings}
+use Rattle.lsn_core.specs.Store.{Store}
+use Rattle.wal_record.specs.declared.record.Record.{Record}
+use Rattle.history.specs.Apply.{apply_all}
+use Rattle.history.specs.Entry.{Entry, is_of_run}
+use Rattle.history.specs.Whole.{entry_of}
+use Rattle.history.specs.Written.{is_redo, wal_of}
+use Rattle.fuzzy_copies.specs.Logged.{history_of, log_of}
+use Rattle.fuzzy_copies.specs.Orderly.{IsOrderly}
+use Rattle.fuzzy_copies.specs.Sound.{IsSoundCopy}
+use Rattle.fuzzy_copies.specs.Taken.{IsSeen, IsTaken}
+use Rattle.fuzzy_copies.proofs.Restored.{logged_sound}
+use Rattle.fuzzy_copies.proofs.Taken.{taken_sound}
+use Rattle.journal.specs.Lawful.{IsLawful}
+use Rattle.journal.proofs.Stands.{lawful_orderly}
+use Rattle.shared_store.specs.Copied.{is_redo_at, HasRedoPoint}
+use Rattle.shared_store.proofs.RedoPoints.{redo_runs}
+use Rattle.crew.specs.declared.answer.Answer.TheVariants.{Backup}
+use Rattle.crew.specs.Run.{HasBackupAt, HoldsBackup, basis_of}
+use Rattle.crew.proofs.Lists.{prefix_get}
+use Rattle.run_command.specs.Run.{AreTold, IsOfRun}
+use Rattle.run_command.proofs.OwnEntries.{AreOwn, of_worker, written_own, parted}
+use Rattle.backup_laws.specs.Runs.{BackupsOfRunsAreSound}
+use Rattle.backup_laws.proofs.Lines.{line_stands}
+
+-- ---- where it begins
+
+redo_there : (place : ℕ) (es : List Entry) (number : ℕ) (e : Entry) → slice_get es number ≡ Some e → is_redo_at place e ≡ true → HasRedoPoint es place
+redo_there place [] number e there is = absurd cc
+redo_there place (x ∷ es) zero e there is =
+    let same : x ≡ e = cc in
+    or_left (is_redo_at place x) (list_any (is_redo_at place) es) (ap (is_redo_at place) same ∙ is)
+redo_there place (x ∷ es) (suc n) e there is = or_right (is_redo_at place x) (list_any (is_redo_at place) es) (redo_there place es n e there is)
+
+-- the start of a backup's checkpoint is a redo point
+begins_at : (worker : ℕ) (now history : List Entry) (start checkpoint end : ℕ) → IsPrefix now history → HasBackupAt worker 0 now start checkpoint end → HasRedoPoint history start
+begins_at worker now history start checkpoint end p h =
+    let at : (h.first.start == start) ≡ true = eq-eqb h.first.start start (sym h.start_is) in
+    let marks : is_redo h.first.act ≡ true = ap is_redo h.entries.starts.0 in
+    let own : is_of_run h.first ≡ true = ap (λ (o : Option ℕ). is_some o) h.entries.starts.1 in
+    redo_there start history h.number h.first (prefix_get now history h.number h.first p h.there)
+    (and_from ((h.first.start == start) && is_redo h.first.act) (is_of_run h.first) (and_from (h.first.start == start) (is_redo h.first.act) at marks) own)
+
+-- ---- a history that goes on
+
+seen_on : (seen history more : List Entry) (from to : ℕ) → IsSeen seen history from to → IsSeen seen (history ++ more) from to
+seen_on seen history more from to s = record {
+  behind = s.behind ++ more;
+  all = ap (λ (es : List Entry). es ++ more) s.all ∙ append_assoc seen s.behind more;
+  holds = s.holds;
+  ends = list_any-append (λ (e : Entry). e.end == to) s.behind more ∙ or_left (list_any (λ (e : Entry). e.end == to) s.behind) (list_any (λ (e : Entry). e.end == to) more) s.ends;
+}
+
+taken_on : (copy : Store) (history more : List Entry) (from to : ℕ) → IsTaken copy history from to → IsTaken copy (history ++ more) from to
+taken_on copy history more from to t = record {
+  forks = λ fork.
+      let l = t.forks fork in
+      record { seen = l.seen; prefix = seen_on l.seen history more from to l.prefix; listed = l.listed };
+  blocks = λ fork block page there.
+      let c = t.blocks fork block page there in
+      record { seen = c.seen; prefix = seen_on c.seen history more from to c.prefix; answer = c.answer; copied = c.copied; written = c.written };
+}
+
+-- a copy that was taken while a beginning of a history was written is sound for all of it
+taken_in : (mib : ℕ) (copy : Store) (now history : List Entry) (from to : ℕ) → IsLawful mib history → HasRedoPoint history from → IsPrefix now history → IsTaken copy now from to → IsSoundCopy copy history from to
+taken_in mib copy now history from to law redo p taken =
+    taken_sound copy history from to (redo_runs mib from history law redo) (subst (λ (es : List Entry). IsTaken copy es from to) p.1 (taken_on copy now p.0 from to taken))
+
+-- ---- the records of the WAL
+
+own_entries : (workers : ℕ) (es : List Entry) → All (IsOfRun workers) es → AreOwn es
+own_entries workers [] all = tt
+own_entries workers (e ∷ es) all =
+    let by : IsOfRun workers e = all 0 e (omega arith) in
+    (of_worker by.0 e by.2, own_entries workers es (λ k d within. all (suc k) d (omega arith)))
+
+-- entries that were found, before own ones, are the same however they are told
+found_alike : (rs qs : List Record) (es os : List Entry) → AreOwn es → AreOwn os → map entry_of rs ++ es ≡ map entry_of qs ++ os → map entry_of rs ≡ map entry_of qs
+found_alike rs qs es os own other same =
+    let part = parted rs qs es os own other same in
+    let many : length (map entry_of rs) ≡ length (map entry_of qs) = length-map rs entry_of ∙ (part.0 ∙ sym (length-map qs entry_of)) in
+    sym (take-append_seam (map entry_of rs) es)
+    ∙ (ap (take (length (map entry_of rs))) same
+    ∙ (ap (λ (n : ℕ). take n (map entry_of qs ++ os)) many ∙ take-append_seam (map entry_of qs) os))
+
+-- so the WAL's records are read as the entries of a lawful history's log
+log_alike : (mib : ℕ) (found : List Record) (own history : List Entry) (law : IsLawful mib history) → history ≡ map entry_of found ++ own → AreOwn own → map entry_of (log_of mib law.found law.own) ≡ map entry_of (found ++ wal_of mib history)
+log_alike mib found own history law grown owns =
+    let alike : map entry_of law.found ≡ map entry_of found = found_alike law.found found law.own own (written_own mib _ law.own law.logged.written) owns (sym law.grown ∙ grown) in
+    map-append entry_of law.found (wal_of mib (history_of law.found law.own))
+    ∙ (ap (λ (es : List Entry). es ++ map entry_of (wal_of mib (history_of law.found law.own))) alike
+    ∙ (ap (λ (es : List Entry). map entry_of found ++ map entry_of (wal_of mib es)) (sym law.grown)
+    ∙ sym (map-append entry_of found (wal_of mib history))))
+
+sound_logged : (mib : ℕ) (copy : Store) (found : List Record) (own history : List Entry) (from to : ℕ) → IsLawful mib history → history ≡ map entry_of found ++ own → AreOwn own → IsSoundCopy copy history from to → IsSoundCopy copy (map entry_of (found ++ wal_of mib history)) from to
+sound_logged mib copy found own history from to law grown owns sound =
+    subst (λ (es : List Entry). IsSoundCopy copy es from to) (log_alike mib found own history law grown owns)
+    (logged_sound mib law.found law.own law.store copy from to
+    (subst (λ (es : List Entry). IsOrderly 0 es) law.grown (lawful_orderly mib history law)) law.logged
+    (subst (λ (es : List Entry). apply_all empty es ≡ Some law.store) law.grown law.made)
+    (subst (λ (es : List Entry). IsSoundCopy copy es from to) law.grown sound))
+
+-- ---- the law
+
+pub runs_sound : BackupsOfRunsAreSound
+runs_sound when old new report run name start end taken told =
+    let s : StoreSettings = run.settings in
+    let law : IsLawful s.segment run.history = run.happened.lawful told in
+    let stands = line_stands (AreTold old) (basis_of s when) taken.worker run.history new taken.by.task.lines taken.by.answers taken.number taken.line taken.behind (Backup start end) taken.later (run.completed taken.worker taken.by taken.there) taken.lines taken.answers name taken.takes in
+    let now : List Entry = take stands.0 run.history in
+    let holds : HoldsBackup (AreTold old) (basis_of s when) taken.worker 0 now name start end stands.1 = stands.3 in
+    let front : IsPrefix now run.history = (drop stands.0 run.history, take-append-drop stands.0 run.history) in
+    let redo : HasRedoPoint run.history start.0 = begins_at taken.worker now run.history start.0 holds.checkpoint end.0 front holds.entries in
+    let sound : IsSoundCopy holds.copy run.history start.0 end.0 = taken_in s.segment holds.copy now run.history start.0 end.0 law redo front (holds.taken told) in (
+      stands.1,
+      record {
+        copy = holds.copy;
+        checkpoint = record { 0 = holds.checkpoint };
+        count = holds.count;
+        directory = holds.directory;
+        sound = sound_logged s.segment holds.copy run.found run.happened.own run.history start.0 end.0 law run.happened.grown (own_entries _ run.happened.own run.happened.of_run) sound;
+      },
+      λ last. stands.4 (inr last),
+    )

@@ -1,0 +1,137 @@
+-- What `restore` makes of a backup that `run` took is what a replay of the whole WAL makes.
+use Rattle.std.specs.Prelude.{◌≡◌, ℕ, List, [], ◌∷◌, Option, Some, None, Ok, IsSome}
+use Rattle.std.specs.FinMap.{len}
+use Rattle.lsn_core.specs.Files.{Files}
+use Rattle.lsn_core.specs.Segment.{StoreSettings}
+use Rattle.lsn_core.specs.Store.{Store, files_of}
+use Rattle.lsn_core.specs.declared.lsn.Lsn.{Lsn}
+use Rattle.wal_record.specs.declared.record.Record.{Record}
+use Rattle.history.specs.Pages.{page_count}
+use Rattle.history.specs.Whole.{whole}
+use Rattle.recovery.specs.Causes.{HasSettings}
+use Rattle.shared_store.specs.Close.{HoldsRecords}
+use Rattle.command_base.specs.Areas.{wal_name, output_name, backup_name}
+use Rattle.command_base.specs.Outside.{Outside}
+use Rattle.run_command.specs.declared.command.RunReport.{RunReport}
+use Rattle.run_command.specs.Run.{RunDoes, AreTold}
+use Rattle.pgbackup_cli.specs.declared.replay.ReplayReport.{ReplayReport}
+use Rattle.pgbackup_cli.specs.Replay.{ReplayDoes, end_by}
+use Rattle.pgbackup_cli.specs.Restore.{RestoreDoes}
+use Rattle.backup_laws.specs.Runs.{IsBackedUp, IsLastOfName}
+
+-- `run` ran a script on a store whose areas tell their files, and closed the store: the WAL ends there
+pub record HasRun (before left : Outside) (report : RunReport) (end : Lsn) : Type 0 where
+  pub told : AreTold before.areas
+  pub does : RunDoes before left (Ok report)
+  pub closed : report.closed ≡ Ok end
+
+-- `restore` ended well, of the backup of a name and to an output, which tell their files; those of the
+-- WAL and of the backup are as they were left before
+pub record HasRestored
+    (left : Outside) (upto : Option Lsn) (out name : List ℕ) (old new : Outside)
+    (report : ReplayReport)
+    : Type 0 where
+  pub does : RestoreDoes upto out name old new (Ok report)
+  pub wal : (old.areas wal_name).files ≡ (left.areas wal_name).files
+  pub backup : (old.areas (backup_name name)).files ≡ (left.areas (backup_name name)).files
+  pub backup_told : IsSome (old.areas (backup_name name)).files
+  pub output_told : IsSome (old.areas (output_name out)).files
+
+-- up to where is replayed of a WAL that ends at a place: to the target, where one is given
+abbrev pub replay_end : Option Lsn → Lsn → ℕ
+replay_end None end = end.0
+replay_end (Some target) end = target.0
+
+-- an output has just the files of the store that all records of a WAL make from nothing which end at a
+-- place or before it; and where the last of these ends, and how many forks and pages there are, is
+-- told
+pub record IsWholeReplay
+    (wal : Option Files) (end : Lsn) (place : ℕ) (report : ReplayReport) (out : Option Files)
+    : Type 0 where
+  -- the WAL has these records and ends there
+  pub files : Files
+  pub told : wal ≡ Some files
+  pub settings : StoreSettings
+  pub given : HasSettings wal settings
+  pub records : List Record
+  pub held : HoldsRecords settings records end.0 files
+  -- they make this
+  pub store : Store
+  pub made : whole records place ≡ Some store
+  -- and this is what is there and what is told
+  pub written : out ≡ Some (files_of settings.relseg store)
+  pub last : report.end.0 ≡ end_by settings.segment place records
+  pub forks : report.forks ≡ len store
+  pub pages : report.pages ≡ page_count store
+
+-- a backup that a run answered with `backup START END` is restored to exactly what a replay of the
+-- whole WAL gives, to the same target
+abbrev pub RunsAndRestoresAreReplays : Type 0
+RunsAndRestoresAreReplays =
+    (before left old new : Outside) (run : RunReport) (end start stop : Lsn)
+    (name out : List ℕ) (upto : Option Lsn) (report : ReplayReport)
+    (taken : IsBackedUp run.told name start stop)
+    → HasRun before left run end → IsLastOfName run.told name start stop taken
+    → HasRestored left upto out name old new report
+    → IsWholeReplay (left.areas wal_name).files end (replay_end upto end) report
+    (new.areas (output_name out)).files
+
+-- ---- beside the command `replay`
+
+-- `replay` ended well, to an output that tells its files; those of the WAL are as they were left before
+pub record HasReplayed
+    (left : Outside) (upto : Option Lsn) (out : List ℕ) (old new : Outside) (report : ReplayReport)
+    : Type 0 where
+  pub does : ReplayDoes upto out old new (Ok report)
+  pub wal : (old.areas wal_name).files ≡ (left.areas wal_name).files
+  pub output_told : IsSome (old.areas (output_name out)).files
+
+-- two outputs have the same files, and the same is told of them
+pub record AreAlike
+    (one other : Option Files) (report told : ReplayReport)
+    : Type 0 where
+  pub files : one ≡ other
+  pub reports : report ≡ told
+
+-- so `restore` of such a backup leaves the files that `replay` of the same WAL to the same target
+-- leaves, and tells what `replay` tells
+abbrev pub RestoresAreAsReplays : Type 0
+RestoresAreAsReplays =
+    (before left old new was is : Outside) (run : RunReport) (end start stop : Lsn)
+    (name out other : List ℕ) (upto : Option Lsn) (report told : ReplayReport)
+    (taken : IsBackedUp run.told name start stop)
+    → HasRun before left run end → IsLastOfName run.told name start stop taken
+    → HasRestored left upto out name old new report
+    → HasReplayed left upto other was is told
+    → AreAlike (new.areas (output_name out)).files (is.areas (output_name other)).files report told
+
+-- ---- a WAL that later runs wrote on
+
+-- a later run
+pub record LaterRun : Type 0 where
+  pub before : Outside
+  pub left : Outside
+  pub report : RunReport
+  pub end : Lsn
+
+-- runs one behind the other, each of which finds the files of the WAL that the one before left, from
+-- what a first one left to what the last one did
+abbrev pub HaveRun : Outside → Lsn → List LaterRun → Outside → Lsn → Type 0
+HaveRun left end [] last stop = (last ≡ left) × (stop ≡ end)
+HaveRun left end (run ∷ runs) last stop =
+    ((run.before.areas wal_name).files ≡ (left.areas wal_name).files)
+    × HasRun run.before run.left run.report run.end
+    × HaveRun run.left run.end runs last stop
+
+-- a backup is restored so over the WAL of later runs too, where they left its area as it was
+abbrev pub LaterRestoresAreReplays : Type 0
+LaterRestoresAreReplays =
+    (before left last old new : Outside) (run : RunReport) (runs : List LaterRun)
+    (end top start stop : Lsn) (name out : List ℕ) (upto : Option Lsn) (report : ReplayReport)
+    (taken : IsBackedUp run.told name start stop)
+    → HasRun before left run end → IsLastOfName run.told name start stop taken
+    → HaveRun left end runs last top
+    → (last.areas (backup_name name)).files ≡ (left.areas (backup_name name)).files
+    → HasRestored last upto out name old new report
+    → IsWholeReplay (last.areas wal_name).files top (replay_end upto top) report
+    (new.areas (output_name out)).files
