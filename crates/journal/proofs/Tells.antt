@@ -11,6 +11,7 @@ use Rattle.lsn_core.specs.Store.{Store}
 use Rattle.lsn_core.specs.Tip.{Tip}
 use Rattle.lsn_core.specs.declared.lsn.Lsn.{Lsn}
 use Rattle.vault.specs.Area.{Related}
+use Rattle.vault.specs.Frame.{OnlyReads}
 use Rattle.vault.specs.declared.area.Vault.{Ghosts}
 use Rattle.wal_record.specs.declared.record.Record.{Record}
 use Rattle.wal_record.specs.declared.record.Kind.{Kind}
@@ -229,6 +230,13 @@ keeps_as {V} g tells old new pen next pages tail area same keeps = (
   subst (λ es. EndsWith new.tail es) (sym same) (subst (λ (log : Log). EndsWith log pen) (sym tail) keeps.0),
   λ tell. subst (λ es. IsTold new.tail (g.files new.area) es pages) (sym same)
       (told_as old.tail new.tail (g.files old.area) (g.files new.area) pen pages tail (ap (λ (a : V). g.files a) area) (keeps.1 tell)),
+)
+
+-- its area was only read
+pub keeps_read : {V : Type 0} (g : Ghosts V) (tells : Bool) (old new : WalState V) (pen : List Entry) (pages : ℕ) → new.tail ≡ old.tail → OnlyReads g old.area new.area → Keeps g tells old pen pages → Keeps g tells new pen pages
+keeps_read g tells old new pen pages tail reads keeps = (
+  subst (λ (log : Log). EndsWith log pen) (sym tail) keeps.0,
+  λ tell. told_as old.tail new.tail (g.files old.area) (g.files new.area) pen pages tail reads.files (keeps.1 tell),
 )
 
 pub keeps_refused : {V : Type 0} (g : Ghosts V) (tells : Bool) (old new : WalState V) (pen : List Entry) (pages : ℕ) (kind : Kind) (fault : AppendFault) → AppendAnswer kind old.tail new.tail (Err fault) → new.area ≡ old.area

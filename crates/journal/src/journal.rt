@@ -5,7 +5,9 @@ ghost use mathlib.Core.List.{IsPrefix};
 ghost use Rattle.lsn_core.specs.Causes.{HasCause};
 ghost use Rattle.wal_record.specs.Spelling.{IsWritable};
 ghost use Rattle.wal_writer.specs.Log.{IsLog, flush_end, touched_to};
+ghost use Rattle.vault.specs.Frame.{OnlyReads};
 ghost use Rattle.wal_writer.specs.Answers.{AppendAnswer, Flushes, Tears, Keeps, FlushWrites};
+ghost use Rattle.wal_writer.specs.Answers.{ReadsFlushed};
 ghost use Rattle.history.specs.Entry.{Mark, RedoMark, Online, BackupEnd};
 ghost use Rattle.history.specs.Op.{act_of_op};
 ghost use Rattle.history.specs.Written.{mark_kind};
@@ -16,11 +18,12 @@ use crate::entry::HistoryEntry;
 use crate::marks::{StoreMark, mark_kind};
 use crate::naming::OfStore;
 use history::Op;
-use lsn_core::{AreaFault, Lsn, WalTip};
+use lsn_core::{AreaFault, Lsn, Settings, WalTip};
 use std::alloc::Global;
 use std::marker::{Brand, Model};
 use timeline::{Names, Note, Pen, Timeline};
 use vault::Vault;
+use wal_reader::WalFault;
 use wal_record::{Kind, Record};
 use wal_writer::{AppendFault, Flushed, WalState};
 
@@ -210,6 +213,25 @@ impl<J: OfStore, V: Vault> Journal<J, V> {
     {
         let _tip = self.tip();
         self.wal.flush_to(alloc, to)
+    }
+
+    /// The first entries of the WAL of these settings from a place on, so many of them, as far as it
+    /// is flushed, as `WalState::read_flushed` reads them. Nothing changes.
+    pub fn read_flushed(
+        &mut self,
+        alloc: Global,
+        settings: &Settings,
+        from: Lsn,
+        most: u32,
+    ) -> Result<Vec<Record>, WalFault>
+        ensures answer { ReadsFlushed V.Vault settings.now from.0 most self.old.wal self.new.wal
+            result }
+        ensures reads { OnlyReads V.Vault self.old.wal.area self.new.wal.area }
+        ensures tail { self.new.wal.tail ≡ self.old.wal.tail }
+        ensures pen { self.new.pen ≡ self.old.pen }
+        ensures pages { self.new.pages ≡ self.old.pages }
+    {
+        self.wal.read_flushed(alloc, settings, from, most)
     }
 
     /// Shows that a note is a beginning of the history. The note knows the whole history

@@ -63,11 +63,11 @@ none_waits judge log tip (r ∷ rs) some end w none =
 
 -- some records are read of files up to a place, and the WAL is just these unless it goes on over a
 -- missing file
-record AreHeld (mib system end : ℕ) (records : List Record) (files : Files) : Type 0 where
-  tip : Tip
-  at : tip.end ≡ end
-  walk : Walks record_at mib system (archive_of mib files) (first_tip mib) records tip
-  whole : HasNoGap mib (archive_of mib files) tip.end → IsWal record_at mib system files records tip
+pub record AreHeld (mib system end : ℕ) (records : List Record) (files : Files) : Type 0 where
+  pub tip : Tip
+  pub at : tip.end ≡ end
+  pub walk : Walks record_at mib system (archive_of mib files) (first_tip mib) records tip
+  pub whole : HasNoGap mib (archive_of mib files) tip.end → IsWal record_at mib system files records tip
 
 held_of : (log : Log) (top : ℕ) (files : Files) (records : List Record) → IsLog log → HoldsLog log files records → log.flushed ≡ log.tip.end → log.tip.end ≡ top → AreHeld log.mib log.system top records files
 held_of log top files records is holds none last =
@@ -83,14 +83,14 @@ held_of log top files records is holds none last =
       whole = holds.ended (omega (arith, is.touched, none, holds.waits.from));
     })
 
-record IsHeld (mib system : ℕ) (history : List Entry) (files : Files) : Type 0 where
-  lawful : IsLawful mib history
-  held : AreHeld mib system (tip_of mib history).end (log_of mib lawful.found lawful.own) files
+pub record IsHeld (mib system : ℕ) (history : List Entry) (files : Files) : Type 0 where
+  pub lawful : IsLawful mib history
+  pub held : AreHeld mib system (tip_of mib history).end (log_of mib lawful.found lawful.own) files
 
 told_at : (log : Log) (o : Option Files) (files : Files) (records : List Record) → o ≡ Some files → IfSome o (λ f. HoldsLog log f records) → HoldsLog log files records
 told_at log o files records e held = subst (λ (x : Option Files). IfSome x (λ f. HoldsLog log f records)) e held
 
-history_held : (log : Log) (o : Option Files) (files : Files) (history : List Entry) (pages : ℕ) → IsLog log → o ≡ Some files → IsTold log o history pages → log.flushed ≡ log.tip.end → IsHeld log.mib log.system history files
+pub history_held : (log : Log) (o : Option Files) (files : Files) (history : List Entry) (pages : ℕ) → IsLog log → o ≡ Some files → IsTold log o history pages → log.flushed ≡ log.tip.end → IsHeld log.mib log.system history files
 history_held log o files history pages is e told none =
     record { lawful = told.lawful; held = held_of log (tip_of log.mib history).end files (log_of log.mib told.lawful.found told.lawful.own) is (told_at log o files (log_of log.mib told.lawful.found told.lawful.own) e told.held) none (ap (λ (t : Tip). t.end) told.tip) }
 
@@ -148,7 +148,7 @@ fell_each old new w a b c d Wal = w
 fell_each old new w a b c d (Data q) = pick_less (q == 0) (q == 1) (q == 2) (q == 3) old.data0 old.data1 old.data2 old.data3 new.data0 new.data1 new.data2 new.data3 a b c d
 fell_each old new w a b c d Sums = omega arith
 
-area_cause : (which : StoreArea) (old new : Faults) (why : StoreFault) → AreaCause which (count_of which old) (count_of which new) why → StoreCause old new why
+pub area_cause : (which : StoreArea) (old new : Faults) (why : StoreFault) → AreaCause which (count_of which old) (count_of which new) why → StoreCause old new why
 area_cause which old new (store.Failed other) cause = subst (λ a. Rose (count_of a old) (count_of a new)) (sym cause.0) cause.1
 area_cause which old new store.NoMemory cause = tt
 
@@ -178,7 +178,7 @@ history_of g store areas files h e parts = record {
   parts = parts;
 }
 
-some_of : (o : Option Files) → IsSome o → (files : Files) × (o ≡ Some files)
+pub some_of : (o : Option Files) → IsSome o → (files : Files) × (o ≡ Some files)
 some_of (Some files) some = (files, refl)
 some_of None some = absurd cc
 

@@ -11,3 +11,5 @@ pub mod Found
 pub mod Begun
 pub mod RedoPoints
 pub mod Copies
+pub mod Pieces
+pub mod Staying

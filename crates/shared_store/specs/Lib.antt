@@ -6,5 +6,6 @@ pub mod Calls
 pub mod Copied
 pub mod Begin
 pub mod Close
+pub mod Records
 pub mod Inside
 pub mod Found

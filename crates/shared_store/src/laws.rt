@@ -2,6 +2,7 @@
 
 ghost use Rattle.shared_store.specs.Calls.{StoresGoOn};
 ghost use Rattle.shared_store.specs.Copied.{CheckpointsHaveRedoPoints, RedoPointsStay, RedoPointsRun, BackupsEndBehind};
+ghost use Rattle.shared_store.specs.Records.{RecordsEndAtEntries, PlacesStay, RecordsStay};
 
 /// What one call on a store leaves, and another one behind it, is what either leaves.
 pub fn stores_go_on()
@@ -15,4 +16,13 @@ pub fn copies_start_at_redo_points()
     ensures stays { RedoPointsStay }
     ensures runs { RedoPointsRun }
     ensures ends { BackupsEndBehind }
+{}
+
+/// Each record that is answered of a store's WAL ends where an entry of the history does, which stays
+/// so: the next records can be asked for from there. What is answered later is of a WAL that begins
+/// with the records that it had.
+pub fn records_go_on()
+    ensures end { RecordsEndAtEntries }
+    ensures stays { PlacesStay }
+    ensures kept { RecordsStay }
 {}

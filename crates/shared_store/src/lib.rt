@@ -7,7 +7,8 @@
 //! over the history (`specs/Calls.antt`), and what the store keeps of its parts in
 //! `specs/Opened.antt`: each partition follows the history, also after calls that failed. `begin`
 //! opens a store on its areas (`specs/Begin.antt`), and `close` hands these back with all that the
-//! history makes (`specs/Close.antt`).
+//! history makes (`specs/Close.antt`). `records` gives the WAL's records piece by piece, while the
+//! store is open (`specs/Records.antt`).
 //!
 //! Left to others: the history and the WAL that tells it (`journal`), a partition's pages and its
 //! area (`page_pool`), replay (`recovery`), and how the data areas are rebuilt (`data_areas`).
@@ -31,13 +32,14 @@ mod marks;
 mod naming;
 mod pass;
 mod receipt;
+mod records;
 mod store;
 mod sweep;
 
 pub use areas::StoreAreas;
 pub use begin::{Began, BeginFault, BeginWhy};
 pub use fault::InsertFault;
-pub use laws::{copies_start_at_redo_points, stores_go_on};
+pub use laws::{copies_start_at_redo_points, records_go_on, stores_go_on};
 pub use naming::OfCrew;
 pub use pass::Pass;
 pub use receipt::{Receipt, Redo};

@@ -1,9 +1,14 @@
 -- What calls on the writer of the WAL answer.
-use Rattle.std.specs.Prelude.{◌≡◌, ℕ, ◌+◌, ◌-◌, ◌<◌, ◌≤◌, List, length, Option, Result, Ok, Err}
+use Rattle.std.specs.Prelude.{◌≡◌, ℕ, ◌+◌, ◌-◌, ◌<◌, ◌≤◌, List, length, Option, Some, Result, Ok, Err}
+use Rattle.std.specs.Global.{Vec}
 use Rattle.std.specs.Option.{option_map}
 use Rattle.lsn_core.specs.Files.{Files}
+use Rattle.lsn_core.specs.Segment.{StoreSettings}
 use Rattle.vault.specs.declared.area.Vault.{Ghosts}
+use Rattle.wal_archive.specs.Rules.{lsn}
 use Rattle.wal_archive.specs.Writing.{archive_written}
+use Rattle.wal_reader.specs.declared.fault.WalFault.{WalFault}
+use Rattle.wal_pieces.specs.Piece.{ReadsPiece}
 use Rattle.wal_record.specs.Tips.{wal_limit}
 use Rattle.wal_record.specs.declared.record.Record.{Record}
 use Rattle.wal_record.specs.declared.record.Kind.{Kind}
@@ -68,3 +73,9 @@ module _ {V : Type 0} (g : Ghosts V) where
   -- only the archive is written, from the flushed place on
   abbrev pub FlushWrites : WalState V → WalState V → Type 0
   FlushWrites old new = WritesBehind g old.tail.mib old.tail.flushed old.area new.area
+
+  -- a piece of what is flushed is read
+  abbrev pub ReadsFlushed : StoreSettings → ℕ → ℕ → WalState V → WalState V
+      → Result (Vec Record) WalFault → Type 0
+  ReadsFlushed s from most old new result =
+      ReadsPiece g s from (Some (lsn old.tail.flushed)) most old.area new.area result

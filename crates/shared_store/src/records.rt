@@ -1,0 +1,176 @@
+//! The records that the WAL of an open store has for its history, piece by piece.
+
+ghost use Rattle.std.specs.Prelude.{◌≡◌, ◌≤◌, true, IfOk, OnOk, IfErr};
+ghost use Rattle.lsn_core.specs.declared.fault.StoreArea.TheVariants.{Wal};
+ghost use Rattle.shared_store.specs.Seen.{StaysBy};
+ghost use Rattle.shared_store.specs.Opened.{IsLawfulOf, IsWalOf, StoreCause, wal_top};
+ghost use Rattle.shared_store.specs.Calls.{GoesOn};
+ghost use Rattle.shared_store.specs.Records.{IsPlaceOf, ArePartOf, HasRecords, AreSome};
+ghost use Rattle.shared_store.specs.Inside.{AreaCause, KeepsWal, EndsAtDamage, written_end};
+
+use crate::fault::fault_of;
+use crate::naming::OfCrew;
+use crate::pass::Pass;
+use crate::store::Store;
+use journal::{Journal, OfStore};
+use lsn_core::{Lsn, Settings, StoreArea, StoreFault};
+use std::alloc::Global;
+use vault::Vault;
+use wal_pages::Layout;
+use wal_reader::WalFault;
+use wal_record::Record;
+use wal_writer::Flushed;
+
+impl<J: OfCrew, V: Vault> Store<J, V> {
+    /// Flushes the WAL, and answers the first `most` records of it that start at a place or past it,
+    /// of the whole history, which the pass has seen then. The place is one where an entry that the
+    /// pass has seen starts or ends: to go on behind a piece, where its last record ends. There are
+    /// fewer exactly where the WAL has no more for the history. Over areas that don't tell their
+    /// files, a WAL that can't be read there is taken as ended.
+    pub fn records(
+        &mut self,
+        alloc: Global,
+        pass: &mut Pass<J>,
+        from: Lsn,
+        most: u32,
+    ) -> Result<Vec<Record>, StoreFault>
+        requires { J.tells ≡ true → IsPlaceOf pass.old.list from.0 }
+        ensures records { J.tells ≡ true
+            → IfOk result (λ v. HasRecords self.new from.0 most v.items) }
+        ensures some { IfOk result (λ v. AreSome self.new.settings.segment from.0 most v.items) }
+        ensures flushed { OnOk result (self.new.flushed ≡ wal_top self.new) }
+        ensures lawful { OnOk result (IsLawfulOf (J.tells ≡ true) self.new) }
+        ensures cause { IfErr result (StoreCause self.old.faults self.new.faults) }
+        ensures same { self.new.history ≡ self.old.history }
+        ensures seen { StaysBy pass.old pass.new }
+        ensures whole { pass.new.list ≡ self.new.history }
+        ensures accepted { pass.new.accepted ≡ pass.old.accepted }
+        ensures goes_on { GoesOn self.old self.new }
+    {
+        pass.meet(&self.line, &mut self.journal);
+        let records = self.records_next(alloc, from, most);
+        self.know();
+        records
+    }
+
+    /// The same without a pass.
+    #[tactic(auto, using(crate::proofs::Goes::goes_on, crate::proofs::Rounds::cause_on))]
+    fn records_next(
+        &mut self,
+        alloc: Global,
+        from: Lsn,
+        most: u32,
+    ) -> Result<Vec<Record>, StoreFault>
+        requires { J.tells ≡ true → IsPlaceOf self.old.history from.0 }
+        ensures records { J.tells ≡ true
+            → IfOk result (λ v. HasRecords self.new from.0 most v.items) }
+        ensures some { IfOk result (λ v. AreSome self.new.settings.segment from.0 most v.items) }
+        ensures flushed { OnOk result (self.new.flushed ≡ wal_top self.new) }
+        ensures cause { IfErr result (StoreCause self.old.faults self.new.faults) }
+        ensures same { self.new.history ≡ self.old.history }
+        ensures goes_on { GoesOn self.old self.new }
+    {
+        self.flush_all(alloc)?;
+        self.read_next(alloc, from, most)
+    }
+
+    /// Flushes the WAL up to its end.
+    fn flush_all(&mut self, alloc: Global) -> Result<(), StoreFault>
+        ensures flushed { OnOk result (self.new.flushed ≡ wal_top self.new) }
+        ensures cause { IfErr result (StoreCause self.old.faults self.new.faults) }
+        ensures same { self.new.history ≡ self.old.history }
+        ensures goes_on { GoesOn self.old self.new }
+    {
+        flush_whole(alloc, &mut self.journal, &mut self.mark)
+    }
+
+    /// Reads the records of a WAL that is flushed up to its end.
+    fn read_next(&mut self, alloc: Global, from: Lsn, most: u32) -> Result<Vec<Record>, StoreFault>
+        requires flushed { self.old.flushed ≡ wal_top self.old }
+        requires place { J.tells ≡ true → IsPlaceOf self.old.history from.0 }
+        ensures records { J.tells ≡ true
+            → IfOk result (λ v. HasRecords self.new from.0 most v.items) }
+        ensures some { IfOk result (λ v. AreSome self.new.settings.segment from.0 most v.items) }
+        ensures flushed { self.new.flushed ≡ wal_top self.new }
+        ensures cause { IfErr result (StoreCause self.old.faults self.new.faults) }
+        ensures same { self.new.history ≡ self.old.history }
+        ensures goes_on { GoesOn self.old self.new }
+    {
+        let settings = self.settings;
+        read_behind(alloc, &mut self.journal, &settings, from, most)
+    }
+}
+
+/// Flushes the WAL up to its end, and keeps how far it is flushed.
+fn flush_whole<J: OfStore, V: Vault>(
+    alloc: Global,
+    journal: &mut Journal<J, V>,
+    mark: &mut Flushed,
+) -> Result<(), StoreFault>
+    requires { mark.old.to.0 ≤ journal.old.wal.tail.flushed }
+    ensures wal { KeepsWal V.Vault journal.old journal.new }
+    ensures marked { mark.new.to.0 ≤ journal.new.wal.tail.flushed }
+    ensures whole { OnOk result (journal.new.wal.tail.flushed ≡ written_end journal.new) }
+    ensures cause { IfErr result (AreaCause Wal (V.faults journal.old.wal.area)
+        (V.faults journal.new.wal.area)) }
+{
+    let tip = journal.tip();
+    let flushed = journal.flush_to(alloc, tip.end);
+    let _tip = journal.tip();
+    match flushed {
+        Ok(done) => {
+            *mark = done;
+            Ok(())
+        }
+        Err(fault) => Err(fault_of(StoreArea::Wal, fault)),
+    }
+}
+
+/// What a reading of the WAL's area comes to: where it is damaged it is taken as ended, since over
+/// an area that tells its files no reading of what is flushed meets damage.
+fn ended_at_damage(
+    alloc: Global,
+    read: Result<Vec<Record>, WalFault>,
+) -> Result<Vec<Record>, StoreFault>
+    ensures { EndsAtDamage read result }
+{
+    match read {
+        Ok(records) => Ok(records),
+        Err(WalFault::Failed) => Err(StoreFault::Failed(StoreArea::Wal)),
+        Err(WalFault::NoMemory) => Err(StoreFault::NoMemory),
+        Err(WalFault::Damaged(_)) => Ok(Vec::new(alloc)),
+        Err(WalFault::SettingsDamaged) => Ok(Vec::new(alloc)),
+        Err(WalFault::Timeline(_)) => Ok(Vec::new(alloc)),
+        Err(WalFault::NotInit) => Ok(Vec::new(alloc)),
+    }
+}
+
+/// The first records behind a place of a WAL that is flushed up to its end. From that on there are
+/// none.
+fn read_behind<J: OfStore, V: Vault>(
+    alloc: Global,
+    journal: &mut Journal<J, V>,
+    settings: &Settings,
+    from: Lsn,
+    most: u32,
+) -> Result<Vec<Record>, StoreFault>
+    requires flushed { journal.old.wal.tail.flushed ≡ written_end journal.old }
+    requires wal { IsWalOf V.Vault settings.now (J.tells ≡ true) journal.old.wal 0 }
+    requires place { J.tells ≡ true → IsPlaceOf journal.old.pen from.0 }
+    ensures records { J.tells ≡ true → IfOk result (λ v. ArePartOf settings.now journal.new.pen
+        (V.files journal.new.wal.area) from.0 most v.items) }
+    ensures some { IfOk result (λ v. AreSome settings.now.segment from.0 most v.items) }
+    ensures wal { KeepsWal V.Vault journal.old journal.new }
+    ensures flushed { journal.new.wal.tail.flushed ≡ journal.old.wal.tail.flushed }
+    ensures cause { IfErr result (AreaCause Wal (V.faults journal.old.wal.area)
+        (V.faults journal.new.wal.area)) }
+{
+    journal.know();
+    let tip = journal.tip();
+    if tip.end <= from {
+        return Ok(Vec::new(alloc));
+    }
+    let start = Layout::new(settings).start_after(from);
+    let read = journal.read_flushed(alloc, settings, start, most);
+    ended_at_damage(alloc, read)
+}

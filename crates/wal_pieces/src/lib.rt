@@ -1,0 +1,16 @@
+//! Pieces of the archive of WAL: the first entries from a place on, so that whoever goes through a
+//! WAL holds no more than a piece of it.
+//!
+//! `specs/Piece.antt` says which entries a piece has, in the words of `wal_reader`, and
+//! `specs/Laws.antt` that a piece of a WAL that is known, read from the start of one of its entries,
+//! is a part of its entries.
+//!
+//! Left to others: which entries the WAL has and where it is damaged (`wal_archive`, `wal_reader`),
+//! and what they do to a store (`history`). Nothing here changes an area.
+#![tactic(auto)]
+
+mod laws;
+mod piece;
+
+pub use laws::{pieces_are_parts_of_the_wal, pieces_go_on_where_an_entry_ends};
+pub use piece::read_piece;
