@@ -1,0 +1,10 @@
+pub mod Many
+pub mod NumbersAgain
+pub mod NumbersTaken
+pub mod WrittenBytes
+pub mod ForksFound
+pub mod InOrder
+pub mod Rising
+pub mod Decoding
+pub mod Ranges
+pub mod Rows

@@ -1,0 +1,5 @@
+pub mod Numbers
+pub mod File
+pub mod Name
+pub mod Inside
+pub mod Laws

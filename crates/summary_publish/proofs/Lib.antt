@@ -1,0 +1,4 @@
+pub mod Files
+pub mod Ranges
+pub mod Fitting
+pub mod Adding

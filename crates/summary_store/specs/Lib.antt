@@ -1,0 +1,4 @@
+pub mod Kept
+pub mod Honest
+pub mod Inside
+pub mod Laws

@@ -1,0 +1,8 @@
+use Rattle.std.proofs.Common.{◌≡◌, take, map}
+use Rattle.fuzzy_copies.specs.Summary.{both_summed, summed}
+use Rattle.wal_summary.specs.Marks.{table_of_marks}
+use Rattle.wal_summary.specs.Inside.{table_of_ref}
+use Rattle.wal_summary.proofs.mark_map.MarkMap.touch_all.Given as goal
+
+abbrev pub invariant-loop-block : goal.invariant-loop-block
+invariant-loop-block l = table_of_marks l.self ≡ both_summed (table_of_marks l.fn.self) (summed (map table_of_ref (take l.block-index l.blocks)))

@@ -1,0 +1,5 @@
+pub mod Summary
+pub mod Marks
+pub mod Kept
+pub mod Inside
+pub mod Laws
