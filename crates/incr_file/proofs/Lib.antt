@@ -1,0 +1,9 @@
+mod Rising
+mod BodyPlace
+mod Numbers
+mod Heads
+mod Files
+mod Answers
+mod Origins
+mod Plans
+mod Places
