@@ -1,5 +1,5 @@
 -- What the words of the command line ask for (profile).
-use Rattle.std.specs.Prelude.{ℕ, ◌+◌, ◌*◌, Bool, List, [], ◌∷◌, Option, Some, None, codes, bytes_eq, ◌&&◌, if◌then◌else◌}
+use Rattle.std.specs.Prelude.{ℕ, ◌+◌, ◌*◌, ◌<◌, Bool, List, [], ◌∷◌, Option, Some, None, codes, bytes_eq, nat_lt, ◌&&◌, if◌then◌else◌}
 use Rattle.std.specs.Option.{option_map}
 use Rattle.byte_words.specs.Numbers.{◌>>=◌}
 use Rattle.byte_words.specs.Cuts.{cut_at}
@@ -12,14 +12,15 @@ use Rattle.command_line.specs.declared.words.Command.TheVariants as command
 use Rattle.command_line.specs.Options.{none_given, options_in, IsInRange}
 
 -- a new store, a script to be run, a replay to an output of that name, up to a target where one is
--- given, the check of the backup of a name, or the backup of the second name restored to an output of
--- the first, up to a target where one is given
+-- given, the check of the backup of a name, the backup of the second name restored to an output of the
+-- first, up to a target where one is given, or the summary of a range of the WAL
 pub data Asked : Type 0 where
   Init : InitOptions → Asked
   Run : Asked
   Replay : Option Lsn → List ℕ → Asked
   Verify : List ℕ → Asked
   Restore : Option Lsn → List ℕ → List ℕ → Asked
+  Walsummary : Lsn → Lsn → Asked
 
 -- what the words behind the command's name ask
 abbrev pub init_asked : List (List ℕ) → Option Asked
@@ -94,6 +95,20 @@ restore_asked (first ∷ (second ∷ (third ∷ (fourth ∷ [])))) =
     restore_with first second third fourth
 restore_asked (first ∷ (second ∷ (third ∷ (fourth ∷ (more ∷ words))))) = None
 
+-- a range has a place at least
+abbrev pub walsummary_of : Lsn → Lsn → Option Asked
+walsummary_of from to = if nat_lt from.0 to.0 then Some (Walsummary from to) else None
+
+abbrev pub walsummary_values : List ℕ → List ℕ → Option Asked
+walsummary_values first second =
+    lsn_value first >>= λ from. lsn_value second >>= λ to. walsummary_of from to
+
+abbrev pub walsummary_asked : List (List ℕ) → Option Asked
+walsummary_asked [] = None
+walsummary_asked (from ∷ []) = None
+walsummary_asked (from ∷ (to ∷ [])) = walsummary_values from to
+walsummary_asked (from ∷ (to ∷ (more ∷ words))) = None
+
 -- what the words ask, None where they aren't taken
 abbrev pub asked : List (List ℕ) → Option Asked
 asked [] = None
@@ -102,7 +117,8 @@ asked (word ∷ words) =
     else (if bytes_eq word (codes "run") then run_asked words
     else (if bytes_eq word (codes "replay") then replay_asked words
     else (if bytes_eq word (codes "verify") then verify_asked words
-    else (if bytes_eq word (codes "restore") then restore_asked words else None))))
+    else (if bytes_eq word (codes "restore") then restore_asked words
+    else (if bytes_eq word (codes "walsummary") then walsummary_asked words else None)))))
 
 -- a command asks for this
 abbrev pub asks : Command → Asked
@@ -111,11 +127,13 @@ asks command.Run = Run
 asks (command.Replay upto name) = Replay upto name.now
 asks (command.Verify name) = Verify name.now
 asks (command.Restore upto out member) = Restore upto out.now member.now
+asks (command.Walsummary from to) = Walsummary from to
 
--- the options of a command are in their ranges
+-- the options of a command are in their ranges, and a range has a place
 abbrev pub HasRange : Command → Type 0
 HasRange (command.Init options) = IsInRange options
 HasRange command.Run = Unit {0}
 HasRange (command.Replay upto name) = Unit {0}
 HasRange (command.Verify name) = Unit {0}
 HasRange (command.Restore upto out member) = Unit {0}
+HasRange (command.Walsummary from to) = from.0 < to.0

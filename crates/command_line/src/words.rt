@@ -4,6 +4,7 @@ ghost use Rattle.std.specs.Prelude.{◌≡◌, IfSome};
 ghost use Rattle.std.specs.Option.{option_map};
 ghost use Rattle.command_line.specs.Words.{init_asked, run_asked, lsn_value, replay_to, replay_up_to, is_target, replay_with, replay_asked, verify_name, verify_asked, asked};
 ghost use Rattle.command_line.specs.Words.{restore_to, restore_up_to, restore_with, restore_asked};
+ghost use Rattle.command_line.specs.Words.{walsummary_of, walsummary_values, walsummary_asked};
 ghost use Rattle.command_line.specs.Words.{asks, HasRange};
 
 use crate::options::{InitOptions, options_of};
@@ -25,6 +26,9 @@ pub enum Command<'a> {
     /// Restored up to the target, where one is given, to an output of the first name: the backup of
     /// the second name, and the WAL from its start on.
     Restore(Option<Lsn>, &'a [u8], &'a [u8]),
+    /// What the kept summaries tell of the range from the first place to below the second, which is
+    /// past it.
+    Walsummary(Lsn, Lsn),
 }
 
 fn init_of(words: &[Text]) -> Option<Command<'_>>
@@ -181,6 +185,36 @@ fn restore_of(words: &[Text]) -> Option<Command<'_>>
     }
 }
 
+/// A range has a place at least.
+fn walsummary_of<'a>(from: Lsn, to: Lsn) -> Option<Command<'a>>
+    ensures asked { option_map asks result ≡ walsummary_of from to }
+    ensures range { IfSome result HasRange }
+{
+    if from.0 < to.0 {
+        return Some(Command::Walsummary(from, to));
+    }
+    None
+}
+
+fn walsummary_values<'a>(first: &[u8], second: &[u8]) -> Option<Command<'a>>
+    ensures asked { option_map asks result ≡ walsummary_values first.now second.now }
+    ensures range { IfSome result HasRange }
+{
+    let from = lsn_in(first)?;
+    let to = lsn_in(second)?;
+    walsummary_of(from, to)
+}
+
+fn walsummary_in(words: &[Text]) -> Option<Command<'_>>
+    ensures asked { option_map asks result ≡ walsummary_asked words.now }
+    ensures range { IfSome result HasRange }
+{
+    match words {
+        [from, to] => walsummary_values(from.as_bytes(), to.as_bytes()),
+        _ => None,
+    }
+}
+
 /// The command that the words ask for. None exactly where they aren't taken.
 pub fn command_of(words: &[Text]) -> Option<Command<'_>>
     ensures asked { option_map asks result ≡ asked words.now }
@@ -202,6 +236,9 @@ pub fn command_of(words: &[Text]) -> Option<Command<'_>>
     }
     if word == b"restore".as_slice() {
         return restore_of(others);
+    }
+    if word == b"walsummary".as_slice() {
+        return walsummary_in(others);
     }
     None
 }

@@ -13,6 +13,7 @@ mod directory;
 mod lines;
 mod note;
 mod script;
+mod sums;
 mod usage;
 mod wal;
 

@@ -4,12 +4,13 @@ use crate::areas::{area_note, memory_note, not_empty_note, store_note, take_note
 use crate::directory::{directory_note, link_note};
 use crate::lines::note;
 use crate::script::script_note;
+use crate::sums::gap_note;
 use crate::usage::usage_of;
 use crate::wal::{early_note, wal_note};
 use command_base::{backup_name, output_name};
 use crew::Stop;
 use lsn_core::{AreaFault, NoMemory, Text};
-use pgbackup_cli::{Answer, InitFault, ReplayFault, RestoreFault, VerifyFault};
+use pgbackup_cli::{Answer, InitFault, ReplayFault, RestoreFault, VerifyFault, WalsummaryFault};
 use run_command::{RunFault, RunReport};
 use shared_store::BeginWhy;
 use std::alloc::Global;
@@ -26,10 +27,12 @@ pub fn note_of(alloc: Global, words: &[Text], answer: &Answer) -> Result<Text, N
         Answer::Replay(Err(fault)) => replay_note(alloc, output_of(words), fault),
         Answer::Verify(Err(fault)) => verify_note(alloc, last_of(words), fault),
         Answer::Restore(Err(fault)) => restore_note(alloc, names_in(words), fault),
+        Answer::Walsummary(Err(fault)) => walsummary_note(alloc, fault),
         Answer::Init(Ok(_))
         | Answer::Replay(Ok(_))
         | Answer::Verify(Ok(_))
-        | Answer::Restore(Ok(_)) => Ok(Text::from_vec(Vec::new(alloc))),
+        | Answer::Restore(Ok(_))
+        | Answer::Walsummary(Ok(_)) => Ok(Text::from_vec(Vec::new(alloc))),
     }
 }
 
@@ -149,5 +152,13 @@ fn restore_note(
         RestoreFault::Wal(fault) => wal_note(alloc, *fault),
         RestoreFault::Backup(why) => area_note(alloc, backup.as_bytes(), *why),
         RestoreFault::Out(why) => area_note(alloc, output.as_bytes(), *why),
+    }
+}
+
+fn walsummary_note(alloc: Global, fault: &WalsummaryFault) -> Result<Text, NoMemory> {
+    match fault {
+        WalsummaryFault::Site(fault) => take_note(alloc, fault),
+        WalsummaryFault::Gap(at) => gap_note(alloc, *at),
+        WalsummaryFault::Sums(why) => area_note(alloc, b"sums", *why),
     }
 }

@@ -34,8 +34,15 @@ const RESTORE: &[u8] = b"usage: pgbackup restore [--target LSN] OUT MEMBER
   OUT, MEMBER: 1 to 32 of a to z, 0 to 9 and _
 ";
 
+const WALSUMMARY: &[u8] = b"usage: pgbackup walsummary FROM TO
+  prints what the summaries in sums tell of the WAL from FROM on and before TO: of each fork the
+  shortest length to which it was cut, and the blocks that were changed since
+  FROM, TO: LSNs, as 0/1000108, TO past FROM
+";
+
 const HELP: &[u8] = b"usage: pgbackup help [COMMAND]
-  prints how a command is used, or all of them: init, run, replay, verify, restore
+  prints how a command is used, or all of them: init, run, replay, verify, restore,
+  walsummary
 ";
 
 /// How this command is used; None where there is no command of that name.
@@ -55,6 +62,9 @@ fn command_usage(name: &[u8]) -> Option<&'static [u8]> {
     if name == b"restore".as_slice() {
         return Some(RESTORE);
     }
+    if name == b"walsummary".as_slice() {
+        return Some(WALSUMMARY);
+    }
     None
 }
 
@@ -71,6 +81,9 @@ fn command_in(words: &[Text]) -> Option<&'static [u8]> {
 pub fn usage_of(alloc: Global, words: &[Text]) -> Result<Text, NoMemory> {
     match command_in(words) {
         Some(usage) => joined(alloc, &[usage]),
-        None => joined(alloc, &[INIT, RUN, REPLAY, VERIFY, RESTORE, HELP]),
+        None => joined(
+            alloc,
+            &[INIT, RUN, REPLAY, VERIFY, RESTORE, WALSUMMARY, HELP],
+        ),
     }
 }

@@ -1,4 +1,5 @@
 pub mod ReplayCauses
+pub mod EmptyOut
 pub mod ReplayedOut
 pub mod Decided
 pub mod Sinks
@@ -10,3 +11,5 @@ pub mod NewWal
 pub mod ReadOnce
 pub mod LentThree
 pub mod RestoredOut
+pub mod OneWalsummary
+pub mod Covered

@@ -15,7 +15,8 @@ use Rattle.vault.specs.declared.area.Vault.{Ghosts}
 use Rattle.rel_files.specs.Forks.{IsForkPath}
 use Rattle.rel_files.specs.Shown.{AreFilesOf, HoldsStore, ShowsStore, KeepsOthers}
 use Rattle.rel_files.specs.declared.forks.Forks.{Forks}
-use Rattle.backup_restore.proofs.Outputs.{empty_held, empty_shown, files_shown, told_empty}
+use Rattle.backup_restore.proofs.Outputs.{empty_held, told_empty}
+use Rattle.pgbackup_cli.proofs.EmptyOut.{empty_shown, files_shown}
 use Rattle.wal_archive.specs.Rules.{End}
 use Rattle.recovery.specs.declared.fault.RecoveryFault.{RecoveryFault}
 use Rattle.recovery.specs.declared.fault.ReplayFault.{ReplayFault as Unreplayed}

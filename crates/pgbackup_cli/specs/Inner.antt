@@ -43,6 +43,10 @@ use Rattle.command_base.specs.Outside.{Outside, of_site}
 use Rattle.pgbackup_cli.specs.Init.{InitResult, InitAreas, InitAnswer, IsTornIn, new_wal, first_entry, settings_name, settings_file, segment_name, segment_file}
 use Rattle.pgbackup_cli.specs.Replay.{ReplayResult, ReplayAreas, ReplayAnswer}
 use Rattle.pgbackup_cli.specs.Verify.{VerifyResult, VerifyAnswer, DirectoryRefused}
+use Rattle.wal_summary.specs.declared.summary.Summary.{Summary}
+use Rattle.wal_summary.specs.Kept.{IsCovering, IsGap}
+use Rattle.pgbackup_cli.specs.declared.walsummary.WalsummaryFault.TheVariants as walsummary
+use Rattle.pgbackup_cli.specs.Walsummary.{WalsummaryResult, WalsummaryAnswer}
 use Rattle.pgbackup_cli.specs.Restore.{RestoreResult, RestoreAnswer, IsOfMember, IsLate, EndsAt, reading_causes_from}
 
 -- ---- the outside, as far as a call sees it
@@ -164,6 +168,20 @@ FinishAnswer vaults (Err (unreplayed.Wal f)) old new (Ok report) = ⊥
 abbrev pub AnswersVerify : {V : Type 0} → Vaults V → List ℕ → V → V → VerifyResult → Type 0
 AnswersVerify vaults name area now r =
     VerifyAnswer name Never (state_in vaults area) (state_in vaults now) r
+
+-- ---- `walsummary`
+
+-- why it comes to its answer over kept summaries, and over the area of the summaries
+abbrev pub AnswersKept : List Summary → Lsn → Lsn → WalsummaryResult → Type 0
+AnswersKept sums from to (Ok sum) = IsCovering sums from.0 to.0 sum
+AnswersKept sums from to (Err (walsummary.Gap place)) = IsGap sums from.0 to.0 place.0
+AnswersKept sums from to (Err (walsummary.Sums why)) = why ≡ NoMemory
+AnswersKept sums from to (Err (walsummary.Site fault)) = ⊥
+
+abbrev pub AnswersWalsummary :
+    {V : Type 0} → Vaults V → Lsn → Lsn → V → V → WalsummaryResult → Type 0
+AnswersWalsummary vaults from to area now r =
+    WalsummaryAnswer from to Never (state_in vaults area) (state_in vaults now) r
 
 -- ---- `restore`
 

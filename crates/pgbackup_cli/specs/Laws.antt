@@ -1,5 +1,5 @@
 -- That a command comes to one answer.
-use Rattle.std.specs.Prelude.{◌≡◌, ℕ, Option, List, Bool, true, false, Ok, Err}
+use Rattle.std.specs.Prelude.{◌≡◌, ◌<◌, ℕ, Option, List, Bool, true, false, Ok, Err}
 use Rattle.lsn_core.specs.declared.lsn.Lsn.{Lsn}
 use Rattle.command_base.specs.declared.status.Status.{Status}
 use Rattle.command_base.specs.declared.status.Status.TheVariants as status
@@ -12,6 +12,7 @@ use Rattle.run_command.specs.declared.command.RunFault.TheVariants as run
 use Rattle.run_command.specs.Run.{RunResult, RunDoes, tasks_told}
 use Rattle.pgbackup_cli.specs.Replay.{ReplayDoes, replay_status}
 use Rattle.pgbackup_cli.specs.Verify.{VerifyDoes, verify_status}
+use Rattle.pgbackup_cli.specs.Walsummary.{WalsummaryDoes, walsummary_status}
 use Rattle.command_line.specs.declared.options.InitOptions.{InitOptions}
 
 -- what is outside decided an answer of this status, and no failed device and no want of memory
@@ -60,3 +61,8 @@ HasOneReplay =
 
 abbrev pub HasOneVerify : Type 0
 HasOneVerify = (name : List ℕ) → HasOne (VerifyDoes name) verify_status
+
+-- of a range with a place
+abbrev pub HasOneWalsummary : Type 0
+HasOneWalsummary =
+    (from to : Lsn) → from.0 < to.0 → HasOne (WalsummaryDoes from to) walsummary_status

@@ -3,6 +3,7 @@ pub mod Replay
 pub mod Directory
 pub mod Verify
 pub mod Restore
+pub mod Walsummary
 pub mod Top
 pub mod Laws
 pub mod Inner

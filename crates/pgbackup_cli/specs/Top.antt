@@ -7,7 +7,7 @@ use Rattle.pgbackup_cli.specs.declared.answer.Answer.TheVariants as answer
 use Rattle.command_base.specs.declared.status.Status.{Status}
 use Rattle.command_base.specs.declared.status.Status.TheVariants as status
 use Rattle.command_line.specs.declared.options.InitOptions.{InitOptions}
-use Rattle.command_line.specs.Words.{Asked, Init, Run, Replay, Verify, Restore, asked}
+use Rattle.command_line.specs.Words.{Asked, Init, Run, Replay, Verify, Restore, Walsummary, asked}
 use Rattle.command_base.specs.Areas.{output_name}
 use Rattle.command_base.specs.Outside.{Outside, LeavesSite, Prints}
 use Rattle.command_base.specs.Faults.{refused_line, area_status}
@@ -16,6 +16,7 @@ use Rattle.run_command.specs.Run.{RunResult, RunDoes, run_text, run_status}
 use Rattle.pgbackup_cli.specs.Replay.{ReplayResult, ReplayDoes, replay_text, replay_status}
 use Rattle.pgbackup_cli.specs.Verify.{VerifyResult, VerifyDoes, verify_text, verify_status}
 use Rattle.pgbackup_cli.specs.Restore.{RestoreResult, RestoreDoes, restore_text, restore_status}
+use Rattle.pgbackup_cli.specs.Walsummary.{WalsummaryResult, WalsummaryDoes, walsummary_text, walsummary_status}
 
 -- what was asked was done, and this is the answer
 abbrev pub DoesAsked : Option Asked → Outside → Outside → Answer → Type 0
@@ -29,6 +30,8 @@ DoesAsked (Some (Verify name)) old new came =
     (r : VerifyResult) × (came ≡ answer.Verify r) × VerifyDoes name old new r
 DoesAsked (Some (Restore upto out name)) old new came =
     (r : RestoreResult) × (came ≡ answer.Restore r) × RestoreDoes upto out name old new r
+DoesAsked (Some (Walsummary from to)) old new came =
+    (r : WalsummaryResult) × (came ≡ answer.Walsummary r) × WalsummaryDoes from to old new r
 
 -- the area of the output that is asked for
 abbrev pub output_asked : Option Asked → List ℕ
@@ -50,6 +53,7 @@ text_of words (answer.Run r) = run_text r
 text_of words (answer.Replay r) = replay_text (output_asked words) r
 text_of words (answer.Verify r) = verify_text (backup_asked words) r
 text_of words (answer.Restore r) = restore_text (backup_asked words) (output_asked words) r
+text_of words (answer.Walsummary r) = walsummary_text r
 
 -- the status of an answer
 abbrev pub answer_status : Answer → Status
@@ -59,6 +63,7 @@ answer_status (answer.Run r) = run_status r
 answer_status (answer.Replay r) = replay_status r
 answer_status (answer.Verify r) = verify_status r
 answer_status (answer.Restore r) = restore_status r
+answer_status (answer.Walsummary r) = walsummary_status r
 
 -- the status of an answer and of its printing: a sink that fails gives Device whatever else
 -- happened

@@ -8,11 +8,13 @@ use crate::init::{InitFault, init_status, init_text};
 use crate::replay::{ReplayFault, ReplayReport, replay_status, replay_text};
 use crate::restore::{RestoreFault, restore_status, restore_text};
 use crate::verify::{VerifyFault, VerifyReport, verify_status, verify_text};
+use crate::walsummary::{WalsummaryFault, walsummary_status, walsummary_text};
 use command_base::{Status, area_status, output_name, refused_line};
 use command_line::{Command, command_of};
 use lsn_core::{AreaFault, Lsn, NoMemory, Text};
 use run_command::{RunFault, RunReport, run_status, run_text};
 use std::alloc::Global;
+use wal_summary::Summary;
 
 /// What the program comes to: one variant a command, and one where the words aren't taken.
 #[derive(Drop)]
@@ -29,6 +31,8 @@ pub enum Answer {
     Verify(Result<VerifyReport, VerifyFault>),
     /// A backup was restored.
     Restore(Result<ReplayReport, RestoreFault>),
+    /// The kept summaries of a range were merged.
+    Walsummary(Result<Summary, WalsummaryFault>),
 }
 
 /// The area of the output that is asked for, empty where none is.
@@ -37,9 +41,8 @@ fn output_asked(alloc: Global, words: &[Text]) -> Result<Text, NoMemory>
 {
     match command_of(words) {
         Some(Command::Replay(_, name) | Command::Restore(_, name, _)) => output_name(alloc, name),
-        Some(Command::Init(_) | Command::Run | Command::Verify(_)) | None => {
-            Ok(Text::from_vec(Vec::new(alloc)))
-        }
+        Some(Command::Init(_) | Command::Run | Command::Verify(_) | Command::Walsummary(_, _))
+        | None => Ok(Text::from_vec(Vec::new(alloc))),
     }
 }
 
@@ -49,7 +52,8 @@ fn backup_asked(words: &[Text]) -> &[u8]
 {
     match command_of(words) {
         Some(Command::Verify(name) | Command::Restore(_, _, name)) => name,
-        Some(Command::Init(_) | Command::Run | Command::Replay(_, _)) | None => b"",
+        Some(Command::Init(_) | Command::Run | Command::Replay(_, _) | Command::Walsummary(_, _))
+        | None => b"",
     }
 }
 
@@ -67,6 +71,7 @@ pub fn text_of(alloc: Global, words: &[Text], answer: &Answer) -> Result<Text, N
             let out = output_asked(alloc, words)?;
             restore_text(alloc, backup_asked(words), out.as_bytes(), came)
         }
+        Answer::Walsummary(came) => walsummary_text(alloc, came),
     }
 }
 
@@ -80,6 +85,7 @@ fn answer_status(answer: &Answer) -> Status
         Answer::Replay(came) => replay_status(came),
         Answer::Verify(came) => verify_status(came),
         Answer::Restore(came) => restore_status(came),
+        Answer::Walsummary(came) => walsummary_status(came),
     }
 }
 

@@ -1,8 +1,10 @@
 //! What holds of every run of a command.
 
-ghost use Rattle.pgbackup_cli.specs.Laws.{HasOneInit, RunsBeginAlike, HasOneReplay, HasOneVerify};
+ghost use Rattle.pgbackup_cli.specs.Laws.{HasOneInit, RunsBeginAlike, HasOneReplay, HasOneVerify, HasOneWalsummary};
 
 use chain_check::directories_have_one_answer;
+use summary_file::summaries_are_read_again;
+use wal_summary::summaries_are_one;
 
 /// A new store is made, or refused for one reason: from one outside, with the same options, `init`
 /// comes to one answer, but for devices that fail and want of memory. So each refusal comes exactly
@@ -28,4 +30,13 @@ pub fn verify_has_one_answer()
     ensures { HasOneVerify }
 {
     directories_have_one_answer();
+}
+
+/// `walsummary` of one range comes to one answer, too: what is kept of an area's files is one list of
+/// summaries, which have one merge, or one least place that they don't cover.
+pub fn walsummary_has_one_answer()
+    ensures { HasOneWalsummary }
+{
+    summaries_are_read_again();
+    summaries_are_one();
 }

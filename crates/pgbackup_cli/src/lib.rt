@@ -4,11 +4,12 @@
 //!
 //! Its clause (`specs/Top.antt`) says of each command what it changes, why it comes to its answer,
 //! what it prints and how it ends; each command's part stands in a file of its own (`specs/Init.antt`,
-//! `Replay.antt`, `Verify.antt`, `Restore.antt`). Laws say that a command comes to one answer.
+//! `Replay.antt`, `Verify.antt`, `Restore.antt`, `Walsummary.antt`). Laws say that a command comes to one answer.
 //!
 //! Left to others: the words (`command_line`), the command `run` (`run_command`), what a replay, a
 //! restore, a WAL and a backup's directory are (`recovery`, `backup_restore`, `wal_archive`,
-//! `chain_check`), and the system's objects.
+//! `chain_check`), which summaries are kept and how one is printed (`summary_store`, `summary_text`),
+//! and the system's objects.
 #![tactic(auto)]
 
 mod answer;
@@ -21,14 +22,17 @@ mod replay;
 mod restore;
 mod top;
 mod verify;
+mod walsummary;
 
 pub use answer::Answer;
 pub use command_base::Status;
 pub use init::InitFault;
 pub use laws::{
     init_has_one_answer, replay_has_one_answer, runs_begin_alike, verify_has_one_answer,
+    walsummary_has_one_answer,
 };
 pub use replay::ReplayFault;
 pub use restore::RestoreFault;
 pub use top::{answered, pgbackup};
 pub use verify::VerifyFault;
+pub use walsummary::WalsummaryFault;

@@ -12,6 +12,7 @@ use crate::init::init;
 use crate::replay::replay;
 use crate::restore::restore;
 use crate::verify::verify;
+use crate::walsummary::walsummary;
 use command_base::Status;
 use command_line::{Command, command_of};
 use lsn_core::{AreaFault, Text};
@@ -44,6 +45,9 @@ fn work<S: Site, I: Source, C: Clock>(
         Some(Command::Verify(name)) => Answer::Verify(verify(alloc, name, site)),
         Some(Command::Restore(upto, out, name)) => {
             Answer::Restore(restore(alloc, upto, out, name, site))
+        }
+        Some(Command::Walsummary(from, to)) => {
+            Answer::Walsummary(walsummary(alloc, from, to, site))
         }
     }
 }

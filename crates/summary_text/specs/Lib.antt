@@ -1,0 +1,4 @@
+pub mod Runs
+pub mod Text
+pub mod Inside
+pub mod Laws
