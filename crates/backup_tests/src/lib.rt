@@ -1,4 +1,4 @@
-//! The tests of what a backup leaves, through the public calls of its crates alone. A crate with
+//! The tests of what a backup leaves, and of summaries of the WAL, through the public calls of its crates alone. A crate with
 //! tests is proved twice, so they stand in a crate of their own, apart from those of the base, of
 //! the store and of the program, which are proved beside it.
 //!
@@ -11,6 +11,10 @@ mod chain_tests;
 #[cfg(test)]
 mod dir_tests;
 #[cfg(test)]
+mod head_tests;
+#[cfg(test)]
 mod label_tests;
 #[cfg(test)]
 mod manifest_tests;
+#[cfg(test)]
+mod summary_tests;

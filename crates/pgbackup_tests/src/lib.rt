@@ -37,3 +37,5 @@ mod run_faults_tests;
 mod store_tests;
 #[cfg(test)]
 mod verify_tests;
+#[cfg(test)]
+mod walsummary_tests;

@@ -5,7 +5,7 @@ use chain_check::{ChainFault, LinkFault, ManifestWhy, Refusal};
 use crew::Why;
 use lsn_core::{Lsn, NoMemory, SegSize, StoreArea, StoreFault, Text};
 use operator_notes::note_of;
-use pgbackup_cli::{Answer, InitFault, ReplayFault, RestoreFault, VerifyFault};
+use pgbackup_cli::{Answer, InitFault, ReplayFault, RestoreFault, VerifyFault, WalsummaryFault};
 use recovery::RecoveryFault;
 use run_command::RunFault;
 use shared_store::BeginWhy;
@@ -29,12 +29,13 @@ enum Refused {
     Early(u64, u64),
     Prior,
     Copy,
+    Gap(u64),
 }
 
 /// The words of a command, why it was refused, and what is told.
 type Case = (&'static str, Refused, &'static str);
 
-static CASES: [Case; 13] = [
+static CASES: [Case; 14] = [
     (
         "help verify",
         Refused::Words,
@@ -127,6 +128,13 @@ pgbackup: hint: restore a full backup; chains of several backups are not restore
 pgbackup: hint: empty it if nothing there is needed, or choose another name
 ",
     ),
+    (
+        "walsummary 0/1003B0 0/100600",
+        Refused::Gap(0x10_0578),
+        "pgbackup: error: no summary in sums covers 0/100578
+pgbackup: hint: give a range that the summaries in sums cover; no command of this version makes summaries
+",
+    ),
 ];
 
 /// A check of a directory that isn't taken, behind so many files.
@@ -164,6 +172,7 @@ fn answer_of(alloc: Global, refusal: &Refused) -> Result<Answer, NoMemory> {
             Answer::Restore(Err(RestoreFault::Early(Lsn(target), Lsn(end))))
         }
         Refused::Prior => Answer::Restore(Err(RestoreFault::Chain(LinkFault::FirstIncremental))),
+        Refused::Gap(at) => Answer::Walsummary(Err(WalsummaryFault::Gap(Lsn(at)))),
         Refused::Copy => Answer::Restore(Err(RestoreFault::NotEmpty)),
     })
 }
