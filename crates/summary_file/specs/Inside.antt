@@ -74,6 +74,13 @@ abbrev pub Reads : {A X : Type 0} → Option X → (A → X) → Result A Summar
 Reads found shows (Ok x) = found ≡ Some (shows x)
 Reads found shows (Err fault) = Fails found fault
 
+-- the numbers of a summary but those of its forks have room where they stand
+pub record FrontHasRoom (s : Summary) : Type 0 where
+  pub start : s.start.0 < 2 ^ 64
+  pub end : s.end.0 < 2 ^ 64
+  pub made : s.made < 2 ^ 64
+  pub count : length s.forks < 2 ^ 64
+
 -- no kind of fork has this number
 abbrev pub IsNoKind : ℕ → Type 0
 IsNoKind number = (kind : ForkKind) → number ≡ fork_number kind → ⊥

@@ -4,7 +4,8 @@ ghost use Rattle.std.specs.Prelude.{◌≡◌, ◌<◌, ◌^◌, ◌++◌, lengt
 ghost use Rattle.std.specs.List.{flat_map, AllByRecursion};
 ghost use Rattle.std.specs.Int.{w32, to_le_bytes};
 ghost use Rattle.summary_file.specs.Numbers.{fork_head, fork_bytes, file_head};
-ghost use Rattle.summary_file.specs.File.{fork_number, limit_number, fork_numbers, summary_numbers, summary_bytes, IsWritable};
+ghost use Rattle.summary_file.specs.File.{fork_number, limit_number, fork_numbers, summary_numbers, summary_bytes, IsWritable, ForkHasRoom, HasRoom};
+ghost use Rattle.summary_file.specs.Inside.{FrontHasRoom};
 
 use crate::numbers::{FILE_MAGIC, NO_LIMIT};
 use crate::summary::sum_of;
@@ -44,7 +45,8 @@ fn put_blocks(out: &mut Vec<u8>, blocks: &[u32]) -> Result<(), NoMemory>
 #[tactic(auto, unfolding(crate::specs::Numbers::fork_head))]
 fn fork_front(alloc: Global, fork: &ForkSummary) -> Result<Vec<u8>, NoMemory>
     requires { length fork.now.blocks < 2 ^ 32 }
-    ensures { IfOk result (λ bytes. bytes.items ≡ fork_head (fork_numbers fork.now)) }
+    ensures head { IfOk result (λ bytes. bytes.items ≡ fork_head (fork_numbers fork.now)) }
+    ensures room { OnOk result (ForkHasRoom fork.now) }
 {
     let count = fork.blocks.as_slice().len() as u32;
     let mut out = Vec::new(alloc);
@@ -59,7 +61,9 @@ fn fork_front(alloc: Global, fork: &ForkSummary) -> Result<Vec<u8>, NoMemory>
 /// Puts a fork behind what is written.
 fn put_fork(alloc: Global, out: &mut Vec<u8>, fork: &ForkSummary) -> Result<(), NoMemory>
     requires { length fork.now.blocks < 2 ^ 32 }
-    ensures { OnOk result (out.new.items ≡ out.old.items ++ fork_bytes (fork_numbers fork.now)) }
+    ensures put { OnOk result
+        (out.new.items ≡ out.old.items ++ fork_bytes (fork_numbers fork.now)) }
+    ensures room { OnOk result (ForkHasRoom fork.now) }
 {
     let front = fork_front(alloc, fork)?;
     out.extend_from_slice(&front)?;
@@ -69,8 +73,9 @@ fn put_fork(alloc: Global, out: &mut Vec<u8>, fork: &ForkSummary) -> Result<(), 
 /// Puts forks behind what is written.
 fn put_forks(alloc: Global, out: &mut Vec<u8>, forks: &[ForkSummary]) -> Result<(), NoMemory>
     requires { AllByRecursion (λ f. length f.blocks < 2 ^ 32) forks.now }
-    ensures { OnOk result (out.new.items ≡ out.old.items
+    ensures put { OnOk result (out.new.items ≡ out.old.items
         ++ flat_map fork_bytes (map fork_numbers forks.now)) }
+    ensures room { OnOk result (AllByRecursion ForkHasRoom forks.now) }
 {
     let mut left = forks;
     while let Some((fork, behind)) = left.split_first() {
@@ -83,7 +88,8 @@ fn put_forks(alloc: Global, out: &mut Vec<u8>, forks: &[ForkSummary]) -> Result<
 /// What stands before the forks.
 #[tactic(auto, unfolding(crate::specs::Numbers::file_head))]
 fn file_front(alloc: Global, summary: &Summary) -> Result<Vec<u8>, NoMemory>
-    ensures { IfOk result (λ bytes. bytes.items ≡ file_head (summary_numbers summary.now)) }
+    ensures head { IfOk result (λ bytes. bytes.items ≡ file_head (summary_numbers summary.now)) }
+    ensures room { OnOk result (FrontHasRoom summary.now) }
 {
     let count = summary.forks.as_slice().len() as u64;
     let mut out = Vec::new(alloc);
@@ -100,7 +106,8 @@ fn file_front(alloc: Global, summary: &Summary) -> Result<Vec<u8>, NoMemory>
 /// blocks, limits are below 4,294,967,295 and blocks below 32,768.
 pub fn encode_summary(alloc: Global, summary: &Summary) -> Result<Vec<u8>, NoMemory>
     requires { IsWritable summary.now }
-    ensures { IfOk result (λ bytes. bytes.items ≡ summary_bytes summary.now) }
+    ensures bytes { IfOk result (λ bytes. bytes.items ≡ summary_bytes summary.now) }
+    ensures room { OnOk result (HasRoom summary.now) }
 {
     let mut out = file_front(alloc, summary)?;
     put_forks(alloc, &mut out, summary.forks.as_slice())?;

@@ -27,7 +27,7 @@ use Rattle.wal_summary.specs.Summary.{limit_at, lists_at, IsSummary}
 use Rattle.wal_summary.proofs.Sums.{names, sorted_first, absent_limit, absent_lists}
 use Rattle.wal_summary.proofs.Tables.{first_summed}
 use Rattle.summary_file.specs.File.{no_limit, IsWritableFork}
-use Rattle.summary_publish.specs.Feed.{RiseBehind}
+use Rattle.summary_publish.specs.Inside.{RiseBehind}
 use Rattle.summary_publish.specs.Inside.{HasCount, HaveCounts}
 
 -- a limit isn't past those that a file can hold
@@ -46,7 +46,7 @@ least_low None p h k = k
 least_low (Some a) None h k = h
 least_low (Some a) (Some b) h k = omega (arith, h, k)
 
-one_of : (P : Type 0) (a b : Bool) → (a ≡ true → P) → (b ≡ true → P) → (a || b) ≡ true → P
+pub one_of : (P : Type 0) (a b : Bool) → (a ≡ true → P) → (b ≡ true → P) → (a || b) ≡ true → P
 one_of P true b f k h = f refl
 one_of P false b f k h = k h
 

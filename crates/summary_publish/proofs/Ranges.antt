@@ -1,9 +1,9 @@
 -- Entries that are read up to a redo point.
-use Rattle.std.proofs.Common.{◌≡◌, ℕ, zero, suc, ◌-◌, ◌^◌, ◌<◌, ◌≤◌, Bool, true, false, cond, ◌&&◌, ◌||◌, ◌==◌, List, [], ◌∷◌, ◌++◌, map, length, take, drop, get_or, Option, Some, None, option_map, refl, sym, ap, subst, ◌∙◌, arith}
+use Rattle.std.proofs.Common.{◌≡◌, ◌⊎◌, inl, inr, ℕ, zero, suc, ◌-◌, ◌^◌, ◌<◌, ◌≤◌, Bool, true, false, cond, ◌&&◌, ◌||◌, ◌==◌, List, [], ◌∷◌, ◌++◌, map, length, take, drop, get_or, Option, Some, None, option_map, refl, sym, ap, subst, ◌∙◌, arith, true≢false}
 use Rattle.std.specs.Prelude.{nat_le, nat_lt}
 use Rattle.std.specs.List.{filter, list_any}
 use Rattle.std.proofs.lemmas.Bool.{leb-true, leb-false, le-leb, lt-leb, le-ltb, lt-ltb, ltb-true, eqb-true, eq-eqb}
-use Rattle.std.proofs.lemmas.List.{append-nil, take-append-drop}
+use Rattle.std.proofs.lemmas.List.{take-append-drop, map-append}
 use Rattle.std.proofs.lemmas.List.Elements.{filter-append}
 use Rattle.lsn_core.specs.declared.lsn.Lsn.{Lsn}
 use Rattle.wal_record.specs.declared.record.Record.{Record}
@@ -11,12 +11,17 @@ use Rattle.history.specs.Entry.{Entry}
 use Rattle.history.specs.Whole.{says, entry_of}
 use Rattle.history.specs.Written.{is_redo}
 use Rattle.fuzzy_copies.specs.Orderly.{IsOrderly}
-use Rattle.fuzzy_copies.specs.Sound.{window}
+use Rattle.fuzzy_copies.specs.Sound.{is_in, window}
 use Rattle.fuzzy_copies.specs.Summary.{BlockRefTable, table_of, summed, both_summed, summary_of}
-use Rattle.fuzzy_copies.proofs.Summaries.{meet}
-use Rattle.wal_summary.proofs.Tables.{same_table}
-use Rattle.summary_publish.specs.Feed.{is_place_of, IsPlaceOf, from_place, AreRecordsOf, RiseBehind, next_redo}
-use Rattle.summary_publish.specs.Inside.{last_end, place_or}
+use Rattle.wal_summary.proofs.Tables.{before_none, regrouped, lists_summed}
+use mathlib.Core.List.{IsPrefix}
+use Rattle.shared_store.proofs.Pieces.{places_stay}
+use Rattle.shared_store.specs.Records.{is_place_of, IsPlaceOf}
+use Rattle.summary_publish.specs.Entries.{first_start, next_redo}
+use Rattle.summary_publish.specs.Inside.{from_place, AreRecordsOf, RiseBehind}
+use Rattle.wal_summary.specs.declared.summary.Summary.{Summary}
+use Rattle.summary_publish.specs.Published.{IsNext}
+use Rattle.summary_publish.specs.Inside.{CanStart, StartsBy, last_end, place_or}
 
 -- ---- records
 
@@ -101,11 +106,11 @@ pub orderly_from : (at low : ℕ) (h : List Entry) → IsOrderly low h → IsOrd
 orderly_from at low [] o = tt
 orderly_from at low (e ∷ es) o = from_step at low e es o (nat_le at e.start) refl (orderly_from at e.end es o.3)
 
-orderly_front : (low : ℕ) (xs ys : List Entry) → IsOrderly low (xs ++ ys) → IsOrderly low xs
+pub orderly_front : (low : ℕ) (xs ys : List Entry) → IsOrderly low (xs ++ ys) → IsOrderly low xs
 orderly_front low [] ys o = tt
 orderly_front low (x ∷ xs) ys o = (o.0, o.1, o.2, orderly_front x.end xs ys o.3)
 
-orderly_behind : (low : ℕ) (xs ys : List Entry) → IsOrderly low (xs ++ ys) → IsOrderly (stop low xs) ys
+pub orderly_behind : (low : ℕ) (xs ys : List Entry) → IsOrderly low (xs ++ ys) → IsOrderly (stop low xs) ys
 orderly_behind low [] ys o = o
 orderly_behind low (x ∷ xs) ys o = orderly_behind x.end xs ys o.3
 
@@ -113,54 +118,31 @@ pub stop_later : (low : ℕ) (xs : List Entry) → IsOrderly low xs → low ≤ 
 stop_later low [] o = omega arith
 stop_later low (x ∷ xs) o = let rest = stop_later x.end xs o.3 in let first = o.0 in let up = o.1 in omega (arith, rest, first, up)
 
-abbrev below : ℕ → Entry → Bool
-below to e = nat_lt e.start to
+-- what starts at a place or past it, of entries that all start before another place
+first_only : (a b : Bool) → b ≡ true → (a && b) ≡ a
+first_only true b h = h
+first_only false b h = refl
 
-none_below : (low to : ℕ) (h : List Entry) → to ≤ low → IsOrderly low h → filter (below to) h ≡ []
-none_below low to [] le o = refl
-none_below low to (e ∷ es) le o =
-    let first = o.0 in
-    let up = o.1 in
-    ap (λ (t : Bool). cond t (e ∷ filter (below to) es) (filter (below to) es)) (le-ltb e.start to (omega (arith, le, first)))
-    ∙ none_below e.end to es (omega (arith, le, first, up)) o.3
-
-window_from : (at to : ℕ) (h : List Entry) → window h at to ≡ filter (below to) (from_place at h)
-window_from at to [] = refl
-window_from at to (e ∷ es) =
-    let rest = window_from at to es in
-    elim (nat_le at e.start) as (λ t. cond (t && nat_lt e.start to) (e ∷ window es at to) (window es at to) ≡ filter (below to) (cond t (e ∷ from_place at es) (from_place at es))) [
-      | true ↦ ap (λ (l : List Entry). cond (nat_lt e.start to) (e ∷ l) l) rest
-      | false ↦ rest
-    ]
-
-window_is : (from low to : ℕ) (es : List Entry) → from ≤ low → IsOrderly low es → filter (below to) es ≡ window es from to
-window_is from low to [] le o = refl
-window_is from low to (e ∷ es) le o =
-    let first = o.0 in
-    let up = o.1 in
-    ap (λ (l : List Entry). cond (nat_lt e.start to) (e ∷ l) l) (window_is from e.end to es (omega (arith, le, first, up)) o.3)
-    ∙ ap (λ (t : Bool). cond (t && nat_lt e.start to) (e ∷ window es from to) (window es from to)) (sym (le-leb from e.start (omega (arith, le, first))))
-
--- the entries of a piece are those of the history from its place up to one that isn't behind it
-window_piece : (from at to : ℕ) (h es rest : List Entry) → IsOrderly 0 h → from_place at h ≡ es ++ rest → from ≤ at → to ≤ stop at es → window h at to ≡ window es from to
-window_piece from at to h es rest o split le within =
-    let order = subst (IsOrderly at) split (orderly_from at 0 h o) in
-    window_from at to h ∙ ap (filter (below to)) split ∙ filter-append (below to) es rest
-    ∙ ap (λ (l : List Entry). filter (below to) es ++ l) (none_below (stop at es) to rest within (orderly_behind at es rest order))
-    ∙ append-nil (filter (below to) es) ∙ window_is from at to es le (orderly_front at es rest order)
-
-all_below : (low high : ℕ) (es : List Entry) → IsOrderly low es → stop low es ≤ high → filter (below high) es ≡ es
-all_below low high [] o le = refl
-all_below low high (e ∷ es) o le =
+all_before : (from to low : ℕ) (es : List Entry) → IsOrderly low es → stop low es ≤ to → window es from to ≡ from_place from es
+all_before from to low [] o le = refl
+all_before from to low (e ∷ es) o le =
     let up = o.1 in
     let rest = stop_later e.end es o.3 in
-    ap (λ (t : Bool). cond t (e ∷ filter (below high) es) (filter (below high) es)) (lt-ltb e.start high (omega (arith, le, up, rest)))
-    ∙ ap (λ (l : List Entry). e ∷ l) (all_below e.end high es o.3 le)
+    ap (λ (t : Bool). cond t (e ∷ window es from to) (window es from to)) (first_only (nat_le from e.start) (nat_lt e.start to) (lt-ltb e.start to (omega (arith, le, up, rest))))
+    ∙ ap (λ (l : List Entry). cond (nat_le from e.start) (e ∷ l) l) (all_before from to e.end es o.3 le)
 
--- all entries of a piece start before any place behind them
-all_ends : (from low high : ℕ) (es : List Entry) → from ≤ low → IsOrderly low es → stop low es ≤ high → window es from high ≡ window es from (stop low es)
-all_ends from low high es from_low o le =
-    sym (window_is from low high es from_low o) ∙ all_below low high es o le ∙ sym (all_below low (stop low es) es o (omega arith)) ∙ window_is from low (stop low es) es from_low o
+-- none does before a place, of entries behind it
+no_second : (a b : Bool) → b ≡ false → (a && b) ≡ false
+no_second true b h = h
+no_second false b h = refl
+
+pub none_past : (from to low : ℕ) (es : List Entry) → to ≤ low → IsOrderly low es → window es from to ≡ []
+none_past from to low [] le o = refl
+none_past from to low (e ∷ es) le o =
+    let first = o.0 in
+    let up = o.1 in
+    ap (λ (t : Bool). cond t (e ∷ window es from to) (window es from to)) (no_second (nat_le from e.start) (nat_lt e.start to) (le-ltb e.start to (omega (arith, le, first))))
+    ∙ none_past from to e.end es (omega (arith, le, first, up)) o.3
 
 none_from : (low at : ℕ) (es : List Entry) → IsOrderly low es → stop low es ≤ at → from_place at es ≡ []
 none_from low at [] o le = refl
@@ -198,17 +180,51 @@ left_behind at h es rest o split =
     ∙ ap (λ (l : List Entry). l ++ from_place place rest) (none_from at place es front (omega arith))
     ∙ all_from place place rest (orderly_behind at es rest order) (omega arith)
 
-nowhere_step : (from s : ℕ) (t : Bool) → nat_le from s ≡ t → (t && nat_lt s from) ≡ false
-nowhere_step from s true is = le-ltb s from (leb-true from s is)
-nowhere_step from s false is = refl
+-- and none between a place and one that isn't past it
+nowhere_step : (from to s : ℕ) (t : Bool) → to ≤ from → nat_le from s ≡ t → (t && nat_lt s to) ≡ false
+nowhere_step from to s true le is = let late = leb-true from s is in le-ltb s to (omega (arith, late, le))
+nowhere_step from to s false le is = refl
 
-none_within : (h : List Entry) (from : ℕ) → window h from from ≡ []
-none_within [] from = refl
-none_within (e ∷ es) from =
-    ap (λ (t : Bool). cond t (e ∷ window es from from) (window es from from)) (nowhere_step from e.start (nat_le from e.start) refl) ∙ none_within es from
+pub none_between : (h : List Entry) (from to : ℕ) → to ≤ from → window h from to ≡ []
+none_between [] from to le = refl
+none_between (e ∷ es) from to le =
+    ap (λ (t : Bool). cond t (e ∷ window es from to) (window es from to)) (nowhere_step from to e.start (nat_le from e.start) le refl) ∙ none_between es from to le
 
-joined : (h : List Entry) (from at to : ℕ) → IsOrderly 0 h → from ≤ at → at ≤ to → summary_of h from to ≡ both_summed (summary_of h from at) (summary_of h at to)
-joined h from at to o a b = same_table (summary_of h from to) (both_summed (summary_of h from at) (summary_of h at to)) (meet h from at to o a b)
+pub none_before_first : (h : List Entry) (from : ℕ) → IsOrderly 0 h → window h from (first_start h) ≡ []
+none_before_first [] from o = refl
+none_before_first (e ∷ es) from o = none_past from e.start e.start (e ∷ es) (omega arith) (omega arith, o.1, o.2, o.3)
+
+-- what entries say, and others behind them
+said_append : (xs ys : List Entry) (from to : ℕ) → summary_of (xs ++ ys) from to ≡ both_summed (summary_of xs from to) (summary_of ys from to)
+said_append xs ys from to =
+    ap (λ (l : List Entry). summed (map table_of l)) (filter-append (is_in from to) xs ys)
+    ∙ ap summed (map-append table_of (window xs from to) (window ys from to))
+    ∙ lists_summed (map table_of (window xs from to)) (map table_of (window ys from to))
+
+-- ---- reading that starts at another place, where no entry starts between
+
+none_first : (t : Bool) (e : Entry) (es : List Entry) → cond t (e ∷ es) es ≡ [] → (t ≡ false) × (es ≡ [])
+none_first true e es none = absurd cc
+none_first false e es none = (refl, none)
+
+by_second : (a b : Bool) → b ≡ true → (a && b) ≡ false → a ≡ false
+by_second true b h none = absurd (true≢false (sym h ∙ none))
+by_second false b h none = refl
+
+before_from : (from at s : ℕ) → nat_le at s ≡ false → (nat_le from s && nat_lt s at) ≡ false → nat_le from s ≡ false
+before_from from at s is none = by_second (nat_le from s) (nat_lt s at) (lt-ltb s at (leb-false at s is)) none
+
+starts : (from at to : ℕ) (h : List Entry) → window h from at ≡ [] → window (from_place at h) from to ≡ window h from to
+starts from at to [] none = refl
+starts from at to (e ∷ es) none =
+    let here = none_first (is_in from at e) e (window es from at) none in
+    let rest = starts from at to es here.1 in
+    elim (nat_le at e.start) as (λ t. nat_le at e.start ≡ t → window (cond t (e ∷ from_place at es) (from_place at es)) from to ≡ window (e ∷ es) from to) [
+      | true ↦ λ k. ap (λ (l : List Entry). cond (is_in from to e) (e ∷ l) l) rest
+      | false ↦ λ k.
+          rest
+          ∙ sym (ap (λ (t : Bool). cond (t && nat_lt e.start to) (e ∷ window es from to) (window es from to)) (before_from from at e.start k here.0))
+    ] refl
 
 -- ---- the next redo point
 
@@ -254,19 +270,22 @@ no_redo : (b : Bool) (s : ℕ) (o : Option ℕ) → cond (b && false) (Some s) o
 no_redo true s o = refl
 no_redo false s o = refl
 
-redo_step : (from at : ℕ) (e : Entry) (es : List Entry) → at ≤ from → (t : Bool) → nat_le at e.start ≡ t → next_redo from (from_place at es) ≡ next_redo from es → next_redo from (cond t (e ∷ from_place at es) (from_place at es)) ≡ next_redo from (e ∷ es)
-redo_step from at e es le true is rest = ap (cond (is_redo e.act && nat_lt from e.start) (Some e.start)) rest
-redo_step from at e es le false is rest =
-    let before = leb-false at e.start is in
-    rest ∙ sym (ap (λ (t : Bool). cond (is_redo e.act && t) (Some e.start) (next_redo from es)) (le-ltb from e.start (omega (arith, before, le))) ∙ no_redo (is_redo e.act) e.start (next_redo from es))
-
-pub redo_from : (from at : ℕ) (h : List Entry) → at ≤ from → next_redo from (from_place at h) ≡ next_redo from h
-redo_from from at [] le = refl
-redo_from from at (e ∷ es) le = redo_step from at e es le (nat_le at e.start) refl (redo_from from at es le)
+redo_from : (from at : ℕ) (h : List Entry) → window h from at ≡ [] → next_redo from (from_place at h) ≡ next_redo from h
+redo_from from at [] none = refl
+redo_from from at (e ∷ es) none =
+    let here = none_first (is_in from at e) e (window es from at) none in
+    let rest = redo_from from at es here.1 in
+    elim (nat_le at e.start) as (λ t. nat_le at e.start ≡ t → next_redo from (cond t (e ∷ from_place at es) (from_place at es)) ≡ next_redo from (e ∷ es)) [
+      | true ↦ λ k. ap (cond (is_redo e.act && nat_lt from e.start) (Some e.start)) rest
+      | false ↦ λ k.
+          let early = leb-false from e.start (before_from from at e.start k here.0) in
+          rest
+          ∙ sym (ap (λ (t : Bool). cond (is_redo e.act && t) (Some e.start) (next_redo from es)) (le-ltb from e.start (omega (arith, early))) ∙ no_redo (is_redo e.act) e.start (next_redo from es))
+    ] refl
 
 -- ---- places
 
-or_right : (a b : Bool) → b ≡ true → (a || b) ≡ true
+pub or_right : (a b : Bool) → b ≡ true → (a || b) ≡ true
 or_right true b h = refl
 or_right false b h = h
 
@@ -282,14 +301,18 @@ any_filter : (p q : Entry → Bool) (h : List Entry) → list_any p (filter q h)
 any_filter p q [] e = e
 any_filter p q (x ∷ xs) e = any_step (q x) p x (filter q xs) xs (λ h. any_filter p q xs h) e
 
-any_left : (p : Entry → Bool) (xs ys : List Entry) → list_any p xs ≡ true → list_any p (xs ++ ys) ≡ true
+pub any_left : (p : Entry → Bool) (xs ys : List Entry) → list_any p xs ≡ true → list_any p (xs ++ ys) ≡ true
 any_left p [] ys e = absurd cc
 any_left p (x ∷ xs) ys e = or_on (p x) (list_any p xs) (list_any p (xs ++ ys)) (λ h. any_left p xs ys h) e
+
+pub any_behind : (p : Entry → Bool) (xs ys : List Entry) → list_any p ys ≡ true → list_any p (xs ++ ys) ≡ true
+any_behind p [] ys h = h
+any_behind p (x ∷ xs) ys h = or_right (p x) (list_any p (xs ++ ys)) (any_behind p xs ys h)
 
 end_place : (e : Entry) → is_place_of e.end e ≡ true
 end_place e = or_right (e.start == e.end) (e.end == e.end) (eq-eqb e.end e.end refl)
 
-or_left : (a b : Bool) → a ≡ true → (a || b) ≡ true
+pub or_left : (a b : Bool) → a ≡ true → (a || b) ≡ true
 or_left true b h = refl
 or_left false b h = absurd cc
 
@@ -313,17 +336,18 @@ redo_place from place (e ∷ es) is = some_at (is_redo e.act && nat_lt from e.st
 
 -- ---- what is read so far
 
--- what the entries from a place up to another one say, with no redo point past the first among them
+-- a table is what the entries from a place on say that start before another one, from which on all
+-- others are left; no redo point past the first place is among them
 pub record IsReadTo (h : List Entry) (from at : ℕ) (table : BlockRefTable) : Type 0 where
-  pub later : from ≤ at
-  pub marked : table ≡ summary_of h from at
+  pub marked : (to : ℕ) → at ≤ to → summary_of h from to ≡ both_summed table (summary_of (from_place at h) from to)
   pub redo : next_redo from (from_place at h) ≡ next_redo from h
 
-pub read_first : (h : List Entry) (from : ℕ) (table : BlockRefTable) → table ≡ summed [] → IsReadTo h from from table
-read_first h from table none = record {
-  later = omega arith;
-  marked = none ∙ ap (λ (l : List Entry). summed (map table_of l)) (sym (none_within h from));
-  redo = redo_from from from h (omega arith);
+pub read_first : (h : List Entry) (from at : ℕ) (table : BlockRefTable) → table ≡ summed [] → window h from at ≡ [] → IsReadTo h from at table
+read_first h from at table empty none = record {
+  marked = λ to le.
+      sym (ap (λ (l : List Entry). summed (map table_of l)) (starts from at to h none))
+      ∙ ap (λ (t : BlockRefTable). both_summed t (summary_of (from_place at h) from to)) (sym empty);
+  redo = redo_from from at h none;
 }
 
 no_more : (most : ℕ) (xs : List Entry) → 0 < most → length (take most xs) ≡ 0 → xs ≡ []
@@ -346,21 +370,36 @@ piece_is h at most rs told = record {
   told = told;
 }
 
+-- a piece more
+piece_said : (h : List Entry) (from at to : ℕ) (table : BlockRefTable) (rs : List Record) (r : IsReadTo h from at table) (p : IsPieceOf h at rs) → at ≤ to
+    → summary_of h from to ≡ both_summed (both_summed table (summary_of p.es from to)) (summary_of p.rest from to)
+piece_said h from at to table rs r p le =
+    r.marked to le ∙ ap (λ (l : List Entry). both_summed table (summary_of l from to)) p.split ∙ ap (both_summed table) (said_append p.es p.rest from to)
+    ∙ sym (regrouped table (summary_of p.es from to) (summary_of p.rest from to))
+
+-- what is said of a piece up to any place behind it
+piece_whole : (h : List Entry) (from at to high : ℕ) (rs : List Record) → IsOrderly 0 h → (p : IsPieceOf h at rs) → stop at p.es ≤ to → stop at p.es ≤ high → summary_of p.es from to ≡ summary_of (map entry_of rs) from high
+piece_whole h from at to high rs o p a b =
+    let front = orderly_front at p.es p.rest (subst (IsOrderly at) p.split (orderly_from at 0 h o)) in
+    ap (λ (l : List Entry). summed (map table_of l)) (all_before from to at p.es front a ∙ sym (all_before from high at p.es front b))
+    ∙ sym (said_alike rs p.es from high p.told)
+
 pub read_on : (h : List Entry) (from at high : ℕ) (table next : BlockRefTable) (rs : List Record) → IsOrderly 0 h → IsReadTo h from at table → IsPieceOf h at rs → next_redo from (map entry_of rs) ≡ None
     → next ≡ both_summed table (summary_of (map entry_of rs) from high) → last_end at rs ≤ high → IsReadTo h from (last_end at rs) next
 read_on h from at high table next rs o r p none add le =
     let es = p.es in
+    let rest = p.rest in
     let order = subst (IsOrderly at) p.split (orderly_from at 0 h o) in
-    let front = orderly_front at es p.rest order in
     let place = stop_alike rs es at p.told in
-    let up = stop_later at es front in
-    let low = r.later in
+    let up = stop_later at es (orderly_front at es rest order) in
+    let left = left_behind at h es rest o p.split in
     subst (λ (x : ℕ). IsReadTo h from x next) (sym place) (record {
-      later = omega (arith, up, low);
-      marked = add ∙ ap (λ t. both_summed t (summary_of (map entry_of rs) from high)) r.marked ∙ ap (both_summed (summary_of h from at)) (said_alike rs es from high p.told
-          ∙ ap (λ (l : List Entry). summed (map table_of l)) (all_ends from at high es low front (omega (arith, place, le)) ∙ sym (window_piece from at (stop at es) h es p.rest o p.split low (omega arith))))
-          ∙ sym (joined h from at (stop at es) o low up);
-      redo = ap (next_redo from) (left_behind at h es p.rest o p.split) ∙ sym (redo_append from es p.rest (sym (redo_alike rs es from p.told) ∙ none)) ∙ sym (ap (next_redo from) p.split) ∙ r.redo;
+      marked = λ to far.
+          piece_said h from at to table rs r p (omega (arith, up, far))
+          ∙ ap (λ (t : BlockRefTable). both_summed (both_summed table t) (summary_of rest from to)) (piece_whole h from at to high rs o p far (omega (arith, place, le)))
+          ∙ ap (λ (t : BlockRefTable). both_summed t (summary_of rest from to)) (sym add)
+          ∙ ap (λ (l : List Entry). both_summed next (summary_of l from to)) (sym left);
+      redo = ap (next_redo from) left ∙ sym (redo_append from es rest (sym (redo_alike rs es from p.told) ∙ none)) ∙ sym (ap (next_redo from) p.split) ∙ r.redo;
     })
 
 pub on_place : (h : List Entry) (at : ℕ) (rs : List Record) → IsPieceOf h at rs → 0 < length rs → IsPlaceOf h (last_end at rs)
@@ -376,17 +415,17 @@ pub read_up : (h : List Entry) (from at place : ℕ) (table next : BlockRefTable
     → next ≡ both_summed table (summary_of (map entry_of rs) from place) → (next_redo from h ≡ Some place) × (next ≡ summary_of h from place)
 read_up h from at place table next rs o r p some add =
     let es = p.es in
+    let rest = p.rest in
     let order = subst (IsOrderly at) p.split (orderly_from at 0 h o) in
-    let front = orderly_front at es p.rest order in
     let found = sym (redo_alike rs es from p.told) ∙ some in
-    let within = redo_within at from place es front found in
-    let a = within.0 in
-    let b = within.1 in
-    let low = r.later in (
-      sym r.redo ∙ ap (next_redo from) p.split ∙ redo_first from place es p.rest found,
-      add ∙ ap (λ t. both_summed t (summary_of (map entry_of rs) from place)) r.marked ∙ ap (both_summed (summary_of h from at)) (said_alike rs es from place p.told
-          ∙ ap (λ (l : List Entry). summed (map table_of l)) (sym (window_piece from at place h es p.rest o p.split low (omega (arith, b)))))
-          ∙ sym (joined h from at place o low a),
+    let within = redo_within at from place es (orderly_front at es rest order) found in
+    let below = within.1 in
+    let past : window rest from place ≡ [] = none_past from place (stop at es) rest (omega (arith, below)) (orderly_behind at es rest order) in (
+      sym r.redo ∙ ap (next_redo from) p.split ∙ redo_first from place es rest found,
+      add ∙ ap (both_summed table) (said_alike rs es from place p.told)
+          ∙ sym (piece_said h from at place table rs r p within.0
+          ∙ ap (λ (l : List Entry). both_summed (both_summed table (summary_of es from place)) (summed (map table_of l))) past
+          ∙ before_none (both_summed table (summary_of es from place))),
     )
 
 -- ---- ends
@@ -414,9 +453,13 @@ found_none h from at now table next rs o order r told is none add last le =
     subst (λ (x : ℕ). IsReadTo h from x next) (sym last)
     (read_on h from at (2 ^ 64 - 1) table next rs order r (piece_is h at 64 rs told) (sym is ∙ ap (option_map (λ x. x.0)) none) (add ∙ ap (λ x. both_summed table (summary_of (map entry_of rs) from (place_or x))) none) (omega (arith, last, le)))
 
-pub place_on : (h : List Entry) (at now : ℕ) (rs : List Record) (ended : Bool) → AreRecordsOf rs (take 64 (from_place at h)) → now ≡ last_end at rs → ended ≡ (length rs == 0) → ended ≡ false → IsPlaceOf h now
-place_on h at now [] ended told last e no_end = absurd cc
-place_on h at now (r ∷ rs) ended told last e no_end = subst (IsPlaceOf h) (sym last) (on_place h at (r ∷ rs) (piece_is h at 64 (r ∷ rs) told) (omega arith))
+pub place_on : (h : List Entry) (at now : ℕ) (rs : List Record) → IsPlaceOf h at → AreRecordsOf rs (take 64 (from_place at h)) → now ≡ last_end at rs → IsPlaceOf h now
+place_on h at now [] place told last = subst (IsPlaceOf h) (sym last) place
+place_on h at now (r ∷ rs) place told last = subst (IsPlaceOf h) (sym last) (on_place h at (r ∷ rs) (piece_is h at 64 (r ∷ rs) told) (omega arith))
+
+pub moved_place : (h : List Entry) (old new at : Lsn) → IsPlaceOf h old.0 → IsPlaceOf h at.0 → (new ≡ old) ⊎ (new ≡ at) → IsPlaceOf h new.0
+moved_place h old new at stays moves (inl same) = subst (λ (x : Lsn). IsPlaceOf h x.0) (sym same) stays
+moved_place h old new at stays moves (inr moved) = subst (λ (x : Lsn). IsPlaceOf h x.0) (sym moved) moves
 
 pub none_at_end : (h : List Entry) (from at : ℕ) (table : BlockRefTable) (rs : List Record) (ended : Bool) → IsReadTo h from at table → AreRecordsOf rs (take 64 (from_place at h)) → ended ≡ (length rs == 0) → ended ≡ true → next_redo from h ≡ None
 none_at_end h from at table [] ended r told e end = read_all h from at 64 table [] r (omega arith) told refl
@@ -439,3 +482,14 @@ past_redo from place (e ∷ es) is = past_step (is_redo e.act) (nat_lt from e.st
 
 pub redo_past : (from : ℕ) (rs : List Record) (o : Option Lsn) (end : Lsn) → option_map (λ x. x.0) o ≡ next_redo from (map entry_of rs) → o ≡ Some end → from < end.0
 redo_past from rs o end is some = past_redo from end.0 (map entry_of rs) (sym is ∙ option_some o end some)
+
+-- behind a summary's range reading goes on where the range ends
+pub can_go_on : (h : List Entry) (made place : ℕ) (sum : Summary) → IsNext h made place sum → CanStart h sum.end.0 sum.end.0
+can_go_on h made place sum next = record { place = redo_place place sum.end.0 h next.ends; between = none_between h sum.end.0 sum.end.0 (omega arith) }
+
+-- and where it starts behind what is kept
+pub start_from : (h seen : List Entry) (known now from first : Lsn) → IsOrderly 0 h → IsPrefix seen h → IsPlaceOf seen known.0 → first.0 ≡ first_start h → IsPlaceOf h first.0 → StartsBy known now from first → CanStart h from.0 now.0
+start_from h seen known now from first order before is first_is there (inl stays) =
+    subst (λ (x : Lsn). CanStart h from.0 x.0) (sym stays.0) (record { place = places_stay known.0 seen h is before; between = none_between h from.0 known.0 stays.1 })
+start_from h seen known now from first order before is first_is there (inr moved) =
+    subst (λ (x : Lsn). CanStart h from.0 x.0) (sym moved) (record { place = there; between = subst (λ (n : ℕ). window h from.0 n ≡ []) (sym first_is) (none_before_first h from.0 order) })

@@ -1,22 +1,59 @@
 -- What functions inside the crate answer. No public contract cites these.
-use Rattle.std.specs.Prelude.{◌≡◌, ℕ, ◌+◌, ◌-◌, ◌^◌, ◌<◌, ◌≤◌, List, [], ◌∷◌, length, Option, Some, None}
+use Rattle.std.specs.Prelude.{◌≡◌, nat_le, ◌⊎◌, ℕ, ◌+◌, ◌-◌, ◌^◌, ◌<◌, ◌≤◌, List, [], ◌∷◌, length, Option, Some, None, IfSome}
 use Rattle.std.specs.Option.{option_map}
+use Rattle.std.specs.List.{AllByRecursion, filter}
+use Rattle.lsn_core.specs.Causes.{Rose}
 use Rattle.lsn_core.specs.declared.lsn.Lsn.{Lsn}
 use Rattle.lsn_core.specs.declared.fault.AreaFault.{AreaFault}
 use Rattle.lsn_core.specs.declared.fault.AreaFault.TheVariants as area
 use Rattle.lsn_core.specs.declared.fault.StoreArea.TheVariants.{Sums as SumsArea}
 use Rattle.lsn_core.specs.declared.fault.StoreFault.{StoreFault}
 use Rattle.lsn_core.specs.declared.fault.StoreFault.TheVariants as store
+use Rattle.vault.specs.Frame.{LeavesNow}
 use Rattle.vault.specs.declared.area.Vault.{Ghosts}
 use Rattle.wal_record.specs.declared.record.Record.{Record}
 use Rattle.wal_record.specs.declared.record.Kind.{Kind}
 use Rattle.wal_record.specs.declared.record.Kind.TheVariants as kind
+use Rattle.wal_record.specs.Sound.{IsSound}
 use Rattle.history.specs.Entry.{Entry}
+use Rattle.history.specs.Whole.{says, entry_of}
+use Rattle.history.specs.Written.{is_redo}
+use Rattle.fuzzy_copies.specs.Summary.{table_of}
+use Rattle.fuzzy_copies.specs.Sound.{window}
 use Rattle.wal_summary.specs.declared.summary.Summary.{Summary}
+use Rattle.wal_summary.specs.declared.kept.CoverFault.{CoverFault}
+use Rattle.wal_summary.specs.declared.kept.CoverFault.TheVariants as cover
 use Rattle.summary_file.specs.File.{IsWritable}
 use Rattle.summary_store.specs.Kept.{end_behind}
-use Rattle.summary_publish.specs.Feed.{next_redo}
-use Rattle.summary_publish.specs.Published.{IsNext, AreNext, with_file, with_files}
+use Rattle.shared_store.specs.Records.{IsPlaceOf}
+use Rattle.summary_publish.specs.Entries.{next_redo}
+use Rattle.summary_publish.specs.Published.{IsNext, AreNext, IsWhole, with_file, with_files}
+use Rattle.summary_publish.specs.declared.advancing.AdvanceFault.{AdvanceFault}
+use Rattle.summary_publish.specs.declared.advancing.AdvanceFault.TheVariants as advance
+
+-- the entries that start at a place or past it
+abbrev pub from_place : ℕ → List Entry → List Entry
+from_place place history = filter (λ e. nat_le place e.start) history
+
+-- a record is that of an entry: it starts and ends where that does, and says the same of the start of
+-- a checkpoint, of blocks and of limits
+pub record IsRecordOf (r : Record) (e : Entry) : Type 0 where
+  pub start : r.start.0 ≡ e.start
+  pub end : r.end.0 ≡ e.end
+  pub redo : is_redo (says r) ≡ is_redo e.act
+  pub table : table_of (entry_of r) ≡ table_of e
+
+-- records are those of entries, one by one
+abbrev pub AreRecordsOf : List Record → List Entry → Type 0
+AreRecordsOf [] [] = Unit {0}
+AreRecordsOf [] (e ∷ es) = ⊥
+AreRecordsOf (r ∷ rs) [] = ⊥
+AreRecordsOf (r ∷ rs) (e ∷ es) = IsRecordOf r e × AreRecordsOf rs es
+
+-- sound records that end one behind the other, the first of them past a place
+abbrev pub RiseBehind : ℕ → List Record → Type 0
+RiseBehind place [] = Unit {0}
+RiseBehind place (r ∷ rs) = (place < r.end.0) × IsSound r.kind × RiseBehind r.end.0 rs
 
 -- the end of the last one of some records; where there is none, a place before them
 abbrev pub last_end : ℕ → List Record → ℕ
@@ -45,6 +82,21 @@ abbrev pub HaveCounts : List Record → Type 0
 HaveCounts [] = Unit {0}
 HaveCounts (r ∷ rs) = HasCount r.kind × HaveCounts rs
 
+-- what is read from a place on has all entries from another one on: that place is one where an entry
+-- starts or ends, and none starts between the two
+pub record CanStart (history : List Entry) (from at : ℕ) : Type 0 where
+  pub place : IsPlaceOf history at
+  pub between : window history from at ≡ []
+
+-- a place stays, which isn't past a bound, or it is moved to the first one
+abbrev pub StartsBy : Lsn → Lsn → Lsn → Lsn → Type 0
+StartsBy old new bound first = ((new ≡ old) × (old.0 ≤ bound.0)) ⊎ (new ≡ first)
+
+-- so it has behind a range that was found
+abbrev pub MayGoOn : List Entry → Option Lsn → ℕ → Type 0
+MayGoOn history None at = Unit {0}
+MayGoOn history (Some end) at = CanStart history end.0 at
+
 -- the summary of the next range, where there is one
 abbrev pub NextAnswer : List Entry → ℕ → ℕ → Option Summary → Type 0
 NextAnswer history made place None = next_redo place history ≡ None
@@ -60,7 +112,7 @@ abbrev pub PublishesNext : {V : Type 0} → Ghosts V → Type 0 → List Entry �
     → Option Lsn → Type 0
 PublishesNext g told history place made old new (Some end) =
     (sum : Summary) × (sum.end ≡ end) × (place < end.0)
-    × (told → IsNext history made place sum)
+    × (told → IsNext history made place sum) × IsWhole sum
     × (g.files new ≡ option_map (with_file sum) (g.files old))
 PublishesNext g told history place made old new None =
     (new ≡ old) × (told → next_redo place history ≡ None)
@@ -70,12 +122,35 @@ pub record PublishesTo {V : Type 0} (g : Ghosts V) (told : Type 0) (history : Li
     (from made : ℕ) (old new : V) (at count : ℕ) : Type 0 where
   pub sums : List Summary
   pub next : told → AreNext history made from sums
+  pub whole : AllByRecursion IsWhole sums
   pub ends : at ≡ end_behind from sums
   pub counted : count ≡ length sums
   pub fits : from + count ≤ at
   pub files : g.files new ≡ option_map (with_files sums) (g.files old)
 
+-- summaries were published from a place on up to the last redo point: none lies past the last one's
+-- end. What a stop leaves is what a read gives
+pub record Publishes {V : Type 0} (g : Ghosts V) (told : Type 0) (history : List Entry)
+    (from made : ℕ) (old new : V) (count : ℕ) : Type 0 where
+  pub sums : List Summary
+  pub next : told → AreNext history made from sums
+  pub whole : AllByRecursion IsWhole sums
+  pub last : told → next_redo (end_behind from sums) history ≡ None
+  pub counted : count ≡ length sums
+  pub files : g.files new ≡ option_map (with_files sums) (g.files old)
+  pub stop : IfSome (g.files new) (λ m. LeavesNow (λ c. c ≡ m) (g.past new))
+
 -- the fault of the area of the summaries
 abbrev pub sums_fault : AreaFault → StoreFault
 sums_fault area.Failed = store.Failed SumsArea
 sums_fault area.NoMemory = store.NoMemory
+
+-- it is of that area, and comes only where its count rose
+abbrev pub SumsCause : ℕ → ℕ → StoreFault → Type 0
+SumsCause before now (store.Failed area) = (area ≡ SumsArea) × Rose before now
+SumsCause before now store.NoMemory = Unit {0}
+
+-- the fault of an advance for one of covering
+abbrev pub cover_fault : CoverFault → AdvanceFault
+cover_fault (cover.Gap place) = advance.Gap place
+cover_fault cover.NoMemory = advance.Store store.NoMemory

@@ -1,4 +1,4 @@
-pub mod Feed
-pub mod Fed
+pub mod Entries
 pub mod Published
+pub mod Laws
 pub mod Inside

@@ -1,19 +1,23 @@
 //! The next range of a WAL that is to be summarised.
 
-ghost use Rattle.std.specs.Prelude.{◌≡◌, ◌<◌, ◌^◌, ◌&&◌, nat_lt, map, IfOk, OnOk, IfErr, IfSome};
+ghost use Rattle.std.specs.Prelude.{◌≡◌, true, ◌<◌, ◌^◌, ◌&&◌, ◌⊎◌, nat_lt, map, IfOk, OnOk, IfErr, IfSome};
 ghost use Rattle.std.specs.Option.{option_map};
 ghost use Rattle.history.specs.Whole.{says, entry_of};
 ghost use Rattle.history.specs.Written.{is_redo};
 ghost use Rattle.fuzzy_copies.specs.Summary.{both_summed, summary_of};
 ghost use Rattle.wal_summary.specs.Marks.{table_of_marks};
 ghost use Rattle.summary_file.specs.File.{IsWritable};
-ghost use Rattle.summary_publish.specs.Fed.{IsFed};
-ghost use Rattle.summary_publish.specs.Feed.{IsPlaceOf, FailsIn, RiseBehind, next_redo};
-ghost use Rattle.summary_publish.specs.Inside.{NextAnswer, CanFollow, HasCount, HaveCounts, place_or, last_end};
+ghost use Rattle.shared_store.specs.Records.{IsPlaceOf};
+ghost use Rattle.shared_store.specs.Opened.{StoreCause};
+ghost use Rattle.summary_publish.specs.Entries.{next_redo};
+ghost use Rattle.summary_publish.specs.Published.{OnlyReadsHistory};
+ghost use Rattle.summary_publish.specs.Inside.{CanStart, NextAnswer, CanFollow, HasCount, HaveCounts, place_or, last_end};
 
-use crate::feed::Feed;
+use crate::feed::{meet, records_from};
 use lsn_core::{Lsn, NoMemory, StoreFault};
+use shared_store::{OfCrew, Pass, Store};
 use std::alloc::Global;
+use vault::Vault;
 use wal_record::{Kind, Record};
 use wal_summary::{MarkMap, Summary};
 
@@ -110,30 +114,32 @@ impl Reading {
 }
 
 /// The summary of the entries from a place up to the next redo point. None exactly where there is no
-/// such redo point.
-pub(crate) fn next_range<F: Feed>(
+/// such redo point. Entries are read from `known` on, which moves on to the last place up to the
+/// first one that a piece of them ends with.
+pub(crate) fn next_range<J: OfCrew, V: Vault>(
     alloc: Global,
-    feed: &mut F,
-    pass: &mut F::Pass,
+    store: &mut Store<J, V>,
+    pass: &mut Pass<J>,
+    known: &mut Lsn,
     from: Lsn,
     when: u64,
 ) -> Result<Option<Summary>, StoreFault>
-    requires place { F.tells → IsPlaceOf (F.seen pass.old) from.0 }
-    ensures found { F.tells
-        → IfOk result (NextAnswer (F.history feed.old) when from.0) }
-    ensures place { F.tells → IfOk result (λ found. IfSome found (λ sum.
-        IsPlaceOf (F.history feed.old) sum.end.0)) }
+    requires start { J.tells ≡ true → CanStart store.old.history from.0 known.old.0 }
+    ensures found { J.tells ≡ true
+        → IfOk result (NextAnswer store.old.history when from.0) }
+    ensures place { J.tells ≡ true → IsPlaceOf store.old.history known.new.0 }
     ensures written { IfOk result (λ found. IfSome found (CanFollow from.0)) }
-    ensures cause { IfErr result (FailsIn (F.faults feed.old) (F.faults feed.new)) }
-    ensures fed { IsFed F.Feed feed.old feed.new pass.new }
+    ensures cause { IfErr result (StoreCause store.old.faults store.new.faults) }
+    ensures fed { OnlyReadsHistory store.old store.new pass.old pass.new }
 {
+    meet(store, pass);
     let mut reading = Reading {
         marks: MarkMap::new(alloc),
-        at: from,
+        at: *known,
     };
     let mut ended = false;
     while !ended {
-        let piece = feed.records(alloc, pass, reading.at, PIECE)?;
+        let piece = records_from(alloc, store, pass, reading.at, PIECE)?;
         if let Some(end) = reading.take_piece(&piece, from)? {
             let forks = reading.marks.summaries(alloc)?;
             return Ok(Some(Summary {
@@ -143,7 +149,17 @@ pub(crate) fn next_range<F: Feed>(
                 forks,
             }));
         }
+        move_on(known, reading.at, from);
         ended = piece.is_empty();
     }
     Ok(None)
+}
+
+/// Moves a place on to a later one that isn't past a bound.
+fn move_on(known: &mut Lsn, at: Lsn, bound: Lsn)
+    ensures { (known.new ≡ known.old) ⊎ (known.new ≡ at) }
+{
+    if at.0 <= bound.0 {
+        *known = at;
+    }
 }

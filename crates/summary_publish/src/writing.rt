@@ -4,8 +4,9 @@ ghost use Rattle.std.specs.Prelude.{◌≡◌, ◌<◌, length, OnOk};
 ghost use Rattle.std.specs.Option.{option_map};
 ghost use Rattle.std.specs.FinMap.{insert};
 ghost use Rattle.lsn_core.specs.Causes.{HasCause};
+ghost use Rattle.vault.specs.Frame.{ChangesOnly};
 ghost use Rattle.summary_file.specs.File.{IsWritable};
-ghost use Rattle.summary_publish.specs.Published.{with_file};
+ghost use Rattle.summary_publish.specs.Published.{IsSummaryName, IsWhole, with_file};
 
 use lsn_core::AreaFault;
 use std::alloc::Global;
@@ -20,7 +21,9 @@ pub(crate) fn write_summary<V: Vault>(
     sum: &Summary,
 ) -> Result<(), AreaFault>
     requires { IsWritable sum.now }
+    ensures whole { OnOk result (IsWhole sum.now) }
     ensures file { OnOk result (V.files area.new ≡ option_map (with_file sum.now) (V.files area.old)) }
+    ensures changes { ChangesOnly V.Vault IsSummaryName area.old area.new }
     ensures cause { HasCause (V.faults area.old) (V.faults area.new) result }
 {
     let name = summary_name(alloc, sum.start, sum.end)?;
@@ -30,9 +33,11 @@ pub(crate) fn write_summary<V: Vault>(
 
 /// Writes a whole file, of a byte at least, in the place of one that stood under its name.
 fn write_anew<V: Vault>(area: &mut V, name: &[u8], bytes: &[u8]) -> Result<(), AreaFault>
-    requires { 0 < length bytes.now }
+    requires some { 0 < length bytes.now }
+    requires named { IsSummaryName name.now }
     ensures written { OnOk result
         (V.files area.new ≡ option_map (λ m. insert m name.now bytes.now) (V.files area.old)) }
+    ensures changes { ChangesOnly V.Vault IsSummaryName area.old area.new }
     ensures cause { HasCause (V.faults area.old) (V.faults area.new) result }
 {
     area.cut(name, 0)?;

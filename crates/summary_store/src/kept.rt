@@ -6,7 +6,7 @@ ghost use Rattle.vault.specs.Frame.{OnlyReads};
 ghost use Rattle.wal_summary.specs.Kept.{AreInOrder, CoverAnswers};
 ghost use Rattle.summary_store.specs.Kept.{AreKept, IsHandedBack};
 
-use crate::opening::summaries_in;
+use crate::opening::kept_in;
 use lsn_core::{AreaFault, Lsn};
 use std::alloc::Global;
 use std::marker::Model;
@@ -50,7 +50,7 @@ impl<V: Vault> Kept<V> {
         ensures fault { IfErr result (IsHandedBack V.Vault area) }
     {
         let mut area = area;
-        match summaries_in(alloc, &mut area) {
+        match kept_in(alloc, &mut area) {
             Ok(sums) => Ok(Kept { area, sums }),
             Err(why) => Err(SumsFault { area, why }),
         }

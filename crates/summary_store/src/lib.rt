@@ -16,3 +16,4 @@ mod opening;
 
 pub use kept::{Kept, SumsFault};
 pub use laws::honest_files_are_kept;
+pub use opening::{end_behind, kept_in};

@@ -13,8 +13,9 @@ use summary_file::{SummaryFault, decode_summary, is_name_of, range_in};
 use vault::{Vault, read_whole};
 use wal_summary::Summary;
 
-/// The summaries that are kept of the files of an area.
-pub(crate) fn summaries_in<V: Vault>(alloc: Global, area: &mut V) -> Result<Vec<Summary>, AreaFault>
+/// The summaries that are kept of the files of an area (`specs/Kept.antt`), in order of their ranges.
+/// `Failed` comes only where the area's count of faults rose.
+pub fn kept_in<V: Vault>(alloc: Global, area: &mut V) -> Result<Vec<Summary>, AreaFault>
     ensures kept { IfOk result (λ sums. IfSome (V.files area.old) (λ m. AreKept m sums.items)) }
     ensures order { IfOk result (λ sums. AreInOrder 0 sums.items) }
     ensures reads { OnlyReads V.Vault area.old area.new }
@@ -48,19 +49,19 @@ fn keep_next<V: Vault>(
     let Some(sum) = summary_in(alloc, area, name)? else {
         return Ok(());
     };
-    if end_of(sums).0 <= sum.start.0 {
+    if end_behind(sums, Lsn(0)).0 <= sum.start.0 {
         sums.push(sum)?;
     }
     Ok(())
 }
 
-/// The end of the last one of some summaries, 0 where there is none.
-pub(crate) fn end_of(sums: &[Summary]) -> Lsn
-    ensures { result.0 ≡ end_behind 0 sums.now }
+/// The end of the last one of some summaries; where there is none, a place before them.
+pub fn end_behind(sums: &[Summary], low: Lsn) -> Lsn
+    ensures { result.0 ≡ end_behind low.0 sums.now }
 {
     match sums.last() {
         Some(sum) => sum.end,
-        None => Lsn(0),
+        None => low,
     }
 }
 

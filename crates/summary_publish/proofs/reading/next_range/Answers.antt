@@ -1,50 +1,40 @@
-use Rattle.std.proofs.Common.{◌≡◌, ◌==◌, take, map, length, refl, ap, sym, subst, ◌∙◌, arith, rules}
+use Rattle.std.proofs.Common.{◌≡◌, true, ◌==◌, take, map, length, refl, ap, sym, subst, ◌∙◌, arith}
 use Rattle.fuzzy_copies.specs.Orderly.{IsOrderly}
 use Rattle.wal_summary.specs.Marks.{table_of_marks}
 use Rattle.wal_summary.specs.Summary.{IsSummary}
 use Rattle.fuzzy_copies.specs.Summary.{summary_of}
-use Rattle.summary_publish.specs.Feed.{AreRecordsOf, RiseBehind, IsPlaceOf, from_place}
+use Rattle.shared_store.specs.Records.{IsPlaceOf}
+use Rattle.summary_publish.specs.Inside.{AreRecordsOf, RiseBehind, from_place}
 use Rattle.history.specs.Whole.{entry_of}
 use Rattle.summary_publish.specs.Inside.{place_or}
+use Rattle.summary_publish.proofs.Adding.{fed_on}
 use Rattle.summary_publish.proofs.Fitting.{Fits, none_fits, both_fit, piece_fits, forks_fit}
-use Rattle.summary_publish.proofs.Ranges.{read_first, found_up, found_none, place_on, none_at_end, turns_fewer, redo_place, redo_past}
+use Rattle.summary_publish.proofs.Ranges.{read_first, found_up, found_none, place_on, moved_place, none_at_end, turns_fewer, redo_past}
 use Rattle.summary_publish.proofs.reading.next_range.Goals as goal
 
 pub loop-ended-init : goal.loop-ended-init
 loop-ended-init g c = record {
-  same = search rules;
-  later = λ area. omega arith;
-  read = λ told. read_first (g.F.Feed.history c.args.feed.now) c.args.from.0 _ c.new.ensures;
+  fed = c.meet.ensures.fed;
+  read = λ told. read_first c.args.store.now.history c.args.from.0 c.args.known.now.0 _ c.new.ensures (c.requires.start told).between;
   fits = subst Fits (sym c.new.ensures) none_fits;
-  place = λ no_end told. c.requires.place told;
-  seen = λ ended. absurd cc;
+  place = λ told. (c.requires.start told).place;
+  known = λ told. (c.requires.start told).place;
   none = λ ended told. absurd cc;
 }
 
-pub records-requires : goal.records-requires
-records-requires g c = record { place = λ told. c.loop-ended.invariant.place c.loop-ended-test.true told }
+pub records_from-requires-clause-place : goal.records_from-requires-clause-place
+records_from-requires-clause-place g c = λ κs lives told. subst (λ l. IsPlaceOf l c.loop-ended.reading.at.0) (sym c.loop-ended.invariant.fed.seen) (c.loop-ended.invariant.place told)
 
 pub returns-in-Some-clause-found : goal.returns-in-Some-clause-found
 returns-in-Some-clause-found g c = λ told.
-    let h = g.F.Feed.history c.args.feed.now in
+    let h = c.args.store.now.history in
     let at = c.loop-ended.reading.at.0 in
-    let order : IsOrderly 0 h = subst (IsOrderly 0) c.loop-ended.invariant.same (c.in_ok-piece.ensures.orderly told) in
+    let order : IsOrderly 0 h = c.meet.ensures.orderly told in
     let here : AreRecordsOf c.deref.result.now (take 64 (from_place at h)) =
-    subst (λ x. AreRecordsOf c.deref.result.now (take 64 (from_place at x))) c.loop-ended.invariant.same
-    (subst (λ l. AreRecordsOf l (take 64 (from_place at (g.F.Feed.history c.loop-ended.feed)))) (sym c.deref.ensures.value) (c.in_ok-piece.ensures.records told)) in
+    subst (λ x. AreRecordsOf c.deref.result.now (take 64 (from_place at x))) c.loop-ended.invariant.fed.same
+    (subst (λ l. AreRecordsOf l (take 64 (from_place at c.loop-ended.store.history))) (sym c.deref.ensures.value) (c.in_ok-piece.ensures.records told)) in
     let up = found_up h c.args.from.0 at (table_of_marks c.loop-ended.reading.marks) (table_of_marks c.take_piece.new.self.marks) c.deref.result.now c.in_ok-end.field-0 c.in-Some.end order (c.loop-ended.invariant.read told) here c.in_ok-end.ensures.end c.in-Some.is c.in_ok-end.ensures.marks in
     record { starts = refl; ends = up.0; at = refl; says = subst (λ t. IsSummary t c.in_ok-forks.forks) up.1 c.in_ok-forks.ensures }
-
-pub returns-in-Some-clause-place : goal.returns-in-Some-clause-place
-returns-in-Some-clause-place g c = λ told.
-    let h = g.F.Feed.history c.args.feed.now in
-    let at = c.loop-ended.reading.at.0 in
-    let order : IsOrderly 0 h = subst (IsOrderly 0) c.loop-ended.invariant.same (c.in_ok-piece.ensures.orderly told) in
-    let here : AreRecordsOf c.deref.result.now (take 64 (from_place at h)) =
-    subst (λ x. AreRecordsOf c.deref.result.now (take 64 (from_place at x))) c.loop-ended.invariant.same
-    (subst (λ l. AreRecordsOf l (take 64 (from_place at (g.F.Feed.history c.loop-ended.feed)))) (sym c.deref.ensures.value) (c.in_ok-piece.ensures.records told)) in
-    let up = found_up h c.args.from.0 at (table_of_marks c.loop-ended.reading.marks) (table_of_marks c.take_piece.new.self.marks) c.deref.result.now c.in_ok-end.field-0 c.in-Some.end order (c.loop-ended.invariant.read told) here c.in_ok-end.ensures.end c.in-Some.is c.in_ok-end.ensures.marks in
-    redo_place c.args.from.0 c.in-Some.end.0 h up.0
 
 pub returns-in-Some-clause-written : goal.returns-in-Some-clause-written
 returns-in-Some-clause-written g c =
@@ -68,24 +58,36 @@ loop-ended-smaller g c = turns_fewer c.loop-ended.reading.at.0 c.take_piece.new.
 
 pub loop-ended-preserved : goal.loop-ended-preserved
 loop-ended-preserved g c =
-    let h = g.F.Feed.history c.args.feed.now in
+    let h = c.args.store.now.history in
     let at = c.loop-ended.reading.at.0 in
     let now = c.take_piece.new.self.at.0 in
-    let seen_now : g.F.Feed.seen c.records.new.pass ≡ h = c.in_ok-piece.ensures.seen ∙ c.loop-ended.invariant.same in
-    let here : g.F.Feed.tells → AreRecordsOf c.deref.result.now (take 64 (from_place at h)) =
-    λ told. subst (λ x. AreRecordsOf c.deref.result.now (take 64 (from_place at x))) c.loop-ended.invariant.same
-    (subst (λ l. AreRecordsOf l (take 64 (from_place at (g.F.Feed.history c.loop-ended.feed)))) (sym c.deref.ensures.value) (c.in_ok-piece.ensures.records told)) in
+    let here : g.J.OfStore.tells ≡ true → AreRecordsOf c.deref.result.now (take 64 (from_place at h)) =
+    λ told. subst (λ x. AreRecordsOf c.deref.result.now (take 64 (from_place at x))) c.loop-ended.invariant.fed.same
+    (subst (λ l. AreRecordsOf l (take 64 (from_place at c.loop-ended.store.history))) (sym c.deref.ensures.value) (c.in_ok-piece.ensures.records told)) in
     let empty : c.is_empty-ended.result ≡ (length c.deref.result.now == 0) = c.is_empty-ended.ensures ∙ ap (λ n. n == 0) (c.in_ok-piece.piece.ok.0 ∙ ap length (sym c.deref.ensures.value)) in
+    let place : g.J.OfStore.tells ≡ true → IsPlaceOf h now = λ told. place_on h at now c.deref.result.now (c.loop-ended.invariant.place told) (here told) c.in_ok-end.ensures.at in
     record {
-      same = c.in_ok-piece.ensures.same ∙ c.loop-ended.invariant.same;
-      later = λ area. let a = c.loop-ended.invariant.later area in let b = c.in_ok-piece.ensures.later area in omega (arith, a, b);
+      fed = fed_on c.args.store.now c.loop-ended.store c.records_from.new.store c.args.pass.now c.loop-ended.pass c.records_from.new.pass c.loop-ended.invariant.fed
+          c.in_ok-piece.ensures.fed;
       read = λ told. found_none h c.args.from.0 at now (table_of_marks c.loop-ended.reading.marks) (table_of_marks c.take_piece.new.self.marks) c.deref.result.now c.in_ok-end.field-0
-          (subst (IsOrderly 0) c.loop-ended.invariant.same (c.in_ok-piece.ensures.orderly told)) (c.loop-ended.invariant.read told) (here told) c.in_ok-end.ensures.end c.in_default.is c.in_ok-end.ensures.marks c.in_ok-end.ensures.at (let small = c.in_ok-end.ensures.small in omega (arith, small));
+          (c.meet.ensures.orderly told) (c.loop-ended.invariant.read told) (here told) c.in_ok-end.ensures.end c.in_default.is c.in_ok-end.ensures.marks c.in_ok-end.ensures.at (let small = c.in_ok-end.ensures.small in omega (arith, small));
       fits = subst Fits (sym c.in_ok-end.ensures.marks)
           (both_fit (table_of_marks c.loop-ended.reading.marks) (summary_of (map entry_of c.deref.result.now) c.args.from.0 (place_or c.in_ok-end.field-0)) c.loop-ended.invariant.fits
           (piece_fits c.deref.result.now c.args.from.0 (place_or c.in_ok-end.field-0) c.loop-ended.reading.at.0
           (subst (RiseBehind c.loop-ended.reading.at.0) (sym c.deref.ensures.value) c.in_ok-piece.ensures.rise) c.in_ok-end.ensures.counts));
-      place = λ no_end told. subst (λ l. IsPlaceOf l now) (sym seen_now) (place_on h at now c.deref.result.now c.is_empty-ended.result (here told) c.in_ok-end.ensures.at empty no_end);
-      seen = λ ended. seen_now;
+      place = place;
+      known = λ told. moved_place h c.loop-ended.known c.move_on.new.known c.take_piece.new.self.at (c.loop-ended.invariant.known told) (place told) c.move_on.ensures;
       none = λ ended told. none_at_end h c.args.from.0 at (table_of_marks c.loop-ended.reading.marks) c.deref.result.now c.is_empty-ended.result (c.loop-ended.invariant.read told) (here told) empty ended;
     }
+
+pub returns-in_err-piece-clause-fed : goal.returns-in_err-piece-clause-fed
+returns-in_err-piece-clause-fed g c = fed_on c.args.store.now c.loop-ended.store c.records_from.new.store c.args.pass.now c.loop-ended.pass c.records_from.new.pass c.loop-ended.invariant.fed c.records_from.ensures.fed
+
+pub returns-in_err-end-clause-fed : goal.returns-in_err-end-clause-fed
+returns-in_err-end-clause-fed g c = fed_on c.args.store.now c.loop-ended.store c.records_from.new.store c.args.pass.now c.loop-ended.pass c.records_from.new.pass c.loop-ended.invariant.fed c.records_from.ensures.fed
+
+pub returns-in_err-forks-clause-fed : goal.returns-in_err-forks-clause-fed
+returns-in_err-forks-clause-fed g c = fed_on c.args.store.now c.loop-ended.store c.records_from.new.store c.args.pass.now c.loop-ended.pass c.records_from.new.pass c.loop-ended.invariant.fed c.records_from.ensures.fed
+
+pub returns-in-Some-clause-fed : goal.returns-in-Some-clause-fed
+returns-in-Some-clause-fed g c = fed_on c.args.store.now c.loop-ended.store c.records_from.new.store c.args.pass.now c.loop-ended.pass c.records_from.new.pass c.loop-ended.invariant.fed c.records_from.ensures.fed

@@ -1,7 +1,8 @@
-use Rattle.std.proofs.Common.{◌≡◌, ◌≤◌, ◌-◌, ◌^◌, false, true, cond}
-use Rattle.lsn_core.specs.declared.fault.StoreArea.{StoreArea}
+use Rattle.std.proofs.Common.{◌≡◌, ◌-◌, ◌^◌, true, cond}
 use Rattle.wal_summary.specs.Marks.{table_of_marks}
-use Rattle.summary_publish.specs.Feed.{IsPlaceOf, next_redo}
+use Rattle.shared_store.specs.Records.{IsPlaceOf}
+use Rattle.summary_publish.specs.Entries.{next_redo}
+use Rattle.summary_publish.specs.Published.{OnlyReadsHistory}
 use Rattle.summary_publish.proofs.Ranges.{IsReadTo}
 use Rattle.summary_publish.proofs.Fitting.{Fits}
 use Rattle.summary_publish.proofs.reading.next_range.Given as goal
@@ -9,13 +10,12 @@ use Rattle.std.specs.Prelude.{None}
 
 abbrev pub invariant-loop-ended : goal.invariant-loop-ended
 invariant-loop-ended g l = record {
-  same : g.F.Feed.history l.feed ≡ g.F.Feed.history l.fn.feed;
-  later : (area : StoreArea) → g.F.Feed.faults l.fn.feed area ≤ g.F.Feed.faults l.feed area;
-  read : g.F.Feed.tells → IsReadTo (g.F.Feed.history l.fn.feed) l.from.0 l.reading.at.0 (table_of_marks l.reading.marks);
+  fed : OnlyReadsHistory l.fn.store l.store l.fn.pass l.pass;
+  read : g.J.OfStore.tells ≡ true → IsReadTo l.fn.store.history l.from.0 l.reading.at.0 (table_of_marks l.reading.marks);
   fits : Fits (table_of_marks l.reading.marks);
-  place : l.ended ≡ false → g.F.Feed.tells → IsPlaceOf (g.F.Feed.seen l.pass) l.reading.at.0;
-  seen : l.ended ≡ true → g.F.Feed.seen l.pass ≡ g.F.Feed.history l.fn.feed;
-  none : l.ended ≡ true → g.F.Feed.tells → next_redo l.from.0 (g.F.Feed.history l.fn.feed) ≡ None;
+  place : g.J.OfStore.tells ≡ true → IsPlaceOf l.fn.store.history l.reading.at.0;
+  known : g.J.OfStore.tells ≡ true → IsPlaceOf l.fn.store.history l.known.0;
+  none : l.ended ≡ true → g.J.OfStore.tells ≡ true → next_redo l.from.0 l.fn.store.history ≡ None;
 }
 
 abbrev pub decreases-loop-ended : goal.decreases-loop-ended

@@ -1,6 +1,6 @@
 use Rattle.std.proofs.Common.{◌≡◌, map, length}
 use Rattle.history.specs.Whole.{entry_of}
-use Rattle.summary_publish.specs.Feed.{next_redo}
+use Rattle.summary_publish.specs.Entries.{next_redo}
 use Rattle.summary_publish.proofs.reading.redo_in.Given as goal
 
 abbrev pub invariant-loop-rec : goal.invariant-loop-rec

@@ -1,7 +1,7 @@
 use Rattle.std.proofs.Common.{rules, IfSome, subst, ◌∷◌, ◌≡◌}
 use Rattle.summary_store.specs.Inside.{KeepsNext}
 use Rattle.summary_store.proofs.Keeping.{IsSoFar, told, told_on, at_last, no_length}
-use Rattle.summary_store.proofs.opening.summaries_in.Goals as goal
+use Rattle.summary_store.proofs.opening.kept_in.Goals as goal
 
 pub loop-name-preserved : goal.loop-name-preserved
 loop-name-preserved g c =

@@ -2,7 +2,7 @@ use Rattle.std.proofs.Common.{IfSome, length}
 use Rattle.vault.specs.Frame.{OnlyReads}
 use Rattle.wal_summary.specs.Kept.{AreInOrder}
 use Rattle.summary_store.proofs.Keeping.{IsSoFar}
-use Rattle.summary_store.proofs.opening.summaries_in.Given as goal
+use Rattle.summary_store.proofs.opening.kept_in.Given as goal
 
 abbrev pub invariant-loop-name : goal.invariant-loop-name
 invariant-loop-name g l = record {

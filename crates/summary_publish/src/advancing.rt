@@ -1,0 +1,128 @@
+//! Publishing behind what is kept, and covering a range then.
+
+ghost use Rattle.std.specs.Prelude.{◌≡◌, true, ◌<◌, ◌≤◌, IfOk, IfErr, IfSome};
+ghost use Rattle.vault.specs.Frame.{OnlyReads, ChangesOnly};
+ghost use Rattle.wal_summary.specs.Kept.{AreInOrder};
+ghost use Rattle.summary_store.specs.Kept.{AreKept};
+ghost use Rattle.shared_store.specs.Records.{IsPlaceOf};
+ghost use Rattle.summary_publish.specs.Published.{OnlyReadsHistory, IsSummaryName, Advances, AdvanceAnswers, PublishCause, AdvanceCause};
+ghost use Rattle.summary_publish.specs.Inside.{StartsBy, SumsCause, cover_fault};
+
+use crate::feed::{first_start, meet};
+use crate::publishing::{publish, sums_fault};
+use lsn_core::{Lsn, StoreFault};
+use shared_store::{OfCrew, Pass, Store};
+use std::alloc::Global;
+use summary_store::{end_behind, kept_in};
+use vault::Vault;
+use wal_summary::{CoverFault, Summary, covering};
+
+/// Why no summary of a range is answered.
+#[derive(Clone, Copy, Debug, PartialEq, Eq)]
+pub enum AdvanceFault {
+    /// No kept summary has this place, the least such of the range.
+    Gap(Lsn),
+    /// Summaries couldn't be published or read.
+    Store(StoreFault),
+}
+
+/// Publishes, in order, one summary for each range between neighbouring redo points, from the
+/// greatest kept end of an area on, which is the first entry's start where none is kept, and says how
+/// many. Each is written to a file of its own in the area, made at `when` (seconds since 1970 UTC); a
+/// file that stood under its name is written anew, and others stay as they are. The area is synced
+/// behind the last one. Entries are read from `known` on, a place where one starts or ends that the
+/// pass has seen, and from the first one on where the greatest kept end is below it; later calls need
+/// read no entry before the place that stands there then. Of the records no more than 64 are in
+/// memory at a time (profile). `Failed` comes only where that area's count of faults rose.
+pub fn advance<J: OfCrew, V: Vault>(
+    alloc: Global,
+    area: &mut V,
+    store: &mut Store<J, V>,
+    pass: &mut Pass<J>,
+    known: &mut Lsn,
+    when: u64,
+) -> Result<u64, StoreFault>
+    requires place { J.tells ≡ true → IsPlaceOf pass.old.list known.old.0 }
+    ensures published { IfOk result
+        (Advances V.Vault (J.tells ≡ true) store.old.history when area.old area.new) }
+    ensures place { J.tells ≡ true → IsPlaceOf pass.new.list known.new.0 }
+    ensures cause { IfErr result (PublishCause (V.faults area.old) (V.faults area.new)
+        store.old.faults store.new.faults) }
+    ensures changes { ChangesOnly V.Vault IsSummaryName area.old area.new }
+    ensures fed { OnlyReadsHistory store.old store.new pass.old pass.new }
+{
+    meet(store, pass);
+    let first = first_start(store);
+    let kept = kept_of(alloc, area)?;
+    let from = end_behind(&kept, first);
+    move_back(known, from, first);
+    publish(alloc, area, from, store, pass, known, when)
+}
+
+/// The same, and the merge of the summaries that are kept of the area then whose ranges overlap the
+/// range from `from` to below `to`, where they cover it. `Gap` exactly where a place of the range
+/// isn't covered, with the least such.
+#[tactic(auto, using(crate::proofs::Frames::then_reads))]
+pub fn advance_covering<J: OfCrew, V: Vault>(
+    alloc: Global,
+    area: &mut V,
+    store: &mut Store<J, V>,
+    pass: &mut Pass<J>,
+    known: &mut Lsn,
+    from: Lsn,
+    to: Lsn,
+    when: u64,
+) -> Result<Summary, AdvanceFault>
+    requires place { J.tells ≡ true → IsPlaceOf pass.old.list known.old.0 }
+    requires range { from.0 < to.0 }
+    ensures covers { AdvanceAnswers V.Vault (J.tells ≡ true) store.old.history when from.0 to.0
+        area.old area.new result }
+    ensures place { J.tells ≡ true → IsPlaceOf pass.new.list known.new.0 }
+    ensures cause { IfErr result (AdvanceCause (V.faults area.old) (V.faults area.new)
+        store.old.faults store.new.faults) }
+    ensures changes { ChangesOnly V.Vault IsSummaryName area.old area.new }
+    ensures fed { OnlyReadsHistory store.old store.new pass.old pass.new }
+{
+    if let Err(fault) = advance(alloc, area, store, pass, known, when) {
+        return Err(AdvanceFault::Store(fault));
+    }
+    match kept_of(alloc, area) {
+        Ok(kept) => match covering(alloc, &kept, from, to) {
+            Ok(sum) => Ok(sum),
+            Err(fault) => Err(cover_fault(fault)),
+        },
+        Err(fault) => Err(AdvanceFault::Store(fault)),
+    }
+}
+
+/// Moves a place that is past a bound back to the first one.
+fn move_back(known: &mut Lsn, bound: Lsn, first: Lsn)
+    ensures { StartsBy known.old known.new bound first }
+{
+    if bound.0 < known.0 {
+        *known = first;
+    }
+}
+
+/// What is kept of an area; its faults are those of a store's area.
+fn kept_of<V: Vault>(alloc: Global, area: &mut V) -> Result<Vec<Summary>, StoreFault>
+    ensures kept { IfOk result (λ kept. IfSome (V.files area.old) (λ m. AreKept m kept.items)) }
+    ensures order { IfOk result (λ kept. AreInOrder 0 kept.items) }
+    ensures reads { OnlyReads V.Vault area.old area.new }
+    ensures cause { IfErr result (SumsCause (V.faults area.old) (V.faults area.new)) }
+{
+    match kept_in(alloc, area) {
+        Ok(kept) => Ok(kept),
+        Err(fault) => Err(sums_fault(fault)),
+    }
+}
+
+/// The fault of an advance for one of covering.
+fn cover_fault(fault: CoverFault) -> AdvanceFault
+    ensures { result ≡ cover_fault fault }
+{
+    match fault {
+        CoverFault::Gap(place) => AdvanceFault::Gap(place),
+        CoverFault::NoMemory => AdvanceFault::Store(StoreFault::NoMemory),
+    }
+}
