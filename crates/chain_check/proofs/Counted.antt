@@ -11,7 +11,7 @@ use Rattle.chain_check.specs.Inside.{Answers, CountsRows, RowsAnswer, BehindAnsw
 use Rattle.chain_check.specs.declared.refusal.Refusal.{Refusal}
 use Rattle.chain_check.specs.declared.fault.ChainFault.{ChainFault}
 use Rattle.chain_check.specs.declared.fault.ChainFault.TheVariants.{NoManifest, ManifestDamaged, ManifestVersion, TimelineDiffers, FileMissing, FileSize, FileSum, FileExtra, LabelDamaged, FileDamaged, Failed, NoMemory}
-use Rattle.chain_check.proofs.Listed.{neither}
+use Rattle.chain_check.proofs.Turns.{neither}
 
 -- ---- row by row
 

@@ -19,15 +19,7 @@ use Rattle.chain_check.specs.declared.fault.ChainFault.{ChainFault}
 use Rattle.chain_check.specs.declared.fault.ChainFault.TheVariants.{FileMissing, FileSize, FileSum}
 use Rattle.chain_check.specs.declared.member.Member.{Member}
 use Rattle.chain_check.proofs.Others.{none_other, no_extra}
-
--- ---- faults in turn
-
-pub neither : (first later : Option ChainFault) → option_or first later ≡ None → (first ≡ None) × (later ≡ None)
-neither None later e = (refl, e)
-neither (Some fault) later e = absurd (cc)
-
-pub both_none : (first later : Option ChainFault) → first ≡ None → later ≡ None → option_or first later ≡ None
-both_none first later e f = ap (λ (o : Option ChainFault). option_or o later) e ∙ f
+use Rattle.chain_check.proofs.Turns.{neither, both_none, passes, passed}
 
 -- ---- the file of a row
 
@@ -43,10 +35,10 @@ tested true true one other e = (refl, refl)
 tested true false one other e = absurd (cc)
 tested false sum one other e = absurd (cc)
 
-passed : (size sum : Bool) (one other : ChainFault) → size ≡ true → sum ≡ true → (if not size then Some one else if sum then None else Some other) ≡ None
-passed true true one other e f = refl
-passed true false one other e f = absurd (cc)
-passed false sum one other e f = absurd (cc)
+none_wrong : (size sum : Bool) (one other : ChainFault) → size ≡ true → sum ≡ true → (if not size then Some one else if sum then None else Some other) ≡ None
+none_wrong true true one other e f = refl
+none_wrong true false one other e f = absurd (cc)
+none_wrong false sum one other e f = absurd (cc)
 
 row_is : (files : Files) (row : FileRow) (o : Option (List ℕ)) → get files row.path ≡ o → file_fault row o ≡ None → IsRowAsListed files row
 row_is files row None there e = absurd (cc)
@@ -56,7 +48,7 @@ row_is files row (Some bytes) there e =
 
 row_none : (files : Files) (row : FileRow) → IsRowAsListed files row → row_fault files row ≡ None
 row_none files row is =
-    ap (λ (o : Option (List ℕ)). file_fault row o) is.there ∙ passed (length is.bytes == row.size) (has_sum row is.bytes) (FileSize row.path (length is.bytes) row.size) (FileSum row.path) (eq-eqb _ _ is.size) (is_sum (sum_of row.kind is.bytes) (decode_of row.sum) is.summed)
+    ap (λ (o : Option (List ℕ)). file_fault row o) is.there ∙ none_wrong (length is.bytes == row.size) (has_sum row is.bytes) (FileSize row.path (length is.bytes) row.size) (FileSum row.path) (eq-eqb _ _ is.size) (is_sum (sum_of row.kind is.bytes) (decode_of row.sum) is.summed)
 
 rows_are : (files : Files) (rows : List FileRow) → rows_fault files rows ≡ None → AllByRecursion (IsRowAsListed files) rows
 rows_are files [] e = tt
@@ -68,16 +60,6 @@ rows_none : (files : Files) (rows : List FileRow) → AllByRecursion (IsRowAsLis
 rows_none files [] all = refl
 rows_none files (row ∷ rows) all = both_none (row_fault files row) (rows_fault files rows) (row_none files row all.0) (rows_none files rows all.1)
 
--- ---- the label's row
-
-has_row : (listed : Bool) (fault : ChainFault) → (if listed then None else Some fault) ≡ None → listed ≡ true
-has_row true fault e = refl
-has_row false fault e = absurd (cc)
-
-row_has : (listed : Bool) (fault : ChainFault) → listed ≡ true → (if listed then None else Some fault) ≡ None
-row_has true fault e = refl
-row_has false fault e = absurd (cc)
-
 -- ---- the whole
 
 pub as_listed : (files : Files) (name : List ℕ) (label : Label) (m : Listing) → HasManifest files m → ListedAnswer files m (Ok label) → IsAsListed files (record { name = name; label = label; manifest = m })
@@ -87,7 +69,7 @@ as_listed files name label m read is =
     record {
       manifest = read;
       rows = rows_are files m.files first.0;
-      label_row = has_row (is_listed m.files label_path) (FileMissing label_path) rest.0;
+      label_row = passes (is_listed m.files label_path) (FileMissing label_path) rest.0;
       others = none_other files m.files rest.1;
       label = is.1;
       forms = is.2;
@@ -97,4 +79,4 @@ pub no_listing_fault : (files : Files) (member : Member) → IsAsListed files me
 no_listing_fault files member is =
     let rows = member.manifest.files in
     both_none (rows_fault files rows) (option_or (label_row_fault rows) (extra_fault files rows)) (rows_none files rows is.rows)
-    (both_none (label_row_fault rows) (extra_fault files rows) (row_has (is_listed rows label_path) (FileMissing label_path) is.label_row) (no_extra files rows is.others))
+    (both_none (label_row_fault rows) (extra_fault files rows) (passed (is_listed rows label_path) (FileMissing label_path) is.label_row) (no_extra files rows is.others))

@@ -1,29 +1,34 @@
 -- A directory has one answer.
-use Rattle.std.proofs.Common.{◌≡◌, ◌≢◌, ℕ, List, [], ◌∷◌, Option, Some, None, Result, Ok, Err, refl, sym, ap, subst, ◌∙◌, inl, inr, ◌⊎◌}
+use Rattle.std.proofs.Common.{◌≡◌, ◌≢◌, ℕ, ◌%◌, false, List, [], ◌∷◌, Some, None, Result, Ok, Err, refl, sym, ap, subst, ◌∙◌, inl, inr, ◌⊎◌}
 use Rattle.std.specs.FinMap.{get}
 use Rattle.std.specs.List.{AllByRecursion}
 use Rattle.lsn_core.specs.Files.{Files}
 use Rattle.vault.specs.Area.{bytes_of}
 use Rattle.backup_label.specs.declared.label.Label.{Label}
 use Rattle.backup_label.proofs.OneReading.{one_label, one_refused, not_refused}
+use Rattle.incr_file.specs.Laws.{HeadsHaveOneAnswer}
+use Rattle.incr_file.specs.declared.head.HeadView.{HeadView}
+use Rattle.incr_file.specs.declared.decode.HeadFault.{HeadFault}
+use Rattle.incr_file.specs.declared.decode.HeadFault.TheVariants as head
 use Rattle.manifest.specs.Laws.{TextsHaveOneManifest}
 use Rattle.manifest.specs.Listing.{Listing}
 use Rattle.manifest.specs.Reading.{ReadAnswers}
 use Rattle.manifest.specs.declared.fault.ManifestFault.{ManifestFault}
 use Rattle.manifest.specs.declared.fault.ManifestFault.TheVariants as manifest
 use Rattle.manifest.specs.declared.listing.FileRow.{FileRow}
-use Rattle.chain_check.specs.Directory.{manifest_path, label_path, HasManifest, HasForm, IsLabelFrom, IsAsListed}
-use Rattle.chain_check.specs.Refusals.{fault_of, chain_fault_read, RefusesManifest, RefusesLine, HasFormFault, IsFirstForm, listing_fault, rows_checked, RefusedFor, IsCheckedBefore, HasRefusal, IsOfFiles}
+use Rattle.chain_check.specs.Directory.{manifest_path, label_path, HasManifest, IsForkFile, HasForm, IsLabelFrom, IsAsListed}
+use Rattle.chain_check.specs.Refusals.{fault_of, chain_fault_read, RefusesManifest, RefusesLine, HasBoth, HasHeadFault, HasFormFault, IsFirstForm, listing_fault, rows_checked, RefusedFor, IsCheckedBefore, HasRefusal, IsOfFiles}
 use Rattle.chain_check.specs.declared.fault.ManifestWhy.{ManifestWhy}
 use Rattle.chain_check.specs.declared.fault.ManifestWhy.TheVariants.{Lines, Sum, Json, Shape, SumKind}
 use Rattle.chain_check.specs.declared.fault.FileWhy.{FileWhy}
-use Rattle.chain_check.specs.declared.fault.FileWhy.TheVariants.{Form, PageLength}
+use Rattle.chain_check.specs.declared.fault.FileWhy.TheVariants.{Both, Length, Magic, Range, Order, PageLength}
 use Rattle.chain_check.specs.declared.refusal.Refusal.{Refusal}
 use Rattle.chain_check.specs.declared.fault.ChainFault.{ChainFault}
 use Rattle.chain_check.specs.declared.fault.ChainFault.TheVariants.{NoManifest, ManifestDamaged, ManifestVersion, TimelineDiffers, FileMissing, FileSize, FileSum, FileExtra, LabelDamaged, FileDamaged, Failed, NoMemory}
 use Rattle.chain_check.specs.declared.member.Member.{Member}
-use Rattle.chain_check.proofs.ForkFiles.{one_form}
+use Rattle.chain_check.proofs.ForkFiles.{one_form, alone_or_both}
 use Rattle.chain_check.proofs.Listed.{no_listing_fault}
+use Rattle.chain_check.proofs.Turns.{some_none}
 use Rattle.chain_check.proofs.OneText.{one_value, refused_once}
 
 -- ---- manifests
@@ -70,28 +75,87 @@ line_once start text line more (inr is) (inr was) = is.3 ∙ sym was.3
 
 -- ---- forms
 
-form_or_fault : (row : FileRow) (why : FileWhy) → HasForm row → HasFormFault row why → ⊥
-form_or_fault row Form has fault = has.plain fault
-form_or_fault row PageLength has fault = fault.1 (has.pages fault.0)
+-- what a head that is refused is a form's fault of
+abbrev why_from : HeadFault → FileWhy
+why_from head.Length = Length
+why_from head.Magic = Magic
+why_from head.Range = Range
+why_from head.Order = Order
+why_from head.NoMemory = Length
 
-why_once : (row : FileRow) (why more : FileWhy) → HasFormFault row why → HasFormFault row more → why ≡ more
-why_once row Form Form is was = refl
-why_once row Form PageLength is was = absurd (one_form row was.0 is)
-why_once row PageLength Form is was = absurd (one_form row is.0 was)
-why_once row PageLength PageLength is was = refl
+abbrev refused : HeadFault → Result HeadView HeadFault
+refused h = Err h
 
-form_once : (rows : List FileRow) (path more : List ℕ) (why other : FileWhy) → IsFirstForm rows path why → IsFirstForm rows more other → FileDamaged path why ≡ FileDamaged more other
-form_once [] path more why other is was = absurd is
-form_once (row ∷ rows) path more why other (inl is) (inl was) =
-    ap (λ (p : List ℕ). FileDamaged p why) (sym is.0 ∙ was.0) ∙ ap (λ (w : FileWhy). FileDamaged more w) (why_once row why other is.1 was.1)
-form_once (row ∷ rows) path more why other (inl is) (inr was) = absurd (form_or_fault row why was.0 is.1)
-form_once (row ∷ rows) path more why other (inr is) (inl was) = absurd (form_or_fault row other is.0 was.1)
-form_once (row ∷ rows) path more why other (inr is) (inr was) = form_once rows path more why other is.1 was.1
+-- which part of a file's form has a fault: both forms, the head, the pages
+abbrev FormPart : Files → FileRow → FileWhy → Type 0
+FormPart files row why =
+    (HasBoth files row.path × (why ≡ Both))
+    ⊎ (((h : HeadFault) × (refused h ≢ refused head.NoMemory) × HasHeadFault files row h × (why ≡ why_from h))
+    ⊎ (IsForkFile row.path false × (row.size % 8192 ≢ 0) × (why ≡ PageLength)))
 
-forms_or_fault : (rows : List FileRow) (path : List ℕ) (why : FileWhy) → AllByRecursion HasForm rows → IsFirstForm rows path why → ⊥
-forms_or_fault [] path why all is = is
-forms_or_fault (row ∷ rows) path why all (inl is) = form_or_fault row why all.0 is.1
-forms_or_fault (row ∷ rows) path why all (inr is) = forms_or_fault rows path why all.1 is.1
+told_length : refused head.Length ≢ refused head.NoMemory
+told_length e = cc
+
+told_magic : refused head.Magic ≢ refused head.NoMemory
+told_magic e = cc
+
+told_range : refused head.Range ≢ refused head.NoMemory
+told_range e = cc
+
+told_order : refused head.Order ≢ refused head.NoMemory
+told_order e = cc
+
+part_of_form : (files : Files) (row : FileRow) (why : FileWhy) → HasFormFault files row why → FormPart files row why
+part_of_form files row Both is = inl (is, refl)
+part_of_form files row Length is = inr (inl (head.Length, told_length, is, refl))
+part_of_form files row Magic is = inr (inl (head.Magic, told_magic, is, refl))
+part_of_form files row Range is = inr (inl (head.Range, told_range, is, refl))
+part_of_form files row Order is = inr (inl (head.Order, told_order, is, refl))
+part_of_form files row PageLength is = inr (inr (is.0, is.1, refl))
+
+head_of_err : HeadFault → Result HeadView HeadFault → HeadFault
+head_of_err h (Ok view) = h
+head_of_err h (Err other) = other
+
+form_or_fault : (files : Files) (row : FileRow) (why : FileWhy) → HasForm files row → HasFormFault files row why → ⊥
+form_or_fault files row Both has fault = fault.1 (has.alone fault.0)
+form_or_fault files row Length has fault = fault.1 (has.incremental fault.0.0).front.size
+form_or_fault files row Magic has fault = fault.1.1 (has.incremental fault.0.0).front.magic
+form_or_fault files row Range has fault =
+    let is = has.incremental fault.0.0 in
+    fault.1.1 (record { length_fits = is.head.length_fits; blocks_fit = is.head.blocks_fit })
+form_or_fault files row Order has fault = fault.1.2 (has.incremental fault.0.0).head.rising
+form_or_fault files row PageLength has fault = fault.1 (has.pages fault.0)
+
+forms_or_fault : (files : Files) (rows : List FileRow) (path : List ℕ) (why : FileWhy) → AllByRecursion (HasForm files) rows → IsFirstForm files rows path why → ⊥
+forms_or_fault files [] path why all is = is
+forms_or_fault files (row ∷ rows) path why all (inl is) = form_or_fault files row why all.0 is.1
+forms_or_fault files (row ∷ rows) path why all (inr is) = forms_or_fault files rows path why all.1 is.1
+
+module _ (law : HeadsHaveOneAnswer) where
+  part_once : (files : Files) (row : FileRow) (why more : FileWhy) → FormPart files row why → FormPart files row more → why ≡ more
+  unfolding head_of_err
+  part_once files row why more (inl is) (inl was) = is.1 ∙ sym was.1
+  part_once files row why more (inl is) (inr (inl was)) = absurd (alone_or_both files row.path was.2.0 is.0)
+  part_once files row why more (inl is) (inr (inr was)) = absurd (one_form row.path was.0 is.0.0)
+  part_once files row why more (inr (inl is)) (inl was) = absurd (alone_or_both files row.path is.2.0 was.0)
+  part_once files row why more (inr (inl is)) (inr (inl was)) =
+      is.3 ∙ (ap (λ (r : Result HeadView HeadFault). why_from (head_of_err is.0 r)) (law (bytes_of files row.path) row.size (Err is.0) (Err was.0) is.2.1 was.2.1 is.1 was.1) ∙ sym was.3)
+  part_once files row why more (inr (inl is)) (inr (inr was)) = absurd (one_form row.path was.0 is.2.0.0)
+  part_once files row why more (inr (inr is)) (inl was) = absurd (one_form row.path is.0 was.0.0)
+  part_once files row why more (inr (inr is)) (inr (inl was)) = absurd (one_form row.path is.0 was.2.0.0)
+  part_once files row why more (inr (inr is)) (inr (inr was)) = is.2 ∙ sym was.2
+
+  why_once : (files : Files) (row : FileRow) (why more : FileWhy) → HasFormFault files row why → HasFormFault files row more → why ≡ more
+  why_once files row why more is was = part_once files row why more (part_of_form files row why is) (part_of_form files row more was)
+
+  pub form_once : (files : Files) (rows : List FileRow) (path more : List ℕ) (why other : FileWhy) → IsFirstForm files rows path why → IsFirstForm files rows more other → FileDamaged path why ≡ FileDamaged more other
+  form_once files [] path more why other is was = absurd is
+  form_once files (row ∷ rows) path more why other (inl is) (inl was) =
+      ap (λ (p : List ℕ). FileDamaged p why) (sym is.0 ∙ was.0) ∙ ap (λ (w : FileWhy). FileDamaged more w) (why_once files row why other is.1 was.1)
+  form_once files (row ∷ rows) path more why other (inl is) (inr was) = absurd (form_or_fault files row why was.0 is.1)
+  form_once files (row ∷ rows) path more why other (inr is) (inl was) = absurd (form_or_fault files row other is.0 was.1)
+  form_once files (row ∷ rows) path more why other (inr is) (inr was) = form_once files rows path more why other is.1 was.1
 
 -- ---- a directory as listed
 
@@ -116,9 +180,6 @@ read_fault Json e = cc
 read_fault Shape e = cc
 read_fault SumKind e = cc
 
-some_none : (o : Option ChainFault) (fault : ChainFault) → o ≡ None → o ≡ Some fault → ⊥
-some_none o fault e f = let never : None ≡ Some fault = sym e ∙ f in cc
-
 -- ---- refusals, part by part
 
 -- behind the manifest: among the files, of the label, of the forms
@@ -127,7 +188,7 @@ Behind files m fault =
     (listing_fault files m.files ≡ Some fault)
     ⊎ ((listing_fault files m.files ≡ None)
     × (((line : ℕ) × RefusesLine m.start (bytes_of files label_path) line × (fault ≡ LabelDamaged line))
-    ⊎ ((label : Label) × (path : List ℕ) × (why : FileWhy) × IsLabelFrom m.start (bytes_of files label_path) label × IsFirstForm m.files path why × (fault ≡ FileDamaged path why))))
+    ⊎ ((label : Label) × (path : List ℕ) × (why : FileWhy) × IsLabelFrom m.start (bytes_of files label_path) label × IsFirstForm files m.files path why × (fault ≡ FileDamaged path why))))
 
 abbrev Stage : Files → ChainFault → Type 0
 Stage files fault =
@@ -162,26 +223,26 @@ stage_of files (FileDamaged path why) of is = inr (inr (is.0, is.2.0.0, inr (is.
 stage_of files Failed of is = absurd (of.0 refl)
 stage_of files NoMemory of is = absurd (of.1 refl)
 
-behind_once : (files : Files) (m : Listing) (f g : ChainFault) → Behind files m f → Behind files m g → f ≡ g
-behind_once files m f g (inl is) (inl was) = one_value (listing_fault files m.files) f g is was
-behind_once files m f g (inl is) (inr was) = absurd (some_none (listing_fault files m.files) f was.0 is)
-behind_once files m f g (inr is) (inl was) = absurd (some_none (listing_fault files m.files) g is.0 was)
-behind_once files m f g (inr (none, inl is)) (inr (also, inl was)) =
-    is.2 ∙ (ap (λ (n : ℕ). LabelDamaged n) (line_once m.start (bytes_of files label_path) is.0 was.0 is.1 was.1) ∙ sym was.2)
-behind_once files m f g (inr (none, inl is)) (inr (also, inr was)) = absurd (line_or_label m.start (bytes_of files label_path) was.0 is.0 was.3 is.1)
-behind_once files m f g (inr (none, inr is)) (inr (also, inl was)) = absurd (line_or_label m.start (bytes_of files label_path) is.0 was.0 is.3 was.1)
-behind_once files m f g (inr (none, inr is)) (inr (also, inr was)) =
-    is.5 ∙ (form_once m.files is.1 was.1 is.2 was.2 is.4 was.4 ∙ sym was.5)
-
 missing_text : (files : Files) (bytes : List ℕ) → get files manifest_path ≡ None → get files manifest_path ≡ Some bytes → ⊥
 missing_text files bytes e f = let never : None ≡ Some bytes = sym e ∙ f in cc
 
 not_behind : (files : Files) (member : Member) (fault : ChainFault) → IsAsListed files member → Behind files member.manifest fault → ⊥
 not_behind files member fault is (inl was) = some_none (listing_fault files member.manifest.files) fault (no_listing_fault files member is) was
 not_behind files member fault is (inr (none, inl was)) = line_or_label member.manifest.start (bytes_of files label_path) member.label was.0 is.label was.1
-not_behind files member fault is (inr (none, inr was)) = forms_or_fault member.manifest.files was.1 was.2 is.forms was.4
+not_behind files member fault is (inr (none, inr was)) = forms_or_fault files member.manifest.files was.1 was.2 is.forms was.4
 
-module _ (law : TextsHaveOneManifest) where
+module _ (law : TextsHaveOneManifest) (heads : HeadsHaveOneAnswer) where
+  behind_once : (files : Files) (m : Listing) (f g : ChainFault) → Behind files m f → Behind files m g → f ≡ g
+  behind_once files m f g (inl is) (inl was) = one_value (listing_fault files m.files) f g is was
+  behind_once files m f g (inl is) (inr was) = absurd (some_none (listing_fault files m.files) f was.0 is)
+  behind_once files m f g (inr is) (inl was) = absurd (some_none (listing_fault files m.files) g is.0 was)
+  behind_once files m f g (inr (none, inl is)) (inr (also, inl was)) =
+      is.2 ∙ (ap (λ (n : ℕ). LabelDamaged n) (line_once m.start (bytes_of files label_path) is.0 was.0 is.1 was.1) ∙ sym was.2)
+  behind_once files m f g (inr (none, inl is)) (inr (also, inr was)) = absurd (line_or_label m.start (bytes_of files label_path) was.0 is.0 was.3 is.1)
+  behind_once files m f g (inr (none, inr is)) (inr (also, inl was)) = absurd (line_or_label m.start (bytes_of files label_path) is.0 was.0 is.3 was.1)
+  behind_once files m f g (inr (none, inr is)) (inr (also, inr was)) =
+      is.5 ∙ (form_once heads files m.files is.1 was.1 is.2 was.2 is.4 was.4 ∙ sym was.5)
+
   stage_once : (files : Files) (f g : ChainFault) → Stage files f → Stage files g → f ≡ g
   stage_once files f g (inl is) (inl was) = is.1 ∙ sym was.1
   stage_once files f g (inl is) (inr (inl was)) = absurd (missing_text files was.2.0 is.0 was.2.1)

@@ -1,6 +1,7 @@
 -- The rows of a manifest that was read stand in byte order of their paths.
 use Rattle.std.proofs.Common.{◌≡◌, ℕ, ◌+◌, Bool, true, false, if◌then◌else◌, List, [], ◌∷◌, get_or, map, suc, zero, Some, None, Option, Ok, refl, sym, ap, ap₂, subst, ◌∙◌, arith, Ordering, Less, Equal, Greater, is_lt}
 use Rattle.std.specs.Ordering.{nat_cmp, ordering_reverse}
+use Rattle.std.specs.List.{IsAllAdjacentAnswer}
 use Rattle.std.specs.List.Sorted.{IsSortedByKey, IsStrictlySortedBy}
 use Rattle.std.specs.Cmp.Lexicographic.{slice_cmp}
 use Rattle.std.proofs.lemmas.Cmp.{nat_list_cmp_total}
@@ -33,6 +34,16 @@ rising (row ∷ next ∷ rows) s zero d low within = not_below row.path next.pat
 rising (row ∷ next ∷ rows) s (suc k) d low within =
     let next_one : suc (k + 1) ≡ suc k + 1 = omega arith in
     subst (λ (j : ℕ). is_lt (path_cmp (get_or (row ∷ next ∷ rows) j d).path (get_or (next ∷ rows) k d).path) ≡ false) next_one (rising (next ∷ rows) s.1 k d (omega arith) (omega (arith, within)))
+
+is_less : (o : Ordering) → is_lt o ≡ true → o ≡ Less
+is_less Less e = refl
+is_less Equal e = absurd cc
+is_less Greater e = absurd cc
+
+-- what a test of neighbours answers
+pub rising_sorted : (rows : List FileRow) (r : Bool) → IsAllAdjacentAnswer (λ x y b. b ≡ is_lt (path_cmp x.path y.path)) rows r → r ≡ true → IsSortedByKey path_of path_cmp rows
+rising_sorted rows true h t k d low within = not_below (get_or rows k d).path (get_or rows (k + 1) d).path (is_less _ (sym (h k d within)))
+rising_sorted rows false h t k d low within = absurd cc
 
 bound : {A B : Type 0} (o : Option A) (f : A → Option B) (y : B) → (o >>= f) ≡ Some y → (x : A) × (o ≡ Some x) × (f x ≡ Some y)
 bound None f y e = absurd (cc)

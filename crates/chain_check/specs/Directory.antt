@@ -9,6 +9,8 @@ use Rattle.lsn_core.specs.declared.ids.ForkId.{ForkId}
 use Rattle.vault.specs.Area.{bytes_of}
 use Rattle.backup_label.specs.Label.{IsLabel}
 use Rattle.backup_label.specs.declared.label.Label.{Label}
+use Rattle.incr_file.specs.Head.{IsHead}
+use Rattle.incr_file.specs.Reading.{head_in, HasFront}
 use Rattle.manifest.specs.Listing.{Listing}
 use Rattle.manifest.specs.Reading.{ReadAnswers}
 use Rattle.manifest.specs.declared.listing.FileRow.{FileRow}
@@ -66,9 +68,18 @@ pub record IsForkFile (path : List ℕ) (incr : Bool) : Type 0 where
   pub named : IsNamed fork seg
   pub spelled : path ≡ fork_path_bytes fork seg incr
 
--- the file of a row isn't incremental, and that of a fork is of whole pages
-pub record HasForm (row : FileRow) : Type 0 where
-  pub plain : ¬ IsForkFile row.path true
+-- bytes begin as an incremental file of this size does: its head is of the grammar, and gives the
+-- size
+pub record IsIncrFile (bytes : List ℕ) (size : ℕ) : Type 0 where
+  pub front : HasFront bytes size
+  pub head : IsHead (head_in bytes)
+
+-- the file of a row, where it is that of a fork's segment, has its form: an incremental file is one
+-- by its head, and isn't there in the plain form too; a plain one is of whole pages
+pub record HasForm (files : Files) (row : FileRow) : Type 0 where
+  pub alone : (f : IsForkFile row.path true)
+      → get files (fork_path_bytes f.fork f.seg false) ≡ None
+  pub incremental : IsForkFile row.path true → IsIncrFile (bytes_of files row.path) row.size
   pub pages : IsForkFile row.path false → row.size % 8192 ≡ 0
 
 -- ---- the whole
@@ -81,4 +92,4 @@ pub record IsAsListed (files : Files) (member : Member) : Type 0 where
   pub label_row : is_listed member.manifest.files label_path ≡ true
   pub others : HasNoOther files member.manifest.files
   pub label : IsLabelFrom member.manifest.start (bytes_of files label_path) member.label
-  pub forms : AllByRecursion HasForm member.manifest.files
+  pub forms : AllByRecursion (HasForm files) member.manifest.files

@@ -1,5 +1,5 @@
 -- What the crate's private functions answer: no public contract cites these.
-use Rattle.std.specs.Prelude.{◌≡◌, ℕ, List, Option, Some, None, Result, Ok, Err}
+use Rattle.std.specs.Prelude.{◌≡◌, ◌≢◌, ◌<◌, ℕ, ◌+◌, List, ◌++◌, length, get_or, Option, Some, None, Result, Ok, Err}
 use Rattle.std.specs.Global.{Vec}
 use Rattle.std.specs.List.{AllByRecursion}
 use Rattle.std.specs.Option.{option_map}
@@ -11,8 +11,17 @@ use Rattle.manifest.specs.Listing.{Listing}
 use Rattle.manifest.specs.Reading.{ReadAnswers}
 use Rattle.manifest.specs.declared.fault.ManifestFault.TheVariants as manifest
 use Rattle.manifest.specs.declared.listing.FileRow.{FileRow}
-use Rattle.chain_check.specs.Directory.{manifest_path, label_path, HasManifest, HasForm, IsLabelFrom}
-use Rattle.chain_check.specs.Refusals.{fault_of, rows_fault, rows_checked, others_fault, listing_fault, RefusesManifest, RefusesLine, IsFirstForm, HasRefusal}
+use Rattle.incr_file.specs.Reading.{HeadAnswers}
+use Rattle.incr_file.specs.declared.decode.HeadFault.TheVariants as head
+use Rattle.chain_check.specs.Chain.{IsHeld, IsFirstUnheld, IsLinked, AreLinked, RefusesLater, IsFirstUnlinked, IsPlain, IsFirstIncremental}
+use Rattle.chain_check.specs.Directory.{manifest_path, label_path, HasManifest, IsIncrFile, HasForm, IsLabelFrom}
+use Rattle.chain_check.specs.Refusals.{fault_of, rows_fault, rows_checked, others_fault, listing_fault, RefusesManifest, RefusesLine, HasFormFault, IsFirstForm, HasRefusal}
+use Rattle.chain_check.specs.declared.member.Member.{Member}
+use Rattle.chain_check.specs.declared.chain.ChainRefusal.{ChainRefusal}
+use Rattle.chain_check.specs.declared.link.LinkFault.{LinkFault}
+use Rattle.chain_check.specs.declared.link.LinkFault.TheVariants as link
+use Rattle.chain_check.specs.declared.fault.FileWhy.{FileWhy}
+use Rattle.chain_check.specs.declared.fault.FileWhy.TheVariants.{Both, Length, Magic, Range, Order, PageLength}
 use Rattle.chain_check.specs.declared.refusal.Refusal.{Refusal}
 use Rattle.chain_check.specs.declared.fault.ChainFault.{ChainFault}
 use Rattle.chain_check.specs.declared.fault.ChainFault.TheVariants.{NoManifest, ManifestDamaged, ManifestVersion, TimelineDiffers, FileMissing, FileSize, FileSum, FileExtra, LabelDamaged, FileDamaged, Failed, NoMemory}
@@ -82,25 +91,54 @@ LabelAnswer start text (Err NoMemory) = Unit {0}
 LabelAnswer start text (Err fault) = ⊥
 
 -- whether each row's file has its form
-abbrev pub FormsAnswer : List FileRow → Result (Unit {0}) ChainFault → Type 0
-FormsAnswer rows (Ok done) = AllByRecursion HasForm rows
-FormsAnswer rows (Err (FileDamaged path why)) = IsFirstForm rows path why
-FormsAnswer rows (Err Failed) = Unit {0}
-FormsAnswer rows (Err NoMemory) = Unit {0}
-FormsAnswer rows (Err fault) = ⊥
+abbrev pub FormsAnswer : Files → List FileRow → Result (Unit {0}) ChainFault → Type 0
+FormsAnswer files rows (Ok done) = AllByRecursion (HasForm files) rows
+FormsAnswer files rows (Err (FileDamaged path why)) = IsFirstForm files rows path why
+FormsAnswer files rows (Err Failed) = Unit {0}
+FormsAnswer files rows (Err NoMemory) = Unit {0}
+FormsAnswer files rows (Err fault) = ⊥
+
+-- the rows that are left, where each before them has its form, decide of all
+pub record FormsLeft (files : Files) (rows left : List FileRow) : Type 0 where
+  pub first : (path : List ℕ) (why : FileWhy)
+      → IsFirstForm files left path why → IsFirstForm files rows path why
+  pub all : AllByRecursion (HasForm files) left → AllByRecursion (HasForm files) rows
+
+-- bytes, so far as they go, are those of a file from a place on, and zeros behind its end
+abbrev pub ShowsFrom : List ℕ → ℕ → List ℕ → Type 0
+ShowsFrom file at bytes = (i : ℕ) → i < length bytes → get_or bytes i 0 ≡ get_or file (at + i) 0
+
+-- bytes go on behind a beginning
+abbrev pub GoesOn : List ℕ → List ℕ → Type 0
+GoesOn front bytes = (more : List ℕ) × (bytes ≡ front ++ more)
+
+-- what is wrong with the head of an incremental file of this size, if anything
+abbrev pub HeadWhy : List ℕ → ℕ → Option FileWhy → Type 0
+HeadWhy bytes size None = IsIncrFile bytes size
+HeadWhy bytes size (Some Both) = ⊥
+HeadWhy bytes size (Some Length) = HeadAnswers bytes size (Err head.Length)
+HeadWhy bytes size (Some Magic) = HeadAnswers bytes size (Err head.Magic)
+HeadWhy bytes size (Some Range) = HeadAnswers bytes size (Err head.Range)
+HeadWhy bytes size (Some Order) = HeadAnswers bytes size (Err head.Order)
+HeadWhy bytes size (Some PageLength) = ⊥
+
+-- what is wrong with the form of a row's file, if anything
+abbrev pub FormWhy : Files → FileRow → Option FileWhy → Type 0
+FormWhy files row None = HasForm files row
+FormWhy files row (Some why) = HasFormFault files row why
 
 -- what is judged behind the listed files: the label where nothing is wrong, or the first fault
 abbrev pub BehindAnswer : Files → Listing → Result Label ChainFault → Type 0
 BehindAnswer files m (Ok label) =
     (others_fault files m.files ≡ None)
     × IsLabelFrom m.start (bytes_of files label_path) label
-    × AllByRecursion HasForm m.files
+    × AllByRecursion (HasForm files) m.files
 BehindAnswer files m (Err (LabelDamaged line)) =
     (others_fault files m.files ≡ None) × RefusesLine m.start (bytes_of files label_path) line
 BehindAnswer files m (Err (FileDamaged path why)) =
     (label : Label) × (others_fault files m.files ≡ None)
     × IsLabelFrom m.start (bytes_of files label_path) label
-    × IsFirstForm m.files path why
+    × IsFirstForm files m.files path why
 BehindAnswer files m (Err fault) = Answers (others_fault files m.files) (Err fault)
 
 -- what is judged behind the manifest: the label where nothing is wrong, or why it is refused
@@ -108,5 +146,30 @@ abbrev pub ListedAnswer : Files → Listing → Result Label Refusal → Type 0
 ListedAnswer files m (Ok label) =
     (listing_fault files m.files ≡ None)
     × IsLabelFrom m.start (bytes_of files label_path) label
-    × AllByRecursion HasForm m.files
+    × AllByRecursion (HasForm files) m.files
 ListedAnswer files m (Err refusal) = HasManifest files m → HasRefusal files refusal
+
+-- ---- chains
+
+-- rows whose files can be rebuilt from a backup, or the first one whose can't
+abbrev pub HeldAnswer : List FileRow → List FileRow → Result (Unit {0}) LinkFault → Type 0
+HeldAnswer held rows (Ok done) = AllByRecursion (λ row. IsHeld held row.path) rows
+HeldAnswer held rows (Err (link.NoPriorFile path)) = IsFirstUnheld held rows path
+HeldAnswer held rows (Err why) = why ≡ link.NoMemory
+
+-- rows whose files are plain, or the first one whose isn't
+abbrev pub PlainAnswer : List FileRow → Result (Unit {0}) LinkFault → Type 0
+PlainAnswer rows (Ok done) = IsPlain rows
+PlainAnswer rows (Err (link.FileIncremental path)) = IsFirstIncremental rows path
+PlainAnswer rows (Err why) = why ≡ link.NoMemory
+
+-- a later member that is linked to its predecessor, or what it is refused for
+abbrev pub LaterAnswer : Member → Member → Result (Unit {0}) LinkFault → Type 0
+LaterAnswer prior member (Ok done) = IsLinked prior member
+LaterAnswer prior member (Err why) = why ≢ link.NoMemory → RefusesLater prior member why
+
+-- later members, each linked to the one before, or the first that isn't
+abbrev pub AllLaterAnswer : Member → List Member → Result (Unit {0}) ChainRefusal → Type 0
+AllLaterAnswer first later (Ok done) = AreLinked first later
+AllLaterAnswer first later (Err refusal) =
+    refusal.why ≢ link.NoMemory → IsFirstUnlinked 1 first later refusal

@@ -11,6 +11,10 @@ use Rattle.lsn_core.specs.declared.fault.AreaFault.TheVariants as area
 use Rattle.vault.specs.Area.{bytes_of}
 use Rattle.backup_label.specs.Label.{IsLabel, IsLabelRefusedAt}
 use Rattle.backup_label.specs.declared.label.Label.{Label}
+use Rattle.incr_file.specs.Reading.{HeadAnswers}
+use Rattle.incr_file.specs.declared.decode.HeadFault.{HeadFault}
+use Rattle.incr_file.specs.declared.decode.HeadFault.TheVariants as head
+use Rattle.lsn_core.specs.Names.{fork_path_bytes}
 use Rattle.manifest.specs.Listing.{Listing}
 use Rattle.manifest.specs.Reading.{ReadAnswers}
 use Rattle.manifest.specs.declared.fault.ManifestFault.{ManifestFault}
@@ -22,7 +26,7 @@ use Rattle.chain_check.specs.declared.member.Member.{Member}
 use Rattle.chain_check.specs.declared.fault.ManifestWhy.{ManifestWhy}
 use Rattle.chain_check.specs.declared.fault.ManifestWhy.TheVariants.{Lines, Sum, Json, Shape, SumKind}
 use Rattle.chain_check.specs.declared.fault.FileWhy.{FileWhy}
-use Rattle.chain_check.specs.declared.fault.FileWhy.TheVariants.{Form, PageLength}
+use Rattle.chain_check.specs.declared.fault.FileWhy.TheVariants.{Both, Length, Magic, Range, Order, PageLength}
 use Rattle.chain_check.specs.declared.refusal.Refusal.{Refusal}
 use Rattle.chain_check.specs.declared.fault.ChainFault.{ChainFault}
 use Rattle.chain_check.specs.declared.fault.ChainFault.TheVariants.{NoManifest, ManifestDamaged, ManifestVersion, TimelineDiffers, FileMissing, FileSize, FileSum, FileExtra, LabelDamaged, FileDamaged, Failed, NoMemory}
@@ -92,16 +96,35 @@ RefusesLine start text line =
 
 -- ---- the files of forks
 
+-- a path is that of an incremental file, which is there in the plain form too, or isn't
+abbrev pub HasBoth : Files → List ℕ → Type 0
+HasBoth files path =
+    (f : IsForkFile path true) × (get files (fork_path_bytes f.fork f.seg false) ≢ None)
+
+abbrev pub IsAlone : Files → List ℕ → Type 0
+IsAlone files path =
+    (f : IsForkFile path true) × (get files (fork_path_bytes f.fork f.seg false) ≡ None)
+
+-- the file of a row is incremental, isn't there in the plain form, and has a head that is refused so
+abbrev pub HasHeadFault : Files → FileRow → HeadFault → Type 0
+HasHeadFault files row fault =
+    IsAlone files row.path × HeadAnswers (bytes_of files row.path) row.size (Err fault)
+
 -- what is wrong with the form of a row's file
-abbrev pub HasFormFault : FileRow → FileWhy → Type 0
-HasFormFault row Form = IsForkFile row.path true
-HasFormFault row PageLength = IsForkFile row.path false × (row.size % 8192 ≢ 0)
+abbrev pub HasFormFault : Files → FileRow → FileWhy → Type 0
+HasFormFault files row Both = HasBoth files row.path
+HasFormFault files row Length = HasHeadFault files row head.Length
+HasFormFault files row Magic = HasHeadFault files row head.Magic
+HasFormFault files row Range = HasHeadFault files row head.Range
+HasFormFault files row Order = HasHeadFault files row head.Order
+HasFormFault files row PageLength = IsForkFile row.path false × (row.size % 8192 ≢ 0)
 
 -- the first row, in their order, of which something is
-abbrev pub IsFirstForm : List FileRow → List ℕ → FileWhy → Type 0
-IsFirstForm [] path why = ⊥
-IsFirstForm (row ∷ rows) path why =
-    ((row.path ≡ path) × HasFormFault row why) ⊎ (HasForm row × IsFirstForm rows path why)
+abbrev pub IsFirstForm : Files → List FileRow → List ℕ → FileWhy → Type 0
+IsFirstForm files [] path why = ⊥
+IsFirstForm files (row ∷ rows) path why =
+    ((row.path ≡ path) × HasFormFault files row why)
+    ⊎ (HasForm files row × IsFirstForm files rows path why)
 
 -- ---- the whole
 
@@ -131,7 +154,7 @@ RefusedFor files (LabelDamaged line) =
     (m : Listing) × HasListingFault files m None
     × RefusesLine m.start (bytes_of files label_path) line
 RefusedFor files (FileDamaged path why) =
-    (m : Listing) × (label : Label) × HasLabel files m label × IsFirstForm m.files path why
+    (m : Listing) × (label : Label) × HasLabel files m label × IsFirstForm files m.files path why
 RefusedFor files Failed = Unit {0}
 RefusedFor files NoMemory = Unit {0}
 

@@ -1,35 +1,90 @@
-//! Chains of backups that a restore may take: so far of one member.
+//! Chains of backups, and members that are to be restored alone.
 
-ghost use Rattle.std.specs.Prelude.{◌≡◌};
-ghost use Rattle.std.specs.Result.{result_err, OkIff};
-ghost use Rattle.chain_check.specs.Chain.{IsChainOfOne, alone_fault};
+ghost use Rattle.std.specs.Prelude.{◌≡◌, ◌≤◌, ◌<◌, ◌+◌, length};
+ghost use Rattle.chain_check.specs.Chain.{most_members, IsFirst, IsLinked};
+ghost use Rattle.chain_check.specs.Inside.{LaterAnswer, AllLaterAnswer};
+ghost use Rattle.chain_check.specs.Laws.{ChainAnswer, AloneAnswer};
 
+use crate::held::{check_held, check_plain};
+use crate::link::{LinkFault, first_fault, label_fault};
 use crate::member::Member;
+use std::alloc::Global;
 
-/// The first fault of a chain of backups, in the order in which they are judged.
-#[derive(Clone, Copy, Debug, PartialEq, Eq)]
-pub enum LinkFault {
-    /// A timeline of the member's label is this one, and not 1: that on which the backup was begun,
-    /// or else that of its prior.
-    TimelineDiffers(u32),
-    /// The first member's label names a prior.
-    FirstIncremental,
+/// The most members of a chain (profile).
+const MOST_MEMBERS: usize = 64;
+
+/// Why a chain of backups isn't taken.
+#[derive(Debug, Drop)]
+pub struct ChainRefusal {
+    /// The place of the first member that isn't taken, from 0; 64 where there are too many. After
+    /// `NoMemory` any place.
+    pub member: u32,
+    /// Why it isn't.
+    pub why: LinkFault,
 }
 
-/// Judges a member that is to be restored alone. It is accepted exactly where all timelines of its
-/// label are 1 and it names no prior; otherwise it is refused for the first fault, in the order of
-/// `LinkFault`.
-pub fn check_alone(member: &Member) -> Result<(), LinkFault>
-    ensures accepted { OkIff result (IsChainOfOne member.now) tt }
-    ensures first { result_err result ≡ alone_fault member.now.label }
+/// Judges a later member of a chain by its predecessor.
+fn check_later(alloc: Global, prior: &Member, member: &Member) -> Result<(), LinkFault>
+    ensures { LaterAnswer prior.now member.now result }
 {
-    let label = &member.label;
-    if label.timeline != 1 {
-        return Err(LinkFault::TimelineDiffers(label.timeline));
+    match label_fault(prior, member) {
+        Some(why) => Err(why),
+        None => check_held(alloc, &prior.manifest.files, &member.manifest.files),
     }
-    match label.prior {
-        Some((_, timeline)) if timeline != 1 => Err(LinkFault::TimelineDiffers(timeline)),
-        Some(_) => Err(LinkFault::FirstIncremental),
-        None => Ok(()),
+}
+
+/// Judges the later members of a chain, in their order, each by the one before.
+fn check_all_later(alloc: Global, first: &Member, later: &[Member]) -> Result<(), ChainRefusal>
+    requires { length later.now < most_members }
+    ensures { AllLaterAnswer first.now later.now result }
+{
+    let mut prior = first;
+    let mut left = later;
+    let mut place = 1;
+    while let Some((member, behind)) = left.split_first() {
+        if let Err(why) = check_later(alloc, prior, member) {
+            return Err(ChainRefusal { member: place, why });
+        }
+        prior = member;
+        left = behind;
+        place += 1;
+    }
+    Ok(())
+}
+
+/// Judges a chain of backups, the oldest one first, whose directories were found to be as listed
+/// (PostgreSQL manual, pg_combinebackup; the order: profile). It is accepted exactly where it has at
+/// most 64 members, the first is a full backup, and each later one names its predecessor's start, is
+/// of the same store, starts at or behind the predecessor's end, and has no incremental file that
+/// the predecessor lists in neither form, all on timeline 1. Otherwise it is refused for the first
+/// fault, in the order of `LinkFault`, of the first member that has one.
+pub fn check_chain(alloc: Global, members: &[Member]) -> Result<(), ChainRefusal>
+    requires { 1 ≤ length members.now }
+    ensures { ChainAnswer members.now result }
+{
+    if members.len() > MOST_MEMBERS {
+        return Err(ChainRefusal {
+            member: MOST_MEMBERS as u32,
+            why: LinkFault::TooManyMembers,
+        });
+    }
+    let Some((first, later)) = members.split_first() else {
+        return Ok(());
+    };
+    if let Some(why) = first_fault(&first.label) {
+        return Err(ChainRefusal { member: 0, why });
+    }
+    check_all_later(alloc, first, later)
+}
+
+/// Judges a member that is to be restored alone, with its files copied as they are. It is accepted
+/// exactly where all timelines of its label are 1, it names no prior, and it lists no incremental
+/// file; otherwise it is refused for the first fault, in the order of `LinkFault`.
+pub fn check_alone(alloc: Global, member: &Member) -> Result<(), LinkFault>
+    ensures { AloneAnswer member.now result }
+{
+    match first_fault(&member.label) {
+        Some(why) => Err(why),
+        None => check_plain(alloc, &member.manifest.files),
     }
 }

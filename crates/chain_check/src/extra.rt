@@ -22,7 +22,7 @@ use vault::Vault;
 pub(crate) const MANIFEST: &[u8] = b"backup_manifest";
 
 /// Whether rows, in byte order of their paths, have this path.
-fn is_listed(rows: &[FileRow], path: &[u8]) -> bool
+pub(crate) fn is_listed(rows: &[FileRow], path: &[u8]) -> bool
     requires { IsSortedByKey path_of (slice_cmp nat_cmp) rows.now }
     ensures { result ≡ is_listed rows.now path.now }
 {

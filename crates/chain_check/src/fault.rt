@@ -23,12 +23,21 @@ pub enum ManifestWhy {
     SumKind,
 }
 
-/// Why the form of a file isn't taken.
+/// Why the form of the file of a fork's segment isn't taken. All but the last are judged of an
+/// incremental file, in this order.
 #[derive(Clone, Copy, Debug, PartialEq, Eq)]
 pub enum FileWhy {
-    /// The path is that of a segment of a fork in the incremental form.
-    Form,
-    /// The path is that of a segment of a fork, and the size is no multiple of 8192 bytes.
+    /// It is incremental, and the segment's file is there in the plain form too.
+    Both,
+    /// It is incremental, and its size isn't the one that the count in its head gives.
+    Length,
+    /// It is incremental, and doesn't begin with the number of such files.
+    Magic,
+    /// It is incremental, and its truncation length is above 131,072 or a block at or above that.
+    Range,
+    /// It is incremental, and its blocks don't rise.
+    Order,
+    /// It is the plain file of a fork's segment, and its size is no multiple of 8192 bytes.
     PageLength,
 }
 

@@ -1,38 +1,76 @@
 //! The forms of the files of forks.
 
-ghost use Rattle.std.specs.Prelude.{IfSome, IfNone};
-ghost use Rattle.chain_check.specs.Directory.{HasForm};
-ghost use Rattle.chain_check.specs.Refusals.{HasFormFault};
-ghost use Rattle.chain_check.specs.Inside.{FormsAnswer, NeverFails};
+ghost use Rattle.std.specs.Prelude.{◌≡◌, true, IfOk, IfSome};
+ghost use Rattle.lsn_core.specs.Causes.{HasCause};
+ghost use Rattle.lsn_core.specs.Names.{fork_path_bytes, IsNamed};
+ghost use Rattle.vault.specs.Frame.{OnlyReads};
+ghost use Rattle.chain_check.specs.Refusals.{FailsRisen};
+ghost use Rattle.chain_check.specs.Inside.{FormsAnswer, FormWhy};
 
 use crate::fault::{ChainFault, FileWhy};
-use lsn_core::{PAGE, Text, path_fork};
+use crate::heads::head_why;
+use lsn_core::{AreaFault, ForkId, PAGE, Text, fork_path, path_fork};
 use manifest::FileRow;
 use std::alloc::Global;
+use vault::Vault;
+
+/// What is wrong with a row's file, which is that of this segment of a fork in the incremental form,
+/// if anything.
+fn incremental_fault<V: Vault>(
+    alloc: Global,
+    area: &mut V,
+    row: &FileRow,
+    fork: ForkId,
+    seg: u32,
+) -> Result<Option<FileWhy>, AreaFault>
+    requires named { IsNamed fork seg }
+    requires spelled { row.now.path ≡ fork_path_bytes fork seg true }
+    ensures why { IfOk result (λ why. IfSome (V.files area.old) (λ m. FormWhy m row.now why)) }
+    ensures reads { OnlyReads V.Vault area.old area.new }
+    ensures cause { HasCause (V.faults area.old) (V.faults area.new) result }
+{
+    let plain = fork_path(alloc, fork, seg, false)?;
+    if area.size(plain.as_bytes())?.is_some() {
+        return Ok(Some(FileWhy::Both));
+    }
+    head_why(alloc, area, row)
+}
 
 /// What is wrong with the form of a row's file, if anything.
-fn form_fault(row: &FileRow) -> Option<FileWhy>
-    ensures found { IfSome result (λ why. HasFormFault row.now why) }
-    ensures none { IfNone result (HasForm row.now) }
+fn form_fault<V: Vault>(
+    alloc: Global,
+    area: &mut V,
+    row: &FileRow,
+) -> Result<Option<FileWhy>, AreaFault>
+    ensures why { IfOk result (λ why. IfSome (V.files area.old) (λ m. FormWhy m row.now why)) }
+    ensures reads { OnlyReads V.Vault area.old area.new }
+    ensures cause { HasCause (V.faults area.old) (V.faults area.new) result }
 {
-    let (_, _, incr) = path_fork(row.path.as_bytes())?;
+    let Some((fork, seg, incr)) = path_fork(row.path.as_bytes()) else {
+        return Ok(None);
+    };
     if incr {
-        return Some(FileWhy::Form);
+        return incremental_fault(alloc, area, row, fork, seg);
     }
     if row.size % PAGE as u64 != 0 {
-        return Some(FileWhy::PageLength);
+        return Ok(Some(FileWhy::PageLength));
     }
-    None
+    Ok(None)
 }
 
 /// Errs with the first row, in their order, whose file hasn't its form.
-pub(crate) fn check_forms(alloc: Global, rows: &[FileRow]) -> Result<(), ChainFault>
-    ensures answer { FormsAnswer rows.now result }
-    ensures memory { NeverFails result }
+pub(crate) fn check_forms<V: Vault>(
+    alloc: Global,
+    area: &mut V,
+    rows: &[FileRow],
+) -> Result<(), ChainFault>
+    ensures answer { IfSome (V.files area.old) (λ m. FormsAnswer m rows.now result) }
+    ensures reads { OnlyReads V.Vault area.old area.new }
+    ensures cause { FailsRisen (V.faults area.old) (V.faults area.new) result }
 {
     let mut left = rows;
     while let Some((row, behind)) = left.split_first() {
-        if let Some(why) = form_fault(row) {
+        if let Some(why) = form_fault(alloc, area, row)? {
             let path = Text::copied(alloc, row.path.as_bytes())?;
             return Err(ChainFault::FileDamaged(path, why));
         }

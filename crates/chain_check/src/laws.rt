@@ -1,8 +1,11 @@
-//! Laws of the check of a directory: the contract of a function that changes nothing.
+//! Laws of the checks: each is the contract of a function that changes nothing.
 
 ghost use Rattle.chain_check.specs.Laws.{DirectoriesAreOneMember, ListedIsNotRefused};
 ghost use Rattle.chain_check.specs.Laws.{RefusalsAreOne};
+ghost use Rattle.chain_check.specs.Laws.{AcceptedIsNotRefused, ChainRefusalsAreOne};
+ghost use Rattle.chain_check.specs.Laws.{AloneIsNotRefused, AloneRefusalsAreOne};
 
+use incr_file::heads_are_read_as_written;
 use manifest::manifests_are_read_again;
 
 /// A directory that is as listed is one member of a name, and isn't refused; one that isn't is
@@ -12,6 +15,16 @@ pub fn directories_have_one_answer()
     ensures apart { ListedIsNotRefused }
     ensures first { RefusalsAreOne }
 {
-    // known: a text is read as one manifest
+    // known: a text is read as one manifest, and a file as one head
     manifests_are_read_again();
+    heads_are_read_as_written();
 }
+
+/// A chain that is accepted isn't refused, and one that isn't is refused for one fault of one
+/// member; the same of a member that is to be restored alone.
+pub fn chains_have_one_answer()
+    ensures apart { AcceptedIsNotRefused }
+    ensures first { ChainRefusalsAreOne }
+    ensures alone { AloneIsNotRefused }
+    ensures one { AloneRefusalsAreOne }
+{}

@@ -1,14 +1,16 @@
 //! Whether the directory of a backup is what its manifest lists (PostgreSQL manual,
-//! pg_verifybackup), and whether the backup can be restored alone.
+//! pg_verifybackup), and whether several such backups make a chain (pg_combinebackup).
 //!
 //! `check_dir` reads a directory's files and answers the `Member` that it is, exactly where it is
 //! as listed (`specs/Directory.antt`), and otherwise a `Refusal`: its first fault, in the order of
 //! `specs/Refusals.antt`, and how many files were found as listed before it. Each listed file is
-//! read whole, in pieces. `check_alone` judges a member by its label (`specs/Chain.antt`). `laws`
-//! say that a directory has one answer. `Member` stands here, since `manifest` knows no label.
+//! read whole, in pieces, and of an incremental file the head once more. `check_chain` judges
+//! members by their labels and manifests, and `check_alone` one that is to be restored alone
+//! (`specs/Chain.antt`). `laws` say that a directory and a chain have one answer. `Member` stands
+//! here, since `manifest` knows no label.
 //!
-//! Left to others: what manifest and label say (`manifest`, `backup_label`), and what the pages of
-//! the files hold. Incremental files aren't taken.
+//! Left to others: what manifest, label and the head of an incremental file say (`manifest`,
+//! `backup_label`, `incr_file`), what the pages of the files hold, and what a chain is combined to.
 #![tactic(auto)]
 
 mod chain;
@@ -16,17 +18,21 @@ mod dir;
 mod extra;
 mod fault;
 mod forms;
+mod heads;
+mod held;
 mod label;
 mod laws;
+mod link;
 mod listing;
 mod member;
 mod refusal;
 mod rows;
 mod sums;
 
-pub use chain::{LinkFault, check_alone};
+pub use chain::{ChainRefusal, check_alone, check_chain};
 pub use dir::check_dir;
 pub use fault::{ChainFault, FileWhy, ManifestWhy};
-pub use laws::directories_have_one_answer;
+pub use laws::{chains_have_one_answer, directories_have_one_answer};
+pub use link::LinkFault;
 pub use member::Member;
 pub use refusal::Refusal;

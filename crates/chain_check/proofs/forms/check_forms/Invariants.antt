@@ -1,16 +1,14 @@
-use Rattle.std.proofs.Common.{List, ℕ, length}
-use Rattle.std.specs.List.{AllByRecursion}
-use Rattle.chain_check.specs.Directory.{HasForm}
-use Rattle.chain_check.specs.Refusals.{IsFirstForm}
-use Rattle.chain_check.specs.declared.fault.FileWhy.{FileWhy}
+use Rattle.std.proofs.Common.{length, IfSome}
+use Rattle.vault.specs.Frame.{OnlyReads}
+use Rattle.chain_check.specs.Inside.{FormsLeft}
 use Rattle.chain_check.proofs.forms.check_forms.Given as goal
 
 -- each row so far has its form
 abbrev pub invariant-loop-row : goal.invariant-loop-row
-invariant-loop-row l = record {
-  first : (path : List ℕ) (why : FileWhy) → IsFirstForm l.left path why → IsFirstForm l.rows path why;
-  all : AllByRecursion HasForm l.left → AllByRecursion HasForm l.rows;
+invariant-loop-row g l = record {
+  reads : OnlyReads g.V.Vault l.fn.area l.area;
+  left : IfSome (g.V.Vault.files l.fn.area) (λ m. FormsLeft m l.rows l.left);
 }
 
 abbrev pub decreases-loop-row : goal.decreases-loop-row
-decreases-loop-row l = length l.left
+decreases-loop-row g l = length l.left
