@@ -18,7 +18,7 @@ use Rattle.fuzzy_copies.proofs.Records.{records_complete}
 use Rattle.recovery.specs.Onward.{is_set_behind, found_on, ReadsOn, replayed_to, ending_by}
 use Rattle.recovery.proofs.SoFar.{none_set}
 use Rattle.backup_restore.specs.Completed.{SoundCopiesAreCompleted, RestoresAreReplays}
-use Rattle.backup_restore.proofs.Onwards.{rest_read}
+use Rattle.wal_pieces.proofs.Onwards.{rest_read}
 use Rattle.backup_restore.proofs.Rising.{wal_rises, parted_at, replayed_in, rest_rises, replayed_rest, none_left}
 
 -- ---- what is found up to a target

@@ -1,7 +1,3 @@
-pub mod Heads
-mod Starts
-mod Unlinked
-pub mod Onwards
 mod PageReads
 mod Behind
 mod Pieces
@@ -14,4 +10,6 @@ pub mod Rising
 mod Completed
 mod Directories
 mod WrittenStores
+pub mod OneReading
 mod OneAnswer
+mod EndAlike

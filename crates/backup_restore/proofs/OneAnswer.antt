@@ -1,47 +1,24 @@
 -- Restores of the same files answer the same.
-use Rattle.std.proofs.Common.{◌≡◌, ℕ, Bool, false, List, [], ◌∷◌, Option, Some, IfSome, refl, sym, ap, subst, ◌∙◌}
+use Rattle.std.proofs.Common.{◌≡◌, ℕ, List, Option, Some, IfSome, sym, ap, subst, ◌∙◌}
 use Rattle.std.specs.FinMap.{len}
 use Rattle.lsn_core.specs.Files.{Files}
-use Rattle.lsn_core.specs.Segment.{StoreSettings}
 use Rattle.lsn_core.specs.Store.{Store, files_of}
 use Rattle.lsn_core.specs.Tip.{Tip}
 use Rattle.lsn_core.specs.declared.lsn.Lsn.{Lsn}
 use Rattle.wal_record.specs.declared.record.Record.{Record}
-use Rattle.wal_record.specs.Tips.{tip_after}
 use Rattle.wal_archive.specs.Rules.{End}
 use Rattle.history.specs.Pages.{page_count}
 use Rattle.history.specs.Redo.{redo_all}
-use Rattle.recovery.specs.declared.reading.Beginning.{Beginning}
 use Rattle.recovery.specs.declared.reading.Beginning.TheVariants.{AtPlace}
 use Rattle.recovery.specs.declared.replaying.Replayed.{Replayed}
-use Rattle.recovery.specs.Onward.{IsReadFrom, is_at_place, begin_tip, is_set_behind, found_on, ReadsOn, replayed_to, ending_by, end_from}
+use Rattle.recovery.specs.Onward.{IsReadFrom, replayed_to, ending_by, end_from}
 use Rattle.recovery.proofs.OneWal.{same_lsn}
 use Rattle.backup_restore.specs.Restored.{MakesOf}
 use Rattle.backup_restore.specs.Laws.{RestoresHaveOneAnswer}
-use Rattle.backup_restore.proofs.Completed.{gives_or_end, same_gives, set_on, found_none}
 use Rattle.backup_restore.proofs.Directories.{one_store}
+use Rattle.backup_restore.proofs.OneReading.{both_end}
 
--- ---- one reading
-
-both_more : (r q : Record) (rs qs : List Record) (last end : Tip) → r ≡ q → (rs ≡ qs) × (last ≡ end) → (◌≡◌ {A = List Record} (r ∷ rs) (q ∷ qs)) × (last ≡ end)
-both_more r q rs qs last end same more = (ap (λ (x : Record). x ∷ rs) same ∙ ap (λ (l : List Record). q ∷ l) more.0, more.1)
-
-read_once : (s : StoreSettings) (files : Files) (upto : Option Lsn) (set : Bool) (tip last end : Tip) (rs qs : List Record) → ReadsOn s files upto set tip rs last → found_on s files upto (is_set_behind set rs) last ≡ End
-    → ReadsOn s files upto set tip qs end → found_on s files upto (is_set_behind set qs) end ≡ End → (rs ≡ qs) × (last ≡ end)
-read_once s files upto set tip last end [] [] reads stops walk ends = (refl, reads ∙ sym walk)
-read_once s files upto set tip last end [] (q ∷ qs) reads stops walk ends = absurd (gives_or_end (found_on s files upto set tip) q walk.0 (found_none s files upto set tip last End reads stops))
-read_once s files upto set tip last end (r ∷ rs) [] reads stops walk ends = absurd (gives_or_end (found_on s files upto set tip) r reads.0 (found_none s files upto set tip end End walk ends))
-read_once s files upto set tip last end (r ∷ rs) (q ∷ qs) reads stops walk ends =
-    let same : r ≡ q = same_gives (found_on s files upto set tip) r q reads.0 walk.0 in
-    let stops_on : found_on s files upto (is_set_behind false rs) last ≡ End = subst (λ b. found_on s files upto b last ≡ End) (set_on set r rs) stops in
-    let ends_on : found_on s files upto (is_set_behind false qs) end ≡ End = subst (λ b. found_on s files upto b end ≡ End) (set_on set q qs) ends in
-    let walk_on : ReadsOn s files upto false (tip_after tip r) qs end = subst (λ (x : Record). ReadsOn s files upto false (tip_after tip x) qs end) (sym same) walk.1 in
-    both_more r q rs qs last end same (read_once s files upto false (tip_after tip r) last end rs qs reads.1 stops_on walk_on ends_on)
-
-one_read_from : (s : StoreSettings) (files : Files) (begin : Beginning) (upto : Option Lsn) (rs qs : List Record) (last end : Tip) → IsReadFrom s files begin upto rs last End → IsReadFrom s files begin upto qs end End → (rs ≡ qs) × (last ≡ end)
-one_read_from s files begin upto rs qs last end a b = read_once s files upto (is_at_place begin) (begin_tip s.segment begin) last end rs qs a.reads a.behind b.reads b.behind
-
--- ---- one answer
+-- ---- what was restored
 
 replayed_with : Lsn → ℕ → ℕ → Tip → Replayed
 replayed_with end forks pages tip = record { end = end; forks = forks; pages = pages; tip = tip }
@@ -54,7 +31,7 @@ same_replayed a b end forks pages tip =
     ∙ ap (λ (n : ℕ). replayed_with b.end b.forks n a.tip) pages
     ∙ ap (λ (t : Tip). replayed_with b.end b.forks b.pages t) tip
 
-some_is : {A : Type 0} (x y : A) → ◌≡◌ {A = Option A} (Some x) (Some y) → x ≡ y
+pub some_is : {A : Type 0} (x y : A) → ◌≡◌ {A = Option A} (Some x) (Some y) → x ≡ y
 some_is x y e = cc
 
 record IsSameMade (one other : Replayed) (out left : Option Files) : Type 0 where
@@ -73,23 +50,23 @@ same_made relseg backup entries place one other out left a b =
     }
 
 -- what holds of a value that is told
-told_is : (P : Files → Type 0) (o : Option Files) (m : Files) → o ≡ Some m → IfSome o P → P m
+pub told_is : (P : Files → Type 0) (o : Option Files) (m : Files) → o ≡ Some m → IfSome o P → P m
 told_is P o m is held = subst (λ (x : Option Files). IfSome x P) is held
 
 pub one_answer : RestoresHaveOneAnswer
 one_answer s start upto wal backup old new before behind one other a b restored again =
     let first = told_is (λ m. IsReadFrom s m (AtPlace start) upto restored.entries one.tip End) old.wal.files wal a.wal_told restored.read.archive in
     let second = told_is (λ m. IsReadFrom s m (AtPlace start) upto again.entries other.tip End) before.wal.files wal b.wal_told again.read.archive in
-    let read = one_read_from s wal (AtPlace start) upto restored.entries again.entries one.tip other.tip first second in
-    let place : replayed_to upto one.tip ≡ replayed_to upto other.tip = ap (replayed_to upto) read.1 in
+    let read = both_end s wal (AtPlace start) upto restored.entries again.entries one.tip other.tip first second in
+    let place : replayed_to upto one.tip ≡ replayed_to upto other.tip = ap (replayed_to upto) read.tips in
     let made = told_is (λ m. MakesOf s.relseg m restored.entries (replayed_to upto one.tip) one new.out.files) old.backup.files backup a.backup_told (restored.made a.out_told) in
     let made_again = told_is (λ m. MakesOf s.relseg m again.entries (replayed_to upto other.tip) other behind.out.files) before.backup.files backup b.backup_told (again.made b.out_told) in
-    let moved = subst (λ (rs : List Record). MakesOf s.relseg backup rs (replayed_to upto one.tip) other behind.out.files) (sym read.0)
+    let moved = subst (λ (rs : List Record). MakesOf s.relseg backup rs (replayed_to upto one.tip) other behind.out.files) (sym read.entries)
     (subst (λ (n : ℕ). MakesOf s.relseg backup again.entries n other behind.out.files) (sym place) made_again) in
     let same = same_made s.relseg backup restored.entries (replayed_to upto one.tip) one other new.out.files behind.out.files made moved in
     let ends : one.end.0 ≡ other.end.0 =
     restored.end
-    ∙ ap (λ (rs : List Record). end_from s.segment (AtPlace start) (ending_by (replayed_to upto one.tip) rs)) read.0
+    ∙ ap (λ (rs : List Record). end_from s.segment (AtPlace start) (ending_by (replayed_to upto one.tip) rs)) read.entries
     ∙ ap (λ (n : ℕ). end_from s.segment (AtPlace start) (ending_by n again.entries)) place
     ∙ sym again.end in
-    (same_replayed one other (same_lsn one.end other.end ends) same.forks same.pages read.1, same.files)
+    (same_replayed one other (same_lsn one.end other.end ends) same.forks same.pages read.tips, same.files)

@@ -14,7 +14,7 @@ use Rattle.vault.specs.Area.{Related}
 use Rattle.vault.specs.Frame.{AgreeBut, ChangesOnly}
 use Rattle.vault.proofs.Changed.{changes_on}
 use Rattle.vault.specs.declared.area.Vault.{Ghosts}
-use Rattle.rel_files.specs.Forks.{IsForkPath, Holds}
+use Rattle.rel_files.specs.Forks.{IsForkPath, Holds, HasWholePages}
 use Rattle.rel_files.specs.Shown.{AreFilesOf, HoldsStore, ShowsStore, KeepsOthers}
 use Rattle.rel_files.specs.declared.forks.Forks.{Forks}
 use Rattle.rel_files.proofs.WholeStores.{nothing_is_held, files_are_exact}
@@ -33,6 +33,14 @@ use Rattle.backup_restore.specs.Inside.{IsShownIn, area_shows, IsCopied, CopiesS
 
 none_some : {X : Type 0} (x : X) → None ≡ Some x → ⊥
 none_some x e = absurd cc
+
+-- no fork of the empty store has a page that isn't whole
+empty_whole : HasWholePages empty
+empty_whole fork pages is = absurd (none_some pages (sym (get-empty fork_cmp fork) ∙ is))
+
+-- forks that hold the empty store show it
+pub empty_shown : {V : Type 0} (g : Ghosts V) (forks : Forks V) → HoldsStore g forks empty → ShowsStore g forks empty
+empty_shown g forks held = record { holds = held; whole = empty_whole }
 
 -- files without any hold the empty store
 pub empty_held : (relseg : ℕ) (told : Option Files) → told ≡ Some empty → AreFilesOf relseg told empty
@@ -64,7 +72,7 @@ rose_later before mid now later rose = omega (arith, later, rose)
 
 -- an area without files shows the empty store
 pub nothing_shown : (relseg : ℕ) (told : Option Files) → told ≡ Some empty → IsShownIn relseg told empty
-nothing_shown relseg told is = record { files = empty_held relseg told is; whole = λ fork pages there. absurd (none_some pages (sym (get-empty fork_cmp fork) ∙ there)) }
+nothing_shown relseg told is = record { files = empty_held relseg told is; whole = empty_whole }
 
 module _ {V : Type 0} (g : Ghosts V) (p : Pages (Forks V)) where
   -- a backup was copied into an area's files, and the WAL redone over the forks in them

@@ -18,7 +18,7 @@ use Rattle.history.specs.Whole.{entry_of}
 use Rattle.fuzzy_copies.specs.Orderly.{RecordsRise}
 use Rattle.fuzzy_copies.specs.Recovered.{is_replayed}
 use Rattle.recovery.specs.Onward.{ending_by}
-use Rattle.backup_restore.proofs.Onwards.{passed}
+use Rattle.wal_pieces.proofs.Onwards.{passed}
 
 -- ---- they rise
 

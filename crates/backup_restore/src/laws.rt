@@ -3,7 +3,7 @@
 
 ghost use Rattle.backup_restore.specs.Completed.{RestoresAreReplays, SoundCopiesAreCompleted};
 ghost use Rattle.backup_restore.specs.Directories.{FilesHoldOneStore, StoresAreHeld};
-ghost use Rattle.backup_restore.specs.Laws.{RestoresHaveOneAnswer};
+ghost use Rattle.backup_restore.specs.Laws.{RestoresHaveOneAnswer, RestoresEndAlike};
 ghost use Rattle.backup_restore.specs.Onwards.{EntriesAreFoundAtTheirStart, ReadingGoesOn};
 ghost use Rattle.backup_restore.specs.Onwards.{ReadingFromEntryIsRest};
 
@@ -36,4 +36,10 @@ pub fn stores_are_held_by_their_files()
 /// and leave the same files.
 pub fn restores_have_one_answer()
     ensures { RestoresHaveOneAnswer }
+{}
+
+/// Two restores of the same files, up to the same target, are both done, or refused for one reason:
+/// so each refusal comes exactly where its case holds. Want of memory and failing devices are aside.
+pub fn restores_end_alike()
+    ensures { RestoresEndAlike }
 {}

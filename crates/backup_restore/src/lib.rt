@@ -18,7 +18,7 @@ mod restoring;
 
 pub use fault::RestoreFault;
 pub use laws::{
-    directories_hold_one_store, reading_goes_on_from_entries, restores_have_one_answer,
-    sound_copies_are_completed, stores_are_held_by_their_files,
+    directories_hold_one_store, reading_goes_on_from_entries, restores_end_alike,
+    restores_have_one_answer, sound_copies_are_completed, stores_are_held_by_their_files,
 };
 pub use restoring::restore;
