@@ -62,7 +62,7 @@ written_more m name bytes piece at e =
     ∙ ap (insert (insert m name bytes) name) (written_behind bytes piece at e)
     ∙ insert_again m name bytes (bytes ++ piece)
 
-written_more_in : (files : Option Files) (name bytes piece : List ℕ) (at : ℕ) → at ≡ length bytes → option_map (after_write name at piece) (with_file name bytes files) ≡ with_file name (bytes ++ piece) files
+pub written_more_in : (files : Option Files) (name bytes piece : List ℕ) (at : ℕ) → at ≡ length bytes → option_map (after_write name at piece) (with_file name bytes files) ≡ with_file name (bytes ++ piece) files
 written_more_in None name bytes piece at e = refl
 written_more_in (Some m) name bytes piece at e = ap (λ (x : Files). Some x) (written_more m name bytes piece at e)
 

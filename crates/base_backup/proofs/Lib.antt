@@ -16,3 +16,8 @@ pub mod Copying
 pub mod NoFile
 pub mod Digests
 pub mod Sound
+pub mod Blocks
+pub mod Planned
+pub mod SentFiles
+pub mod Priors
+pub mod IncrAnswers

@@ -1,5 +1,5 @@
 -- A fault that is passed on.
-use Rattle.std.proofs.Common.{◌≡◌, List, [], ◌∷◌, length, Result, Ok, Err, IfOk, IfErr, OnErr, refl, sym, subst, arith}
+use Rattle.std.proofs.Common.{◌≡◌, List, [], ◌∷◌, length, Result, Ok, Err, IfOk, IfErr, OnErr, OnOk, refl, sym, subst, arith}
 use Rattle.std.specs.Result.{IsErrAnd}
 
 -- where the fault is one that has a cause
@@ -23,3 +23,7 @@ err_more (Err x) P Q more holds = more x holds
 pub no_items : {A : Type 0} (xs : List A) → length xs ≡ 0 → xs ≡ []
 no_items [] e = refl
 no_items (x ∷ xs) e = absurd (omega arith)
+
+pub on_ok_more : {T E : Type 0} (r : Result T E) (P Q : Type 0) → (P → Q) → OnOk r P → OnOk r Q
+on_ok_more (Ok x) P Q more holds = more holds
+on_ok_more (Err x) P Q more holds = tt

@@ -216,7 +216,7 @@ page_of seen from copy fork block page all is =
 pub listed_later : (s t : List Entry) (from : ℕ) (fork : ForkId) (found : Option ℕ) → IsPrefix s t → IsForkListed s from fork found → IsForkListed t from fork found
 listed_later s t from fork found p is = record { moment = is.moment; before = prefix_trans is.moment s t is.before p; redo = is.redo; listed = is.listed }
 
-stands_of : (old new : Option Files) (put : List (List ℕ × List ℕ)) → HoldsNothing old → new ≡ option_map (λ m. with_files m put) old → IfSome new (λ m. m ≡ with_files empty put)
+pub stands_of : (old new : Option Files) (put : List (List ℕ × List ℕ)) → HoldsNothing old → new ≡ option_map (λ m. with_files m put) old → IfSome new (λ m. m ≡ with_files empty put)
 stands_of None new put nothing stand = subst (λ (o : Option Files). IfSome o (λ m. m ≡ with_files empty put)) (sym stand) tt
 stands_of (Some m) new put nothing stand = subst (λ (o : Option Files). IfSome o (λ n. n ≡ with_files empty put)) (sym stand) (ap (λ (x : Files). with_files x put) nothing)
 

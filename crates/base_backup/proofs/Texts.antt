@@ -16,7 +16,7 @@ use Rattle.jiff.specs.Types.{Date}
 use Rattle.jiff_core.proofs.CalendarLemmas.{days_in_month_bounds}
 use Rattle.text_numbers.proofs.Decimal.{decimal_is_digits}
 use Rattle.text_numbers.specs.Numbers.{all_digits}
-use Rattle.lsn_core.specs.Names.{fork_path_bytes, file_tail, plain_name, segment_suffix, IsNamed}
+use Rattle.lsn_core.specs.Names.{fork_path_bytes, file_prefix, file_tail, plain_name, segment_suffix, IsNamed}
 use Rattle.lsn_core.specs.declared.ids.ForkId.{ForkId}
 use Rattle.lsn_core.specs.declared.ids.ForkKind.{ForkKind}
 use Rattle.lsn_core.specs.declared.ids.ForkKind.TheVariants.{Main, Init}
@@ -49,13 +49,18 @@ tail_text : (kind : ForkKind) (seg : ℕ) → seg < 2 ^ 64 → IsUtf8 (file_tail
 tail_text Main seg small = suffix_text seg small
 tail_text Init seg small = IsUtf8-append (codes "_init") (segment_suffix seg) (IsUtf8-are_ascii (codes "_init") refl) (suffix_text seg small)
 
-pub path_text : (fork : ForkId) (seg : ℕ) → IsNamed fork seg → IsUtf8 (fork_path_bytes fork seg false)
-path_text fork seg named =
-    let name = plain_name fork.rel.rel fork.kind seg in
+name_text : (incr : Bool) (name : List ℕ) → IsUtf8 name → IsUtf8 (file_prefix incr ++ name)
+name_text false name plain = plain
+name_text true name plain = IsUtf8-append (codes "INCREMENTAL.") name (IsUtf8-are_ascii (codes "INCREMENTAL.") refl) plain
+
+pub path_text : (fork : ForkId) (seg : ℕ) (incr : Bool) → IsNamed fork seg → IsUtf8 (fork_path_bytes fork seg incr)
+path_text fork seg incr named =
+    let name = file_prefix incr ++ plain_name fork.rel.rel fork.kind seg in
     IsUtf8-append (codes "base/") (decimal fork.rel.db ++ (47 ∷ name)) (IsUtf8-are_ascii (codes "base/") refl)
     (IsUtf8-append (decimal fork.rel.db) (47 ∷ name) (decimal_text fork.rel.db (omega (arith, named.db_fits)))
     (ascii_front 47 name (omega arith)
-    (IsUtf8-append (decimal fork.rel.rel) (file_tail fork.kind seg) (decimal_text fork.rel.rel (omega (arith, named.rel_fits))) (tail_text fork.kind seg (omega (arith, named.seg_fits))))))
+    (name_text incr (plain_name fork.rel.rel fork.kind seg)
+    (IsUtf8-append (decimal fork.rel.rel) (file_tail fork.kind seg) (decimal_text fork.rel.rel (omega (arith, named.rel_fits))) (tail_text fork.kind seg (omega (arith, named.seg_fits)))))))
 
 -- ---- moments
 
@@ -149,22 +154,34 @@ digits_part (c ∷ text) rest e some = good_part c (text ++ rest) (digit_not c (
 three : (a b c : List ℕ) → is_component a ≡ true → is_component b ≡ true → is_component c ≡ true → list_all is_component (a ∷ b ∷ c ∷ []) ≡ true
 three a b c x y z = and_from (is_component a) (list_all is_component (b ∷ c ∷ [])) x (and_from (is_component b) (list_all is_component (c ∷ [])) y (and_from (is_component c) true z refl))
 
-pub good_path : (fork : ForkId) (seg : ℕ) → IsNamed fork seg → is_path (fork_path_bytes fork seg false) ≡ true
-good_path fork seg named =
+-- the name of a file, plain or incremental
+name_free : (incr : Bool) (name : List ℕ) → AllByRecursion (λ c. is_slash c ≡ false) name → AllByRecursion (λ c. is_slash c ≡ false) (file_prefix incr ++ name)
+name_free false name free = free
+name_free true name free = (refl, (refl, (refl, (refl, (refl, (refl, (refl, (refl, (refl, (refl, (refl, (refl, free))))))))))))
+
+name_part : (incr : Bool) (name : List ℕ) → is_component name ≡ true → is_component (file_prefix incr ++ name) ≡ true
+name_part false name good = good
+name_part true name good = good_part 73 (codes "NCREMENTAL." ++ name) refl
+
+pub good_path : (fork : ForkId) (seg : ℕ) (incr : Bool) → IsNamed fork seg → is_path (fork_path_bytes fork seg incr) ≡ true
+good_path fork seg incr named =
     let db = decimal fork.rel.db in
     let rel = decimal fork.rel.rel in
     let tail = file_tail fork.kind seg in
+    let name = file_prefix incr ++ (rel ++ tail) in
     let db_small : fork.rel.db < 2 ^ 64 = omega (arith, named.db_fits) in
     let rel_small : fork.rel.rel < 2 ^ 64 = omega (arith, named.rel_fits) in
     let db_digits = decimal_is_digits fork.rel.db db_small in
     let rel_digits = decimal_is_digits fork.rel.rel rel_small in
-    let parts : slice_split is_slash (fork_path_bytes fork seg false) ≡ codes "base" ∷ db ∷ (rel ++ tail) ∷ [] =
-    split_once (codes "base") (db ++ (47 ∷ (rel ++ tail))) (refl, (refl, (refl, (refl, tt))))
-    ∙ ap (λ (l : List (List ℕ)). codes "base" ∷ l) (split_once db (rel ++ tail) (digits_free db db_digits)
-    ∙ ap (λ (l : List (List ℕ)). db ∷ l) (split_last (rel ++ tail) (free_append rel tail (digits_free rel rel_digits) (tail_free fork.kind seg (omega (arith, named.seg_fits)))))) in
+    let free = name_free incr (rel ++ tail) (free_append rel tail (digits_free rel rel_digits) (tail_free fork.kind seg (omega (arith, named.seg_fits)))) in
+    let parts : slice_split is_slash (fork_path_bytes fork seg incr) ≡ codes "base" ∷ db ∷ name ∷ [] =
+    split_once (codes "base") (db ++ (47 ∷ name)) (refl, (refl, (refl, (refl, tt))))
+    ∙ ap (λ (l : List (List ℕ)). codes "base" ∷ l) (split_once db name (digits_free db db_digits)
+    ∙ ap (λ (l : List (List ℕ)). db ∷ l) (split_last name free)) in
     ap (list_all is_component) parts
-    ∙ three (codes "base") db (rel ++ tail) refl (subst (λ (x : List ℕ). is_component x ≡ true) (append-nil db) (digits_part db [] db_digits (decimal_nonempty fork.rel.db db_small))) (digits_part rel tail rel_digits (decimal_nonempty fork.rel.rel rel_small))
+    ∙ three (codes "base") db name refl (subst (λ (x : List ℕ). is_component x ≡ true) (append-nil db) (digits_part db [] db_digits (decimal_nonempty fork.rel.db db_small)))
+    (name_part incr (rel ++ tail) (digits_part rel tail rel_digits (decimal_nonempty fork.rel.rel rel_small)))
 
 -- a fork's path is no other name
-pub never_named : (fork : ForkId) (seg : ℕ) (name : List ℕ) → get_or name 2 0 ≢ 115 → fork_path_bytes fork seg false ≢ name
-never_named fork seg name other e = other (sym (ap (λ (x : List ℕ). get_or x 2 0) e))
+pub never_named : (fork : ForkId) (seg : ℕ) (incr : Bool) (name : List ℕ) → get_or name 2 0 ≢ 115 → fork_path_bytes fork seg incr ≢ name
+never_named fork seg incr name other e = other (sym (ap (λ (x : List ℕ). get_or x 2 0) e))

@@ -6,6 +6,7 @@ use Rattle.lsn_core.specs.Files.{Files}
 use Rattle.lsn_core.specs.Names.{segment_number}
 use Rattle.lsn_core.specs.Segment.{IsRelseg, StoreSettings}
 use Rattle.lsn_core.specs.Sizes.{most_segments}
+use Rattle.lsn_core.specs.Store.{store_files}
 use Rattle.lsn_core.specs.declared.fault.AreaFault.{AreaFault}
 use Rattle.lsn_core.specs.declared.fault.AreaFault.TheVariants as area
 use Rattle.lsn_core.specs.declared.lsn.Lsn.{Lsn}
@@ -19,6 +20,7 @@ use Rattle.base_backup.specs.declared.fault.BackupFault.TheVariants as fault
 use Rattle.base_backup.specs.Directory.{manifest_name}
 use Rattle.base_backup.specs.Backup.{HasBackup, IsTakenFull, IsTakenWhole, KeepsManifest, LeavesManifest, MayHaveBackup, RoseTwice}
 use Rattle.base_backup.specs.Inside.{CanFinish, Finishes, HoldsCopy, IsRun, LeavesText, SparesManifest, area_fault, with_file}
+use Rattle.base_backup.proofs.Listings.{copy_held, full_finished}
 use Rattle.base_backup.proofs.Passed.{err_cause}
 use Rattle.base_backup.proofs.Steps.{kept_on, kept_same, rose_later}
 
@@ -77,19 +79,19 @@ leaves_text g whole text old mid new area.NoMemory kept le all (inr (inr stands)
 -- ---- the backup
 
 pub taken_full : (tells : Type 0) (worker : ℕ) (name : List ℕ) (when : ℕ) (old new : Opened) (modified : List ℕ) (mid files : Option Files) (redo : Redo) (end : Lsn) (rows : List FileRow) (count : ℕ)
-    → IsRun tells worker old new modified mid redo end rows → Finishes new.settings name when modified mid files redo end rows count → IsTakenFull tells worker name when old new files (record { start = redo.redo; end = end; files = count })
-taken_full tells worker name when old new modified mid files redo end rows count run finishes = record {
+    → IsRelseg new.settings.relseg → IsRun tells worker old new modified mid redo end rows → Finishes new.settings name when modified mid files redo None end rows count → IsTakenFull tells worker name when old new files (record { start = redo.redo; end = end; files = count })
+taken_full tells worker name when old new modified mid files redo end rows count range run finishes = record {
   copy = run.copy;
   checkpoint = redo.at.0;
   entries = run.entries;
-  directory = finishes run.copy run.held;
+  directory = full_finished new.settings redo end name when modified mid files rows run.copy count range run.held finishes;
   taken = run.taken;
 }
 
 pub taken_whole : (tells : Type 0) (worker : ℕ) (name : List ℕ) (when : ℕ) (old new : Opened) (modified : List ℕ) (mid files : Option Files) (redo : Redo) (end : Lsn) (rows : List FileRow)
-    → IsRun tells worker old new modified mid redo end rows → (count : ℕ) × Finishes new.settings name when modified mid files redo end rows count → IsTakenWhole tells worker name when old new files
-taken_whole tells worker name when old new modified mid files redo end rows run finishes =
-    (record { start = redo.redo; end = end; files = finishes.0 }, taken_full tells worker name when old new modified mid files redo end rows finishes.0 run finishes.1)
+    → IsRelseg new.settings.relseg → IsRun tells worker old new modified mid redo end rows → (count : ℕ) × Finishes new.settings name when modified mid files redo None end rows count → IsTakenWhole tells worker name when old new files
+taken_whole tells worker name when old new modified mid files redo end rows range run finishes =
+    (record { start = redo.redo; end = end; files = finishes.0 }, taken_full tells worker name when old new modified mid files redo end rows finishes.0 range run finishes.1)
 
 -- ---- steps that failed
 
@@ -103,20 +105,19 @@ publish_failed g whole text old mid new r why is kept le all left = err_cause r 
 pub can_finish : (tells : Type 0) (worker : ℕ) (old new : Opened) (modified : List ℕ) (files : Option Files) (redo : Redo) (end : Lsn) (rows : List FileRow) (settings : StoreSettings) → settings ≡ new.settings → IsRelseg settings.relseg → IsRun tells worker old new modified files redo end rows
     → CanFinish settings modified files redo end rows
 can_finish tells worker old new modified files redo end rows settings same range run = record {
-  relseg = range;
-  copy = run.copy;
-  held = subst (λ (s : StoreSettings). HoldsCopy s.relseg run.copy modified files rows) (sym same) run.held;
+  put = store_files settings.relseg run.copy;
+  held = copy_held settings.relseg run.copy modified files rows range (subst (λ (s : StoreSettings). HoldsCopy s.relseg run.copy modified files rows) (sym same) run.held);
   rises = run.rises;
   segment = subst (λ (s : StoreSettings). segment_number redo.redo.0 s.segment ≤ most_segments) (sym same) run.segment;
 }
 
 -- its end failed
-pub finish_left : {V T : Type 0} (g : Ghosts V) (tells : Type 0) (worker : ℕ) (name : List ℕ) (when : ℕ) (old new : Opened) (modified : List ℕ) (a b c d : V) (redo : Redo) (end : Lsn) (rows : List FileRow) (settings : StoreSettings) (r : Result T BackupFault) (why : BackupFault) → IsErrAnd r (λ x. x ≡ why) → settings ≡ new.settings
-    → g.files b ≡ g.files a → g.faults a ≤ g.faults b → SparesManifest g b c → IsRun tells worker old new modified (g.files c) redo end rows → LeavesManifest g ((count : ℕ) × Finishes settings name when modified (g.files c) (g.files d) redo end rows count) c d why
+pub finish_left : {V T : Type 0} (g : Ghosts V) (tells : Type 0) (worker : ℕ) (name : List ℕ) (when : ℕ) (old new : Opened) (modified : List ℕ) (a b c d : V) (redo : Redo) (end : Lsn) (rows : List FileRow) (settings : StoreSettings) (r : Result T BackupFault) (why : BackupFault) → IsErrAnd r (λ x. x ≡ why) → settings ≡ new.settings → IsRelseg settings.relseg
+    → g.files b ≡ g.files a → g.faults a ≤ g.faults b → SparesManifest g b c → IsRun tells worker old new modified (g.files c) redo end rows → LeavesManifest g ((count : ℕ) × Finishes settings name when modified (g.files c) (g.files d) redo None end rows count) c d why
     → IfErr r (LeavesManifest g (IsTakenWhole tells worker name when old new (g.files d)) a d)
-finish_left g tells worker name when old new modified a b c d redo end rows settings r why is same files le spares run left =
+finish_left g tells worker name when old new modified a b c d redo end rows settings r why is same range files le spares run left =
     err_cause r why (LeavesManifest g (IsTakenWhole tells worker name when old new (g.files d)) a d) is
-    (leaves_behind g ((count : ℕ) × Finishes new.settings name when modified (g.files c) (g.files d) redo end rows count) (IsTakenWhole tells worker name when old new (g.files d)) a c d why
+    (leaves_behind g ((count : ℕ) × Finishes new.settings name when modified (g.files c) (g.files d) redo None end rows count) (IsTakenWhole tells worker name when old new (g.files d)) a c d why
     (kept_on (g.files a) (g.files b) (g.files c) (kept_same (g.files a) (g.files b) files) spares.manifest) (omega (arith, le, spares.faults))
-    (λ f. taken_whole tells worker name when old new modified (g.files c) (g.files d) redo end rows run f)
-    (subst (λ (s : StoreSettings). LeavesManifest g ((count : ℕ) × Finishes s name when modified (g.files c) (g.files d) redo end rows count) c d why) same left))
+    (λ f. taken_whole tells worker name when old new modified (g.files c) (g.files d) redo end rows (subst (λ (s : StoreSettings). IsRelseg s.relseg) same range) run f)
+    (subst (λ (s : StoreSettings). LeavesManifest g ((count : ℕ) × Finishes s name when modified (g.files c) (g.files d) redo None end rows count) c d why) same left))

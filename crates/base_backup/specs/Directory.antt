@@ -3,13 +3,13 @@ use Rattle.std.specs.Prelude.{◌≡◌, ℕ, List, [], ◌∷◌, ◌++◌, map
 use Rattle.std.specs.List.Sorted.{IsPermutation, IsStrictlySortedBy}
 use Rattle.std.specs.Ordering.{nat_cmp}
 use Rattle.std.specs.Cmp.Lexicographic.{slice_cmp}
-use Rattle.std.specs.FinMap.{insert}
+use Rattle.std.specs.FinMap.{empty, insert}
 use Rattle.sha2.specs.Sha256.{sha256}
 use Rattle.hex.specs.Hex.{encode_lower}
 use Rattle.lsn_core.specs.Files.{Files}
 use Rattle.lsn_core.specs.Laws.{HasNamedForks}
 use Rattle.lsn_core.specs.Segment.{StoreSettings}
-use Rattle.lsn_core.specs.Store.{Store, store_files, files_of}
+use Rattle.lsn_core.specs.Store.{Store, store_files, files_of, with_files}
 use Rattle.lsn_core.specs.declared.lsn.Lsn.{Lsn}
 use Rattle.rel_files.specs.Forks.{HasWholePages}
 use Rattle.backup_label.specs.declared.label.Label.{Label}
@@ -98,4 +98,43 @@ pub record IsFullBackup (settings : StoreSettings) (name : List ℕ) (when : ℕ
   pub manifest_read : ReadAnswers 2 (manifest_text (full_manifest settings.system rows start end))
       (Ok (full_manifest settings.system rows start end))
   pub files_are : IfSome files (λ m. m ≡ directory_of settings.relseg copy label
+      (manifest_text (full_manifest settings.system rows start end)))
+
+-- ---- any backup's directory
+
+-- the label of an incremental backup, whose prior one starts at a place
+abbrev pub incr_label : Lsn → Lsn → Lsn → List ℕ → List ℕ → Label
+incr_label start checkpoint prior begun name = record {
+  start = start;
+  checkpoint = checkpoint;
+  time = begun;
+  label = name;
+  timeline = 1;
+  prior = Some (prior, 1);
+}
+
+-- files, a label and a manifest, and no others
+abbrev pub directory_with : List (List ℕ × List ℕ) → List ℕ → List ℕ → Files
+directory_with put label manifest =
+    insert (insert (with_files empty put) label_name label) manifest_name manifest
+
+-- the files of an area are these, a label and a manifest that lists them, and no others. The label
+-- is one that tells when the backup was begun, and the manifest's range of the WAL goes from a place
+-- to another. Both are read as what they were written from, the label where its name is one line
+pub record IsDirectory (settings : StoreSettings) (label_of : List ℕ → Label) (when : ℕ)
+    (put : List (List ℕ × List ℕ)) (start end : Lsn) (count : ℕ) (files : Option Files)
+    : Type 0 where
+  pub begun : List ℕ
+  pub begun_at : IsTimeText when (codes "UTC") begun
+  pub modified : List ℕ
+  pub modified_at : IsTimeText when (codes "GMT") modified
+  pub label : List ℕ
+  pub label_is : label ≡ label_text (label_of begun) settings.segment
+  pub label_read : HasNoLineEnd (label_of begun).label → IsLabel label (label_of begun)
+  pub rows : List FileRow
+  pub listed : AreRowsOf modified (put ++ ((label_name, label) ∷ [])) rows
+  pub counted : count ≡ length rows
+  pub manifest_read : ReadAnswers 2 (manifest_text (full_manifest settings.system rows start end))
+      (Ok (full_manifest settings.system rows start end))
+  pub files_are : IfSome files (λ m. m ≡ directory_with put label
       (manifest_text (full_manifest settings.system rows start end)))

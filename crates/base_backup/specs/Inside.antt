@@ -1,11 +1,12 @@
 -- What the crate's private functions answer: no public contract cites these.
-use Rattle.std.specs.Prelude.{◌≡◌, ℕ, ◌+◌, ◌*◌, ◌-◌, ◌^◌, ◌<◌, ◌≤◌, min, ◌⊎◌, false, List, [], ◌∷◌, ◌++◌, map, length, codes, Option, Some, None, IfSome, unwrap_or, Ok}
+use Rattle.std.specs.Prelude.{◌≡◌, ℕ, ◌+◌, ◌*◌, ◌-◌, ◌^◌, ◌<◌, ◌≤◌, min, ◌⊎◌, true, false, List, [], ◌∷◌, ◌++◌, map, length, codes, Option, Some, None, IfSome, unwrap_or, Ok}
 use Rattle.std.specs.List.{All, AllByRecursion, IsDistinct, flat_map, range_with_len}
 use Rattle.std.specs.List.Sorted.{IsPermutation, IsStrictlySortedBy}
 use Rattle.std.specs.Option.{option_map}
 use Rattle.std.specs.Ordering.{nat_cmp, eq_by_cmp}
 use Rattle.std.specs.Cmp.Lexicographic.{slice_cmp}
-use Rattle.std.specs.FinMap.{get, insert, entries}
+use Rattle.std.specs.FinMap.{empty, get, insert, entries}
+use Rattle.std.specs.Str.{IsUtf8}
 use Rattle.std.specs.BTreeMap.{BTreeMap}
 use Rattle.std.specs.BTreeMap as tree
 use mathlib.Core.List.{IsPrefix}
@@ -17,7 +18,7 @@ use Rattle.lsn_core.specs.Blocks.{block_of, block_count}
 use Rattle.lsn_core.specs.Causes.{Rose}
 use Rattle.lsn_core.specs.Files.{Files}
 use Rattle.lsn_core.specs.Names.{fork_path_bytes, segment_number, IsNamed}
-use Rattle.lsn_core.specs.Segment.{IsRelseg, StoreSettings}
+use Rattle.lsn_core.specs.Segment.{StoreSettings}
 use Rattle.lsn_core.specs.Sizes.{most_segments}
 use Rattle.lsn_core.specs.Store.{Store, ForkPages, fork_cmp, fork_files, files_of, segment_content, store_files, with_files}
 use Rattle.lsn_core.specs.declared.ids.ForkId.{ForkId}
@@ -34,9 +35,11 @@ use Rattle.vault.specs.Area.{Related, after_write, after_remove}
 use Rattle.pg_page.specs.Header.{zero_page}
 use Rattle.history.specs.Entry.{Entry}
 use Rattle.fuzzy_copies.specs.Taken.{IsBlockCopied, IsListed, IsTaken}
+use Rattle.backup_label.specs.declared.label.Label.{Label}
 use Rattle.backup_label.specs.Label.{HasNoLineEnd, IsLabel, label_text}
 use Rattle.backup_label.specs.Time.{IsTimeText}
 use Rattle.manifest.specs.Reading.{ReadAnswers}
+use Rattle.manifest.specs.Shape.{is_path}
 use Rattle.manifest.specs.Text.{IsWritableRow, manifest_text}
 use Rattle.manifest.specs.declared.kinds.SumKind.TheVariants as kind
 use Rattle.manifest.specs.declared.listing.FileRow.{FileRow}
@@ -47,7 +50,7 @@ use Rattle.shared_store.specs.Calls.{GoesOn}
 use Rattle.shared_store.specs.Copied.{HasRedoPoint, listed_length}
 use Rattle.base_backup.specs.declared.fault.BackupFault.{BackupFault}
 use Rattle.base_backup.specs.declared.fault.BackupFault.TheVariants as fault
-use Rattle.base_backup.specs.Directory.{label_name, manifest_name, row_of, full_label, full_manifest, IsFullBackup}
+use Rattle.base_backup.specs.Directory.{label_name, manifest_name, row_of, full_manifest, IsDirectory}
 use Rattle.base_backup.specs.Backup.{Site, HasBackup, HoldsSomething, KeepsManifest, RoseTwice}
 
 -- ---- faults
@@ -293,6 +296,17 @@ pub record IsRun (tells : Type 0) (worker : ℕ) (old new : Opened) (modified : 
   pub rises : redo.redo.0 < end.0
   pub segment : segment_number redo.redo.0 new.settings.segment ≤ most_segments
 
+-- the label of a backup, full or over a prior one that starts at a place
+abbrev pub backup_label : Redo → Option Lsn → List ℕ → List ℕ → Label
+backup_label redo prior name begun = record {
+  start = redo.redo;
+  checkpoint = redo.at;
+  time = begun;
+  label = name;
+  timeline = 1;
+  prior = option_map (λ at. (at, 1)) prior;
+}
+
 -- ---- looking at the area, and ending a backup
 
 -- looking failed: the area holds a file, or its device failed, or memory ran out
@@ -311,37 +325,57 @@ EndCause g old new (fault.StoreFailed which) = ⊥
 EndCause g old new fault.OutFailed = Rose (g.faults old) (g.faults new)
 EndCause g old new fault.NoMemory = Unit {0}
 
--- a copy's files stand, and can be listed
+-- a path that a manifest can list, of another file than the label and the manifest
+pub record IsGoodPath (path : List ℕ) : Type 0 where
+  pub plain : IsUtf8 path
+  pub good : is_path path ≡ true
+  pub no_label : eq_by_cmp (slice_cmp nat_cmp) label_name path ≡ false
+  pub no_manifest : eq_by_cmp (slice_cmp nat_cmp) manifest_name path ≡ false
+
+-- files that a manifest can list: with good and distinct paths, and sizes below 2^64
+pub record CanBeListed (put : List (List ℕ × List ℕ)) : Type 0 where
+  pub paths : AllByRecursion (λ f. IsGoodPath f.0) put
+  pub distinct : IsDistinct (eq_by_cmp (slice_cmp nat_cmp)) (map (λ f. f.0) put)
+  pub sizes : AllByRecursion (λ f. length f.1 < 2 ^ 64) put
+
+-- an area holds just these files, and rows list them
+pub record HoldsFiles (put : List (List ℕ × List ℕ)) (modified : List ℕ) (files : Option Files)
+    (rows : List FileRow) : Type 0 where
+  pub listable : CanBeListed put
+  pub stand : IfSome files (λ m. m ≡ with_files empty put)
+  pub listed : rows ≡ map (row_of modified) put
+
+-- a backup's files stand, and can be listed
 pub record CanFinish (settings : StoreSettings) (modified : List ℕ) (files : Option Files)
     (redo : Redo) (end : Lsn) (rows : List FileRow) : Type 0 where
-  pub relseg : IsRelseg settings.relseg
-  pub copy : Store
-  pub held : HoldsCopy settings.relseg copy modified files rows
+  pub put : List (List ℕ × List ℕ)
+  pub held : HoldsFiles put modified files rows
   pub rises : redo.redo.0 < end.0
   pub segment : segment_number redo.redo.0 settings.segment ≤ most_segments
 
--- of a copy whose files stood, the directory is whole, and lists so many files
+-- where files stood, the directory is whole, and lists so many files
 abbrev pub Finishes : StoreSettings → List ℕ → ℕ → List ℕ → Option Files → Option Files → Redo
-    → Lsn → List FileRow → ℕ → Type 0
-Finishes settings name when modified old new redo end rows count =
-    (copy : Store) → HoldsCopy settings.relseg copy modified old rows
-    → IsFullBackup settings name when copy redo.redo redo.at end count new
+    → Option Lsn → Lsn → List FileRow → ℕ → Type 0
+Finishes settings name when modified old new redo prior end rows count =
+    (put : List (List ℕ × List ℕ)) → HoldsFiles put modified old rows
+    → IsDirectory settings (backup_label redo prior name) when put redo.redo end count new
 
 -- ---- the label
 
 -- the text of a label, which is read as that label where the name is one line
-pub record IsLabelOf (settings : StoreSettings) (redo : Redo) (name : List ℕ) (when : ℕ)
-    (text : List ℕ) : Type 0 where
+pub record IsLabelOf (settings : StoreSettings) (redo : Redo) (prior : Option Lsn) (name : List ℕ)
+    (when : ℕ) (text : List ℕ) : Type 0 where
   pub begun : List ℕ
   pub begun_at : IsTimeText when (codes "UTC") begun
-  pub text_is : text ≡ label_text (full_label redo.redo redo.at begun name) settings.segment
-  pub read : HasNoLineEnd name → IsLabel text (full_label redo.redo redo.at begun name)
+  pub text_is : text ≡ label_text (backup_label redo prior name begun) settings.segment
+  pub read : HasNoLineEnd name → IsLabel text (backup_label redo prior name begun)
 
 -- a label was written and listed; its bytes can be counted
-pub record AddsLabel (settings : StoreSettings) (redo : Redo) (name : List ℕ) (when : ℕ)
-    (modified : List ℕ) (old new : Option Files) (before rows : List FileRow) : Type 0 where
+pub record AddsLabel (settings : StoreSettings) (redo : Redo) (prior : Option Lsn)
+    (name : List ℕ) (when : ℕ) (modified : List ℕ) (old new : Option Files)
+    (before rows : List FileRow) : Type 0 where
   pub text : List ℕ
-  pub label : IsLabelOf settings redo name when text
+  pub label : IsLabelOf settings redo prior name when text
   pub fits : length text < 2 ^ 64
   pub stands : new ≡ with_file label_name text old
   pub listed : rows ≡ before ++ (row_of modified (label_name, text) ∷ [])

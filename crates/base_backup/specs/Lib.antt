@@ -1,4 +1,9 @@
 pub mod Directory
 pub mod Backup
+pub mod Prior
+pub mod Sent
+pub mod Incr
 pub mod Inside
+pub mod IncrInside
+pub mod IncrSteps
 pub mod Laws

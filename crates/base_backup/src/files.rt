@@ -1,6 +1,6 @@
 //! Copying blocks of an open store into the file of a segment.
 
-ghost use Rattle.std.specs.Prelude.{◌≡◌, ◌≢◌, ◌+◌, ◌*◌, ◌-◌, ◌^◌, ◌<◌, ◌≤◌, true, IfOk, OnOk, IfErr};
+ghost use Rattle.std.specs.Prelude.{◌≡◌, ◌≢◌, ◌+◌, ◌*◌, ◌-◌, ◌^◌, ◌<◌, true, IfOk, OnOk, IfErr};
 ghost use Rattle.shared_store.specs.Copied.{HasRedoPoint};
 ghost use Rattle.base_backup.specs.Directory.{manifest_name};
 ghost use Rattle.base_backup.specs.Backup.{site_of};

@@ -1,6 +1,6 @@
 //! Copying the forks of an open store, segment file after segment file.
 
-ghost use Rattle.std.specs.Prelude.{◌≡◌, ◌+◌, ◌*◌, ◌-◌, ◌^◌, ◌<◌, ◌≤◌, true, false, map, length, IfOk, OnOk, IfErr};
+ghost use Rattle.std.specs.Prelude.{◌≡◌, ◌+◌, ◌*◌, ◌-◌, ◌<◌, true, false, map, IfOk, OnOk, IfErr};
 ghost use Rattle.std.specs.List.Sorted.{IsStrictlySortedBy};
 ghost use Rattle.lsn_core.specs.Names.{fork_path_bytes, IsNamed};
 ghost use Rattle.lsn_core.specs.Segment.{IsRelseg};
@@ -18,25 +18,30 @@ use shared_store::{OfCrew, Pass, Store};
 use std::alloc::Global;
 use vault::Vault;
 
-/// The path of a segment file of a fork.
-fn segment_path(alloc: Global, fork: &ForkId, seg: u32) -> Result<Text, NoMemory>
+/// The path of a segment file of a fork, plain or incremental.
+pub(crate) fn segment_path(
+    alloc: Global,
+    fork: &ForkId,
+    seg: u32,
+    incr: bool,
+) -> Result<Text, NoMemory>
     ensures named { IsNamed fork.now seg }
-    ensures path { IfOk result (λ path. path ≡ fork_path_bytes fork.now seg false) }
+    ensures path { IfOk result (λ path. path ≡ fork_path_bytes fork.now seg incr) }
 {
     // known: the numbers of a relation fit, and aren't 0
     let _numbers = (fork.rel.db(), fork.rel.rel());
-    fork_path(alloc, *fork, seg, false)
+    fork_path(alloc, *fork, seg, incr)
 }
 
 /// Looks at the numbers of a fork, which fit.
-fn know_fork(fork: &ForkId, blocks: u32)
+pub(crate) fn know_fork(fork: &ForkId, blocks: u32)
     ensures { IsNamed fork.now blocks }
 {
     let _numbers = (fork.rel.db(), fork.rel.rel());
 }
 
 /// How many segment files a fork of so many blocks has.
-fn segment_count(relseg: u32, blocks: u32) -> u32
+pub(crate) fn segment_count(relseg: u32, blocks: u32) -> u32
     requires { IsRelseg relseg }
     ensures { result ≡ segment_count relseg blocks }
 {
@@ -44,7 +49,7 @@ fn segment_count(relseg: u32, blocks: u32) -> u32
 }
 
 /// Copies the blocks of one segment of a fork into its file, which isn't there, and lists it.
-fn copy_segment<J: OfCrew, V: Vault>(
+pub(crate) fn copy_segment<J: OfCrew, V: Vault>(
     alloc: Global,
     store: &mut Store<J, V>,
     pass: &mut Pass<J>,
@@ -72,7 +77,7 @@ fn copy_segment<J: OfCrew, V: Vault>(
     let blocks = fork.blocks;
     let block = seg * relseg;
     let count = relseg.min(blocks - block);
-    let path = segment_path(alloc, &fork.fork, seg)?;
+    let path = segment_path(alloc, &fork.fork, seg, false)?;
     let sum = copy_file(
         alloc,
         store,

@@ -30,7 +30,7 @@ fn has_none(names: &[Text]) -> bool
 }
 
 /// Looks whether an area is empty. Errs with `NotEmpty` exactly where it holds a file.
-fn check_empty<V: Vault>(alloc: Global, out: &mut V) -> Result<(), BackupFault>
+pub(crate) fn check_empty<V: Vault>(alloc: Global, out: &mut V) -> Result<(), BackupFault>
     ensures empty { OnOk result (HoldsNothing (V.files out.old)) }
     ensures same { V.files out.new ≡ V.files out.old }
     ensures past { V.past out.new ≡ V.past out.old }
@@ -98,9 +98,9 @@ fn run_backup<J: OfCrew, V: Vault>(
     Ok((redo, end, rows))
 }
 
-/// Writes the label and then the manifest of a backup that was run, and says how many files this
-/// lists.
-fn finish<V: Vault>(
+/// Writes the label and then the manifest of a backup that was run, full or over a prior one that
+/// starts at a place, and says how many files this lists.
+pub(crate) fn finish<V: Vault>(
     alloc: Global,
     out: &mut V,
     settings: Settings,
@@ -108,6 +108,7 @@ fn finish<V: Vault>(
     when: u64,
     modified: &Text,
     redo: Redo,
+    prior: Option<Lsn>,
     end: Lsn,
     rows: Vec<FileRow>,
 ) -> Result<u64, BackupFault>
@@ -115,16 +116,18 @@ fn finish<V: Vault>(
     requires modified { IsTimeText when (codes "GMT") modified.now }
     requires run { CanFinish settings modified.now (V.files out.old) redo end rows.items }
     ensures done { IfOk result (Finishes settings name.now when modified.now (V.files out.old)
-        (V.files out.new) redo end rows.items) }
+        (V.files out.new) redo prior end rows.items) }
     ensures synced { OnOk result (EndsSynced V.Vault out.new) }
     ensures left { IfErr result (LeavesManifest V.Vault
         ((count : ℕ) × Finishes settings name.now when modified.now (V.files out.old)
-        (V.files out.new) redo end rows.items count) out.old out.new) }
+        (V.files out.new) redo prior end rows.items count) out.old out.new) }
     ensures later { V.faults out.old ≤ V.faults out.new }
     ensures cause { IfErr result (EndCause V.Vault out.old out.new) }
 {
     let mut rows = rows;
-    add_label(alloc, out, settings, redo, name, when, modified, &mut rows)?;
+    add_label(
+        alloc, out, settings, redo, prior, name, when, modified, &mut rows,
+    )?;
     let count = rows.len() as u64;
     let text = manifest_text(alloc, settings, rows, redo.redo, end)?;
     publish(out, &text)?;
@@ -176,7 +179,9 @@ pub fn take_full<J: OfCrew, V: Vault>(
     let settings = store.settings();
     // known: a file of a fork has blocks
     let _blocks = settings.relseg();
-    let files = finish(alloc, out, settings, name, when, &modified, redo, end, rows)?;
+    let files = finish(
+        alloc, out, settings, name, when, &modified, redo, None, end, rows,
+    )?;
     Ok(Done {
         start: redo.redo,
         end,

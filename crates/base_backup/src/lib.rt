@@ -2,28 +2,42 @@
 //!
 //! `take_full` copies all pages into the files of an area while they change: each fork as it is
 //! listed and each block as it is copied at some moment between the start of the backup's checkpoint
-//! and its end. `specs/Directory.antt` says what the directory then holds: the files of the pages
-//! that were copied, the label and the manifest, which is written last. `specs/Backup.antt` says what
-//! is answered, and what stands after each refusal. `laws` says that the pages are a sound copy.
+//! and its end. `take_incr` copies of each file what changed since a prior backup's start, by the
+//! summaries of the WAL since then, or the whole file where that is better. `specs/Directory.antt`
+//! says what a directory then holds: files of pages, the label and the manifest, which is written
+//! last; `specs/Sent.antt` which files an incremental one has and what stands in them.
+//! `specs/Backup.antt` and `specs/Incr.antt` say what is answered, and what stands after each
+//! refusal, `specs/Prior.antt` how a prior backup is judged. `laws` says that the pages of a full
+//! backup are a sound copy.
 //!
 //! Left to others: what the store answers a copier (`shared_store`), what makes a copy sound
-//! (`fuzzy_copies`), the texts of label and manifest (`backup_label`, `manifest`), and judging a
-//! directory.
+//! (`fuzzy_copies`), the summaries of the WAL (`summary_publish`), the plan and the head of an
+//! incremental file (`incr_file`), the texts of label and manifest (`backup_label`, `manifest`), and
+//! judging a directory.
 #![tactic(auto)]
 
+mod basis;
 mod done;
 mod fault;
 mod files;
 mod forks;
 mod full;
+mod incr;
+mod incr_fault;
 mod laws;
 mod listed;
 mod listing;
 mod pages;
+mod parts;
+mod planning;
+mod prior;
 mod publishing;
 mod rows;
+mod sending;
 
 pub use done::Done;
 pub use fault::BackupFault;
 pub use full::take_full;
+pub use incr::take_incr;
+pub use incr_fault::IncrFault;
 pub use laws::full_backups_are_sound;

@@ -1,6 +1,6 @@
 //! Listing the forks of an open store.
 
-ghost use Rattle.std.specs.Prelude.{◌≡◌, ◌^◌, ◌<◌, ◌≤◌, true, [], ◌∷◌, IfOk, OnOk, IfErr};
+ghost use Rattle.std.specs.Prelude.{◌≡◌, ◌<◌, true, [], ◌∷◌, IfOk, OnOk, IfErr};
 ghost use Rattle.lsn_core.specs.Store.{fork_cmp};
 ghost use Rattle.std.specs.BTreeMap.{IsOrdered};
 ghost use Rattle.shared_store.specs.Copied.{HasRedoPoint};

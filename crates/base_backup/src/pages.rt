@@ -1,6 +1,6 @@
 //! Copying blocks of an open store.
 
-ghost use Rattle.std.specs.Prelude.{◌≡◌, ◌+◌, ◌^◌, ◌<◌, ◌≤◌, true, OnOk, IfErr};
+ghost use Rattle.std.specs.Prelude.{◌≡◌, ◌+◌, ◌^◌, ◌<◌, true, OnOk, IfErr};
 ghost use Rattle.shared_store.specs.Copied.{HasRedoPoint};
 ghost use Rattle.shared_store.specs.Opened.{StoreCause};
 ghost use Rattle.base_backup.specs.Inside.{AddsCopies, ReadsOn};
@@ -12,7 +12,7 @@ use std::alloc::Global;
 use vault::Vault;
 
 /// Adds a block to a piece, as it is copied now. A block that is gone is zeros.
-fn copy_page<J: OfCrew, V: Vault>(
+pub(crate) fn copy_page<J: OfCrew, V: Vault>(
     alloc: Global,
     store: &mut Store<J, V>,
     pass: &mut Pass<J>,

@@ -11,7 +11,7 @@ use lsn_core::AreaFault;
 use vault::Vault;
 
 /// The name of the manifest's file.
-const MANIFEST: &[u8] = b"backup_manifest";
+pub(crate) const MANIFEST: &[u8] = b"backup_manifest";
 
 /// Writes the manifest, which isn't there, and syncs.
 fn write_synced<V: Vault>(out: &mut V, text: &[u8]) -> Result<(), AreaFault>

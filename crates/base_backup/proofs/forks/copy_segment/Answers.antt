@@ -1,4 +1,4 @@
-use Rattle.std.proofs.Common.{◌≡◌, ◌≢◌, ◌*◌, true, List, ℕ, sym, ap, subst, ◌∙◌, arith}
+use Rattle.std.proofs.Common.{◌≡◌, ◌≢◌, ◌*◌, true, false, List, ℕ, sym, ap, subst, ◌∙◌, arith}
 use Rattle.base_backup.specs.Directory.{manifest_name}
 use Rattle.base_backup.specs.Inside.{Lacks, row_with}
 use Rattle.base_backup.proofs.Segments.{full_before, segment_put}
@@ -16,7 +16,7 @@ copy_file-requires-clause-within g c = λ κs lives. let room = full_before c.ar
 
 pub copy_file-requires-clause-other : goal.copy_file-requires-clause-other
 copy_file-requires-clause-other g c = λ κs lives.
-    subst (λ (x : List ℕ). x ≢ manifest_name) (sym (c.as_bytes.ensures ∙ c.in_ok-path.ensures.path)) (never_named c.args.fork.now.fork c.args.seg manifest_name (λ x. omega (arith, x)))
+    subst (λ (x : List ℕ). x ≢ manifest_name) (sym (c.as_bytes.ensures ∙ c.in_ok-path.ensures.path)) (never_named c.args.fork.now.fork c.args.seg false manifest_name (λ x. omega (arith, x)))
 
 pub copy_file-requires-clause-missing : goal.copy_file-requires-clause-missing
 copy_file-requires-clause-missing g c = λ κs lives. subst (λ (x : List ℕ). Lacks (g.V.Vault.files c.args.out.now) x) (sym (c.as_bytes.ensures ∙ c.in_ok-path.ensures.path)) c.requires.missing

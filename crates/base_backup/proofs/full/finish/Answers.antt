@@ -5,17 +5,17 @@ use Rattle.base_backup.proofs.Whole.{publish_failed}
 use Rattle.base_backup.proofs.full.finish.Goals as goal
 
 pub add_label-requires-clause-missing : goal.add_label-requires-clause-missing
-add_label-requires-clause-missing g c = λ κs lives. label_missing c.args.settings.relseg c.requires.run.copy c.args.modified.now (g.V.Vault.files c.args.out.now) c.args.rows.items c.requires.run.relseg.least c.requires.run.held
+add_label-requires-clause-missing g c = λ κs lives. label_missing c.requires.run.put c.args.modified.now (g.V.Vault.files c.args.out.now) c.args.rows.items c.requires.run.held
 
 pub manifest_text-requires-clause-rows : goal.manifest_text-requires-clause-rows
 manifest_text-requires-clause-rows g c =
-    rows_listable c.args.settings c.args.redo c.args.name.now c.args.when c.args.modified.now c.requires.run.copy (g.V.Vault.files c.args.out.now) (g.V.Vault.files c.add_label.new.out) c.args.rows.items c.add_label.new.rows.items c.requires.run.relseg
+    rows_listable c.args.settings c.args.redo c.args.prior c.args.name.now c.args.when c.args.modified.now c.requires.run.put (g.V.Vault.files c.args.out.now) (g.V.Vault.files c.add_label.new.out) c.args.rows.items c.add_label.new.rows.items
     c.requires.modified c.requires.run.held c.in_ok-add_label.ensures.added
 
 pub publish-requires : goal.publish-requires
 publish-requires g c = (
   search rules,
-  manifest_missing c.args.settings.relseg c.requires.run.copy c.args.modified.now c.in_ok-add_label.ensures.added.text (g.V.Vault.files c.args.out.now) (g.V.Vault.files c.add_label.new.out) c.args.rows.items c.requires.run.relseg.least c.requires.run.held
+  manifest_missing c.requires.run.put c.args.modified.now c.in_ok-add_label.ensures.added.text (g.V.Vault.files c.args.out.now) (g.V.Vault.files c.add_label.new.out) c.args.rows.items c.requires.run.held
       c.in_ok-add_label.ensures.added.stands,
 )
 
@@ -25,7 +25,7 @@ returns-in_err-publish-clause-left g c =
     c.add_label.ensures.spares.faults
     (λ stands. (
       length c.add_label.new.rows.items,
-      finished c.args.settings c.args.redo c.args.end c.args.name.now c.args.when c.args.modified.now (g.V.Vault.files c.args.out.now) (g.V.Vault.files c.add_label.new.out) (g.V.Vault.files c.publish.new.out)
+      finished c.args.settings c.args.redo c.args.prior c.args.end c.args.name.now c.args.when c.args.modified.now (g.V.Vault.files c.args.out.now) (g.V.Vault.files c.add_label.new.out) (g.V.Vault.files c.publish.new.out)
           c.args.rows.items c.add_label.new.rows.items (length c.add_label.new.rows.items) c.deref.result.now c.requires.modified c.in_ok-add_label.ensures.added refl
           (subst (λ (x : List ℕ). ListsRows c.args.settings.system c.add_label.new.rows.items c.args.redo.redo c.args.end x) (sym c.deref.ensures.value) c.in_ok-text.ensures) stands,
     ))
@@ -33,6 +33,6 @@ returns-in_err-publish-clause-left g c =
 
 pub returns-clause-done : goal.returns-clause-done
 returns-clause-done g c =
-    finished c.args.settings c.args.redo c.args.end c.args.name.now c.args.when c.args.modified.now (g.V.Vault.files c.args.out.now) (g.V.Vault.files c.add_label.new.out) (g.V.Vault.files c.publish.new.out) c.args.rows.items c.add_label.new.rows.items
+    finished c.args.settings c.args.redo c.args.prior c.args.end c.args.name.now c.args.when c.args.modified.now (g.V.Vault.files c.args.out.now) (g.V.Vault.files c.add_label.new.out) (g.V.Vault.files c.publish.new.out) c.args.rows.items c.add_label.new.rows.items
     _ c.deref.result.now c.requires.modified c.in_ok-add_label.ensures.added (c.len-count.ensures ∙ c.add_label.new.rows.ok.0)
     (subst (λ (x : List ℕ). ListsRows c.args.settings.system c.add_label.new.rows.items c.args.redo.redo c.args.end x) (sym c.deref.ensures.value) c.in_ok-text.ensures) c.in_ok-publish.ensures.written

@@ -23,6 +23,6 @@ returns-clause-spares g c = spares_write g.V.Vault c.args.out.now c.write_at.new
 
 pub returns-clause-added : goal.returns-clause-added
 returns-clause-added g c =
-    label_added c.args.settings c.args.redo c.args.name.now c.args.when c.args.modified.now c.in_ok-path.path c.in_ok-text.text.items c.digest-sum.result c.len.result (g.V.Vault.files c.args.out.now) (g.V.Vault.files c.write_at.new.self)
+    label_added c.args.settings c.args.redo c.args.prior c.args.name.now c.args.when c.args.modified.now c.in_ok-path.path c.in_ok-text.text.items c.digest-sum.result c.len.result (g.V.Vault.files c.args.out.now) (g.V.Vault.files c.write_at.new.self)
     c.args.rows.now.items c.push.new.self.items c.in_ok-file_row.field-0 c.in_ok-text.ensures (omega (arith, c.len.ensures, c.in_ok-text.text.ok.0)) c.requires.missing
     (c.in_ok-write_at.ensures.written ∙ ap (λ (x : List ℕ). option_map (after_write label_name 0 x) (g.V.Vault.files c.args.out.now)) c.deref.ensures.value) c.in_ok-file_row.ensures c.in_ok-path.ensures (c.len.ensures ∙ c.in_ok-text.text.ok.0) c.digest-sum.ensures c.in_ok-push.ensures.items
