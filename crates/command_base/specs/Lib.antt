@@ -1,3 +1,4 @@
 pub mod Areas
 pub mod Outside
 pub mod Faults
+pub mod Backups

@@ -1,6 +1,6 @@
 -- Full backups of a worker.
-use Rattle.std.proofs.Common.{◌≡◌, ◌≢◌, ℕ, suc, ◌≤◌, false, List, [], ◌∷◌, ◌++◌, length, take, Some, None, Option, IfSome, refl, ap, sym, subst, ◌∙◌, arith, inl, inr}
-use Rattle.std.specs.Prelude.{slice_get, ◌⊎◌}
+use Rattle.std.proofs.Common.{◌≡◌, ◌≢◌, ℕ, suc, List, [], ◌∷◌, ◌++◌, length, take, Some, None, Option, IfSome, refl, ap, sym, subst, ◌∙◌, arith, inl, inr}
+use Rattle.std.specs.Prelude.{slice_get}
 use Rattle.std.specs.List.{All}
 use Rattle.std.specs.FinMap.{empty}
 use Rattle.std.proofs.lemmas.List.Elements.{All-nil, All-push, All-take}
@@ -10,7 +10,7 @@ use Rattle.lsn_core.specs.Segment.{StoreSettings}
 use Rattle.lsn_core.specs.declared.fault.StoreArea.{StoreArea}
 use Rattle.lsn_core.specs.declared.fault.StoreFault.TheVariants as store
 use Rattle.vault.specs.declared.area.Vault.{Ghosts}
-use Rattle.vault.specs.Site.{Areas, AreaState, state_in}
+use Rattle.vault.specs.Site.{AreaState, state_in}
 use Rattle.history.specs.Entry.{Entry}
 use Rattle.fuzzy_copies.specs.Taken.{IsTaken}
 use Rattle.shared_store.specs.Seen.{Seen, StaysBy}
@@ -19,15 +19,18 @@ use Rattle.shared_store.specs.Calls.{GoesOn}
 use Rattle.base_backup.specs.declared.done.Done.{Done}
 use Rattle.base_backup.specs.declared.fault.BackupFault.{BackupFault}
 use Rattle.base_backup.specs.declared.fault.BackupFault.TheVariants as backup
-use Rattle.base_backup.specs.Backup.{AreOfBackup, HasBackup, MayHaveBackup, IsTakenFull, IsTakenWhole, HoldsNothing, BackupCause, GoesPast, LeavesManifest, KeepsFull, IsUntouched, Proceeds, FindsNoRoomFor, KeepsManifest, site_of}
+use Rattle.base_backup.specs.Backup.{AreOfBackup, HasBackup, MayHaveBackup, IsTakenFull, IsTakenWhole, HoldsNothing, BackupCause, GoesPast, LeavesManifest, KeepsFull, IsUntouched, Proceeds, FindsNoRoomFor, site_of}
 use Rattle.base_backup.specs.Directory.{IsFullBackup}
 use Rattle.command_base.specs.Areas.{backup_name}
+use Rattle.crew.specs.declared.script.Command.TheVariants as command
 use Rattle.crew.specs.declared.answer.Answer.TheVariants.{Backup, BackupRefused}
 use Rattle.crew.specs.declared.answer.Stop.TheVariants as stop
-use Rattle.crew.specs.Run.{IsOfWorker, HasBackupAt, HoldsBackup, HoldsSomeBackup, OnlyAt, KeepsFiles, MeetsFullWal, IsBackupRefused, backup_stop, basis_of}
+use Rattle.crew.specs.Run.{IsOfWorker, HasBackupAt, HoldsBackup, KeepsFiles, MeetsFullWal, IsBackupRefused, backup_stop, basis_of}
 use Rattle.crew.specs.Running.{Knows, WentOn, BackupRuns}
+use Rattle.crew.proofs.Held.{files_at, only_at}
 use Rattle.crew.proofs.Lists.{up_to_here}
 use Rattle.crew.proofs.Marks.{none_accepted}
+use Rattle.crew.proofs.Steps.{store_rose}
 
 -- ---- its entries
 
@@ -47,7 +50,7 @@ all_hold : (P : Entry → Type 0) (first last stop : Entry) → P first → P la
 all_hold P first last stop p q r = All-push P (first ∷ last ∷ []) stop (All-push P (first ∷ []) last (All-push P [] first (All-nil P) p) q) r
 
 -- the history went on with marks of the backup alone
-backed : (old new : Seen) (before behind : Opened) (first last stop : Entry) (many : ℕ) → Knows old before → AreOfBackup old.worker first last stop → behind.history ≡ before.history ++ take many (first ∷ last ∷ stop ∷ [])
+pub backed : (old new : Seen) (before behind : Opened) (first last stop : Entry) (many : ℕ) → Knows old before → AreOfBackup old.worker first last stop → behind.history ≡ before.history ++ take many (first ∷ last ∷ stop ∷ [])
     → StaysBy old new → new.list ≡ behind.history → new.accepted ≡ old.accepted → GoesOn before behind → WentOn old new before behind []
 backed old new before behind first last stop many k of grown stays whole accepted goes = record {
   stays = stays;
@@ -61,7 +64,7 @@ backed old new before behind first last stop many k of grown stays whole accepte
   goes_on = goes;
 }
 
-stands : (worker : ℕ) (old now behind : List Entry) (start checkpoint end : ℕ) → now ≡ behind → HasBackup worker old behind start checkpoint end → HasBackupAt worker (length old) now start checkpoint end
+pub stands : (worker : ℕ) (old now behind : List Entry) (start checkpoint end : ℕ) → now ≡ behind → HasBackup worker old behind start checkpoint end → HasBackupAt worker (length old) now start checkpoint end
 stands worker old now behind start checkpoint end same b =
     let grown : now ≡ old ++ (b.first ∷ b.last ∷ b.stop ∷ []) = same ∙ b.grown in
     record {
@@ -97,15 +100,6 @@ holds tells when name old new before behind files done k whole same t = record {
   taken = λ told. subst (λ (xs : List Entry). IsTaken t.copy xs done.start.0 done.end.0) (sym whole) (t.taken told);
 }
 
-files_at : {V : Type 0} (g : Ghosts V) (area : V) (x : AreaState) → x ≡ state_in g area → x.files ≡ g.files area
-files_at g area x is = ap (λ (s : AreaState). s.files) is
-
-only_at : {V : Type 0} (g : Ghosts V) (area now : V) (name : List ℕ) (held mid : Areas) → held name ≡ state_in g area → mid name ≡ state_in g now → ((n : List ℕ) → n ≢ name → mid n ≡ held n) → g.faults area ≤ g.faults now → OnlyAt name held mid
-only_at g area now name held mid was is others later = record {
-  others = others;
-  later = omega (arith, later, ap (λ (s : AreaState). s.faults) was, ap (λ (s : AreaState). s.faults) is);
-}
-
 pub taken : {V : Type 0} (g : Ghosts V) (tells : Type 0) (when : ℕ) (name : List ℕ) (old new : Seen) (before behind : Opened) (area now : V) (done : Done) → Knows old before
     → IsTakenFull tells old.worker name when before behind (g.files now) done → new.list ≡ behind.history → HoldsNothing (g.files area) → Proceeds g (site_of before old area) (site_of behind new now)
     → BackupRuns g tells when name old new before behind area now (Backup done.start done.end)
@@ -113,13 +107,15 @@ taken g tells when name old new before behind area now done k t whole empty p = 
   made = [];
   went = backed old new before behind t.entries.first t.entries.last t.entries.stop 3 k t.entries.entries t.entries.grown p.seen whole p.accepted p.store;
   answered = (
-    name,
     refl,
-    refl,
-    subst HoldsNothing (sym (files_at g area (held (backup_name name)) was)) empty,
-    only_at g area now (backup_name name) held mid was is others p.faults,
-    subst (λ (f : Option Files). HoldsBackup tells (basis_of before.settings when) old.worker (length old.list) new.list name done.start done.end f) (sym (files_at g now (mid (backup_name name)) is))
-        (holds tells when name old new before behind (g.files now) done k whole p.store.settings t),
+    inl (
+      name,
+      refl,
+      subst HoldsNothing (sym (files_at g area (held (backup_name name)) was)) empty,
+      only_at g area now (backup_name name) held mid was is others p.faults,
+      subst (λ (f : Option Files). HoldsBackup tells (basis_of before.settings when) old.worker (length old.list) new.list name done.start done.end f) (sym (files_at g now (mid (backup_name name)) is))
+          (holds tells when name old new before behind (g.files now) done k whole p.store.settings t),
+    ),
   );
   risen = λ area t. absurd cc;
   run = refl;
@@ -127,7 +123,7 @@ taken g tells when name old new before behind area now done k t whole empty p = 
 
 -- ---- one that was refused, or failed
 
-full_wal : (mib : ℕ) (old new : Seen) (before behind : Opened) → Knows old before → StaysBy old new → new.list ≡ behind.history → FindsNoRoomFor mib old.worker before.history behind.history → MeetsFullWal mib old.worker (length old.list) new.list
+pub full_wal : (mib : ℕ) (old new : Seen) (before behind : Opened) → Knows old before → StaysBy old new → new.list ≡ behind.history → FindsNoRoomFor mib old.worker before.history behind.history → MeetsFullWal mib old.worker (length old.list) new.list
 full_wal mib old new before behind k stays whole full =
     let cut : take (length old.list) new.list ≡ old.list = ap (take (length old.list)) (sym stays.seen.1) ∙ up_to_here old.list stays.seen.0 in (
       length old.list,
@@ -160,7 +156,7 @@ failed_by g old seen before behind area now backup.OutFailed which cause e = abs
 failed_by g old seen before behind area now backup.NoMemory which cause e = absurd cc
 
 -- an area that held a file
-weaker : (o : Option Files) (P Q : Files → Type 0) → ((m : Files) → P m → Q m) → IfSome o P → IfSome o Q
+pub weaker : (o : Option Files) (P Q : Files → Type 0) → ((m : Files) → P m → Q m) → IfSome o P → IfSome o Q
 weaker None P Q step holds = tt
 weaker (Some m) P Q step holds = step m holds
 
@@ -185,6 +181,6 @@ refused g tells when name old seen new before behind area now why k m past kept 
         (subst (λ (x : AreaState). IsBackupRefused tells (basis_of before.settings when) old.worker (length old.list) new.list name (state_in g area) x why) (sym is)
         (why_not g tells when name old seen new before behind area now why k stays whole p.store.settings past left cause)),
   );
-  risen = λ which t. failed_by g old seen before behind area now why which cause t;
+  risen = λ which t. store_rose which (command.Full name) before behind held mid (failed_by g old seen before behind area now why which cause t);
   run = refl;
 }

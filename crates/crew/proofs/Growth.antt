@@ -7,19 +7,18 @@ use Rattle.lsn_core.specs.Segment.{StoreSettings}
 use Rattle.lsn_core.specs.declared.ids.BlockId.{BlockId}
 use Rattle.lsn_core.specs.declared.lsn.Place.{Place}
 use Rattle.lsn_core.specs.declared.fault.StoreArea.{StoreArea}
-use Rattle.lsn_core.specs.Causes.{Rose}
 use Rattle.history.specs.declared.op.Op.{Op}
 use Rattle.history.specs.Entry.{Entry}
 use Rattle.shared_store.specs.declared.fault.InsertFault.{InsertFault}
 use Rattle.shared_store.specs.declared.fault.InsertFault.TheVariants as insert
 use Rattle.shared_store.specs.Seen.{Seen}
-use Rattle.shared_store.specs.Opened.{Opened, count_of}
+use Rattle.shared_store.specs.Opened.{Opened}
 use Rattle.crew.specs.declared.script.Command.TheVariants as command
 use Rattle.crew.specs.declared.order.Order.{Order}
 use Rattle.crew.specs.declared.answer.Answer.TheVariants.{Accepted, Refused, Grown, Stopped}
 use Rattle.crew.specs.Orders.{op_asked, grow_op, grow_ops}
 use Rattle.crew.specs.Shape.{Shape}
-use Rattle.crew.specs.Run.{IsMade, Made, IsRefusedNow, span_end, span_of, TellsFault}
+use Rattle.crew.specs.Run.{IsMade, Made, IsRefusedNow, span_end, span_of, TellsFault, CountRose}
 use Rattle.crew.specs.Running.{Knows, WentOn, Inserts, CommandRuns}
 use Rattle.crew.proofs.Moments.{made_later, made_on}
 use Rattle.crew.proofs.Steps.{went_nowhere, went_further}
@@ -62,7 +61,7 @@ refused_line tells order old new before behind why i = λ when held. record {
   made = [];
   went = i.0;
   answered = (order, refl, refl, i.1, refl);
-  risen = λ area t. none_failed why area (Rose (count_of area before.faults) (count_of area behind.faults)) t;
+  risen = λ area t. none_failed why area (CountRose area (command.Insert order) before behind held held) t;
   run = refl;
 }
 
@@ -132,7 +131,7 @@ stopped tells old now new before mid behind at shape k count span why g i lt = �
         subst (λ (n : ℕ). IsRefusedNow tells n new.list (grow_op at shape k) why) same i.1,
         refl,
       );
-      risen = λ area t. none_failed why area (Rose (count_of area before.faults) (count_of area behind.faults)) t;
+      risen = λ area t. none_failed why area (CountRose area (command.Grow at count shape) before behind held held) t;
       run = refl;
     }
 

@@ -7,12 +7,13 @@ use Rattle.std.proofs.lemmas.Slice.Eq.{bytes_eq-Decides}
 use Rattle.std.proofs.lemmas.List.Quantifiers.{position-Some}
 use Rattle.vault.specs.declared.area.Vault.{Ghosts}
 use Rattle.vault.specs.declared.lending.Held.{Held}
-use Rattle.vault.specs.Site.{state_in}
+use Rattle.vault.specs.Site.{Areas, AreaState, state_in}
 use Rattle.vault.specs.Lending.{Names, IsOneOf, AreLater, names_of}
 use Rattle.vault.proofs.SetAreas.{set_at-same, set_at-other, same_or_not}
 use Rattle.vault.proofs.LentAreas.{later_set, later_named}
 use Rattle.crew.specs.declared.script.Line.{Line}
 use Rattle.crew.specs.Backups.{area_asked, areas_asked, areas_of, AreHeld}
+use Rattle.crew.specs.Run.{OnlyAt}
 
 -- whether an area has a name
 abbrev pub has_name : {V : Type 0} → List ℕ → Held V → Bool
@@ -118,3 +119,12 @@ changed g held name at d now is same =
       others = λ n other. others_set g held name n at d now p.0 named (same ∙ named) other;
       later = λ rises. later_set g held at d now p.0 same rises;
     }
+
+pub files_at : {V : Type 0} (g : Ghosts V) (area : V) (x : AreaState) → x ≡ state_in g area → x.files ≡ g.files area
+files_at g area x is = ap (λ (s : AreaState). s.files) is
+
+pub only_at : {V : Type 0} (g : Ghosts V) (area now : V) (name : List ℕ) (held mid : Areas) → held name ≡ state_in g area → mid name ≡ state_in g now → ((n : List ℕ) → n ≢ name → mid n ≡ held n) → g.faults area ≤ g.faults now → OnlyAt name held mid
+only_at g area now name held mid was is others later = record {
+  others = others;
+  later = omega (arith, later, ap (λ (s : AreaState). s.faults) was, ap (λ (s : AreaState). s.faults) is);
+}

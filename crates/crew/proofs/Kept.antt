@@ -1,19 +1,20 @@
 -- What lines leave of the areas of backups.
-use Rattle.std.proofs.Common.{◌≡◌, ◌≢◌, ℕ, ◌+◌, ◌≤◌, true, cond, Option, List, [], ◌∷◌, ◌++◌, length, take, Some, None, refl, ap, sym, subst, ◌∙◌, arith, inl, inr}
+use Rattle.std.proofs.Common.{◌≡◌, ◌≢◌, ℕ, ◌≤◌, true, cond, Option, List, [], ◌∷◌, ◌++◌, length, take, Some, None, refl, ap, sym, subst, ◌∙◌, arith, inl, inr}
 use Rattle.lsn_core.specs.Causes.{Rose}
 use Rattle.lsn_core.specs.Files.{Files}
 use Rattle.lsn_core.specs.declared.lsn.Lsn.{Lsn}
 use Rattle.lsn_core.specs.declared.fault.MarkFault.{MarkFault}
 use Rattle.lsn_core.specs.declared.fault.MarkFault.TheVariants as mark
 use Rattle.vault.specs.Site.{Areas, AreaState}
-use Rattle.vault.specs.Lending.{Names, IsNoneOf}
+use Rattle.vault.specs.Lending.{Names, IsOneOf, IsNoneOf}
+use Rattle.vault.proofs.LentAreas.{one_or_none}
 use Rattle.vault.proofs.SetAreas.{same_or_not}
 use Rattle.history.specs.Entry.{Entry}
 use Rattle.shared_store.specs.Seen.{accepted_by}
 use Rattle.shared_store.specs.declared.fault.InsertFault.{InsertFault}
 use Rattle.shared_store.specs.declared.fault.InsertFault.TheVariants as insert
-use Rattle.base_backup.specs.declared.fault.BackupFault.{BackupFault}
 use Rattle.base_backup.specs.declared.fault.BackupFault.TheVariants as backup
+use Rattle.base_backup.specs.declared.incr_fault.IncrFault.TheVariants as incr
 use Rattle.std.specs.Prelude.{IsSome}
 use Rattle.std.specs.Ordering.{nat_cmp}
 use Rattle.std.specs.Cmp.Lexicographic.{slice_cmp, nat_list_cmp_total}
@@ -22,16 +23,16 @@ use Rattle.std.specs.FinMap.{get, insert, empty, get-insert, get-empty}
 use Rattle.lsn_core.specs.Store.{Store, files_of}
 use Rattle.base_backup.specs.Backup.{HoldsNothing}
 use Rattle.base_backup.specs.Directory.{label_name, manifest_name, directory_of}
-use Rattle.command_base.specs.Areas.{backup_name}
+use Rattle.command_base.specs.Areas.{backup_name, sums_name}
 use Rattle.command_base.proofs.Told.{some_told, at_told}
 use Rattle.crew.specs.declared.script.Command.{Command}
 use Rattle.crew.specs.declared.script.Command.TheVariants as command
 use Rattle.crew.specs.declared.script.Line.{Line}
 use Rattle.crew.specs.declared.answer.Answer.{Answer}
-use Rattle.crew.specs.declared.answer.Answer.TheVariants.{Accepted, Refused, Grown, Stopped, Redo, CheckpointRefused, Wrote, CallFailed, Backup, BackupRefused, NotRun}
+use Rattle.crew.specs.declared.answer.Answer.TheVariants.{Accepted, Refused, Grown, Stopped, Redo, CheckpointRefused, Wrote, Published, CallFailed, Backup, BackupRefused, IncrRefused, NotRun}
 use Rattle.crew.specs.declared.answer.Stop.TheVariants as stop
-use Rattle.crew.specs.Backups.{area_asked, areas_asked}
-use Rattle.crew.specs.Run.{Basis, HoldsBackup, OnlyAt, KeepsFiles, LineAnswer, Answered, insert_stop, mark_stop, StandsFor, BackupsStand, FailsFor, BackupFaultsRose, AnswersTellBackups}
+use Rattle.crew.specs.Backups.{area_asked, areas_asked, backup_taken, prior_taken}
+use Rattle.crew.specs.Run.{Basis, HoldsBackup, OnlyAt, OnlyAmong, KeepsFiles, LineAnswer, Answered, insert_stop, mark_stop, StandsFor, BackupsStand, FailsFor, BackupFaultsRose, AnswersTellBackups}
 
 -- ---- names
 
@@ -51,6 +52,9 @@ at_name n held mid same = ap (λ (f : Areas). f n) same
 not_asked : (n name : List ℕ) (line : Command) → line ≡ command.Full name → IsNoneOf n (area_asked line) → n ≢ backup_name name
 not_asked n name line is none = (subst (λ (c : Command). IsNoneOf n (area_asked c)) is none).0
 
+not_summarised : (n : List ℕ) (line : Command) → line ≡ command.Summarise → IsNoneOf n (area_asked line) → n ≢ sums_name
+not_summarised n line is none = (subst (λ (c : Command). IsNoneOf n (area_asked c)) is none).0
+
 line_stays : (tells : Type 0) (b : Basis) (w from : ℕ) (now : List Entry) (line : Command) (x : Answer) (made : List Entry) (held mid : Areas) (n : List ℕ) → LineAnswer tells b w from now line x made held mid → IsNoneOf n (area_asked line) → mid n ≡ held n
 line_stays tells b w from now line (Accepted place) made held mid n a none = at_name n held mid a.4
 line_stays tells b w from now line (Refused why) made held mid n a none = at_name n held mid a.4
@@ -59,9 +63,13 @@ line_stays tells b w from now line (Stopped k why) made held mid n a none = at_n
 line_stays tells b w from now line (Redo redo) made held mid n a none = at_name n held mid a.3
 line_stays tells b w from now line (CheckpointRefused why) made held mid n a none = at_name n held mid a.3
 line_stays tells b w from now line (Wrote k) made held mid n a none = at_name n held mid a.4
-line_stays tells b w from now line (CallFailed why) made held mid n a none = at_name n held mid a.3
-line_stays tells b w from now line (Backup start end) made held mid n a none = a.4.others n (not_asked n a.0 line a.1 none)
+line_stays tells b w from now line (Published k) made held mid n a none = a.2.others n (not_summarised n line a.0 none)
+line_stays tells b w from now line (CallFailed why) made held mid n (made_is, inl a) none = at_name n held mid a.2
+line_stays tells b w from now line (CallFailed why) made held mid n (made_is, inr a) none = a.1.others n (not_summarised n line a.0 none)
+line_stays tells b w from now line (Backup start end) made held mid n (made_is, inl t) none = t.3.others n (not_asked n t.0 line t.1 none)
+line_stays tells b w from now line (Backup start end) made held mid n (made_is, inr t) none = t.4.others n none
 line_stays tells b w from now line (BackupRefused why) made held mid n a none = a.3.others n (not_asked n a.0 line a.1 none)
+line_stays tells b w from now line (IncrRefused why) made held mid n a none = a.4.others n none
 line_stays tells b w from now line NotRun made held mid n a none = at_name n held mid a.1
 
 same_faults : (n : List ℕ) (held mid : Areas) → mid n ≡ held n → (held n).faults ≤ (mid n).faults
@@ -74,7 +82,14 @@ only_rises name n held mid only =
       | inr other ↦ same_faults n held mid (only.others n other)
     ]
 
-line_rises : (tells : Type 0) (b : Basis) (w from : ℕ) (now : List Entry) (line : Command) (x : Answer) (made : List Entry) (held mid : Areas) (n : List ℕ) → LineAnswer tells b w from now line x made held mid → (held n).faults ≤ (mid n).faults
+among_rises : (names : Names) (n : List ℕ) (held mid : Areas) → OnlyAmong names held mid → (held n).faults ≤ (mid n).faults
+among_rises names n held mid only =
+    elim (one_or_none n names) [
+      | inl one ↦ only.later n one
+      | inr none ↦ same_faults n held mid (only.others n none)
+    ]
+
+pub line_rises : (tells : Type 0) (b : Basis) (w from : ℕ) (now : List Entry) (line : Command) (x : Answer) (made : List Entry) (held mid : Areas) (n : List ℕ) → LineAnswer tells b w from now line x made held mid → (held n).faults ≤ (mid n).faults
 line_rises tells b w from now line (Accepted place) made held mid n a = same_faults n held mid (at_name n held mid a.4)
 line_rises tells b w from now line (Refused why) made held mid n a = same_faults n held mid (at_name n held mid a.4)
 line_rises tells b w from now line (Grown k place) made held mid n a = same_faults n held mid (at_name n held mid a.5)
@@ -82,14 +97,18 @@ line_rises tells b w from now line (Stopped k why) made held mid n a = same_faul
 line_rises tells b w from now line (Redo redo) made held mid n a = same_faults n held mid (at_name n held mid a.3)
 line_rises tells b w from now line (CheckpointRefused why) made held mid n a = same_faults n held mid (at_name n held mid a.3)
 line_rises tells b w from now line (Wrote k) made held mid n a = same_faults n held mid (at_name n held mid a.4)
-line_rises tells b w from now line (CallFailed why) made held mid n a = same_faults n held mid (at_name n held mid a.3)
-line_rises tells b w from now line (Backup start end) made held mid n a = only_rises (backup_name a.0) n held mid a.4
+line_rises tells b w from now line (Published k) made held mid n a = only_rises sums_name n held mid a.2
+line_rises tells b w from now line (CallFailed why) made held mid n (made_is, inl a) = same_faults n held mid (at_name n held mid a.2)
+line_rises tells b w from now line (CallFailed why) made held mid n (made_is, inr a) = only_rises sums_name n held mid a.1
+line_rises tells b w from now line (Backup start end) made held mid n (made_is, inl t) = only_rises (backup_name t.0) n held mid t.3
+line_rises tells b w from now line (Backup start end) made held mid n (made_is, inr t) = among_rises (area_asked line) n held mid t.4
 line_rises tells b w from now line (BackupRefused why) made held mid n a = only_rises (backup_name a.0) n held mid a.3
+line_rises tells b w from now line (IncrRefused why) made held mid n a = among_rises (area_asked line) n held mid a.4
 line_rises tells b w from now line NotRun made held mid n a = same_faults n held mid (at_name n held mid a.1)
 
 -- ---- lines
 
-area_stays : (tells : Type 0) (b : Basis) (w : ℕ) (h : List Entry) (from : ℕ) (lines : List Line) (answers : List Answer) (es : List Entry) (to : ℕ) (held new : Areas) (n : List ℕ) → Answered tells b w h from lines answers es to held new → IsNoneOf n (areas_asked lines)
+pub area_stays : (tells : Type 0) (b : Basis) (w : ℕ) (h : List Entry) (from : ℕ) (lines : List Line) (answers : List Answer) (es : List Entry) (to : ℕ) (held new : Areas) (n : List ℕ) → Answered tells b w h from lines answers es to held new → IsNoneOf n (areas_asked lines)
     → new n ≡ held n
 area_stays tells b w h from [] [] es to held new n a none = at_name n held new a.2
 area_stays tells b w h from [] (x ∷ answers) es to held new n a none = absurd a
@@ -98,7 +117,7 @@ area_stays tells b w h from (l ∷ lines) (x ∷ answers) es to held new n a non
     area_stays tells b w h a.0 lines answers a.2 to a.3 new n a.8 (none_back n (area_asked l.command) (areas_asked lines) none)
     ∙ line_stays tells b w from (take a.0 h) l.command x a.1 held a.3 n a.7 (none_front n (area_asked l.command) (areas_asked lines) none)
 
-area_rises : (tells : Type 0) (b : Basis) (w : ℕ) (h : List Entry) (from : ℕ) (lines : List Line) (answers : List Answer) (es : List Entry) (to : ℕ) (held new : Areas) (n : List ℕ) → Answered tells b w h from lines answers es to held new → (held n).faults ≤ (new n).faults
+pub area_rises : (tells : Type 0) (b : Basis) (w : ℕ) (h : List Entry) (from : ℕ) (lines : List Line) (answers : List Answer) (es : List Entry) (to : ℕ) (held new : Areas) (n : List ℕ) → Answered tells b w h from lines answers es to held new → (held n).faults ≤ (new n).faults
 area_rises tells b w h from [] [] es to held new n a = same_faults n held new (at_name n held new a.2)
 area_rises tells b w h from [] (x ∷ answers) es to held new n a = absurd a
 area_rises tells b w h from (l ∷ lines) [] es to held new n a = absurd a
@@ -107,7 +126,11 @@ area_rises tells b w h from (l ∷ lines) (x ∷ answers) es to held new n a =
 
 -- ---- areas with a file
 
-never_empty : (m : Files) (k v : List ℕ) → insert m k v ≢ empty
+-- the area of a backup is not that of the summaries
+pub never_sums : (name : List ℕ) → backup_name name ≢ sums_name
+never_sums name is = absurd cc
+
+pub never_empty : (m : Files) (k v : List ℕ) → insert m k v ≢ empty
 never_empty m k v is =
     let there : get (insert m k v) k ≡ Some v = get-insert nat_list_cmp_total m k v k ∙ ap (λ c. cond c (Some v) (get m k)) ((eq_by_cmp_equiv nat_list_cmp_total).refl k) in
     let gone : get (insert m k v) k ≡ None = ap (λ (n : Files). get n k) is ∙ get-empty (slice_cmp nat_cmp) k in
@@ -117,36 +140,57 @@ never_empty m k v is =
 never_bare : (relseg : ℕ) (copy : Store) (label manifest : List ℕ) (m : Files) → m ≡ directory_of relseg copy label manifest → m ≢ empty
 never_bare relseg copy label manifest m is = λ none. never_empty (insert (files_of relseg copy) label_name label) manifest_name manifest (sym is ∙ none)
 
-line_keeps : (tells : Type 0) (b : Basis) (w from : ℕ) (now : List Entry) (line : Command) (x : Answer) (made : List Entry) (held mid : Areas) (n : List ℕ) (m : Files) → LineAnswer tells b w from now line x made held mid → (held n).files ≡ Some m → m ≢ empty
-    → (mid n).files ≡ (held n).files
-line_keeps tells b w from now line (Accepted place) made held mid n m a told some = ap (λ (s : AreaState). s.files) (at_name n held mid a.4)
-line_keeps tells b w from now line (Refused why) made held mid n m a told some = ap (λ (s : AreaState). s.files) (at_name n held mid a.4)
-line_keeps tells b w from now line (Grown k place) made held mid n m a told some = ap (λ (s : AreaState). s.files) (at_name n held mid a.5)
-line_keeps tells b w from now line (Stopped k why) made held mid n m a told some = ap (λ (s : AreaState). s.files) (at_name n held mid a.7)
-line_keeps tells b w from now line (Redo redo) made held mid n m a told some = ap (λ (s : AreaState). s.files) (at_name n held mid a.3)
-line_keeps tells b w from now line (CheckpointRefused why) made held mid n m a told some = ap (λ (s : AreaState). s.files) (at_name n held mid a.3)
-line_keeps tells b w from now line (Wrote k) made held mid n m a told some = ap (λ (s : AreaState). s.files) (at_name n held mid a.4)
-line_keeps tells b w from now line (CallFailed why) made held mid n m a told some = ap (λ (s : AreaState). s.files) (at_name n held mid a.3)
-line_keeps tells b w from now line (Backup start end) made held mid n m a told some =
-    elim (same_or_not n (backup_name a.0)) [
-      | inl is ↦ absurd (some (at_told (held n).files m (λ f. f ≡ empty) told (subst (λ (k : List ℕ). HoldsNothing (held k).files) (sym is) a.3)))
-      | inr other ↦ ap (λ (s : AreaState). s.files) (a.4.others n other)
+-- an area that holds a file and isn't the summaries', of a line whose backup's area keeps what it holds
+incr_keeps : (name prior n : List ℕ) (line : Command) (held mid : Areas) (m : Files) → line ≡ command.Incr name prior → OnlyAmong (area_asked line) held mid → (mid (backup_name prior)).files ≡ (held (backup_name prior)).files
+    → KeepsFiles (held (backup_name name)).files (mid (backup_name name)).files → n ≢ sums_name → (held n).files ≡ Some m → m ≢ empty → (mid n).files ≡ (held n).files
+incr_keeps name prior n line held mid m is only same keeps apart told some =
+    elim (one_or_none n (backup_name name ∷ backup_name prior ∷ sums_name ∷ [])) [
+      | inl (inl out) ↦ at_told (held n).files m (λ f. f ≢ empty → (mid n).files ≡ (held n).files) told (subst (λ (k : List ℕ). KeepsFiles (held k).files (mid k).files) (sym out) keeps) some
+      | inl (inr (inl before)) ↦ subst (λ (k : List ℕ). (mid k).files ≡ (held k).files) (sym before) same
+      | inl (inr (inr (inl sums))) ↦ absurd (apart sums)
+      | inl (inr (inr (inr never))) ↦ absurd never
+      | inr none ↦ ap (λ (s : AreaState). s.files) (only.others n (subst (λ (c : Command). IsNoneOf n (area_asked c)) (sym is) none))
     ]
-line_keeps tells b w from now line (BackupRefused why) made held mid n m a told some =
+
+nothing_keeps : (old new : Option Files) → HoldsNothing old → KeepsFiles old new
+nothing_keeps None new nothing = tt
+nothing_keeps (Some m) new nothing = λ some. absurd (some nothing)
+
+line_keeps : (tells : Type 0) (b : Basis) (w from : ℕ) (now : List Entry) (line : Command) (x : Answer) (made : List Entry) (held mid : Areas) (n : List ℕ) (m : Files) → LineAnswer tells b w from now line x made held mid → n ≢ sums_name → (held n).files ≡ Some m → m ≢ empty
+    → (mid n).files ≡ (held n).files
+line_keeps tells b w from now line (Accepted place) made held mid n m a apart told some = ap (λ (s : AreaState). s.files) (at_name n held mid a.4)
+line_keeps tells b w from now line (Refused why) made held mid n m a apart told some = ap (λ (s : AreaState). s.files) (at_name n held mid a.4)
+line_keeps tells b w from now line (Grown k place) made held mid n m a apart told some = ap (λ (s : AreaState). s.files) (at_name n held mid a.5)
+line_keeps tells b w from now line (Stopped k why) made held mid n m a apart told some = ap (λ (s : AreaState). s.files) (at_name n held mid a.7)
+line_keeps tells b w from now line (Redo redo) made held mid n m a apart told some = ap (λ (s : AreaState). s.files) (at_name n held mid a.3)
+line_keeps tells b w from now line (CheckpointRefused why) made held mid n m a apart told some = ap (λ (s : AreaState). s.files) (at_name n held mid a.3)
+line_keeps tells b w from now line (Wrote k) made held mid n m a apart told some = ap (λ (s : AreaState). s.files) (at_name n held mid a.4)
+line_keeps tells b w from now line (Published k) made held mid n m a apart told some = ap (λ (s : AreaState). s.files) (a.2.others n apart)
+line_keeps tells b w from now line (CallFailed why) made held mid n m (made_is, inl a) apart told some = ap (λ (s : AreaState). s.files) (at_name n held mid a.2)
+line_keeps tells b w from now line (CallFailed why) made held mid n m (made_is, inr a) apart told some = ap (λ (s : AreaState). s.files) (a.1.others n apart)
+line_keeps tells b w from now line (Backup start end) made held mid n m (made_is, inl t) apart told some =
+    elim (same_or_not n (backup_name t.0)) [
+      | inl is ↦ absurd (some (at_told (held n).files m (λ f. f ≡ empty) told (subst (λ (k : List ℕ). HoldsNothing (held k).files) (sym is) t.2)))
+      | inr other ↦ ap (λ (s : AreaState). s.files) (t.3.others n other)
+    ]
+line_keeps tells b w from now line (Backup start end) made held mid n m (made_is, inr t) apart told some =
+    incr_keeps t.0 t.1 n line held mid m t.2 t.4 t.5 (nothing_keeps (held (backup_name t.0)).files (mid (backup_name t.0)).files t.3) apart told some
+line_keeps tells b w from now line (BackupRefused why) made held mid n m a apart told some =
     elim (same_or_not n (backup_name a.0)) [
       | inl is ↦ at_told (held n).files m (λ f. f ≢ empty → (mid n).files ≡ (held n).files) told (subst (λ (k : List ℕ). KeepsFiles (held k).files (mid k).files) (sym is) a.4) some
       | inr other ↦ ap (λ (s : AreaState). s.files) (a.3.others n other)
     ]
-line_keeps tells b w from now line NotRun made held mid n m a told some = ap (λ (s : AreaState). s.files) (at_name n held mid a.1)
+line_keeps tells b w from now line (IncrRefused why) made held mid n m a apart told some = incr_keeps a.0 a.1 n line held mid m a.2 a.4 a.5 a.6 apart told some
+line_keeps tells b w from now line NotRun made held mid n m a apart told some = ap (λ (s : AreaState). s.files) (at_name n held mid a.1)
 
-area_keeps : (tells : Type 0) (b : Basis) (w : ℕ) (h : List Entry) (from : ℕ) (lines : List Line) (answers : List Answer) (es : List Entry) (to : ℕ) (held new : Areas) (n : List ℕ) (m : Files) → Answered tells b w h from lines answers es to held new → (held n).files ≡ Some m → m ≢ empty
+pub area_keeps : (tells : Type 0) (b : Basis) (w : ℕ) (h : List Entry) (from : ℕ) (lines : List Line) (answers : List Answer) (es : List Entry) (to : ℕ) (held new : Areas) (n : List ℕ) (m : Files) → Answered tells b w h from lines answers es to held new → n ≢ sums_name → (held n).files ≡ Some m → m ≢ empty
     → (new n).files ≡ (held n).files
-area_keeps tells b w h from [] [] es to held new n m a told some = ap (λ (s : AreaState). s.files) (at_name n held new a.2)
-area_keeps tells b w h from [] (x ∷ answers) es to held new n m a told some = absurd a
-area_keeps tells b w h from (l ∷ lines) [] es to held new n m a told some = absurd a
-area_keeps tells b w h from (l ∷ lines) (x ∷ answers) es to held new n m a told some =
-    let here : (a.3 n).files ≡ (held n).files = line_keeps tells b w from (take a.0 h) l.command x a.1 held a.3 n m a.7 told some in
-    area_keeps tells b w h a.0 lines answers a.2 to a.3 new n m a.8 (here ∙ told) some ∙ here
+area_keeps tells b w h from [] [] es to held new n m a apart told some = ap (λ (s : AreaState). s.files) (at_name n held new a.2)
+area_keeps tells b w h from [] (x ∷ answers) es to held new n m a apart told some = absurd a
+area_keeps tells b w h from (l ∷ lines) [] es to held new n m a apart told some = absurd a
+area_keeps tells b w h from (l ∷ lines) (x ∷ answers) es to held new n m a apart told some =
+    let here : (a.3 n).files ≡ (held n).files = line_keeps tells b w from (take a.0 h) l.command x a.1 held a.3 n m a.7 apart told some in
+    area_keeps tells b w h a.0 lines answers a.2 to a.3 new n m a.8 apart (here ∙ told) some ∙ here
 
 -- ---- backups that stand
 
@@ -188,7 +232,7 @@ keeps_told tells b w before now name start end files new t some keeps =
     keeps m.0 m.1 (never_bare _ _ _ _ m.0 (at_told files m.0 _ m.1 t.directory.files_are))
 
 stand_for : (tells : Type 0) (b : Basis) (w : ℕ) (h : List Entry) (from next : ℕ) (line : Line) (lines : List Line) (x : Answer) (made : List Entry) (held mid new : Areas) → next ≤ length h → LineAnswer tells b w from (take next h) line.command x made held mid
-    → ((n : List ℕ) → IsNoneOf n (areas_asked lines) → new n ≡ mid n) → ((n : List ℕ) (m : Files) → (mid n).files ≡ Some m → m ≢ empty → (new n).files ≡ (mid n).files) → StandsFor tells b w h line lines x new
+    → ((n : List ℕ) → IsNoneOf n (areas_asked lines) → new n ≡ mid n) → ((n : List ℕ) (m : Files) → n ≢ sums_name → (mid n).files ≡ Some m → m ≢ empty → (new n).files ≡ (mid n).files) → StandsFor tells b w h line lines x new
 stand_for tells b w h from next line lines (Accepted place) made held mid new within a rest keeps = tt
 stand_for tells b w h from next line lines (Refused why) made held mid new within a rest keeps = tt
 stand_for tells b w h from next line lines (Grown k place) made held mid new within a rest keeps = tt
@@ -196,28 +240,31 @@ stand_for tells b w h from next line lines (Stopped k why) made held mid new wit
 stand_for tells b w h from next line lines (Redo redo) made held mid new within a rest keeps = tt
 stand_for tells b w h from next line lines (CheckpointRefused why) made held mid new within a rest keeps = tt
 stand_for tells b w h from next line lines (Wrote k) made held mid new within a rest keeps = tt
+stand_for tells b w h from next line lines (Published k) made held mid new within a rest keeps = tt
 stand_for tells b w h from next line lines (CallFailed why) made held mid new within a rest keeps = tt
-stand_for tells b w h from next line lines (Backup start end) made held mid new within a rest keeps = λ name is.
-    let same : a.0 ≡ name = same_name line.command a.0 name a.1 is in
+stand_for tells b w h from next line lines (Backup start end) made held mid new within (made_is, inr t) rest keeps = λ name is. absurd (let e : command.Full name ≡ command.Incr t.0 t.1 = sym is ∙ t.2 in cc)
+stand_for tells b w h from next line lines (Backup start end) made held mid new within (made_is, inl t) rest keeps = λ name is.
+    let same : t.0 ≡ name = same_name line.command t.0 name t.1 is in
     let files : Option Files = (mid (backup_name name)).files in
-    let taken : HoldsBackup tells b w from (take next h) name start end files = subst (λ (m : List ℕ). HoldsBackup tells b w from (take next h) m start end (mid (backup_name m)).files) same a.5 in (
+    let taken : HoldsBackup tells b w from (take next h) name start end files = subst (λ (m : List ℕ). HoldsBackup tells b w from (take next h) m start end (mid (backup_name m)).files) same t.4 in (
       next,
       files,
       within,
       sooner tells b w from (take next h) name start end files taken,
       λ still. elim still [
-        | inl some ↦ keeps_told tells b w from (take next h) name start end files (new (backup_name name)).files taken some (λ m told full. keeps (backup_name name) m told full)
+        | inl some ↦ keeps_told tells b w from (take next h) name start end files (new (backup_name name)).files taken some (λ m told full. keeps (backup_name name) m (never_sums name) told full)
         | inr none ↦ ap (λ (y : AreaState). y.files) (rest (backup_name name) none)
       ],
     )
 stand_for tells b w h from next line lines (BackupRefused why) made held mid new within a rest keeps = tt
+stand_for tells b w h from next line lines (IncrRefused why) made held mid new within a rest keeps = tt
 stand_for tells b w h from next line lines NotRun made held mid new within a rest keeps = tt
 
 all_stand : (tells : Type 0) (b : Basis) (w : ℕ) (h : List Entry) (from : ℕ) (lines : List Line) (answers : List Answer) (es : List Entry) (to : ℕ) (held new : Areas) → Answered tells b w h from lines answers es to held new → BackupsStand tells b w h lines answers new
 all_stand tells b w h from [] answers es to held new a = tt
 all_stand tells b w h from (l ∷ lines) [] es to held new a = tt
 all_stand tells b w h from (l ∷ lines) (x ∷ answers) es to held new a = (
-  stand_for tells b w h from a.0 l lines x a.1 held a.3 new a.5 a.7 (λ n none. area_stays tells b w h a.0 lines answers a.2 to a.3 new n a.8 none) (λ n m told some. area_keeps tells b w h a.0 lines answers a.2 to a.3 new n m a.8 told some),
+  stand_for tells b w h from a.0 l lines x a.1 held a.3 new a.5 a.7 (λ n none. area_stays tells b w h a.0 lines answers a.2 to a.3 new n a.8 none) (λ n m apart told some. area_keeps tells b w h a.0 lines answers a.2 to a.3 new n m a.8 apart told some),
   all_stand tells b w h a.0 lines answers a.2 to a.3 new a.8,
 )
 
@@ -244,24 +291,79 @@ no_mark (mark.Failed area) P e = absurd cc
 no_mark (mark.WalFull n) P e = absurd cc
 no_mark mark.NoMemory P e = absurd cc
 
+no_prior : (why : InsertFault) (P : Type 0) → insert_stop why ≡ Some stop.Prior → P
+no_prior (insert.NoFork n) P e = absurd cc
+no_prior (insert.ForkExists n) P e = absurd cc
+no_prior (insert.PastEnd n) P e = absurd cc
+no_prior (insert.NoBlock n) P e = absurd cc
+no_prior (insert.BadPage i n) P e = absurd cc
+no_prior (insert.BadFragment i j) P e = absurd cc
+no_prior insert.BlockCount P e = absurd cc
+no_prior insert.TwoRelations P e = absurd cc
+no_prior (insert.ForkFull n) P e = absurd cc
+no_prior (insert.StoreFull n) P e = absurd cc
+no_prior (insert.CutPastEnd n) P e = absurd cc
+no_prior insert.NoMemory P e = absurd cc
+no_prior (insert.SameBlock i) P e = absurd cc
+no_prior (insert.WalFull n) P e = absurd cc
+
+no_prior_mark : (why : MarkFault) (P : Type 0) → mark_stop why ≡ Some stop.Prior → P
+no_prior_mark (mark.Failed area) P e = absurd cc
+no_prior_mark (mark.WalFull n) P e = absurd cc
+no_prior_mark mark.NoMemory P e = absurd cc
+
+-- the areas of a line's backups are asked for
+full_named : (name : List ℕ) (line : Command) → line ≡ command.Full name → (backup_taken line ≡ name) × IsOneOf (backup_name (backup_taken line)) (area_asked line)
+full_named name line is = subst (λ (c : Command). (backup_taken c ≡ name) × IsOneOf (backup_name (backup_taken c)) (area_asked c)) (sym is) (refl, inl refl)
+
+incr_named : (name prior : List ℕ) (line : Command) → line ≡ command.Incr name prior → (backup_taken line ≡ name) × IsOneOf (backup_name (backup_taken line)) (area_asked line)
+incr_named name prior line is = subst (λ (c : Command). (backup_taken c ≡ name) × IsOneOf (backup_name (backup_taken c)) (area_asked c)) (sym is) (refl, inl refl)
+
+prior_named : (name prior : List ℕ) (line : Command) → line ≡ command.Incr name prior → (prior_taken line ≡ prior) × IsOneOf (backup_name (prior_taken line)) (area_asked line)
+prior_named name prior line is = subst (λ (c : Command). (prior_taken c ≡ prior) × IsOneOf (backup_name (prior_taken c)) (area_asked c)) (sym is) (refl, inr (inl refl))
+
 fails_for : (tells : Type 0) (b : Basis) (w from : ℕ) (now : List Entry) (line : Line) (x : Answer) (made : List Entry) (start held mid new : Areas) → LineAnswer tells b w from now line.command x made held mid → ((n : List ℕ) → (start n).faults ≤ (held n).faults)
     → ((n : List ℕ) → (mid n).faults ≤ (new n).faults) → FailsFor line x start new
-fails_for tells b w from now line (Accepted place) made start held mid new a early late = λ e. absurd cc
-fails_for tells b w from now line (Refused why) made start held mid new a early late = λ e. no_backup why _ e
-fails_for tells b w from now line (Grown k place) made start held mid new a early late = λ e. absurd cc
-fails_for tells b w from now line (Stopped k why) made start held mid new a early late = λ e. no_backup why _ e
-fails_for tells b w from now line (Redo redo) made start held mid new a early late = λ e. absurd cc
-fails_for tells b w from now line (CheckpointRefused why) made start held mid new a early late = λ e. no_mark why _ e
-fails_for tells b w from now line (Wrote k) made start held mid new a early late = λ e. absurd cc
-fails_for tells b w from now line (CallFailed why) made start held mid new a early late = λ e. absurd cc
-fails_for tells b w from now line (Backup begun end) made start held mid new a early late = λ e. absurd cc
-fails_for tells b w from now line (BackupRefused backup.NotEmpty) made start held mid new a early late = λ e. absurd cc
-fails_for tells b w from now line (BackupRefused (backup.WalFull n)) made start held mid new a early late = λ e. absurd cc
-fails_for tells b w from now line (BackupRefused (backup.StoreFailed area)) made start held mid new a early late = λ e. absurd cc
-fails_for tells b w from now line (BackupRefused backup.OutFailed) made start held mid new a early late = λ e.
-    (a.0, a.1, omega (arith, a.5.0, early (backup_name a.0), late (backup_name a.0)))
-fails_for tells b w from now line (BackupRefused backup.NoMemory) made start held mid new a early late = λ e. absurd cc
-fails_for tells b w from now line NotRun made start held mid new a early late = λ e. absurd cc
+fails_for tells b w from now line (Accepted place) made start held mid new a early late = (λ e. absurd cc, λ e. absurd cc)
+fails_for tells b w from now line (Refused why) made start held mid new a early late = (λ e. no_backup why _ e, λ e. no_prior why _ e)
+fails_for tells b w from now line (Grown k place) made start held mid new a early late = (λ e. absurd cc, λ e. absurd cc)
+fails_for tells b w from now line (Stopped k why) made start held mid new a early late = (λ e. no_backup why _ e, λ e. no_prior why _ e)
+fails_for tells b w from now line (Redo redo) made start held mid new a early late = (λ e. absurd cc, λ e. absurd cc)
+fails_for tells b w from now line (CheckpointRefused why) made start held mid new a early late = (λ e. no_mark why _ e, λ e. no_prior_mark why _ e)
+fails_for tells b w from now line (Wrote k) made start held mid new a early late = (λ e. absurd cc, λ e. absurd cc)
+fails_for tells b w from now line (Published k) made start held mid new a early late = (λ e. absurd cc, λ e. absurd cc)
+fails_for tells b w from now line (CallFailed why) made start held mid new a early late = (λ e. absurd cc, λ e. absurd cc)
+fails_for tells b w from now line (Backup begun end) made start held mid new a early late = (λ e. absurd cc, λ e. absurd cc)
+fails_for tells b w from now line (BackupRefused backup.NotEmpty) made start held mid new a early late = (λ e. absurd cc, λ e. absurd cc)
+fails_for tells b w from now line (BackupRefused (backup.WalFull n)) made start held mid new a early late = (λ e. absurd cc, λ e. absurd cc)
+fails_for tells b w from now line (BackupRefused (backup.StoreFailed area)) made start held mid new a early late = (λ e. absurd cc, λ e. absurd cc)
+fails_for tells b w from now line (BackupRefused backup.OutFailed) made start held mid new a early late =
+    let named = full_named a.0 line.command a.1 in (
+      λ e. (named.1, subst (λ (n : List ℕ). Rose (start (backup_name n)).faults (new (backup_name n)).faults) (sym named.0) (omega (arith, a.5.0, early (backup_name a.0), late (backup_name a.0)))),
+      λ e. absurd cc,
+    )
+fails_for tells b w from now line (BackupRefused backup.NoMemory) made start held mid new a early late = (λ e. absurd cc, λ e. absurd cc)
+fails_for tells b w from now line (IncrRefused incr.NotEmpty) made start held mid new a early late = (λ e. absurd cc, λ e. absurd cc)
+fails_for tells b w from now line (IncrRefused incr.NoManifest) made start held mid new a early late = (λ e. absurd cc, λ e. absurd cc)
+fails_for tells b w from now line (IncrRefused (incr.ManifestRefused why)) made start held mid new a early late = (λ e. absurd cc, λ e. absurd cc)
+fails_for tells b w from now line (IncrRefused (incr.SystemDiffers have expected)) made start held mid new a early late = (λ e. absurd cc, λ e. absurd cc)
+fails_for tells b w from now line (IncrRefused (incr.Overlap begun end)) made start held mid new a early late = (λ e. absurd cc, λ e. absurd cc)
+fails_for tells b w from now line (IncrRefused (incr.Gap place)) made start held mid new a early late = (λ e. absurd cc, λ e. absurd cc)
+fails_for tells b w from now line (IncrRefused (incr.WalFull n)) made start held mid new a early late = (λ e. absurd cc, λ e. absurd cc)
+fails_for tells b w from now line (IncrRefused (incr.StoreFailed area)) made start held mid new a early late = (λ e. absurd cc, λ e. absurd cc)
+fails_for tells b w from now line (IncrRefused incr.SumsFailed) made start held mid new a early late = (λ e. absurd cc, λ e. absurd cc)
+fails_for tells b w from now line (IncrRefused incr.PriorFailed) made start held mid new a early late =
+    let named = prior_named a.0 a.1 line.command a.2 in (
+      λ e. absurd cc,
+      λ e. (named.1, subst (λ (n : List ℕ). Rose (start (backup_name n)).faults (new (backup_name n)).faults) (sym named.0) (omega (arith, a.7.1, early (backup_name a.1), late (backup_name a.1)))),
+    )
+fails_for tells b w from now line (IncrRefused incr.OutFailed) made start held mid new a early late =
+    let named = incr_named a.0 a.1 line.command a.2 in (
+      λ e. (named.1, subst (λ (n : List ℕ). Rose (start (backup_name n)).faults (new (backup_name n)).faults) (sym named.0) (omega (arith, a.7.0, early (backup_name a.0), late (backup_name a.0)))),
+      λ e. absurd cc,
+    )
+fails_for tells b w from now line (IncrRefused incr.NoMemory) made start held mid new a early late = (λ e. absurd cc, λ e. absurd cc)
+fails_for tells b w from now line NotRun made start held mid new a early late = (λ e. absurd cc, λ e. absurd cc)
 
 all_fail : (tells : Type 0) (b : Basis) (w : ℕ) (h : List Entry) (from : ℕ) (lines : List Line) (answers : List Answer) (es : List Entry) (to : ℕ) (start held new : Areas) → Answered tells b w h from lines answers es to held new → ((n : List ℕ) → (start n).faults ≤ (held n).faults)
     → BackupFaultsRose lines answers start new

@@ -7,6 +7,11 @@ pub mod Ran
 pub mod Held
 pub mod Backed
 pub mod Kept
+pub mod Summed
+pub mod Incremented
+pub mod Increased
+pub mod Three
+pub mod Priors
 pub mod RunLaws
 pub mod Pieces
 pub mod Each

@@ -22,7 +22,7 @@ use Rattle.crew.specs.declared.answer.Stop.TheVariants as stop
 use Rattle.crew.specs.Run.{IsOfWorker, IsCheckpointRefused, HasCheckpointAt, mark_stop}
 use Rattle.crew.specs.Running.{Knows, WentOn, CommandRuns}
 use Rattle.crew.proofs.Lists.{next_there, second_there, up_to_here}
-use Rattle.crew.proofs.Steps.{rose_from, went_further}
+use Rattle.crew.proofs.Steps.{rose_from, store_rose, went_further}
 
 -- ---- marks are no commands
 
@@ -105,7 +105,7 @@ not_redone tells old new before behind why k m cause full stays whole accepted g
   made = [];
   went = marked old new before behind m.first m.last m.first.start m.many k m.starts m.ends m.grown stays whole accepted goes;
   answered = (refl, refl, why_not before.settings.segment old.worker old new before behind why k stays whole cause full, refl);
-  risen = λ area t. mark_risen before behind why area cause t;
+  risen = λ area t. store_rose area command.Checkpoint before behind held held (mark_risen before behind why area cause t);
   run = refl;
 }
 
@@ -122,8 +122,8 @@ pub not_written : (tells : Type 0) (old now new : Seen) (before mid behind : Ope
 not_written tells old now new before mid behind count why w v cause = λ when held. record {
   made = [];
   went = went_further old now new before mid behind [] [] w v;
-  answered = (count, refl, refl, refl);
-  risen = λ area t. rose_from (count_of area before.faults) (count_of area mid.faults) (count_of area behind.faults) (w.goes_on.later area) (fault_risen mid behind why area cause t);
+  answered = (refl, inl (count, refl, refl));
+  risen = λ area t. store_rose area (command.Flush count) before behind held held (rose_from (count_of area before.faults) (count_of area mid.faults) (count_of area behind.faults) (w.goes_on.later area) (fault_risen mid behind why area cause t));
   run = refl;
 }
 

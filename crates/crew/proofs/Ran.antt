@@ -1,21 +1,21 @@
 -- Lines as far as they were run.
-use Rattle.std.proofs.Common.{◌≡◌, ℕ, ◌+◌, Bool, true, false, List, [], ◌∷◌, ◌++◌, length, refl, ap, sym, subst, ◌∙◌}
-use Rattle.std.proofs.lemmas.List.Elements.{All-nil, All-push}
+use Rattle.std.proofs.Common.{◌≡◌, ℕ, ◌+◌, ◌≤◌, Bool, true, false, List, [], ◌∷◌, ◌++◌, length, refl, ap, sym, subst, ◌∙◌}
 use Rattle.lsn_core.specs.Segment.{StoreSettings}
 use Rattle.lsn_core.specs.declared.fault.StoreArea.{StoreArea}
-use Rattle.lsn_core.specs.Causes.{Rose}
+use Rattle.lsn_core.specs.declared.fault.StoreArea.TheVariants.{Wal, Data, Sums}
 use Rattle.vault.specs.Site.{Areas}
 use Rattle.history.specs.Entry.{Entry}
-use Rattle.history.proofs.Pushes.{all_weaker}
 use Rattle.shared_store.specs.Seen.{Seen}
-use Rattle.shared_store.specs.Opened.{Opened, count_of}
+use Rattle.shared_store.specs.Opened.{Opened, NoneFell, count_of}
 use Rattle.crew.specs.declared.script.Command.{Command}
 use Rattle.crew.specs.declared.script.Line.{Line}
 use Rattle.crew.specs.declared.answer.Answer.{Answer}
 use Rattle.crew.specs.declared.answer.Answer.TheVariants.{NotRun}
-use Rattle.crew.specs.Run.{basis_of, LineAnswer, Answered, RunsLines, InOrder, TellsFault, FaultsRose, stops_with}
+use Rattle.crew.specs.Run.{basis_of, LineAnswer, Answered, RunsLines, InOrder, TellsFault, CountRose, FaultsRose, stops_with}
 use Rattle.crew.specs.Running.{Knows, WentOn, LineRuns}
 use Rattle.crew.proofs.Moments.{answered_more, order_more, stopped_by, stopped_more}
+use Rattle.command_base.specs.Areas.{sums_name}
+use Rattle.crew.proofs.Kept.{line_rises, area_rises}
 use Rattle.crew.proofs.Steps.{rose_on, rose_from, went_nowhere, went_further}
 
 -- a line that isn't run
@@ -28,29 +28,32 @@ pub record IsRunning (tells : Type 0) (when : ℕ) (old now : Seen) (before mid 
   pub answered : Answered tells (basis_of before.settings when) old.worker now.list (length old.list) lines answers made (length now.list) held kept
   pub order : InOrder false answers
   pub stopped_is : stopped ≡ stopped_by false answers
-  pub risen : FaultsRose answers before mid
+  pub risen : FaultsRose lines answers before mid held kept
 
 pub runs_none : (tells : Type 0) (when : ℕ) (seen : Seen) (store : Opened) (held : Areas) (answers : List Answer) → Knows seen store → answers ≡ [] → IsRunning tells when seen seen store store held held [] answers false
 runs_none tells when seen store held answers k e =
-    subst (λ (xs : List Answer). IsRunning tells when seen seen store store held held [] xs false) (sym e) (record {
-      made = [];
-      went = went_nowhere seen store k;
-      answered = (refl, refl, refl);
-      order = tt;
-      stopped_is = refl;
-      risen = All-nil (λ (answer : Answer). (area : StoreArea) → TellsFault area answer → Rose (count_of area store.faults) (count_of area store.faults));
-    })
+    subst (λ (xs : List Answer). IsRunning tells when seen seen store store held held [] xs false) (sym e)
+    (record { made = []; went = went_nowhere seen store k; answered = (refl, refl, refl); order = tt; stopped_is = refl; risen = tt })
+
+-- what rose between two moments rose between earlier and later ones
+rose_behind : (area : StoreArea) (line : Command) (before mid behind : Opened) (held kept last : Areas) → NoneFell mid.faults behind.faults → (kept sums_name).faults ≤ (last sums_name).faults → CountRose area line before mid held kept → CountRose area line before behind held last
+rose_behind Wal line before mid behind held kept last later sums rose = rose_on (count_of Wal before.faults) (count_of Wal mid.faults) (count_of Wal behind.faults) rose (later Wal)
+rose_behind (Data q) line before mid behind held kept last later sums rose = rose_on (count_of (Data q) before.faults) (count_of (Data q) mid.faults) (count_of (Data q) behind.faults) rose (later (Data q))
+rose_behind Sums line before mid behind held kept last later sums rose = (rose.0, rose_on (held sums_name).faults (kept sums_name).faults (last sums_name).faults rose.1 sums)
+
+rose_before : (area : StoreArea) (line : Command) (before mid behind : Opened) (held kept last : Areas) → NoneFell before.faults mid.faults → (held sums_name).faults ≤ (kept sums_name).faults → CountRose area line mid behind kept last → CountRose area line before behind held last
+rose_before Wal line before mid behind held kept last later sums rose = rose_from (count_of Wal before.faults) (count_of Wal mid.faults) (count_of Wal behind.faults) (later Wal) rose
+rose_before (Data q) line before mid behind held kept last later sums rose = rose_from (count_of (Data q) before.faults) (count_of (Data q) mid.faults) (count_of (Data q) behind.faults) (later (Data q)) rose
+rose_before Sums line before mid behind held kept last later sums rose = (rose.0, rose_from (held sums_name).faults (kept sums_name).faults (last sums_name).faults sums rose.1)
 
 -- what the answers told to have failed, and what one more tells
-risen_more : (old now new : Seen) (before mid behind : Opened) (made more : List Entry) (answers : List Answer) (answer : Answer) → WentOn old now before mid made → WentOn now new mid behind more → FaultsRose answers before mid
-    → ((area : StoreArea) → TellsFault area answer → Rose (count_of area mid.faults) (count_of area behind.faults)) → FaultsRose (answers ++ (answer ∷ [])) before behind
-risen_more old now new before mid behind made more answers answer w v risen one =
-    let earlier : FaultsRose answers before behind =
-    all_weaker (λ (x : Answer). (area : StoreArea) → TellsFault area x → Rose (count_of area before.faults) (count_of area mid.faults))
-    (λ (x : Answer). (area : StoreArea) → TellsFault area x → Rose (count_of area before.faults) (count_of area behind.faults)) answers
-    (λ x rose area t. rose_on (count_of area before.faults) (count_of area mid.faults) (count_of area behind.faults) (rose area t) (v.goes_on.later area)) risen in
-    All-push (λ (x : Answer). (area : StoreArea) → TellsFault area x → Rose (count_of area before.faults) (count_of area behind.faults)) answers answer earlier
-    (λ area t. rose_from (count_of area before.faults) (count_of area mid.faults) (count_of area behind.faults) (w.goes_on.later area) (one area t))
+risen_more : (before mid behind : Opened) (held kept last : Areas) (lines : List Line) (line : Line) (answers : List Answer) (answer : Answer) → NoneFell mid.faults behind.faults → (kept sums_name).faults ≤ (last sums_name).faults → FaultsRose lines answers before mid held kept
+    → ((area : StoreArea) → TellsFault area answer → CountRose area line.command before behind held last) → FaultsRose (lines ++ (line ∷ [])) (answers ++ (answer ∷ [])) before behind held last
+risen_more before mid behind held kept last [] line [] answer later sums risen one = (one, tt)
+risen_more before mid behind held kept last [] line (x ∷ answers) answer later sums risen one = absurd risen
+risen_more before mid behind held kept last (l ∷ lines) line [] answer later sums risen one = absurd risen
+risen_more before mid behind held kept last (l ∷ lines) line (x ∷ answers) answer later sums risen one =
+    (λ area t. rose_behind area l.command before mid behind held kept last later sums (risen.0 area t), risen_more before mid behind held kept last lines line answers answer later sums risen.1 one)
 
 -- an answer, with what is known of the worker and the settings before it
 line_there : (tells : Type 0) (when : ℕ) (s m : StoreSettings) (worker w from : ℕ) (now : List Entry) (line : Command) (answer : Answer) (made : List Entry) (held kept : Areas) → m ≡ s → w ≡ worker → LineAnswer tells (basis_of m when) w from now line answer made held kept
@@ -64,13 +67,16 @@ pub runs_more : (tells : Type 0) (when : ℕ) (old now new : Seen) (before mid b
 runs_more tells when old now new before mid behind held kept last lines more line answers after answer stopped next r l e f s =
     let here : LineAnswer tells (basis_of before.settings when) old.worker (length now.list) new.list line.command answer l.made kept last =
     line_there tells when before.settings mid.settings old.worker now.worker (length now.list) new.list line.command answer l.made kept last r.went.goes_on.settings r.went.stays.worker l.answered in
+    let rose : (held sums_name).faults ≤ (kept sums_name).faults = area_rises tells (basis_of before.settings when) old.worker now.list (length old.list) lines answers r.made (length now.list) held kept sums_name r.answered in
+    let rises : (kept sums_name).faults ≤ (last sums_name).faults = line_rises tells (basis_of before.settings when) old.worker (length now.list) new.list line.command answer l.made kept last sums_name here in
     let grown : IsRunning tells when old new before behind held last (lines ++ (line ∷ [])) (answers ++ (answer ∷ [])) (stops_with answer) = record {
       made = r.made ++ l.made;
       went = went_further old now new before mid behind r.made l.made r.went l.went;
       answered = answered_more tells (basis_of before.settings when) old.worker now.list new.list (length old.list) lines answers r.made line answer l.made held kept last l.went.stays.seen here r.answered;
       order = order_more false answers answer r.order (l.run ∙ r.stopped_is);
       stopped_is = sym (stopped_more false answers answer);
-      risen = risen_more old now new before mid behind r.made l.made answers answer r.went l.went r.risen l.risen;
+      risen = risen_more before mid behind held kept last lines line answers answer l.went.goes_on.later rises r.risen
+          (λ area t. rose_before area line.command before mid behind held kept last r.went.goes_on.later rose (l.risen area t));
     } in
     subst (λ (ls : List Line). IsRunning tells when old new before behind held last ls after next) (sym e)
     (subst (λ (xs : List Answer). IsRunning tells when old new before behind held last (lines ++ (line ∷ [])) xs next) (sym f)

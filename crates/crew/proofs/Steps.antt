@@ -8,6 +8,9 @@ use Rattle.std.proofs.lemmas.List.Elements.{All-append, All-nil, All-push, filte
 use Rattle.lsn_core.specs.declared.lsn.Lsn.{Lsn}
 use Rattle.lsn_core.specs.declared.lsn.Place.{Place}
 use Rattle.lsn_core.specs.Causes.{Rose}
+use Rattle.lsn_core.specs.declared.fault.StoreArea.{StoreArea}
+use Rattle.lsn_core.specs.declared.fault.StoreArea.TheVariants.{Wal, Data, Sums}
+use Rattle.vault.specs.Site.{Areas}
 use Rattle.lsn_core.specs.Store.{Store}
 use Rattle.history.specs.declared.op.Op.{Op}
 use Rattle.history.specs.Entry.{Entry}
@@ -18,10 +21,11 @@ use Rattle.shared_store.specs.declared.fault.InsertFault.{InsertFault}
 use Rattle.shared_store.specs.declared.fault.InsertFault.TheVariants as insert
 use Rattle.shared_store.specs.Seen.{Seen, StaysBy, is_by, is_number, accepted_by}
 use Rattle.shared_store.specs.Refusals.{IsRefusedBehind}
-use Rattle.shared_store.specs.Opened.{Opened}
+use Rattle.shared_store.specs.Opened.{Opened, count_of}
 use Rattle.shared_store.specs.Calls.{GoesOn, IsReceipt, IsTaken}
 use Rattle.shared_store.proofs.Goes.{goes_on, goes_nowhere}
-use Rattle.crew.specs.Run.{IsMade, IsTakenAt, IsOfWorker}
+use Rattle.crew.specs.declared.script.Command.{Command}
+use Rattle.crew.specs.Run.{IsMade, IsTakenAt, IsOfWorker, CountRose}
 use Rattle.crew.specs.Running.{Knows, WentOn, Inserts}
 use Rattle.crew.proofs.Lists.{next_there, up_to_here}
 
@@ -32,6 +36,12 @@ rose_on a b c r le = omega (arith, r, le)
 
 pub rose_from : (a b c : ℕ) → a ≤ b → Rose b c → Rose a c
 rose_from a b c le r = omega (arith, r, le)
+
+-- what rose of a store
+pub store_rose : (area : StoreArea) (line : Command) (before behind : Opened) (held mid : Areas) → Rose (count_of area before.faults) (count_of area behind.faults) → CountRose area line before behind held mid
+store_rose Wal line before behind held mid rose = rose
+store_rose (Data q) line before behind held mid rose = rose
+store_rose Sums line before behind held mid rose = absurd (omega (arith, rose))
 
 -- ---- one step behind another
 

@@ -1,9 +1,9 @@
 -- What a line says.
-use Rattle.std.specs.Prelude.{ℕ, List, [], ◌∷◌, Option, Some, None, codes, bytes_eq, ◌==◌, if◌then◌else◌}
+use Rattle.std.specs.Prelude.{ℕ, List, [], ◌∷◌, ◌&&◌, Bool, not, Option, Some, None, codes, bytes_eq, ◌==◌, if◌then◌else◌}
 use Rattle.std.specs.Option.{option_map}
 use Rattle.byte_words.specs.Numbers.{◌>>=◌}
 use Rattle.crew.specs.declared.script.Command.{Command}
-use Rattle.crew.specs.declared.script.Command.TheVariants.{Insert, Grow, Checkpoint, Flush, Full}
+use Rattle.crew.specs.declared.script.Command.TheVariants.{Insert, Grow, Checkpoint, Flush, Summarise, Full, Incr}
 use Rattle.crew.specs.declared.order.Order.TheVariants.{Create, Truncate, Change}
 use Rattle.crew.specs.Cuts.{words_of, is_name}
 use Rattle.text_numbers.specs.Numbers.{number_of}
@@ -81,10 +81,24 @@ flush_says words = do
   count ← flush_count word
   Some (Does (Flush count))
 
+abbrev pub summarise_says : List (List ℕ) → Option Says
+summarise_says [] = Some (Does Summarise)
+summarise_says (word ∷ words) = None
+
 abbrev pub full_says : List (List ℕ) → Option Says
 full_says words = do
   name ← only words
   if is_name name then Some (Does (Full name)) else None
+
+-- two words are names, and not the same one
+abbrev pub are_two_names : List ℕ → List ℕ → Bool
+are_two_names first second = is_name first && (is_name second && not (bytes_eq first second))
+
+-- an incremental backup of a name is taken on a prior one
+abbrev pub incr_says : List (List ℕ) → Option Says
+incr_says words = do
+  names ← two words
+  if are_two_names names.0 names.1 then Some (Does (Incr names.0 names.1)) else None
 
 abbrev pub words_say : List (List ℕ) → Option Says
 words_say [] = None
@@ -96,7 +110,9 @@ words_say (verb ∷ words) =
     else (if bytes_eq verb (codes "grow") then grow_says words
     else (if bytes_eq verb (codes "checkpoint") then checkpoint_says words
     else (if bytes_eq verb (codes "flush") then flush_says words
-    else (if bytes_eq verb (codes "full") then full_says words else None)))))))
+    else (if bytes_eq verb (codes "summarise") then summarise_says words
+    else (if bytes_eq verb (codes "full") then full_says words
+    else (if bytes_eq verb (codes "incr") then incr_says words else None)))))))))
 
 -- None where a line says nothing that is taken; empty lines and comments say Nothing
 abbrev pub meaning : List ℕ → Option Says

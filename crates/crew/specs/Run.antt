@@ -1,7 +1,7 @@
 -- What the lines of a worker are answered, over the history that it has seen.
-use Rattle.std.specs.Prelude.{◌≡◌, ◌≢◌, ℕ, ◌+◌, ◌<◌, ◌≤◌, ◌⊎◌, ◌||◌, Bool, true, false, List, [], ◌∷◌, ◌++◌, length, take, slice_get, Option, Some, None, IsSome, IfSome}
+use Rattle.std.specs.Prelude.{◌≡◌, ◌≢◌, ℕ, ◌+◌, ◌<◌, ◌≤◌, ◌⊎◌, ◌||◌, Bool, true, false, List, [], ◌∷◌, ◌++◌, map, length, take, slice_get, Option, Some, None, IsSome, IfSome, Result, Ok, Err}
 use Rattle.std.specs.List.{All}
-use Rattle.std.specs.Option.{is_some}
+use Rattle.std.specs.Option.{is_some, option_map}
 use Rattle.std.specs.FinMap.{empty}
 use mathlib.Core.List.{IsPrefix}
 use Rattle.lsn_core.specs.declared.ids.BlockId.{BlockId}
@@ -9,17 +9,20 @@ use Rattle.lsn_core.specs.declared.lsn.Place.{Place}
 use Rattle.lsn_core.specs.declared.fault.MarkFault.{MarkFault}
 use Rattle.lsn_core.specs.declared.fault.MarkFault.TheVariants as mark
 use Rattle.lsn_core.specs.declared.fault.StoreArea.{StoreArea}
-use Rattle.lsn_core.specs.declared.fault.StoreFault.{StoreFault}
+use Rattle.lsn_core.specs.declared.fault.StoreArea.TheVariants.{Wal, Data, Sums}
 use Rattle.lsn_core.specs.declared.fault.StoreFault.TheVariants as store
 use Rattle.lsn_core.specs.Causes.{Rose}
 use Rattle.lsn_core.specs.Files.{Files}
 use Rattle.lsn_core.specs.Segment.{StoreSettings}
 use Rattle.lsn_core.specs.Store.{Store}
 use Rattle.lsn_core.specs.declared.lsn.Lsn.{Lsn}
+use Rattle.lsn_core.specs.declared.ids.ForkLen.{ForkLen}
 use Rattle.vault.specs.Site.{Areas, AreaState}
-use Rattle.vault.specs.Lending.{IsNoneOf}
+use Rattle.vault.specs.Lending.{Names, IsOneOf, IsNoneOf}
+use Rattle.vault.specs.declared.area.Vault.{Ghosts}
 use Rattle.history.specs.declared.op.Op.{Op}
 use Rattle.history.specs.Entry.{Entry, RedoMark, Online, BackupEnd}
+use Rattle.fuzzy_copies.specs.Orderly.{IsOrderly}
 use Rattle.fuzzy_copies.specs.Taken.{IsTaken}
 use Rattle.history.specs.Apply.{apply_all}
 use Rattle.history.specs.Op.{act_of_op}
@@ -33,19 +36,30 @@ use Rattle.shared_store.specs.Calls.{IsMarkOf, FindsNoRoom, GoesOn}
 use Rattle.base_backup.specs.declared.fault.BackupFault.{BackupFault}
 use Rattle.base_backup.specs.declared.fault.BackupFault.TheVariants as backup
 use Rattle.base_backup.specs.Backup.{AreOfBackup, FindsNoRoomFor, HoldsNothing, HoldsSomething, KeepsManifest, RoseTwice}
-use Rattle.base_backup.specs.Directory.{IsFullBackup}
-use Rattle.command_base.specs.Areas.{backup_name}
+use Rattle.base_backup.specs.Directory.{IsFullBackup, IsDirectory, incr_label}
+use Rattle.base_backup.specs.declared.basis.Basis.{Basis as Plan}
+use Rattle.base_backup.specs.declared.incr_fault.IncrFault.{IncrFault}
+use Rattle.base_backup.specs.declared.incr_fault.IncrFault.TheVariants as incr
+use Rattle.base_backup.specs.Prior.{HasListing, IsOfStore, PriorAnswer}
+use Rattle.base_backup.specs.Sent.{SentFile, AreListed, AreSent, file_of}
+use Rattle.manifest.specs.Listing.{Listing}
+use Rattle.command_base.specs.Areas.{backup_name, sums_name}
 use Rattle.crew.specs.declared.script.Command.{Command}
 use Rattle.crew.specs.declared.script.Command.TheVariants as command
 use Rattle.crew.specs.declared.script.Line.{Line}
 use Rattle.crew.specs.declared.order.Order.{Order}
 use Rattle.crew.specs.declared.answer.Answer.{Answer}
-use Rattle.crew.specs.declared.answer.Answer.TheVariants.{Accepted, Refused, Grown, Stopped, Redo, CheckpointRefused, Wrote, CallFailed, Backup, BackupRefused, NotRun}
+use Rattle.crew.specs.declared.answer.Answer.TheVariants.{Accepted, Refused, Grown, Stopped, Redo, CheckpointRefused, Wrote, Published, CallFailed, Backup, BackupRefused, IncrRefused, NotRun}
 use Rattle.crew.specs.declared.answer.Stop.{Stop}
 use Rattle.crew.specs.declared.answer.Stop.TheVariants as stop
-use Rattle.crew.specs.Backups.{areas_asked}
+use Rattle.crew.specs.Backups.{area_asked, areas_asked, backup_taken, prior_taken}
 use Rattle.crew.specs.Orders.{op_asked, grow_op, grow_ops}
 use Rattle.crew.specs.Shape.{Shape}
+use Rattle.wal_summary.specs.declared.summary.Summary.{Summary}
+use Rattle.summary_store.specs.Honest.{IsHonest}
+use Rattle.summary_publish.specs.Published.{ArePublished, Advances, AdvanceAnswers, with_files}
+use Rattle.summary_publish.specs.declared.advancing.AdvanceFault.{AdvanceFault}
+use Rattle.summary_publish.specs.declared.advancing.AdvanceFault.TheVariants as advance
 
 -- ---- commands in a history
 
@@ -201,10 +215,194 @@ IsBackupRefused tells b worker before now name old new backup.NoMemory =
     KeepsManifest old.files new.files
     ⊎ (Rose old.faults new.faults ⊎ HoldsSomeBackup tells b worker before now name new.files)
 
+-- ---- summaries
+
+-- so many summaries of a history were published at a moment behind those that were kept of an area's
+-- files, which stand there beside these
+pub record HoldsSummaries (tells : Type 0) (history : List Entry) (when : ℕ)
+    (old new : Option Files) (count : ℕ) : Type 0 where
+  pub sums : List Summary
+  pub published : tells → IfSome old (λ m. ArePublished history when m sums)
+  pub counted : count ≡ length sums
+  pub files : new ≡ option_map (with_files sums) old
+
+-- ---- incremental backups
+
+-- areas as they are known at home, which tell nothing of what a stop may leave
+abbrev pub states : Ghosts AreaState
+states = record { files = λ area. area.files; faults = λ area. area.faults; past = λ area. None }
+
+-- the areas of an incremental backup: of the summaries, of the prior backup, and its own
+pub record IncrAreas : Type 0 where
+  pub sums : AreaState
+  pub prior : AreaState
+  pub out : AreaState
+
+abbrev pub incr_areas : Areas → List ℕ → List ℕ → IncrAreas
+incr_areas areas name prior = record {
+  sums = areas sums_name;
+  prior = areas (backup_name prior);
+  out = areas (backup_name name);
+}
+
+-- of the areas that a worker holds these alone may have changed, and no count fell
+pub record OnlyAmong (names : Names) (held mid : Areas) : Type 0 where
+  pub others : (n : List ℕ) → IsNoneOf n names → mid n ≡ held n
+  pub later : (n : List ℕ) → IsOneOf n names → (held n).faults ≤ (mid n).faults
+
+-- the manifest of a prior backup, where its area tells it: it is of a store with this system
+-- identifier, and ends at a place or before
+pub record IsPriorOf (system : ℕ) (prior : AreaState) (m : Listing) (start : ℕ) : Type 0 where
+  pub told : IfSome prior.files (λ files. HasListing files m)
+  pub ours : IsOfStore system m
+  pub behind : m.end ≤ start
+
+-- behind a checkpoint of a worker with this redo point, all summaries were published of the
+-- history as it was seen then, and this is what covers the WAL from a place up to the redo point
+pub record SumsUp (tells : Type 0) (when worker before : ℕ) (now : List Entry) (redo from : ℕ)
+    (old new : AreaState) (answer : Result Summary AdvanceFault) : Type 0 where
+  pub seen : ℕ
+  pub within : seen ≤ length now
+  pub checkpoint : HasCheckpointAt worker before (take seen now) redo
+  pub covers : AdvanceAnswers states tells (take seen now) when from redo old new answer
+
+-- the files of its own area are the directory of that backup under a name: those of the forks that
+-- were listed, each as it is planned by the prior backup's manifest and the summary of the WAL since
+-- that backup's start. Each fork was listed and each page that is sent was copied at a moment of its
+-- own, while this history was written
+pub record HoldsIncr (tells : Type 0) (b : Basis) (worker before : ℕ) (now : List Entry)
+    (name : List ℕ) (start end : Lsn) (old new : IncrAreas) : Type 0 where
+  pub checkpoint : ℕ
+  pub count : ℕ
+  pub entries : HasBackupAt worker before now start.0 checkpoint end.0
+  pub plan : Plan
+  pub relseg : plan.relseg ≡ b.settings.relseg
+  pub prior : IsPriorOf b.settings.system old.prior plan.prior start.0
+  pub summed : SumsUp tells b.when worker before now start.0 plan.prior.start
+      old.sums new.sums (Ok plan.summary)
+  pub list : List ForkLen
+  pub listed : AreListed tells now start.0 end.0 list
+  pub files : List SentFile
+  pub sent : AreSent tells now start.0 end.0 plan list files
+  pub directory : IsDirectory b.settings (λ begun. incr_label start
+      (record { 0 = checkpoint }) (record { 0 = plan.prior.start }) begun name)
+      b.when (map file_of files) start end count new.out.files
+
+-- it does, wherever the backup starts and ends
+abbrev pub HoldsSomeIncr :
+    Type 0 → Basis → ℕ → ℕ → List Entry → List ℕ → IncrAreas → IncrAreas → Type 0
+HoldsSomeIncr tells b worker before now name old new =
+    (start : Lsn) × (end : Lsn) × HoldsIncr tells b worker before now name start end old new
+
+-- nothing was added to the history, and the summaries and the backup's area are as they were
+pub record StandsStill (before : ℕ) (now : List Entry) (old new : IncrAreas) : Type 0 where
+  pub history : length now ≡ before
+  pub sums : new.sums ≡ old.sums
+  pub out : new.out.files ≡ old.out.files
+
+-- the backup's area held nothing, and the prior's manifest is answered so, where its area tells it
+abbrev pub RefusesPrior : Basis → IncrAreas → IncrFault → Type 0
+RefusesPrior b old why =
+    HoldsNothing old.out.files
+    × IfSome old.prior.files (λ files. PriorAnswer files b.settings.system (Err why))
+
+-- the same where it was taken
+abbrev pub TakesPrior : Basis → IncrAreas → Type 0
+TakesPrior b old =
+    HoldsNothing old.out.files
+    × IfSome old.prior.files
+    (λ files. (m : Listing) × PriorAnswer files b.settings.system (Ok m))
+
+-- the checkpoint was done, and the prior backup ends past its redo point
+pub record Overlaps (b : Basis) (worker before : ℕ) (now : List Entry) (old : IncrAreas)
+    (start end : ℕ) : Type 0 where
+  pub manifest : Listing
+  pub told : IfSome old.prior.files (λ files. HasListing files manifest)
+  pub ours : IsOfStore b.settings.system manifest
+  pub checkpoint : HasCheckpointAt worker before now start
+  pub end_is : manifest.end ≡ end
+  pub past : start < end
+
+-- the checkpoint was done and summaries were published, and they don't cover a place
+pub record LeavesGap (tells : Type 0) (b : Basis) (worker before : ℕ) (now : List Entry)
+    (old new : IncrAreas) (place : Lsn) : Type 0 where
+  pub manifest : Listing
+  pub start : ℕ
+  pub prior : IsPriorOf b.settings.system old.prior manifest start
+  pub summed : SumsUp tells b.when worker before now start manifest.start
+      old.sums new.sums (Err (advance.Gap place))
+
+-- the area of summaries is as it was, or all summaries of the history as it was seen at a moment
+-- were published there
+abbrev pub MayAdvance : Type 0 → ℕ → ℕ → List Entry → AreaState → AreaState → Type 0
+MayAdvance tells when before now old new =
+    (new ≡ old)
+    ⊎ ((seen : ℕ) × (before ≤ seen) × (seen ≤ length now)
+    × (count : ℕ) × Advances states tells (take seen now) when old new count)
+
+-- why an incremental backup was refused, what was judged before that, and what it left: of the
+-- backup's area no manifest, as for a full one
+abbrev pub IsIncrRefused :
+    Type 0 → Basis → ℕ → ℕ → List Entry → List ℕ → IncrAreas → IncrAreas → IncrFault → Type 0
+IsIncrRefused tells b worker before now name old new incr.NotEmpty =
+    HoldsSomething old.out.files × StandsStill before now old new
+IsIncrRefused tells b worker before now name old new incr.NoManifest =
+    RefusesPrior b old incr.NoManifest × StandsStill before now old new
+IsIncrRefused tells b worker before now name old new (incr.ManifestRefused why) =
+    RefusesPrior b old (incr.ManifestRefused why) × StandsStill before now old new
+IsIncrRefused tells b worker before now name old new (incr.SystemDiffers have expected) =
+    RefusesPrior b old (incr.SystemDiffers have expected) × StandsStill before now old new
+IsIncrRefused tells b worker before now name old new (incr.Overlap start end) =
+    TakesPrior b old × Overlaps b worker before now old start.0 end.0
+    × (new.sums ≡ old.sums) × (new.out.files ≡ old.out.files)
+IsIncrRefused tells b worker before now name old new (incr.Gap place) =
+    TakesPrior b old × LeavesGap tells b worker before now old new place
+    × (new.out.files ≡ old.out.files)
+IsIncrRefused tells b worker before now name old new (incr.WalFull n) =
+    TakesPrior b old × (n ≡ length now) × MeetsFullWal b.settings.segment worker before now
+    × MayAdvance tells b.when before now old.sums new.sums
+    × KeepsManifest old.out.files new.out.files
+IsIncrRefused tells b worker before now name old new (incr.StoreFailed area) =
+    TakesPrior b old × KeepsManifest old.out.files new.out.files
+IsIncrRefused tells b worker before now name old new incr.SumsFailed =
+    TakesPrior b old × Rose old.sums.faults new.sums.faults
+    × KeepsManifest old.out.files new.out.files
+IsIncrRefused tells b worker before now name old new incr.PriorFailed =
+    HoldsNothing old.out.files × Rose old.prior.faults new.prior.faults
+    × StandsStill before now old new
+IsIncrRefused tells b worker before now name old new incr.OutFailed =
+    Rose old.out.faults new.out.faults
+    × (KeepsManifest old.out.files new.out.files ⊎ RoseTwice old.out.faults new.out.faults)
+IsIncrRefused tells b worker before now name old new incr.NoMemory =
+    KeepsManifest old.out.files new.out.files
+    ⊎ (Rose old.out.faults new.out.faults ⊎ HoldsSomeIncr tells b worker before now name old new)
+
 -- ---- one line
 
+-- a full backup was taken into an area that held nothing
+abbrev pub TakesFull :
+    Type 0 → Basis → ℕ → ℕ → List Entry → Command → Lsn → Lsn → Areas → Areas → Type 0
+TakesFull tells b worker before now line start end held mid =
+    (name : List ℕ) × (line ≡ command.Full name)
+    × HoldsNothing (held (backup_name name)).files × OnlyAt (backup_name name) held mid
+    × HoldsBackup tells b worker before now name start end (mid (backup_name name)).files
+
+-- an incremental one was, on a prior backup whose files are as they were
+abbrev pub TakesIncr :
+    Type 0 → Basis → ℕ → ℕ → List Entry → Command → Lsn → Lsn → Areas → Areas → Type 0
+TakesIncr tells b worker before now line start end held mid =
+    (name : List ℕ) × (prior : List ℕ) × (line ≡ command.Incr name prior)
+    × HoldsNothing (held (backup_name name)).files × OnlyAmong (area_asked line) held mid
+    × ((mid (backup_name prior)).files ≡ (held (backup_name prior)).files)
+    × HoldsIncr tells b worker before now name start end
+    (incr_areas held name prior) (incr_areas mid name prior)
+
+-- a line flushes pages, which leaves the areas that are held
+abbrev pub IsFlushOf : Command → Areas → Areas → Type 0
+IsFlushOf line held mid = (count : ℕ) × (line ≡ command.Flush count) × (mid ≡ held)
+
 -- what a line's command was answered by a worker that had seen so many entries before and has seen
--- this history now, the entries that its commands made, and what it left of the areas of backups
+-- this history now, the entries that its commands made, and what it left of the areas that are held
 abbrev pub LineAnswer :
     Type 0 → Basis → ℕ → ℕ → List Entry → Command → Answer → List Entry → Areas → Areas → Type 0
 LineAnswer tells b worker before now line (Accepted place) made held mid =
@@ -230,24 +428,33 @@ LineAnswer tells b worker before now line (CheckpointRefused why) made held mid 
     × IsCheckpointRefused b.settings.segment worker before now why × (mid ≡ held)
 LineAnswer tells b worker before now line (Wrote k) made held mid =
     (count : ℕ) × (line ≡ command.Flush count) × (made ≡ []) × (k ≤ count) × (mid ≡ held)
+LineAnswer tells b worker before now line (Published k) made held mid =
+    (line ≡ command.Summarise) × (made ≡ []) × OnlyAt sums_name held mid
+    × HoldsSummaries tells now b.when (held sums_name).files (mid sums_name).files k
 LineAnswer tells b worker before now line (CallFailed why) made held mid =
-    (count : ℕ) × (line ≡ command.Flush count) × (made ≡ []) × (mid ≡ held)
+    (made ≡ []) × (IsFlushOf line held mid ⊎ ((line ≡ command.Summarise) × OnlyAt sums_name held mid))
 LineAnswer tells b worker before now line (Backup start end) made held mid =
-    (name : List ℕ) × (line ≡ command.Full name) × (made ≡ [])
-    × HoldsNothing (held (backup_name name)).files × OnlyAt (backup_name name) held mid
-    × HoldsBackup tells b worker before now name start end (mid (backup_name name)).files
+    (made ≡ []) × (TakesFull tells b worker before now line start end held mid
+    ⊎ TakesIncr tells b worker before now line start end held mid)
 LineAnswer tells b worker before now line (BackupRefused why) made held mid =
     (name : List ℕ) × (line ≡ command.Full name) × (made ≡ [])
     × OnlyAt (backup_name name) held mid
     × KeepsFiles (held (backup_name name)).files (mid (backup_name name)).files
     × IsBackupRefused tells b worker before now name
     (held (backup_name name)) (mid (backup_name name)) why
+LineAnswer tells b worker before now line (IncrRefused why) made held mid =
+    (name : List ℕ) × (prior : List ℕ) × (line ≡ command.Incr name prior) × (made ≡ [])
+    × OnlyAmong (area_asked line) held mid
+    × ((mid (backup_name prior)).files ≡ (held (backup_name prior)).files)
+    × KeepsFiles (held (backup_name name)).files (mid (backup_name name)).files
+    × IsIncrRefused tells b worker before now name
+    (incr_areas held name prior) (incr_areas mid name prior) why
 LineAnswer tells b worker before now line NotRun made held mid = (made ≡ []) × (mid ≡ held)
 
 -- ---- lines in turn
 
 -- lines and their answers, one each, from a moment of a history to another, the entries that their
--- commands made, and what they left of the areas of backups. Each answer is a fact of the beginning
+-- commands made, and what they left of the areas that are held. Each answer is a fact of the beginning
 -- of the history that the worker had seen when it was given
 abbrev pub Answered :
     Type 0 → Basis → ℕ → List Entry → ℕ → List Line → List Answer → List Entry → ℕ
@@ -264,8 +471,9 @@ Answered tells b worker history from (line ∷ lines) (answer ∷ answers) made 
 
 -- ---- what stops a worker
 
--- by what the refusal of a command stops it, that of a checkpoint, and that of a backup: a device
--- that failed, or want of memory, but not want of room in the WAL, and no area that holds a file
+-- by what the refusal of a command stops it, that of a checkpoint, and those of backups: a device
+-- that failed, or want of memory, but not want of room in the WAL, no area that holds a file, and
+-- nothing that is judged of a prior backup
 abbrev pub insert_stop : InsertFault → Option Stop
 insert_stop insert.NoMemory = Some (stop.Store store.NoMemory)
 insert_stop why = None
@@ -282,6 +490,20 @@ backup_stop (backup.StoreFailed area) = Some (stop.Store (store.Failed area))
 backup_stop backup.OutFailed = Some stop.Backup
 backup_stop backup.NoMemory = Some (stop.Store store.NoMemory)
 
+abbrev pub incr_stop : IncrFault → Option Stop
+incr_stop incr.NotEmpty = None
+incr_stop incr.NoManifest = None
+incr_stop (incr.ManifestRefused why) = None
+incr_stop (incr.SystemDiffers have expected) = None
+incr_stop (incr.Overlap start end) = None
+incr_stop (incr.Gap place) = None
+incr_stop (incr.WalFull n) = None
+incr_stop (incr.StoreFailed area) = Some (stop.Store (store.Failed area))
+incr_stop incr.SumsFailed = Some (stop.Store (store.Failed Sums))
+incr_stop incr.PriorFailed = Some stop.Prior
+incr_stop incr.OutFailed = Some stop.Backup
+incr_stop incr.NoMemory = Some (stop.Store store.NoMemory)
+
 abbrev pub stop_of : Answer → Option Stop
 stop_of (Accepted place) = None
 stop_of (Refused why) = insert_stop why
@@ -290,9 +512,11 @@ stop_of (Stopped k why) = insert_stop why
 stop_of (Redo redo) = None
 stop_of (CheckpointRefused why) = mark_stop why
 stop_of (Wrote k) = None
+stop_of (Published k) = None
 stop_of (CallFailed why) = Some (stop.Store why)
 stop_of (Backup start end) = None
 stop_of (BackupRefused why) = backup_stop why
+stop_of (IncrRefused why) = incr_stop why
 stop_of NotRun = None
 
 abbrev pub is_not_run : Answer → Bool
@@ -313,11 +537,28 @@ InOrder stopped (answer ∷ answers) =
 abbrev pub TellsFault : StoreArea → Answer → Type 0
 TellsFault area answer = stop_of answer ≡ Some (stop.Store (store.Failed area))
 
+-- the count of an area's faults rose while a line's command was run: of one of the store, or of the
+-- area of summaries as it is held, where the line asks for that
+abbrev pub CountRose : StoreArea → Command → Opened → Opened → Areas → Areas → Type 0
+CountRose Wal line old new held mid = Rose (count_of Wal old.faults) (count_of Wal new.faults)
+CountRose (Data q) line old new held mid =
+    Rose (count_of (Data q) old.faults) (count_of (Data q) new.faults)
+CountRose Sums line old new held mid =
+    IsOneOf sums_name (area_asked line) × Rose (held sums_name).faults (mid sums_name).faults
+
 -- each area that an answer tells to have failed has a count of faults that rose
-abbrev pub FaultsRose : List Answer → Opened → Opened → Type 0
-FaultsRose answers old new =
-    All (λ answer. (area : StoreArea) → TellsFault area answer
-    → Rose (count_of area old.faults) (count_of area new.faults)) answers
+abbrev pub FaultsRose :
+    List Line → List Answer → Opened → Opened → Areas → Areas → Type 0
+FaultsRose [] [] old new held mid = Unit {0}
+FaultsRose [] (answer ∷ answers) old new held mid = ⊥
+FaultsRose (line ∷ lines) [] old new held mid = ⊥
+FaultsRose (line ∷ lines) (answer ∷ answers) old new held mid =
+    ((area : StoreArea) → TellsFault area answer → CountRose area line.command old new held mid)
+    × FaultsRose lines answers old new held mid
+
+-- no answer stops the worker
+abbrev pub NoneStops : List Answer → Type 0
+NoneStops answers = All (λ answer. stop_of answer ≡ None) answers
 
 -- ---- a worker's run
 
@@ -352,7 +593,7 @@ pub record RunsLines (tells : Type 0) (when : ℕ) (lines : List Line) (old new 
   pub run : HasRun tells (basis_of before.settings when) lines old new held mid answers
   pub whole : new.list ≡ behind.history
   pub goes_on : GoesOn before behind
-  pub risen : FaultsRose answers before behind
+  pub risen : FaultsRose lines answers before behind held mid
 
 -- a worker's answers over the finished history, of which so many entries were found: its accepted
 -- commands are exactly those that the answers name, in order
@@ -387,18 +628,62 @@ BackupsStand tells b worker history (line ∷ lines) (answer ∷ answers) areas 
     StandsFor tells b worker history line lines answer areas
     × BackupsStand tells b worker history lines answers areas
 
--- the area of a backup failed, by its answer, only where its count of faults rose
+-- the count of a backup's area rose, which a line asks for
+abbrev pub RoseFor : Line → List ℕ → Areas → Areas → Type 0
+RoseFor line name old new =
+    IsOneOf (backup_name name) (area_asked line.command)
+    × Rose (old (backup_name name)).faults (new (backup_name name)).faults
+
+-- the area of a backup failed, by its answer, only where its count of faults rose; so did that of
+-- its prior one
 abbrev pub FailsFor : Line → Answer → Areas → Areas → Type 0
 FailsFor line answer old new =
-    stop_of answer ≡ Some stop.Backup
-    → (name : List ℕ) × (line.command ≡ command.Full name)
-    × Rose (old (backup_name name)).faults (new (backup_name name)).faults
+    (stop_of answer ≡ Some stop.Backup → RoseFor line (backup_taken line.command) old new)
+    × (stop_of answer ≡ Some stop.Prior → RoseFor line (prior_taken line.command) old new)
 
 abbrev pub BackupFaultsRose : List Line → List Answer → Areas → Areas → Type 0
 BackupFaultsRose [] answers old new = Unit {0}
 BackupFaultsRose (line ∷ lines) [] old new = Unit {0}
 BackupFaultsRose (line ∷ lines) (answer ∷ answers) old new =
     FailsFor line answer old new × BackupFaultsRose lines answers old new
+
+-- ---- what stands of summaries
+
+-- an area of summaries, where it tells its files, is honest for a history
+abbrev pub IsHonestFor : List Entry → AreaState → Type 0
+IsHonestFor history area = IfSome area.files (IsHonest history)
+
+-- ---- what stands of incremental backups when all lines were run
+
+-- the area of a name has these files still, where it told them then, or where no line behind names
+-- it too
+abbrev pub KeepsTo : List ℕ → List Line → Option Files → Areas → Type 0
+KeepsTo name lines files areas =
+    IsSome files ⊎ IsNoneOf name (areas_asked lines) → (areas name).files ≡ files
+
+-- where a line was answered that its incremental backup was taken, the area of its name had the
+-- directory of the backup then, taken over a beginning of the history on what the prior's area held;
+-- both have it still. The area of summaries told the truth then, where it did of what was found
+abbrev pub IncrStandsFor :
+    Type 0 → Basis → ℕ → List Entry → ℕ → AreaState → Line → List Line → Answer → Areas → Type 0
+IncrStandsFor tells b worker history found sums line lines (Backup start end) areas =
+    (name : List ℕ) (prior : List ℕ) → line.command ≡ command.Incr name prior
+    → (before : ℕ) × (next : ℕ) × (old : IncrAreas) × (new : IncrAreas)
+    × (found ≤ before) × (next ≤ length history)
+    × HoldsIncr tells b worker before (take next history) name start end old new
+    × KeepsTo (backup_name name) lines new.out.files areas
+    × KeepsTo (backup_name prior) lines old.prior.files areas
+    × (tells → IsOrderly 0 history → IsHonestFor (take found history) sums
+    → IsHonestFor (take before history) old.sums)
+IncrStandsFor tells b worker history found sums line lines answer areas = Unit {0}
+
+abbrev pub IncrsStand :
+    Type 0 → Basis → ℕ → List Entry → ℕ → AreaState → List Line → List Answer → Areas → Type 0
+IncrsStand tells b worker history found sums [] answers areas = Unit {0}
+IncrsStand tells b worker history found sums (line ∷ lines) [] areas = Unit {0}
+IncrsStand tells b worker history found sums (line ∷ lines) (answer ∷ answers) areas =
+    IncrStandsFor tells b worker history found sums line lines answer areas
+    × IncrsStand tells b worker history found sums lines answers areas
 
 -- ---- laws
 
@@ -428,6 +713,25 @@ AnswersTellBackups =
     → IsAnswered (tells ≡ true) b worker history found lines answers held new
     → BackupsStand (tells ≡ true) b worker history lines answers new
     × BackupFaultsRose lines answers held new
+
+-- each incremental backup that was answered stands
+abbrev pub AnswersTellIncrs : Type 0
+AnswersTellIncrs =
+    (tells : Bool) (b : Basis) (worker : ℕ) (history : List Entry) (found : ℕ)
+    (lines : List Line) (answers : List Answer) (held new : Areas)
+    → IsAnswered (tells ≡ true) b worker history found lines answers held new
+    → IncrsStand (tells ≡ true) b worker history found (held sums_name) lines answers new
+
+-- where areas tell their files, an area of summaries that was honest for the entries that were found is
+-- honest for the whole history, unless an answer stopped the worker
+abbrev pub AnswersKeepSummariesHonest : Type 0
+AnswersKeepSummariesHonest =
+    (tells : Bool) (b : Basis) (worker : ℕ) (history : List Entry) (found : ℕ)
+    (lines : List Line) (answers : List Answer) (held new : Areas)
+    → tells ≡ true → IsOrderly 0 history
+    → IsAnswered (tells ≡ true) b worker history found lines answers held new
+    → NoneStops answers → IsHonestFor (take found history) (held sums_name)
+    → IsHonestFor history (new sums_name)
 
 -- behind one history a command is taken or refused, and never both, but for want of memory
 abbrev pub TakenOrRefused : Type 0

@@ -1,10 +1,10 @@
 //! What lines were answered.
 
 ghost use Rattle.std.specs.Prelude.{◌≡◌};
-ghost use Rattle.crew.specs.Run.{stops_with, insert_stop, mark_stop, backup_stop, stop_of};
+ghost use Rattle.crew.specs.Run.{stops_with, insert_stop, mark_stop, backup_stop, incr_stop, stop_of};
 
-use base_backup::BackupFault;
-use lsn_core::{Lsn, MarkFault, Place, StoreFault};
+use base_backup::{BackupFault, IncrFault};
+use lsn_core::{Lsn, MarkFault, Place, StoreArea, StoreFault};
 use shared_store::InsertFault;
 use std::marker::Model;
 
@@ -26,13 +26,17 @@ pub enum Answer {
     CheckpointRefused(MarkFault),
     /// So many of its writes wrote something.
     Wrote(u32),
-    /// One of its writes failed.
+    /// So many summaries were published.
+    Published(u64),
+    /// One of its writes failed, or publishing summaries did.
     CallFailed(StoreFault),
-    /// The full backup was taken: where a restore of it begins to read the WAL, and how far one
+    /// The backup was taken: where a restore of it begins to read the WAL, and how far one
     /// reads at least.
     Backup(Lsn, Lsn),
-    /// The backup was refused, or failed.
+    /// The full backup was refused, or failed.
     BackupRefused(BackupFault),
+    /// The incremental backup was refused, or failed.
+    IncrRefused(IncrFault),
     /// The worker was stopped before it.
     NotRun,
 }
@@ -40,10 +44,12 @@ pub enum Answer {
 /// By what an answer stops a worker.
 #[derive(Clone, Copy, Debug, PartialEq, Eq)]
 pub enum Stop {
-    /// The device of an area of the store failed, or memory ran out.
+    /// The device of an area of the store failed, or of the area of summaries, or memory ran out.
     Store(StoreFault),
     /// The device of the area of the line's backup failed.
     Backup,
+    /// The device of the area of its prior backup failed.
+    Prior,
 }
 
 /// By what the refusal of a command stops a worker.
@@ -67,7 +73,7 @@ fn mark_stop(why: MarkFault) -> Option<Stop>
     }
 }
 
-/// By what a backup that was refused, or failed, stops a worker.
+/// By what a full backup that was refused, or failed, stops a worker.
 fn backup_stop(why: BackupFault) -> Option<Stop>
     ensures { result ≡ backup_stop why }
 {
@@ -76,6 +82,26 @@ fn backup_stop(why: BackupFault) -> Option<Stop>
         BackupFault::StoreFailed(area) => Some(Stop::Store(StoreFault::Failed(area))),
         BackupFault::OutFailed => Some(Stop::Backup),
         BackupFault::NoMemory => Some(Stop::Store(StoreFault::NoMemory)),
+    }
+}
+
+/// By what an incremental backup that was refused, or failed, stops a worker.
+fn incr_stop(why: IncrFault) -> Option<Stop>
+    ensures { result ≡ incr_stop why }
+{
+    match why {
+        IncrFault::NotEmpty
+        | IncrFault::NoManifest
+        | IncrFault::ManifestRefused(_)
+        | IncrFault::SystemDiffers(_, _)
+        | IncrFault::Overlap(_, _)
+        | IncrFault::Gap(_)
+        | IncrFault::WalFull(_) => None,
+        IncrFault::StoreFailed(area) => Some(Stop::Store(StoreFault::Failed(area))),
+        IncrFault::SumsFailed => Some(Stop::Store(StoreFault::Failed(StoreArea::Sums))),
+        IncrFault::PriorFailed => Some(Stop::Prior),
+        IncrFault::OutFailed => Some(Stop::Backup),
+        IncrFault::NoMemory => Some(Stop::Store(StoreFault::NoMemory)),
     }
 }
 
@@ -92,9 +118,11 @@ impl Answer {
             Answer::Redo(_) => None,
             Answer::CheckpointRefused(why) => mark_stop(why),
             Answer::Wrote(_) => None,
+            Answer::Published(_) => None,
             Answer::CallFailed(why) => Some(Stop::Store(why)),
             Answer::Backup(_, _) => None,
             Answer::BackupRefused(why) => backup_stop(why),
+            Answer::IncrRefused(why) => incr_stop(why),
             Answer::NotRun => None,
         }
     }

@@ -17,7 +17,7 @@ use std::alloc::Global;
 use vault::{Held, Vault};
 
 /// Where the area of this backup stands.
-fn place_of<V: Vault>(held: &[Held<V>], name: &[u8]) -> Option<usize>
+pub(crate) fn place_of<V: Vault>(held: &[Held<V>], name: &[u8]) -> Option<usize>
     ensures { result ≡ position (λ h. bytes_eq h.name (backup_name name.now)) held.now }
 {
     held.iter()

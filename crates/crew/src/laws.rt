@@ -2,6 +2,7 @@
 
 ghost use Rattle.crew.specs.Laws.{HasOneAnswer};
 ghost use Rattle.crew.specs.Run.{AnswersStay, RunsAreAnswered, AnswersTellBackups, TakenOrRefused};
+ghost use Rattle.crew.specs.Run.{AnswersTellIncrs, AnswersKeepSummariesHonest};
 
 /// The answers on a script shut each other out: it is taken as one list of commands, or refused at
 /// one line for one reason.
@@ -25,6 +26,18 @@ pub fn runs_are_answered()
 /// an area failed only where its count of faults rose.
 pub fn answers_tell_backups()
     ensures { AnswersTellBackups }
+{}
+
+/// A worker's answers tell of its incremental backups too: the directory of each that was taken stands
+/// in its area when all lines were run, as those of full ones do, and so does what it was taken on.
+pub fn answers_tell_incrs()
+    ensures { AnswersTellIncrs }
+{}
+
+/// An area of summaries that was honest for the entries that were found is honest for the whole history
+/// when all lines were run, unless an answer stopped the worker.
+pub fn answers_keep_summaries_honest()
+    ensures { AnswersKeepSummariesHonest }
 {}
 
 /// A command that is taken behind a history is refused there for want of memory alone.

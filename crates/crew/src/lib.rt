@@ -4,12 +4,13 @@
 //! bad line with a reason (`specs/Script.antt`). `run_lines` runs a worker's lines on an open
 //! store: each answer is a fact of the beginning of the history that the worker had seen when it
 //! was given, and the entries of its accepted commands are those that its answers name, in order
-//! (`specs/Run.antt`). The areas of its backups are the worker's own: what each answer leaves of them
-//! stands beside what it says of the history. What holds of every script and of every run are laws
-//! (`laws`).
+//! (`specs/Run.antt`). The areas of its backups and of summaries are the worker's own: what each answer
+//! leaves of them stands beside what it says of the history. Three of them are lent at once to an
+//! incremental backup (`increments`). What holds of every script and of every run are laws (`laws`).
 //!
 //! Left to others: whether a command may be done, its place in the WAL, checkpoints and what is
-//! flushed (`shared_store`), what a backup does (`base_backup`), where the bytes of a script and the
+//! flushed (`shared_store`), what a backup does (`base_backup`), which summaries are published
+//! (`summary_publish`), where the bytes of a script and the
 //! areas come from, and printing answers. So far there is one worker a script.
 #![tactic(auto)]
 
@@ -17,6 +18,7 @@ mod answer;
 mod backups;
 mod cuts;
 mod frags;
+mod increments;
 mod items;
 mod laws;
 mod meaning;
@@ -25,12 +27,14 @@ mod reading;
 mod run;
 mod script;
 mod shape;
+mod summaries;
 mod why;
 
 pub use answer::{Answer, Answers, Stop};
 pub use cuts::is_name;
 pub use laws::{
-    answers_stay, answers_tell_backups, runs_are_answered, script_has_one_answer, taken_or_refused,
+    answers_keep_summaries_honest, answers_stay, answers_tell_backups, answers_tell_incrs,
+    runs_are_answered, script_has_one_answer, taken_or_refused,
 };
 pub use order::{Order, OrderEdit, OrderItem, OrderItems};
 pub use reading::read_script;

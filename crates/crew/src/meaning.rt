@@ -5,7 +5,8 @@ ghost use Rattle.std.specs.Option.{option_map};
 ghost use Rattle.crew.specs.Cuts.{words_of};
 ghost use Rattle.crew.specs.Meaning.{only, two, three, words_say, meaning};
 ghost use Rattle.crew.specs.Meaning.{worker_says, create_says, truncate_says, change_says};
-ghost use Rattle.crew.specs.Meaning.{grow_says, checkpoint_says, flush_says, full_says};
+ghost use Rattle.crew.specs.Meaning.{grow_says, checkpoint_says, flush_says, summarise_says, full_says};
+ghost use Rattle.crew.specs.Meaning.{are_two_names, incr_says};
 ghost use Rattle.crew.specs.Inside.{said};
 
 use crate::cuts::{first_word, is_name};
@@ -122,6 +123,16 @@ fn flush_said(text: &[u8]) -> Option<Said<'_>>
     Some(Said::Does(Command::Flush(count)))
 }
 
+/// What a line says that publishes summaries. None exactly where words stand behind the verb.
+fn summarise_said(text: &[u8]) -> Option<Said<'_>>
+    ensures { option_map said result ≡ summarise_says (words_of text.now) }
+{
+    match first_word(text) {
+        Some(_) => None,
+        None => Some(Said::Does(Command::Summarise)),
+    }
+}
+
 /// What a line says that takes a full backup. None exactly where that is no name.
 fn full_said(alloc: Global, text: &[u8]) -> Result<Option<Said<'_>>, NoMemory>
     ensures { IfOk result (λ what. option_map said what ≡ full_says (words_of text.now)) }
@@ -129,6 +140,27 @@ fn full_said(alloc: Global, text: &[u8]) -> Result<Option<Said<'_>>, NoMemory>
     match only_word(text) {
         Some(name) if is_name(name) => {
             Ok(Some(Said::Does(Command::Full(Text::copied(alloc, name)?))))
+        }
+        _ => Ok(None),
+    }
+}
+
+/// Whether two words are names, and not the same one.
+fn are_two_names(first: &[u8], second: &[u8]) -> bool
+    ensures { result ≡ are_two_names first.now second.now }
+{
+    is_name(first) && is_name(second) && first != second
+}
+
+/// What a line says that takes an incremental backup. None exactly where that is no two names.
+fn incr_said(alloc: Global, text: &[u8]) -> Result<Option<Said<'_>>, NoMemory>
+    ensures { IfOk result (λ what. option_map said what ≡ incr_says (words_of text.now)) }
+{
+    match two_words(text) {
+        Some((name, prior)) if are_two_names(name, prior) => {
+            let name = Text::copied(alloc, name)?;
+            let prior = Text::copied(alloc, prior)?;
+            Ok(Some(Said::Does(Command::Incr(name, prior))))
         }
         _ => Ok(None),
     }
@@ -159,8 +191,14 @@ fn words_said<'a>(alloc: Global, verb: &[u8], text: &'a [u8]) -> Result<Option<S
     if verb == b"flush".as_slice() {
         return Ok(flush_said(text));
     }
+    if verb == b"summarise".as_slice() {
+        return Ok(summarise_said(text));
+    }
     if verb == b"full".as_slice() {
         return full_said(alloc, text);
+    }
+    if verb == b"incr".as_slice() {
+        return incr_said(alloc, text);
     }
     Ok(None)
 }

@@ -6,19 +6,24 @@ ghost use Rattle.std.specs.Vec.{vec_len, vec_capacity};
 ghost use Rattle.history.specs.declared.op.Op.{Op};
 ghost use Rattle.crew.specs.declared.script.Command.TheVariants as command;
 ghost use Rattle.vault.specs.Lending.{AreLater};
+ghost use Rattle.shared_store.specs.Records.{IsPlaceOf};
 ghost use Rattle.crew.specs.Backups.{area_asked, areas_asked, areas_of, AreHeld};
+ghost use Rattle.crew.specs.Backups.{HasOtherPrior, HaveOtherPriors};
 ghost use Rattle.crew.specs.Run.{RunsLines};
 ghost use Rattle.crew.specs.Running.{Knows, Inserts, CommandRuns, LineRuns};
 
 use crate::answer::Answer;
 use crate::backups::full;
+use crate::increments::incr;
 use crate::order::{Order, grow_op};
 use crate::script::{Command, Line};
 use crate::shape::PageShape;
+use crate::summaries::summarise;
 use history::Op;
 use lsn_core::{BlockId, Lsn, NoMemory, Place};
 use shared_store::{InsertFault, OfCrew, Pass, Store};
 use std::alloc::Global;
+use summary_publish::first_start;
 use vault::{Held, Vault};
 
 /// Inserts a command, which is refused where there was no memory to make it.
@@ -141,28 +146,34 @@ fn flush<J: OfCrew, V: Vault>(
     Answer::Wrote(wrote)
 }
 
-/// Does what a line says, and gives the answer to it.
+/// Does what a line says, and gives the answer to it. `known` is a place of the WAL.
 fn answer_to<J: OfCrew, V: Vault>(
     alloc: Global,
     store: &mut Store<J, V>,
     pass: &mut Pass<J>,
     held: &mut [Held<V>],
+    known: &mut Lsn,
     when: u64,
     command: &Command,
 ) -> Answer
     requires knows { Knows pass.old store.old }
+    requires known { J.tells ≡ true → IsPlaceOf pass.old.list known.old.0 }
     requires when { when ≤ 253402207199 }
     requires held { AreHeld (area_asked command.now) held.old }
+    requires prior { HasOtherPrior command.now }
     ensures runs { LineRuns (J.tells ≡ true) when command.now false pass.old pass.new
         store.old store.new (areas_of V.Vault held.old) (areas_of V.Vault held.new) result }
     ensures later { AreLater V.Vault held.old held.new }
+    ensures known { J.tells ≡ true → IsPlaceOf pass.new.list known.new.0 }
 {
     match command {
         Command::Insert(order) => insert(alloc, store, pass, order),
         Command::Grow(at, count, shape) => grow(alloc, store, pass, at, *count, *shape),
         Command::Checkpoint => checkpoint(alloc, store, pass),
         Command::Flush(count) => flush(alloc, store, pass, *count),
+        Command::Summarise => summarise(alloc, store, pass, held, known, when),
         Command::Full(name) => full(alloc, store, pass, held, when, name),
+        Command::Incr(name, prior) => { incr(alloc, store, pass, held, known, when, name, prior) }
     }
 }
 
@@ -172,21 +183,25 @@ fn run_line<J: OfCrew, V: Vault>(
     store: &mut Store<J, V>,
     pass: &mut Pass<J>,
     held: &mut [Held<V>],
+    known: &mut Lsn,
     when: u64,
     line: &Line,
     stopped: bool,
 ) -> Answer
     requires knows { Knows pass.old store.old }
+    requires known { J.tells ≡ true → IsPlaceOf pass.old.list known.old.0 }
     requires when { when ≤ 253402207199 }
     requires held { AreHeld (area_asked line.now.command) held.old }
+    requires prior { HasOtherPrior line.now.command }
     ensures runs { LineRuns (J.tells ≡ true) when line.now.command stopped pass.old pass.new
         store.old store.new (areas_of V.Vault held.old) (areas_of V.Vault held.new) result }
     ensures later { AreLater V.Vault held.old held.new }
+    ensures known { J.tells ≡ true → IsPlaceOf pass.new.list known.new.0 }
 {
     if stopped {
         Answer::NotRun
     } else {
-        answer_to(alloc, store, pass, held, when, &line.command)
+        answer_to(alloc, store, pass, held, known, when, &line.command)
     }
 }
 
@@ -203,9 +218,9 @@ fn put(answers: &mut Vec<Answer>, answer: Answer)
 }
 
 /// Runs the lines of a worker on an open store, each on what those before it left, and puts their
-/// answers where there is room for them. The areas of its backups are held by their names; `when` is
-/// the moment of these, in seconds since 1970 UTC. After a device that failed or want of memory the
-/// other lines aren't run.
+/// answers where there is room for them. The areas of its backups and of summaries are held by their
+/// names; `when` is the moment of what is written there, in seconds since 1970 UTC. After a device that
+/// failed or want of memory the other lines aren't run.
 pub fn run_lines<J: OfCrew, V: Vault>(
     alloc: Global,
     store: &mut Store<J, V>,
@@ -218,6 +233,7 @@ pub fn run_lines<J: OfCrew, V: Vault>(
     requires seen { pass.old.list ≡ store.old.history }
     requires when { when ≤ 253402207199 }
     requires held { AreHeld (areas_asked lines.now) held.old }
+    requires priors { HaveOtherPriors lines.now }
     requires none { answers.old.items ≡ [] }
     requires empty { vec_len answers.old ≡ 0 }
     requires room { length lines.now ≤ vec_capacity answers.old }
@@ -242,6 +258,7 @@ fn run_into<J: OfCrew, V: Vault>(
     requires knows { Knows pass.old store.old }
     requires when { when ≤ 253402207199 }
     requires held { AreHeld (areas_asked lines.now) held.old }
+    requires priors { HaveOtherPriors lines.now }
     requires none { answers.old.items ≡ [] }
     requires empty { vec_len answers.old ≡ 0 }
     requires room { length lines.now ≤ vec_capacity answers.old }
@@ -249,9 +266,10 @@ fn run_into<J: OfCrew, V: Vault>(
         (areas_of V.Vault held.old) (areas_of V.Vault held.new) answers.new.items }
     ensures later { AreLater V.Vault held.old held.new }
 {
+    let mut known = first_start(store);
     let mut stopped = false;
     for line in lines {
-        let answer = run_line(alloc, store, pass, held, when, line, stopped);
+        let answer = run_line(alloc, store, pass, held, &mut known, when, line, stopped);
         stopped = answer.stops();
         put(answers, answer);
     }

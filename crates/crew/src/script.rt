@@ -1,7 +1,7 @@
 //! A script that was taken: its worker and the commands of that.
 
 ghost use Rattle.std.specs.Prelude.{◌≡◌};
-ghost use Rattle.crew.specs.Backups.{backup_taken};
+ghost use Rattle.crew.specs.Backups.{backup_taken, prior_taken};
 
 use crate::order::Order;
 use crate::shape::PageShape;
@@ -23,8 +23,12 @@ pub enum Command {
     Checkpoint,
     /// Write pages that wait back to the data area, at most so many, 1 to 1,000,000.
     Flush(u32),
+    /// Publish the summaries of the WAL's ranges that are finished.
+    Summarise,
     /// Take a full backup under this name.
     Full(Text),
+    /// Take an incremental backup under the first name, on the prior backup of the second.
+    Incr(Text, Text),
 }
 
 impl Command {
@@ -34,8 +38,27 @@ impl Command {
     {
         match self {
             Command::Full(name) => name.as_bytes(),
-            Command::Insert(_) | Command::Grow(_, _, _) | Command::Checkpoint | Command::Flush(_) =>
-                b"",
+            Command::Incr(name, _) => name.as_bytes(),
+            Command::Insert(_)
+            | Command::Grow(_, _, _)
+            | Command::Checkpoint
+            | Command::Flush(_)
+            | Command::Summarise => b"",
+        }
+    }
+
+    /// The name of the prior backup that its backup is taken on; where there is none, no bytes.
+    pub fn prior(&self) -> &[u8]
+        ensures { result.now ≡ prior_taken self.now }
+    {
+        match self {
+            Command::Incr(_, prior) => prior.as_bytes(),
+            Command::Insert(_)
+            | Command::Grow(_, _, _)
+            | Command::Checkpoint
+            | Command::Flush(_)
+            | Command::Summarise
+            | Command::Full(_) => b"",
         }
     }
 }

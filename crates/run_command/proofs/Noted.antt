@@ -1,4 +1,4 @@
--- The areas of backups, each noted once.
+-- The areas of backups and of summaries, each noted once.
 use Rattle.std.proofs.Common.{◌≡◌, ◌≢◌, ℕ, ◌≤◌, ◌⊎◌, Bool, true, false, not, List, [], ◌∷◌, ◌++◌, length, length-append, get_or, true≢false, Option, Some, None, refl, sym, ap, subst, ◌∙◌, arith, inl, inr}
 use Rattle.std.specs.Prelude.{bytes_eq, nat_eq, ◌||◌}
 use Rattle.std.proofs.lemmas.Bool.{eq-eqb}
@@ -7,7 +7,7 @@ use Rattle.std.proofs.lemmas.List.{append-nil}
 use Rattle.std.proofs.lemmas.Grind.{flat_map-append}
 use Rattle.std.proofs.lemmas.Slice.Eq.{bytes_eq-Decides}
 use Rattle.vault.specs.Lending.{Names, IsOneOf, IsNoneOf, AreDistinct}
-use Rattle.command_base.specs.Areas.{wal_name, data_name, backup_name}
+use Rattle.command_base.specs.Areas.{wal_name, data_name, sums_name, backup_name}
 use Rattle.crew.specs.declared.script.Command.{Command}
 use Rattle.crew.specs.declared.script.Command.TheVariants as command
 use Rattle.crew.specs.declared.script.Line.{Line}
@@ -56,32 +56,45 @@ distinct_push name (first ∷ names) distinct none = (none_push first name names
 
 -- ---- what a command asks for
 
-pub asks_none : (command : Command) (names : Names) → area_asked command ≡ [] → AddsAsked command names names
-asks_none command names none = record {
-  distinct = λ d. d;
-  kept = λ n one. one;
-  added = λ n one. absurd (subst (λ (ns : Names). IsOneOf n ns) none one);
-  only = λ n one. inl one;
-}
+pub asks_none : (names : Names) → AddsAsked [] names names
+asks_none names = record { distinct = λ d. d; kept = λ n one. one; added = λ n one. absurd one; only = λ n one. inl one }
 
-pub asks_noted : (name : List ℕ) (names : Names) → list_any (bytes_eq (backup_name name)) names ≡ true → AddsAsked (command.Full name) names names
+pub asks_noted : (name : List ℕ) (names : Names) → list_any (bytes_eq name) names ≡ true → AddsAsked (name ∷ []) names names
 asks_noted name names e = record {
   distinct = λ d. d;
   kept = λ n one. one;
   added = λ n one. elim one [
-    | inl is ↦ subst (λ (m : List ℕ). IsOneOf m names) (sym is) (among (backup_name name) names e)
+    | inl is ↦ subst (λ (m : List ℕ). IsOneOf m names) (sym is) (among name names e)
     | inr none ↦ absurd none
   ];
   only = λ n one. inl one;
 }
 
-pub asks_more : (name : List ℕ) (names new : Names) → list_any (bytes_eq (backup_name name)) names ≡ false → new ≡ names ++ backup_name name ∷ [] → AddsAsked (command.Full name) names new
-asks_more name names new e is = subst (λ (ns : Names). AddsAsked (command.Full name) names ns) (sym is) (record {
-  distinct = λ d. distinct_push (backup_name name) names d (not_among (backup_name name) names e);
-  kept = λ n one. one_front n names (backup_name name ∷ []) one;
-  added = λ n one. one_back n names (backup_name name ∷ []) one;
-  only = λ n one. one_either n names (backup_name name ∷ []) one;
+pub asks_more : (name : List ℕ) (names new : Names) → list_any (bytes_eq name) names ≡ false → new ≡ names ++ name ∷ [] → AddsAsked (name ∷ []) names new
+asks_more name names new e is = subst (λ (ns : Names). AddsAsked (name ∷ []) names ns) (sym is) (record {
+  distinct = λ d. distinct_push name names d (not_among name names e);
+  kept = λ n one. one_front n names (name ∷ []) one;
+  added = λ n one. one_back n names (name ∷ []) one;
+  only = λ n one. one_either n names (name ∷ []) one;
 })
+
+-- what is asked for in turn
+pub asks_both : (first second names mid new : Names) → AddsAsked first names mid → AddsAsked second mid new → AddsAsked (first ++ second) names new
+asks_both first second names mid new a b = record {
+  distinct = λ d. b.distinct (a.distinct d);
+  kept = λ n one. b.kept n (a.kept n one);
+  added = λ n one. elim (one_either n first second one) [
+    | inl is ↦ b.kept n (a.added n is)
+    | inr is ↦ b.added n is
+  ];
+  only = λ n one. elim (b.only n one) [
+    | inl before ↦ elim (a.only n before) [
+      | inl old ↦ inl old
+      | inr is ↦ inr (one_front n first second is)
+    ]
+    | inr is ↦ inr (one_back n first second is)
+  ];
+}
 
 -- ---- lines
 
@@ -91,7 +104,7 @@ noted_none = record { distinct = tt; all = λ n one. one; only = λ n one. one }
 asked_push : (lines : List Line) (line : Line) → areas_asked (lines ++ line ∷ []) ≡ areas_asked lines ++ area_asked line.command
 asked_push lines line = flat_map-append (λ (l : Line). area_asked l.command) lines (line ∷ []) ∙ ap (λ (ns : Names). areas_asked lines ++ ns) (append-nil (area_asked line.command))
 
-pub noted_more : (lines more : List Line) (line : Line) (names new : Names) → more ≡ lines ++ line ∷ [] → AreEachOnce (areas_asked lines) names → AddsAsked line.command names new → AreEachOnce (areas_asked more) new
+pub noted_more : (lines more : List Line) (line : Line) (names new : Names) → more ≡ lines ++ line ∷ [] → AreEachOnce (areas_asked lines) names → AddsAsked (area_asked line.command) names new → AreEachOnce (areas_asked more) new
 noted_more lines more line names new is each adds =
     let asked : areas_asked more ≡ areas_asked lines ++ area_asked line.command = ap areas_asked is ∙ asked_push lines line in
     subst (λ (ns : Names). AreEachOnce ns new) (sym asked) (record {
@@ -108,22 +121,6 @@ noted_more lines more line names new is each adds =
 
 -- ---- beside the areas of the store
 
-a_backup : (command : Command) (n : List ℕ) → IsOneOf n (area_asked command) → (name : List ℕ) × (n ≡ backup_name name)
-a_backup (command.Insert order) n one = absurd one
-a_backup (command.Grow at count shape) n one = absurd one
-a_backup command.Checkpoint n one = absurd one
-a_backup (command.Flush count) n one = absurd one
-a_backup (command.Full name) n (inl is) = (name, is)
-a_backup (command.Full name) n (inr none) = absurd none
-
-backups_alone : (lines : List Line) (n : List ℕ) → IsOneOf n (areas_asked lines) → (name : List ℕ) × (n ≡ backup_name name)
-backups_alone [] n one = absurd one
-backups_alone (line ∷ lines) n one =
-    elim (one_either n (area_asked line.command) (areas_asked lines) one) [
-      | inl here ↦ a_backup line.command n here
-      | inr later ↦ backups_alone lines n later
-    ]
-
 -- names that differ at a place
 apart_at : (k : ℕ) (a b : List ℕ) → nat_eq (get_or a k 0) (get_or b k 0) ≡ false → a ≢ b
 apart_at k a b other = λ e. true≢false (sym (eq-eqb (get_or a k 0) (get_or b k 0) (ap (λ (xs : List ℕ). get_or xs k 0) e)) ∙ other)
@@ -131,12 +128,32 @@ apart_at k a b other = λ e. true≢false (sym (eq-eqb (get_or a k 0) (get_or b 
 no_store : (name : List ℕ) → IsNoneOf (backup_name name) store_asks
 no_store name = (apart_at 0 (backup_name name) wal_name refl, (apart_at 0 (backup_name name) (data_name 0) refl, (apart_at 0 (backup_name name) (data_name 1) refl, (apart_at 0 (backup_name name) (data_name 2) refl, (apart_at 0 (backup_name name) (data_name 3) refl, tt)))))
 
-none_of_store : (lines : List Line) (n : List ℕ) → IsOneOf n (areas_asked lines) → IsNoneOf n store_asks
-none_of_store lines n one =
-    let is = backups_alone lines n one in
-    subst (λ (m : List ℕ). IsNoneOf m store_asks) (sym is.1) (no_store is.0)
+pub sums_apart : IsNoneOf sums_name store_asks
+sums_apart = (apart_at 0 sums_name wal_name refl, (apart_at 0 sums_name (data_name 0) refl, (apart_at 0 sums_name (data_name 1) refl, (apart_at 0 sums_name (data_name 2) refl, (apart_at 0 sums_name (data_name 3) refl, tt)))))
 
-none_both : (n : List ℕ) (front rest : Names) → IsNoneOf n front → IsNoneOf n rest → IsNoneOf n (front ++ rest)
+none_asked : (command : Command) (n : List ℕ) → IsOneOf n (area_asked command) → IsNoneOf n store_asks
+none_asked (command.Insert order) n one = absurd one
+none_asked (command.Grow at count shape) n one = absurd one
+none_asked command.Checkpoint n one = absurd one
+none_asked (command.Flush count) n one = absurd one
+none_asked command.Summarise n (inl is) = subst (λ (m : List ℕ). IsNoneOf m store_asks) (sym is) sums_apart
+none_asked command.Summarise n (inr none) = absurd none
+none_asked (command.Full name) n (inl is) = subst (λ (m : List ℕ). IsNoneOf m store_asks) (sym is) (no_store name)
+none_asked (command.Full name) n (inr none) = absurd none
+none_asked (command.Incr name prior) n (inl is) = subst (λ (m : List ℕ). IsNoneOf m store_asks) (sym is) (no_store name)
+none_asked (command.Incr name prior) n (inr (inl is)) = subst (λ (m : List ℕ). IsNoneOf m store_asks) (sym is) (no_store prior)
+none_asked (command.Incr name prior) n (inr (inr (inl is))) = subst (λ (m : List ℕ). IsNoneOf m store_asks) (sym is) sums_apart
+none_asked (command.Incr name prior) n (inr (inr (inr none))) = absurd none
+
+none_of_store : (lines : List Line) (n : List ℕ) → IsOneOf n (areas_asked lines) → IsNoneOf n store_asks
+none_of_store [] n one = absurd one
+none_of_store (line ∷ lines) n one =
+    elim (one_either n (area_asked line.command) (areas_asked lines) one) [
+      | inl here ↦ none_asked line.command n here
+      | inr later ↦ none_of_store lines n later
+    ]
+
+pub none_both : (n : List ℕ) (front rest : Names) → IsNoneOf n front → IsNoneOf n rest → IsNoneOf n (front ++ rest)
 none_both n [] rest first last = last
 none_both n (name ∷ front) rest first last = (first.0, none_both n front rest first.1 last)
 

@@ -5,7 +5,7 @@ use Rattle.lsn_core.specs.Files.{Files}
 use Rattle.vault.specs.declared.area.Vault.{Ghosts as Vaults}
 use Rattle.vault.specs.declared.site.Site.{Ghosts as Sites}
 use Rattle.vault.specs.Site.{Areas, AreaState, state_in}
-use Rattle.vault.specs.Lending.{Names, IsOneOf}
+use Rattle.vault.specs.Lending.{Names, IsOneOf, IsNoneOf}
 use Rattle.shared_store.specs.declared.areas.StoreAreas.{StoreAreas}
 use Rattle.shared_store.specs.declared.begin.BeginWhy.{BeginWhy}
 use Rattle.shared_store.specs.declared.begin.BeginWhy.TheVariants as begin
@@ -16,12 +16,13 @@ use Rattle.shared_store.specs.Begin.{IsUnbegun, BeginCause, DataFails, SameData,
 use Rattle.crew.specs.declared.script.Task.{Task}
 use Rattle.run_command.specs.declared.command.RunReport.{RunReport}
 use Rattle.run_command.specs.declared.command.RunFault.TheVariants as run
-use Rattle.command_base.specs.Areas.{wal_name, data_name, Keeps}
+use Rattle.command_base.specs.Areas.{wal_name, data_name, sums_name, Keeps}
 use Rattle.vault.specs.declared.lending.Held.{Held}
 use Rattle.crew.specs.Backups.{areas_of}
-use Rattle.run_command.specs.Run.{store_asks, backups_asked, KeepAll, AreAsAt, tasks_told, HasScript, DataAreaFails, CantBegin}
+use Rattle.run_command.specs.Run.{store_asks, backups_asked, KeepAll, AreAsAt, tasks_told, DataAreaFails, CantBegin}
 use Rattle.run_command.specs.Inner.{all_tell, IsRunOn, RunsScript}
 use Rattle.run_command.proofs.StoreLent.{AreAt, RunBack, one_either, wal_files, wal_faults, all_told, rose_at}
+use Rattle.run_command.proofs.Noted.{none_both, sums_apart}
 use Rattle.run_command.proofs.RunDone.{run_done}
 
 -- ---- areas that are as they were
@@ -76,7 +77,9 @@ pub ran_ok : {S V : Type 0} (s : Sites S V) (g : Vaults V) (when : ℕ) (script 
 ran_ok s g when script old new held kept a b report back ran same = λ left rest reads now before behind has.
     let were : AreAsAt (backups_asked (tasks_told report.told)) (areas_of g held) (s.areas old) = subst (λ (ts : List Task). AreAsAt (backups_asked ts) (areas_of g held) (s.areas old)) (sym same) back.were in
     let are : AreAsAt (backups_asked (tasks_told report.told)) (areas_of g kept) (s.areas new) = subst (λ (ts : List Task). AreAsAt (backups_asked ts) (areas_of g kept) (s.areas new)) (sym same) back.after in
-    (same, has, run_done g (all_tell g a) when (s.areas old) (s.areas new) a b (areas_of g held) (areas_of g kept) report back.was back.is were are (λ told. all_told g (s.areas old) a back.was told) ran)
+    let quiet : IsNoneOf sums_name (backups_asked (tasks_told report.told)) → Keeps (s.areas old sums_name) (s.areas new sums_name) =
+    λ none. back.site.others sums_name (none_both sums_name (backups_asked script) store_asks (subst (λ (ts : List Task). IsNoneOf sums_name (backups_asked ts)) same none) sums_apart) in
+    (same, has, run_done g (all_tell g a) when (s.areas old) (s.areas new) a b (areas_of g held) (areas_of g kept) report back.was back.is were are quiet (λ told. all_told g (s.areas old) a back.was told) ran)
 
 pub ran_err : {S V : Type 0} (s : Sites S V) (g : Vaults V) (when : ℕ) (script : List Task) (old new : S) (held kept : List (Held V)) (a b : StoreAreas V) (why : BeginWhy) → RunBack s g (backups_asked script) old new held kept a b
     → areas_of g kept ≡ areas_of g held → IsUnbegun g a (record { areas = b; why = why }) → RunsScript s when script old new (Err (run.Begin why))

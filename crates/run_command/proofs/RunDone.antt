@@ -1,21 +1,24 @@
 -- What a run leaves of the areas of a store, and the history that it came to.
-use Rattle.std.proofs.Common.{◌≡◌, ℕ, zero, suc, ◌-◌, ◌≤◌, Bool, true, List, [], ◌∷◌, ◌++◌, map, length, Option, Some, None, Result, Ok, Err, IfSome, refl, sym, ap, subst, ◌∙◌, arith, inl}
+use Rattle.std.proofs.Common.{◌≡◌, ℕ, zero, suc, ◌-◌, ◌≤◌, Bool, true, List, [], ◌∷◌, ◌++◌, map, length, get_or, take, Option, Some, None, Result, Ok, Err, IfSome, refl, sym, ap, subst, ◌∙◌, arith, inl, inr}
 use Rattle.std.specs.List.{All, slice_get}
 use Rattle.std.specs.FinMap.{empty, get}
 use Rattle.std.specs.Prelude.{codes}
 use Rattle.std.proofs.lemmas.List.{length-map}
-use Rattle.std.proofs.lemmas.List.Elements.{All-nil}
-use Rattle.lsn_core.specs.Causes.{Rose}
+use Rattle.std.proofs.lemmas.List.Elements.{All-nil, All-cons}
+use Rattle.std.proofs.lemmas.Option.{slice_get-get_or}
 use Rattle.lsn_core.specs.Files.{Files}
 use Rattle.lsn_core.specs.Store.{Store}
 use Rattle.lsn_core.specs.Segment.{StoreSettings, IsSegmentMib}
 use Rattle.lsn_core.specs.Tip.{Tip}
 use Rattle.lsn_core.specs.declared.lsn.Lsn.{Lsn}
 use Rattle.lsn_core.specs.declared.fault.StoreArea.{StoreArea}
+use Rattle.lsn_core.specs.declared.fault.StoreArea.TheVariants.{Wal, Data, Sums}
 use Rattle.lsn_core.specs.declared.fault.StoreFault.{StoreFault}
+use Rattle.lsn_core.specs.declared.fault.StoreFault.TheVariants as store
 use Rattle.vault.specs.Area.{Related}
-use Rattle.vault.specs.Site.{Areas}
-use Rattle.vault.specs.Lending.{IsOneOf}
+use Rattle.vault.specs.Site.{Areas, AreaState}
+use Rattle.vault.specs.Lending.{Names, IsOneOf, IsNoneOf}
+use Rattle.vault.proofs.LentAreas.{one_or_none}
 use Rattle.vault.specs.declared.area.Vault.{Ghosts as Vaults}
 use Rattle.wal_archive.specs.Archive.{archive_of}
 use Rattle.wal_archive.specs.Writing.{IsLeft}
@@ -29,6 +32,8 @@ use Rattle.history.specs.Whole.{entry_of}
 use Rattle.history.specs.Written.{tip_of, wal_of}
 use Rattle.fuzzy_copies.specs.Logged.{history_of, log_of}
 use Rattle.journal.specs.Lawful.{IsLawful}
+use Rattle.journal.proofs.Stands.{lawful_orderly}
+use Rattle.fuzzy_copies.specs.Orderly.{IsOrderly}
 use Rattle.recovery.specs.Causes.{HasSettings}
 use Rattle.timeline.proofs.Prefixes.{prefix_refl}
 use Rattle.shared_store.specs.declared.areas.StoreAreas.{StoreAreas}
@@ -38,18 +43,27 @@ use Rattle.shared_store.specs.Calls.{GoesOn, MayWriteWal}
 use Rattle.shared_store.specs.Begin.{IsBegun, HasBegun, faults_of}
 use Rattle.shared_store.specs.Close.{IsClosed, CloseAnswer, HoldsHistory, HoldsRecords}
 use Rattle.shared_store.proofs.Goes.{goes_on}
-use Rattle.crew.specs.Backups.{areas_asked}
-use Rattle.crew.specs.Run.{Basis, basis_of, HasRun, RunsLines, IsAnswered, IsOfWorker, TellsFault}
+use Rattle.crew.specs.declared.script.Command.{Command}
+use Rattle.crew.specs.declared.script.Line.{Line}
+use Rattle.crew.specs.declared.answer.Answer.{Answer}
+use Rattle.crew.specs.declared.answer.Stop.{Stop}
+use Rattle.crew.specs.Backups.{area_asked, areas_asked}
+use Rattle.crew.specs.Run.{Basis, basis_of, HasRun, RunsLines, IsAnswered, IsOfWorker, TellsFault, CountRose, FaultsRose, NoneStops, IsHonestFor, stop_of}
 use Rattle.crew.proofs.RunLaws.{runs_answer}
 use Rattle.crew.proofs.Kept.{backups_told}
+use Rattle.crew.proofs.Increased.{incrs_told}
+use Rattle.crew.proofs.Lists.{up_to_here}
+use Rattle.crew.proofs.Summed.{for_longer, summaries_kept}
 use Rattle.run_command.specs.declared.told.Told.{Told}
 use Rattle.run_command.specs.declared.command.RunReport.{RunReport}
-use Rattle.command_base.specs.Areas.{wal_name}
-use Rattle.run_command.specs.Run.{AreTold, AreAsAt, backups_asked, tasks_told, found_tip, HasFound, IsOfRun, all_records, HoldsRun, LeavesWal, IsClosing, ToldFaultsRose, RunDone}
+use Rattle.command_base.specs.Areas.{wal_name, sums_name, Keeps}
+use Rattle.summary_store.specs.Honest.{IsHonest}
+use Rattle.run_command.specs.Report.{stop_or, first_or, first_stop, first_told}
+use Rattle.run_command.specs.Run.{AreTold, AreAsAt, backups_asked, tasks_told, found_tip, HasFound, IsOfRun, all_records, HoldsRun, LeavesWal, IsClosing, StoreFails, ToldFaultsRose, RunDone}
 use Rattle.run_command.specs.Inner.{RunsTasks, IsRunOn}
 use Rattle.command_base.proofs.Told.{some_told, at_told}
 use Rattle.run_command.proofs.StoreLent.{AreAt, wal_files, data_files, rose_between, cause_between, none_fell, rose_at, fails_at}
-use Rattle.run_command.proofs.ToldLess.{answered_less, stand_less, fail_at, one_front, one_back}
+use Rattle.run_command.proofs.ToldLess.{SameAsked, same_behind, answered_less, stand_less, incrs_less, fail_at, one_front, one_back}
 use Rattle.run_command.proofs.OwnEntries.{AreOwn, all_own, written_own, parted, none_by, same_front, held_read, log_makes}
 
 -- ---- the areas hold the history
@@ -107,14 +121,15 @@ record CameTo (tells : Bool) (s : StoreSettings) (when : ℕ) (told : List Told)
   wal : (now : Option Files) (faults : Faults) → MayWriteWal left.settings.segment left.flushed (wal_top left) left.wal now → NoneFell left.faults faults → MayWriteWal begun.settings.segment begun.flushed (wal_top left) begun.wal now
   settings : left.settings ≡ begun.settings
   later : NoneFell begun.faults left.faults
-  risen : All (λ t. All (λ answer. (area : StoreArea) → TellsFault area answer → Rose (count_of area begun.faults) (count_of area left.faults)) t.answers) told
+  risen : (worker : ℕ) (t : Told) → slice_get told worker ≡ Some t → FaultsRose t.task.lines t.answers begun left held kept
+  honest : tells ≡ true → IsOrderly 0 left.history → first_told told ≡ None → IsHonestFor (map entry_of found) (held sums_name) → IsHonestFor left.history (kept sums_name)
 
 append-none : {A : Type 0} (xs : List A) → xs ≡ xs ++ []
 append-none [] = refl
 append-none (x ∷ xs) = ap (λ ys. x ∷ ys) (append-none xs)
 
-came_none : (tells : Bool) (s : StoreSettings) (when : ℕ) (found : List Record) (begun left : Opened) (held kept : Areas) → begun.history ≡ map entry_of found → left ≡ begun → CameTo tells s when [] found begun left held kept
-came_none tells s when found begun left held kept history same = record {
+came_none : (tells : Bool) (s : StoreSettings) (when : ℕ) (found : List Record) (begun left : Opened) (held kept : Areas) → begun.history ≡ map entry_of found → left ≡ begun → kept ≡ held → CameTo tells s when [] found begun left held kept
+came_none tells s when found begun left held kept history same areas = record {
   own = [];
   grown = ap (λ (o : Opened). o.history) same ∙ (history ∙ append-none (map entry_of found));
   owns = tt;
@@ -123,7 +138,9 @@ came_none tells s when found begun left held kept history same = record {
   wal = λ now faults may none. subst (λ (o : Opened). MayWriteWal o.settings.segment o.flushed (wal_top left) o.wal now) same may;
   settings = ap (λ (o : Opened). o.settings) same;
   later = λ area. omega (arith, ap (λ (o : Opened). count_of area o.faults) same);
-  risen = λ k d within. absurd (omega arith);
+  risen = λ worker t there. absurd cc;
+  honest = λ told order none honest. subst (λ (f : Areas). IsHonestFor left.history (f sums_name)) (sym areas)
+      (subst (λ (h : List Entry). IsHonestFor h (held sums_name)) (sym (ap (λ (o : Opened). o.history) same ∙ history)) honest);
 }
 
 -- the one worker is the first
@@ -131,10 +148,6 @@ one_answered : (tells : Bool) (b : Basis) (found : ℕ) (t : Told) (history : Li
     → (worker : ℕ) (u : Told) → slice_get (t ∷ []) worker ≡ Some u → IsAnswered (tells ≡ true) b worker history found u.task.lines u.answers held kept
 one_answered tells b found t history held kept is zero u there = subst (λ (v : Told). IsAnswered (tells ≡ true) b 0 history found v.task.lines v.answers held kept) (let e : t ≡ u = cc in e) is
 one_answered tells b found t history held kept is (suc worker) u there = absurd cc
-
-all_one : {A : Type 0} (P : A → Type 0) (x : A) → P x → All P (x ∷ [])
-all_one P x holds zero d within = holds
-all_one P x holds (suc k) d within = absurd (omega arith)
 
 by_one : (es : List Entry) → All (IsOfWorker 0) es → All (IsOfRun 1) es
 by_one es all = λ k d within. (0, omega arith, all k d within)
@@ -157,6 +170,37 @@ wal_on begun left now faults first may none =
     } in
     (goes_on begun left (later_store left now faults) first last).wal
 
+-- what the one worker was told to have failed
+one_risen : (t : Told) (begun left : Opened) (held kept : Areas) → FaultsRose t.task.lines t.answers begun left held kept → (worker : ℕ) (u : Told) → slice_get (t ∷ []) worker ≡ Some u → FaultsRose u.task.lines u.answers begun left held kept
+one_risen t begun left held kept risen zero u there = subst (λ (v : Told). FaultsRose v.task.lines v.answers begun left held kept) (let e : t ≡ u = cc in e) risen
+one_risen t begun left held kept risen (suc worker) u there = absurd cc
+
+-- where no line stopped a worker no answer did
+first_none : (first rest : Option (Line × Stop)) → first_or first rest ≡ None → first ≡ None
+first_none None rest none = refl
+first_none (Some x) rest none = absurd cc
+
+no_first : (t : Told) → first_told (t ∷ []) ≡ None → first_stop t.task.lines t.answers ≡ None
+no_first t none = first_none (first_stop t.task.lines t.answers) None none
+
+stop_none : (line : Line) (why : Option Stop) (rest : Option (Line × Stop)) → stop_or line why rest ≡ None → (why ≡ None) × (rest ≡ None)
+stop_none line None rest none = (refl, none)
+stop_none line (Some why) rest none = absurd cc
+
+none_stops : (lines : List Line) (answers : List Answer) (begun left : Opened) (held kept : Areas) → FaultsRose lines answers begun left held kept → first_stop lines answers ≡ None → NoneStops answers
+none_stops [] [] begun left held kept risen none = All-nil (λ (x : Answer). stop_of x ≡ None)
+none_stops [] (x ∷ answers) begun left held kept risen none = absurd risen
+none_stops (l ∷ lines) [] begun left held kept risen none = absurd risen
+none_stops (l ∷ lines) (x ∷ answers) begun left held kept risen none =
+    let both = stop_none l (stop_of x) (first_stop lines answers) none in
+    All-cons (λ (y : Answer). stop_of y ≡ None) x answers both.0 (none_stops lines answers begun left held kept risen.1 both.1)
+
+-- what was found stands first
+found_first : (history : List Entry) (found : List Record) (own : List Entry) → history ≡ map entry_of found ++ own → take (length found) history ≡ map entry_of found
+found_first history found own grown =
+    let many : length found ≡ length (map entry_of found) = sym (length-map found entry_of) in
+    ap (take (length found)) grown ∙ (ap (λ (n : ℕ). take n (map entry_of found ++ own)) many ∙ up_to_here (map entry_of found) own)
+
 came_one : (tells : Bool) (s : StoreSettings) (when : ℕ) (t : Told) (found : List Record) (begun left : Opened) (pass seen : Seen) (held kept : Areas) → begun.settings ≡ s → begun.history ≡ map entry_of found → pass.worker ≡ 0 → pass.list ≡ begun.history
     → RunsLines (tells ≡ true) when t.task.lines pass seen begun left held kept t.answers → CameTo tells s when (t ∷ []) found begun left held kept
 came_one tells s when t found begun left pass seen held kept set history first list ran =
@@ -171,21 +215,25 @@ came_one tells s when t found begun left pass seen held kept set history first l
     (subst (λ (h : List Entry). IsAnswered (tells ≡ true) (basis_of s when) 0 h (length pass.list) t.task.lines t.answers held kept) ran.whole
     (subst (λ (w : ℕ). IsAnswered (tells ≡ true) (basis_of s when) w seen.list (length pass.list) t.task.lines t.answers held kept) first
     (subst (λ (x : StoreSettings). IsAnswered (tells ≡ true) (basis_of x when) pass.worker seen.list (length pass.list) t.task.lines t.answers held kept) set is))) in
+    let grown : left.history ≡ map entry_of found ++ run.own = sym ran.whole ∙ (run.grown ∙ ap (λ (es : List Entry). es ++ run.own) from) in
     record {
       own = run.own;
-      grown = sym ran.whole ∙ (run.grown ∙ ap (λ (es : List Entry). es ++ run.own) from);
+      grown = grown;
       owns = all_own 0 run.own by;
       of_run = by_one run.own by;
       answered = one_answered tells (basis_of s when) (length found) t left.history held kept here;
       wal = λ now faults may none. wal_on begun left now faults ran.goes_on may none;
       settings = ran.goes_on.settings;
       later = ran.goes_on.later;
-      risen = all_one (λ u. All (λ answer. (area : StoreArea) → TellsFault area answer → Rose (count_of area begun.faults) (count_of area left.faults)) u.answers) t ran.risen;
+      risen = one_risen t begun left held kept ran.risen;
+      honest = λ told order none honest.
+          summaries_kept tells (basis_of s when) 0 left.history (length found) t.task.lines t.answers held kept told order here (none_stops t.task.lines t.answers begun left held kept ran.risen (no_first t none))
+          (subst (λ (h : List Entry). IsHonestFor h (held sums_name)) (sym (found_first left.history found run.own grown)) honest);
     }
 
 came_to : (tells : Bool) (s : StoreSettings) (when : ℕ) (told : List Told) (found : List Record) (begun left : Opened) (pass seen : Seen) (held kept : Areas) → begun.settings ≡ s → begun.history ≡ map entry_of found → pass.worker ≡ 0 → pass.list ≡ begun.history
     → RunsTasks (tells ≡ true) when told pass seen begun left held kept → CameTo tells s when told found begun left held kept
-came_to tells s when [] found begun left pass seen held kept set history first list ran = came_none tells s when found begun left held kept history ran.0
+came_to tells s when [] found begun left pass seen held kept set history first list ran = came_none tells s when found begun left held kept history ran.0 ran.1
 came_to tells s when (t ∷ []) found begun left pass seen held kept set history first list ran = came_one tells s when t found begun left pass seen held kept set history first list ran
 came_to tells s when (t ∷ (u ∷ told)) found begun left pass seen held kept set history first list ran = absurd ran
 
@@ -199,12 +247,41 @@ closing g tells s found left a b old new (Ok end) set was at leads later answer 
 closing g tells s found left a b old new (Err why) set was at leads later answer holds =
     fails_at g old new a b why was at (cause_between (faults_of g a) left.faults (faults_of g b) (faults_of g b) why later (λ area. omega arith) answer)
 
+-- the areas that a worker asks for are among those of its script
+asked_among : (told : List Told) (worker : ℕ) (t : Told) (n : List ℕ) → slice_get told worker ≡ Some t → IsOneOf n (areas_asked t.task.lines) → IsOneOf n (backups_asked (tasks_told told))
+asked_among [] worker t n there one = absurd cc
+asked_among (u ∷ told) zero t n there one =
+    let same : u ≡ t = cc in
+    one_front n (areas_asked u.task.lines) (backups_asked (tasks_told told)) (subst (λ (v : Told). IsOneOf n (areas_asked v.task.lines)) (sym same) one)
+asked_among (u ∷ told) (suc worker) t n there one = one_back n (areas_asked u.task.lines) (backups_asked (tasks_told told)) (asked_among told worker t n there one)
+
 -- each area that was told to have failed did
-told_rose : {V : Type 0} (g : Vaults V) (a b : StoreAreas V) (old new : Areas) (begun left : Faults) (told : List Told) → AreAt g old a → AreAt g new b → NoneFell (faults_of g a) begun → NoneFell left (faults_of g b)
-    → All (λ t. All (λ answer. (area : StoreArea) → TellsFault area answer → Rose (count_of area begun) (count_of area left)) t.answers) told → ToldFaultsRose old new told
-told_rose g a b old new begun left told was at early late risen =
-    λ k d within. λ j e inside. λ area tells. rose_at g old new a b was at area
-    (rose_between (count_of area (faults_of g a)) (count_of area begun) (count_of area left) (count_of area (faults_of g b)) (early area) (late area) (risen k d within j e inside area tells))
+area_rose : {V : Type 0} (g : Vaults V) (a b : StoreAreas V) (old new held kept : Areas) (begun left : Opened) (line : Line) (lines : List Line) → AreAt g old a → AreAt g new b → NoneFell (faults_of g a) begun.faults → NoneFell left.faults (faults_of g b)
+    → SameAsked (line ∷ lines) held old → SameAsked (line ∷ lines) kept new → (area : StoreArea) → CountRose area line.command begun left held kept → StoreFails old new (store.Failed area)
+area_rose g a b old new held kept begun left line lines was at early late were are Wal rose =
+    rose_at g old new a b was at Wal (rose_between (count_of Wal (faults_of g a)) (count_of Wal begun.faults) (count_of Wal left.faults) (count_of Wal (faults_of g b)) (early Wal) (late Wal) rose)
+area_rose g a b old new held kept begun left line lines was at early late were are (Data q) rose =
+    rose_at g old new a b was at (Data q) (rose_between (count_of (Data q) (faults_of g a)) (count_of (Data q) begun.faults) (count_of (Data q) left.faults) (count_of (Data q) (faults_of g b)) (early (Data q)) (late (Data q)) rose)
+area_rose g a b old new held kept begun left line lines was at early late were are Sums rose =
+    let one : IsOneOf sums_name (areas_asked (line ∷ lines)) = one_front sums_name (area_asked line.command) (areas_asked lines) rose.0 in
+    omega (arith, rose.1, ap (λ (x : AreaState). x.faults) (were sums_name one), ap (λ (x : AreaState). x.faults) (are sums_name one))
+
+areas_rose : {V : Type 0} (g : Vaults V) (a b : StoreAreas V) (old new held kept : Areas) (begun left : Opened) (lines : List Line) (answers : List Answer) → AreAt g old a → AreAt g new b → NoneFell (faults_of g a) begun.faults → NoneFell left.faults (faults_of g b)
+    → SameAsked lines held old → SameAsked lines kept new → FaultsRose lines answers begun left held kept → All (λ answer. (area : StoreArea) → TellsFault area answer → StoreFails old new (store.Failed area)) answers
+areas_rose g a b old new held kept begun left [] [] was at early late were are risen = All-nil (λ (x : Answer). (area : StoreArea) → TellsFault area x → StoreFails old new (store.Failed area))
+areas_rose g a b old new held kept begun left [] (x ∷ answers) was at early late were are risen = absurd risen
+areas_rose g a b old new held kept begun left (l ∷ lines) [] was at early late were are risen = absurd risen
+areas_rose g a b old new held kept begun left (l ∷ lines) (x ∷ answers) was at early late were are risen =
+    All-cons (λ (y : Answer). (area : StoreArea) → TellsFault area y → StoreFails old new (store.Failed area)) x answers (λ area tells. area_rose g a b old new held kept begun left l lines was at early late were are area (risen.0 area tells))
+    (areas_rose g a b old new held kept begun left lines answers was at early late (same_behind l lines held old were) (same_behind l lines kept new are) risen.1)
+
+told_rose : {V : Type 0} (g : Vaults V) (a b : StoreAreas V) (old new held kept : Areas) (begun left : Opened) (told : List Told) → AreAt g old a → AreAt g new b → NoneFell (faults_of g a) begun.faults → NoneFell left.faults (faults_of g b)
+    → AreAsAt (backups_asked (tasks_told told)) held old → AreAsAt (backups_asked (tasks_told told)) kept new → ((worker : ℕ) (t : Told) → slice_get told worker ≡ Some t → FaultsRose t.task.lines t.answers begun left held kept) → ToldFaultsRose old new told
+told_rose g a b old new held kept begun left told was at early late were are risen =
+    λ k d within.
+    let t : Told = get_or told k d in
+    let there : slice_get told k ≡ Some t = slice_get-get_or told k d within in
+    areas_rose g a b old new held kept begun left t.task.lines t.answers was at early late (λ n one. were n (asked_among told k t n there one)) (λ n one. are n (asked_among told k t n there one)) (risen k t there)
 
 pub pass_is : (pass : Seen) (history : List Entry) → pass ∷ [] ≡ record { worker = 0; accepted = 0; list = history } ∷ [] → (pass.worker ≡ 0) × (pass.list ≡ history)
 pass_is pass history is =
@@ -252,17 +329,18 @@ run_on g tells when a b held kept report begun left crew pass seen tip is one op
   closes = closed;
 }
 
--- the areas that a worker asks for are among those of its script
-asked_among : (told : List Told) (worker : ℕ) (t : Told) (n : List ℕ) → slice_get told worker ≡ Some t → IsOneOf n (areas_asked t.task.lines) → IsOneOf n (backups_asked (tasks_told told))
-asked_among [] worker t n there one = absurd cc
-asked_among (u ∷ told) zero t n there one =
-    let same : u ≡ t = cc in
-    one_front n (areas_asked u.task.lines) (backups_asked (tasks_told told)) (subst (λ (v : Told). IsOneOf n (areas_asked v.task.lines)) (sym same) one)
-asked_among (u ∷ told) (suc worker) t n there one = one_back n (areas_asked u.task.lines) (backups_asked (tasks_told told)) (asked_among told worker t n there one)
+-- an area of summaries that was honest is so still, whether or not a line publishes some
+still_honest : (found : List Entry) (history own : List Entry) (old new held kept : Areas) (asked : Names) → history ≡ found ++ own → IsOrderly 0 history → AreAsAt asked held old → AreAsAt asked kept new → (IsNoneOf sums_name asked → Keeps (old sums_name) (new sums_name))
+    → (IsHonestFor found (held sums_name) → IsHonestFor history (kept sums_name)) → IsHonestFor found (old sums_name) → IsHonestFor history (new sums_name)
+still_honest found history own old new held kept asked grown order were are quiet honest was =
+    elim (one_or_none sums_name asked) [
+      | inl one ↦ subst (IsHonestFor history) (are sums_name one) (honest (subst (IsHonestFor found) (sym (were sums_name one)) was))
+      | inr none ↦ subst (λ (o : Option Files). IfSome o (IsHonest history)) (sym (quiet none)) (for_longer found history (old sums_name) order (own, sym grown) was)
+    ]
 
 pub run_done : {V : Type 0} (g : Vaults V) (tells : Bool) (when : ℕ) (old new : Areas) (a b : StoreAreas V) (held kept : Areas) (report : RunReport) → AreAt g old a → AreAt g new b → AreAsAt (backups_asked (tasks_told report.told)) held old
-    → AreAsAt (backups_asked (tasks_told report.told)) kept new → (AreTold old → tells ≡ true) → IsRunOn g tells when a b held kept report → RunDone when old new report
-run_done g tells when old new a b held kept report was at were are leads ran =
+    → AreAsAt (backups_asked (tasks_told report.told)) kept new → (IsNoneOf sums_name (backups_asked (tasks_told report.told)) → Keeps (old sums_name) (new sums_name)) → (AreTold old → tells ≡ true) → IsRunOn g tells when a b held kept report → RunDone when old new report
+run_done g tells when old new a b held kept report was at were are quiet leads ran =
     let has : HasBegun (g.files a.wal) 1 ran.begun (ran.pass ∷ []) ran.tip = ran.begins.has in
     let s : StoreSettings = ran.begun.settings in
     let first = pass_is ran.pass ran.begun.history has.crew_is in
@@ -303,6 +381,8 @@ run_done g tells when old new a b held kept report was at were are leads ran =
       are = are;
       completed = λ worker t is. stand_less (tells ≡ true) (AreTold old) (basis_of s when) worker ran.left.history t.task.lines t.answers kept new leads (λ n one. are n (asked_among report.told worker t n is one))
           (backups_told tells (basis_of s when) worker ran.left.history (length has.found) t.task.lines t.answers held kept (came.answered worker t is)).0;
+      incremented = λ worker t is. incrs_less (tells ≡ true) (AreTold old) (basis_of s when) worker ran.left.history (length has.found) t.task.lines t.answers held old kept new leads (λ n one. were n (asked_among report.told worker t n is one))
+          (λ n one. are n (asked_among report.told worker t n is one)) (incrs_told tells (basis_of s when) worker ran.left.history (length has.found) t.task.lines t.answers held kept (came.answered worker t is));
       left = leaves;
       closing = closing g tells s has.found ran.left a b old new report.closed came.settings was at leads later ran.closes.answer
           (λ told holds. let files = some_told (old wal_name).files (told wal_name (inl refl)) in
@@ -311,7 +391,10 @@ run_done g tells when old new a b held kept report was at were are leads ran =
           (subst (λ (x : StoreSettings). HasSettings (old wal_name).files x) (sym came.settings) given)
           (subst (λ (x : StoreSettings). HasFound x has.found files.0) (sym came.settings) (at_told (old wal_name).files files.0 (HasFound s has.found) files.1 there))
           (subst (λ (x : StoreSettings). LeavesWal x has.found ran.left.history (old wal_name) (new wal_name)) (sym came.settings) leaves)));
-      risen = told_rose g a b old new ran.begun.faults ran.left.faults report.told was at ran.begins.later ran.closes.later came.risen;
+      risen = told_rose g a b old new held kept ran.begun ran.left report.told was at ran.begins.later ran.closes.later were are came.risen;
       backups_failed = λ worker t is. fail_at t.task.lines t.answers held kept old new (λ n one. were n (asked_among report.told worker t n is one)) (λ n one. are n (asked_among report.told worker t n is one))
           (backups_told tells (basis_of s when) worker ran.left.history (length has.found) t.task.lines t.answers held kept (came.answered worker t is)).1;
+      honest = λ told none honest.
+          let order : IsOrderly 0 ran.left.history = lawful_orderly ran.left.settings.segment ran.left.history (ran.lawful (leads told)) in
+          still_honest (map entry_of has.found) ran.left.history came.own old new held kept (backups_asked (tasks_told report.told)) came.grown order were are quiet (came.honest (leads told) order none) honest;
     }

@@ -3,9 +3,8 @@ use Rattle.std.proofs.Common.{◌≡◌, ℕ, suc, ◌+◌, ◌<◌, List, [], �
 use Rattle.crew.specs.declared.script.Line.{Line}
 use Rattle.crew.specs.declared.answer.Answer.{Answer}
 use Rattle.crew.specs.declared.answer.Stop.{Stop}
-use Rattle.crew.specs.Run.{stop_of}
 use Rattle.run_command.specs.declared.told.Told.{Told}
-use Rattle.run_command.specs.Report.{stop_or, first_or, first_stop, first_told}
+use Rattle.run_command.specs.Report.{first_or, first_stop, first_told}
 
 -- ---- of one worker
 

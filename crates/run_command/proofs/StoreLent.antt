@@ -224,7 +224,7 @@ as_there g site (name ∷ names) (x ∷ held) n are one =
       ]
     ]
 
-one_not_none : (n : List ℕ) (names : Names) → IsOneOf n names → IsNoneOf n names → ⊥
+pub one_not_none : (n : List ℕ) (names : Names) → IsOneOf n names → IsNoneOf n names → ⊥
 one_not_none n [] one none = absurd one
 one_not_none n (name ∷ names) (inl is) none = none.0 is
 one_not_none n (name ∷ names) (inr later) none = one_not_none n names later none.1

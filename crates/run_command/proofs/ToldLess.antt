@@ -1,12 +1,23 @@
 -- What is said of answers where areas tell their files is said where that is known for another reason.
-use Rattle.std.proofs.Common.{◌≡◌, ℕ, ◌+◌, List, [], ◌∷◌, ◌++◌, take, Option, refl, sym, ap, subst, ◌∙◌, arith, inl, inr}
+use Rattle.std.proofs.Common.{◌≡◌, ℕ, ◌+◌, List, [], ◌∷◌, ◌++◌, take, Option, Result, Ok, Err, refl, sym, ap, subst, ◌∙◌, arith, inl, inr}
+use Rattle.std.specs.List.{AllByRecursion}
 use Rattle.lsn_core.specs.Files.{Files}
 use Rattle.lsn_core.specs.declared.lsn.Lsn.{Lsn}
 use Rattle.vault.specs.Site.{Areas, AreaState}
 use Rattle.vault.specs.Lending.{Names, IsOneOf}
 use Rattle.base_backup.specs.declared.fault.BackupFault.{BackupFault}
 use Rattle.base_backup.specs.declared.fault.BackupFault.TheVariants as backup
-use Rattle.command_base.specs.Areas.{backup_name}
+use Rattle.base_backup.specs.declared.basis.Basis.{Basis as Plan}
+use Rattle.base_backup.specs.declared.incr_fault.IncrFault.{IncrFault}
+use Rattle.base_backup.specs.declared.incr_fault.IncrFault.TheVariants as incr
+use Rattle.base_backup.specs.Sent.{SentFile, AreFor, IsCopyOf, IsSentAs, AreSent, AreListed, blocks_sent}
+use Rattle.lsn_core.specs.declared.ids.ForkLen.{ForkLen}
+use Rattle.lsn_core.specs.Store.{ForkPages}
+use Rattle.wal_summary.specs.declared.summary.Summary.{Summary}
+use Rattle.summary_publish.specs.Published.{Advances, AdvancesTo, AdvanceAnswers}
+use Rattle.summary_publish.specs.declared.advancing.AdvanceFault.{AdvanceFault}
+use Rattle.summary_publish.specs.declared.advancing.AdvanceFault.TheVariants as advance
+use Rattle.command_base.specs.Areas.{backup_name, sums_name}
 use Rattle.history.specs.declared.op.Op.{Op}
 use Rattle.history.specs.Entry.{Entry}
 use Rattle.shared_store.specs.Seen.{accepted_by}
@@ -14,10 +25,10 @@ use Rattle.crew.specs.declared.script.Command.{Command}
 use Rattle.crew.specs.declared.script.Command.TheVariants as command
 use Rattle.crew.specs.declared.script.Line.{Line}
 use Rattle.crew.specs.declared.answer.Answer.{Answer}
-use Rattle.crew.specs.declared.answer.Answer.TheVariants.{Accepted, Refused, Grown, Stopped, Redo, CheckpointRefused, Wrote, CallFailed, Backup, BackupRefused, NotRun}
+use Rattle.crew.specs.declared.answer.Answer.TheVariants.{Accepted, Refused, Grown, Stopped, Redo, CheckpointRefused, Wrote, Published, CallFailed, Backup, BackupRefused, IncrRefused, NotRun}
 use Rattle.crew.specs.Orders.{op_asked, grow_ops}
-use Rattle.crew.specs.Backups.{area_asked, areas_asked}
-use Rattle.crew.specs.Run.{Basis, HoldsBackup, IsBackupRefused, Made, LineAnswer, Answered, IsAnswered, StandsFor, BackupsStand, FailsFor, BackupFaultsRose}
+use Rattle.crew.specs.Backups.{area_asked, areas_asked, backup_taken, prior_taken}
+use Rattle.crew.specs.Run.{Basis, HoldsBackup, IsBackupRefused, IncrAreas, incr_areas, states, HoldsIncr, SumsUp, IsIncrRefused, IncrStandsFor, IncrsStand, KeepsTo, IsHonestFor, Made, LineAnswer, Answered, IsAnswered, StandsFor, BackupsStand, RoseFor, FailsFor, BackupFaultsRose}
 
 made_less : (S T : Type 0) (mib worker : ℕ) (history : List Entry) (from : ℕ) (ops : List Op) (made : List Entry) → (T → S) → Made S mib worker history from ops made → Made T mib worker history from ops made
 made_less S T mib worker history from [] [] leads is = is
@@ -50,6 +61,85 @@ refused_less S T b worker before now name old new backup.NoMemory leads (inl kep
 refused_less S T b worker before now name old new backup.NoMemory leads (inr (inl rose)) = inr (inl rose)
 refused_less S T b worker before now name old new backup.NoMemory leads (inr (inr whole)) = inr (inr (whole.0, whole.1, holds_less S T b worker before now name whole.0 whole.1 new.files leads whole.2))
 
+-- ---- incremental backups
+
+advances_less : (S T : Type 0) (history : List Entry) (when : ℕ) (old new : AreaState) (count : ℕ) → (T → S) → Advances states S history when old new count → Advances states T history when old new count
+advances_less S T history when old new count leads a = record { sums = a.sums; published = λ t. a.published (leads t); counted = a.counted; files = a.files; stop = a.stop }
+
+advances_to_less : (S T : Type 0) (history : List Entry) (when : ℕ) (old new : AreaState) (P : List Summary → Type 0) → (T → S) → AdvancesTo states S history when old new P → AdvancesTo states T history when old new P
+advances_to_less S T history when old new P leads a = record { count = a.count; advances = advances_less S T history when old new a.count leads a.advances; kept = a.kept; held = a.held; so = a.so }
+
+covers_less : (S T : Type 0) (history : List Entry) (when from to : ℕ) (old new : AreaState) (answer : Result Summary AdvanceFault) → (T → S) → AdvanceAnswers states S history when from to old new answer → AdvanceAnswers states T history when from to old new answer
+covers_less S T history when from to old new (Ok sum) leads a = advances_to_less S T history when old new _ leads a
+covers_less S T history when from to old new (Err (advance.Gap place)) leads a = advances_to_less S T history when old new _ leads a
+covers_less S T history when from to old new (Err (advance.Store fault)) leads a = tt
+
+sums_up_less : (S T : Type 0) (when worker before : ℕ) (now : List Entry) (redo from : ℕ) (old new : AreaState) (answer : Result Summary AdvanceFault) → (T → S) → SumsUp S when worker before now redo from old new answer → SumsUp T when worker before now redo from old new answer
+sums_up_less S T when worker before now redo from old new answer leads s = record {
+  seen = s.seen;
+  within = s.within;
+  checkpoint = s.checkpoint;
+  covers = covers_less S T (take s.seen now) when from redo old new answer leads s.covers;
+}
+
+are_for_less : (P Q : ℕ → List ℕ → Type 0) (blocks : List ℕ) (pages : ForkPages) → ((block : ℕ) (page : List ℕ) → P block page → Q block page) → AreFor P blocks pages → AreFor Q blocks pages
+are_for_less P Q [] [] step are = tt
+are_for_less P Q [] (page ∷ pages) step are = absurd are
+are_for_less P Q (block ∷ blocks) [] step are = absurd are
+are_for_less P Q (block ∷ blocks) (page ∷ pages) step are = (step block page are.0, are_for_less P Q blocks pages step are.1)
+
+all_sent_less : (S T : Type 0) (history : List Entry) (from to : ℕ) (files : List SentFile) → (T → S) → AllByRecursion (IsSentAs S history from to) files → AllByRecursion (IsSentAs T history from to) files
+all_sent_less S T history from to [] leads are = tt
+all_sent_less S T history from to (f ∷ files) leads are = (
+  are_for_less (λ block page. IsCopyOf S history from to f.what.fork (f.what.first + block) page) (λ block page. IsCopyOf T history from to f.what.fork (f.what.first + block) page) (blocks_sent f.what.count f.what.plan) f.pages (λ block page c. (c.0, λ t. c.1 (leads t))) are.0,
+  all_sent_less S T history from to files leads are.1,
+)
+
+incr_less : (S T : Type 0) (b : Basis) (worker before : ℕ) (now : List Entry) (name : List ℕ) (start end : Lsn) (old new : IncrAreas) → (T → S) → HoldsIncr S b worker before now name start end old new → HoldsIncr T b worker before now name start end old new
+incr_less S T b worker before now name start end old new leads h = record {
+  checkpoint = h.checkpoint;
+  count = h.count;
+  entries = h.entries;
+  plan = h.plan;
+  relseg = h.relseg;
+  prior = h.prior;
+  summed = sums_up_less S T b.when worker before now start.0 h.plan.prior.start old.sums new.sums (Ok h.plan.summary) leads h.summed;
+  list = h.list;
+  listed = record { order = h.listed.order; named = h.listed.named; listed = λ t. h.listed.listed (leads t) };
+  files = h.files;
+  sent = record { planned_are = h.sent.planned_are; sent = all_sent_less S T now start.0 end.0 h.files leads h.sent.sent };
+  directory = h.directory;
+}
+
+incr_refused_less : (S T : Type 0) (b : Basis) (worker before : ℕ) (now : List Entry) (name : List ℕ) (old new : IncrAreas) (why : IncrFault) → (T → S) → IsIncrRefused S b worker before now name old new why → IsIncrRefused T b worker before now name old new why
+incr_refused_less S T b worker before now name old new incr.NotEmpty leads is = is
+incr_refused_less S T b worker before now name old new incr.NoManifest leads is = is
+incr_refused_less S T b worker before now name old new (incr.ManifestRefused why) leads is = is
+incr_refused_less S T b worker before now name old new (incr.SystemDiffers have expected) leads is = is
+incr_refused_less S T b worker before now name old new (incr.Overlap start end) leads is = is
+incr_refused_less S T b worker before now name old new (incr.Gap place) leads is = (
+  is.0,
+  record {
+    manifest = is.1.manifest;
+    start = is.1.start;
+    prior = is.1.prior;
+    summed = sums_up_less S T b.when worker before now is.1.start is.1.manifest.start old.sums new.sums (Err (advance.Gap place)) leads is.1.summed;
+  },
+  is.2,
+)
+incr_refused_less S T b worker before now name old new (incr.WalFull n) leads (judged, counted, full, inl same, left) = (judged, counted, full, inl same, left)
+incr_refused_less S T b worker before now name old new (incr.WalFull n) leads (judged, counted, full, inr more, left) =
+    (judged, counted, full, inr (more.0, more.1, more.2, more.3, advances_less S T (take more.0 now) b.when old.sums new.sums more.3 leads more.4), left)
+incr_refused_less S T b worker before now name old new (incr.StoreFailed area) leads is = is
+incr_refused_less S T b worker before now name old new incr.SumsFailed leads is = is
+incr_refused_less S T b worker before now name old new incr.PriorFailed leads is = is
+incr_refused_less S T b worker before now name old new incr.OutFailed leads is = is
+incr_refused_less S T b worker before now name old new incr.NoMemory leads (inl kept) = inl kept
+incr_refused_less S T b worker before now name old new incr.NoMemory leads (inr (inl rose)) = inr (inl rose)
+incr_refused_less S T b worker before now name old new incr.NoMemory leads (inr (inr whole)) = inr (inr (whole.0, whole.1, incr_less S T b worker before now name whole.0 whole.1 old new leads whole.2))
+
+-- ---- one line
+
 line_less : (S T : Type 0) (b : Basis) (worker before : ℕ) (now : List Entry) (line : Command) (answer : Answer) (made : List Entry) (held mid : Areas) → (T → S) → LineAnswer S b worker before now line answer made held mid → LineAnswer T b worker before now line answer made held mid
 line_less S T b worker before now line (Accepted place) made held mid leads is = (is.0, is.1, made_less S T b.settings.segment worker now before (op_asked is.0 ∷ []) made leads is.2, is.3, is.4)
 line_less S T b worker before now line (Refused why) made held mid leads is = (is.0, is.1, is.2, λ t. is.3 (leads t), is.4)
@@ -59,11 +149,17 @@ line_less S T b worker before now line (Stopped k why) made held mid leads is =
 line_less S T b worker before now line (Redo redo) made held mid leads is = is
 line_less S T b worker before now line (CheckpointRefused why) made held mid leads is = is
 line_less S T b worker before now line (Wrote k) made held mid leads is = is
+line_less S T b worker before now line (Published k) made held mid leads is =
+    (is.0, is.1, is.2, record { sums = is.3.sums; published = λ t. is.3.published (leads t); counted = is.3.counted; files = is.3.files })
 line_less S T b worker before now line (CallFailed why) made held mid leads is = is
-line_less S T b worker before now line (Backup start end) made held mid leads is =
-    (is.0, is.1, is.2, is.3, is.4, holds_less S T b worker before now is.0 start end (mid (backup_name is.0)).files leads is.5)
+line_less S T b worker before now line (Backup start end) made held mid leads (made_is, inl t) =
+    (made_is, inl (t.0, t.1, t.2, t.3, holds_less S T b worker before now t.0 start end (mid (backup_name t.0)).files leads t.4))
+line_less S T b worker before now line (Backup start end) made held mid leads (made_is, inr t) =
+    (made_is, inr (t.0, t.1, t.2, t.3, t.4, t.5, incr_less S T b worker before now t.0 start end (incr_areas held t.0 t.1) (incr_areas mid t.0 t.1) leads t.6))
 line_less S T b worker before now line (BackupRefused why) made held mid leads is =
     (is.0, is.1, is.2, is.3, is.4, refused_less S T b worker before now is.0 (held (backup_name is.0)) (mid (backup_name is.0)) why leads is.5)
+line_less S T b worker before now line (IncrRefused why) made held mid leads is =
+    (is.0, is.1, is.2, is.3, is.4, is.5, is.6, incr_refused_less S T b worker before now is.0 (incr_areas held is.0 is.1) (incr_areas mid is.0 is.1) why leads is.7)
 line_less S T b worker before now line NotRun made held mid leads is = is
 
 lines_less : (S T : Type 0) (b : Basis) (worker : ℕ) (history : List Entry) (from : ℕ) (lines : List Line) (answers : List Answer) (made : List Entry) (to : ℕ) (held new : Areas) → (T → S) → Answered S b worker history from lines answers made to held new
@@ -108,7 +204,7 @@ asked_here line lines name is = one_front (backup_name name) (area_asked line.co
 abbrev pub SameAsked : List Line → Areas → Areas → Type 0
 SameAsked lines kept new = (n : List ℕ) → IsOneOf n (areas_asked lines) → kept n ≡ new n
 
-same_behind : (line : Line) (lines : List Line) (kept new : Areas) → SameAsked (line ∷ lines) kept new → SameAsked lines kept new
+pub same_behind : (line : Line) (lines : List Line) (kept new : Areas) → SameAsked (line ∷ lines) kept new → SameAsked lines kept new
 same_behind line lines kept new same n one = same n (one_back n (area_asked line.command) (areas_asked lines) one)
 
 stands_less : (S T : Type 0) (b : Basis) (worker : ℕ) (history : List Entry) (line : Line) (lines : List Line) (answer : Answer) (kept new : Areas) → (T → S) → SameAsked (line ∷ lines) kept new → StandsFor S b worker history line lines answer kept → StandsFor T b worker history line lines answer new
@@ -119,12 +215,14 @@ stands_less S T b worker history line lines (Stopped k why) kept new leads same 
 stands_less S T b worker history line lines (Redo redo) kept new leads same is = tt
 stands_less S T b worker history line lines (CheckpointRefused why) kept new leads same is = tt
 stands_less S T b worker history line lines (Wrote k) kept new leads same is = tt
+stands_less S T b worker history line lines (Published k) kept new leads same is = tt
 stands_less S T b worker history line lines (CallFailed why) kept new leads same is = tt
 stands_less S T b worker history line lines (Backup start end) kept new leads same is = λ name full.
     let there = is name full in
     let at : kept (backup_name name) ≡ new (backup_name name) = same (backup_name name) (asked_here line lines name full) in
     (there.0, there.1, there.2, holds_less S T b worker 0 (take there.0 history) name start end there.1 leads there.3, λ still. ap (λ (x : AreaState). x.files) (sym at) ∙ there.4 still)
 stands_less S T b worker history line lines (BackupRefused why) kept new leads same is = tt
+stands_less S T b worker history line lines (IncrRefused why) kept new leads same is = tt
 stands_less S T b worker history line lines NotRun kept new leads same is = tt
 
 pub stand_less : (S T : Type 0) (b : Basis) (worker : ℕ) (history : List Entry) (lines : List Line) (answers : List Answer) (kept new : Areas) → (T → S) → SameAsked lines kept new → BackupsStand S b worker history lines answers kept → BackupsStand T b worker history lines answers new
@@ -133,12 +231,66 @@ stand_less S T b worker history (line ∷ lines) [] kept new leads same is = tt
 stand_less S T b worker history (line ∷ lines) (answer ∷ answers) kept new leads same is =
     (stands_less S T b worker history line lines answer kept new leads same is.0, stand_less S T b worker history lines answers kept new leads (same_behind line lines kept new same) is.1)
 
+-- ---- incremental ones
+
+incr_asked : (line : Line) (lines : List Line) (name prior n : List ℕ) → line.command ≡ command.Incr name prior → IsOneOf n (area_asked (command.Incr name prior)) → IsOneOf n (areas_asked (line ∷ lines))
+incr_asked line lines name prior n is one = one_front n (area_asked line.command) (areas_asked lines) (subst (λ (c : Command). IsOneOf n (area_asked c)) (sym is) one)
+
+keeps_at : (name : List ℕ) (lines : List Line) (files : Option Files) (kept new : Areas) → kept name ≡ new name → KeepsTo name lines files kept → KeepsTo name lines files new
+keeps_at name lines files kept new at keeps = λ still. ap (λ (x : AreaState). x.files) (sym at) ∙ keeps still
+
+incr_stands_less : (S T : Type 0) (b : Basis) (worker : ℕ) (history : List Entry) (found : ℕ) (line : Line) (lines : List Line) (answer : Answer) (held old kept new : Areas) → (T → S) → SameAsked (line ∷ lines) held old → SameAsked (line ∷ lines) kept new
+    → IncrStandsFor S b worker history found (held sums_name) line lines answer kept → IncrStandsFor T b worker history found (old sums_name) line lines answer new
+incr_stands_less S T b worker history found line lines (Accepted place) held old kept new leads was same is = tt
+incr_stands_less S T b worker history found line lines (Refused why) held old kept new leads was same is = tt
+incr_stands_less S T b worker history found line lines (Grown k place) held old kept new leads was same is = tt
+incr_stands_less S T b worker history found line lines (Stopped k why) held old kept new leads was same is = tt
+incr_stands_less S T b worker history found line lines (Redo redo) held old kept new leads was same is = tt
+incr_stands_less S T b worker history found line lines (CheckpointRefused why) held old kept new leads was same is = tt
+incr_stands_less S T b worker history found line lines (Wrote k) held old kept new leads was same is = tt
+incr_stands_less S T b worker history found line lines (Published k) held old kept new leads was same is = tt
+incr_stands_less S T b worker history found line lines (CallFailed why) held old kept new leads was same is = tt
+incr_stands_less S T b worker history found line lines (Backup start end) held old kept new leads was same is = λ name prior named.
+    let there = is name prior named in
+    let sums : held sums_name ≡ old sums_name = was sums_name (incr_asked line lines name prior sums_name named (inr (inr (inl refl)))) in
+    let out : kept (backup_name name) ≡ new (backup_name name) = same (backup_name name) (incr_asked line lines name prior (backup_name name) named (inl refl)) in
+    let before : kept (backup_name prior) ≡ new (backup_name prior) = same (backup_name prior) (incr_asked line lines name prior (backup_name prior) named (inr (inl refl))) in (
+      there.0,
+      there.1,
+      there.2,
+      there.3,
+      there.4,
+      there.5,
+      incr_less S T b worker there.0 (take there.1 history) name start end there.2 there.3 leads there.6,
+      keeps_at (backup_name name) lines there.3.out.files kept new out there.7,
+      keeps_at (backup_name prior) lines there.2.prior.files kept new before there.8,
+      λ t order honest. there.9 (leads t) order (subst (IsHonestFor (take found history)) (sym sums) honest),
+    )
+incr_stands_less S T b worker history found line lines (BackupRefused why) held old kept new leads was same is = tt
+incr_stands_less S T b worker history found line lines (IncrRefused why) held old kept new leads was same is = tt
+incr_stands_less S T b worker history found line lines NotRun held old kept new leads was same is = tt
+
+pub incrs_less : (S T : Type 0) (b : Basis) (worker : ℕ) (history : List Entry) (found : ℕ) (lines : List Line) (answers : List Answer) (held old kept new : Areas) → (T → S) → SameAsked lines held old → SameAsked lines kept new
+    → IncrsStand S b worker history found (held sums_name) lines answers kept → IncrsStand T b worker history found (old sums_name) lines answers new
+incrs_less S T b worker history found [] answers held old kept new leads was same is = tt
+incrs_less S T b worker history found (line ∷ lines) [] held old kept new leads was same is = tt
+incrs_less S T b worker history found (line ∷ lines) (answer ∷ answers) held old kept new leads was same is = (
+  incr_stands_less S T b worker history found line lines answer held old kept new leads was same is.0,
+  incrs_less S T b worker history found lines answers held old kept new leads (same_behind line lines held old was) (same_behind line lines kept new same) is.1,
+)
+
+-- ---- areas that failed
+
+rose_at : (line : Line) (lines : List Line) (name : List ℕ) (held kept old new : Areas) → SameAsked (line ∷ lines) held old → SameAsked (line ∷ lines) kept new → RoseFor line name held kept → RoseFor line name old new
+rose_at line lines name held kept old new was is rose =
+    let one : IsOneOf (backup_name name) (areas_asked (line ∷ lines)) = one_front (backup_name name) (area_asked line.command) (areas_asked lines) rose.0 in
+    (rose.0, omega (arith, rose.1, ap (λ (x : AreaState). x.faults) (was (backup_name name) one), ap (λ (x : AreaState). x.faults) (is (backup_name name) one)))
+
 fails_at : (line : Line) (lines : List Line) (answer : Answer) (held kept old new : Areas) → SameAsked (line ∷ lines) held old → SameAsked (line ∷ lines) kept new → FailsFor line answer held kept → FailsFor line answer old new
-fails_at line lines answer held kept old new was is fails = λ e.
-    let f = fails e in
-    let first = was (backup_name f.0) (asked_here line lines f.0 f.1) in
-    let last = is (backup_name f.0) (asked_here line lines f.0 f.1) in
-    (f.0, f.1, omega (arith, f.2, ap (λ (x : AreaState). x.faults) first, ap (λ (x : AreaState). x.faults) last))
+fails_at line lines answer held kept old new was is fails = (
+  λ e. rose_at line lines (backup_taken line.command) held kept old new was is (fails.0 e),
+  λ e. rose_at line lines (prior_taken line.command) held kept old new was is (fails.1 e),
+)
 
 pub fail_at : (lines : List Line) (answers : List Answer) (held kept old new : Areas) → SameAsked lines held old → SameAsked lines kept new → BackupFaultsRose lines answers held kept → BackupFaultsRose lines answers old new
 fail_at [] answers held kept old new was is fails = tt

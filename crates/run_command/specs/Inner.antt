@@ -1,6 +1,7 @@
 -- What private functions answer to those that call them. None of it stands in the contract of a
 -- public call.
 use Rattle.std.specs.Prelude.{◌≡◌, ℕ, ◌+◌, ◌-◌, ◌<◌, ◌≤◌, ◌&&◌, ◌⊎◌, Bool, true, false, List, [], ◌∷◌, ◌++◌, length, take, drop, Option, Some, None, Result, Ok, Err, IfSome}
+use Rattle.std.specs.List.{AllByRecursion}
 use Rattle.std.specs.Option.{option_map, is_some}
 use Rattle.std.specs.Vec.{vec_len, vec_capacity}
 use Rattle.std.specs.Global.{Vec}
@@ -14,8 +15,7 @@ use Rattle.vault.specs.Site.{Areas}
 use Rattle.vault.specs.Lending.{Names, IsOneOf, AreDistinct, AreTaken, NoneTaken}
 use Rattle.crew.specs.declared.script.Task.{Task}
 use Rattle.crew.specs.declared.script.Line.{Line}
-use Rattle.crew.specs.declared.script.Command.{Command}
-use Rattle.crew.specs.Backups.{area_asked, areas_asked}
+use Rattle.crew.specs.Backups.{areas_asked, HaveOtherPriors}
 use Rattle.crew.specs.Run.{RunsLines}
 use Rattle.shared_store.specs.declared.areas.StoreAreas.{StoreAreas}
 use Rattle.shared_store.specs.declared.begin.BeginWhy.{BeginWhy}
@@ -71,12 +71,12 @@ pub record AreEachOnce (asked names : Names) : Type 0 where
   pub all : (n : List ℕ) → IsOneOf n asked → IsOneOf n names
   pub only : (n : List ℕ) → IsOneOf n names → IsOneOf n asked
 
--- with what a command asks for, unless that is among them already
-pub record AddsAsked (command : Command) (old new : Names) : Type 0 where
+-- with these that a command asks for, unless they are among them already
+pub record AddsAsked (asked old new : Names) : Type 0 where
   pub distinct : AreDistinct old → AreDistinct new
   pub kept : (n : List ℕ) → IsOneOf n old → IsOneOf n new
-  pub added : (n : List ℕ) → IsOneOf n (area_asked command) → IsOneOf n new
-  pub only : (n : List ℕ) → IsOneOf n new → IsOneOf n old ⊎ IsOneOf n (area_asked command)
+  pub added : (n : List ℕ) → IsOneOf n asked → IsOneOf n new
+  pub only : (n : List ℕ) → IsOneOf n new → IsOneOf n old ⊎ IsOneOf n asked
 
 -- the areas that lines and their store ask for
 pub record AreAsked (lines : List Line) (names : Names) : Type 0 where
@@ -84,7 +84,7 @@ pub record AreAsked (lines : List Line) (names : Names) : Type 0 where
   pub each : AreEachOnce (areas_asked lines) backups
   pub names_are : names ≡ backups ++ store_asks
 
--- the areas of backups and of a store were taken, or none of them
+-- the areas of backups, of summaries and of a store were taken, or none of them
 abbrev pub TakesRun : {S V : Type 0} → Sites S V → Vaults V → Names → S → S
     → Result (Vec (Held V) × StoreNames × StoreAreas V) TakeFault → Type 0
 TakesRun sites vaults names old new (Ok taken) =
@@ -107,15 +107,20 @@ abbrev pub lines_in : Option Task → List Line
 lines_in None = []
 lines_in (Some task) = task.lines
 
--- there is room for the answers to a task's lines
-pub record HasRoom (work : Work) : Type 0 where
+-- no backup of a script is its own prior one
+abbrev pub NamePriors : List Task → Type 0
+NamePriors script = AllByRecursion (λ task. HaveOtherPriors task.lines) script
+
+-- no backup of a task is its own prior one, and there is room for the answers to its lines
+pub record IsReady (work : Work) : Type 0 where
+  pub priors : HaveOtherPriors (lines_in work.task)
   pub none : work.answers.items ≡ []
   pub empty : vec_len work.answers ≡ 0
   pub room : length (lines_in work.task) ≤ vec_capacity work.answers
   pub untold : work.list.items ≡ []
   pub place : vec_len work.list < vec_capacity work.list
 
--- the worker of a script, if it has one, ran its lines, and made of the areas of its backups those
+-- the worker of a script, if it has one, ran its lines, and made of the areas that it holds those
 abbrev pub RunsTasks :
     Type 0 → ℕ → List Told → Seen → Seen → Opened → Opened → Areas → Areas → Type 0
 RunsTasks tells when [] old new before behind held kept = (behind ≡ before) × (kept ≡ held)

@@ -13,14 +13,18 @@ use Rattle.shared_store.specs.declared.fault.InsertFault.{InsertFault}
 use Rattle.shared_store.specs.declared.fault.InsertFault.TheVariants as insert_fault
 use Rattle.base_backup.specs.declared.fault.BackupFault.{BackupFault}
 use Rattle.base_backup.specs.declared.fault.BackupFault.TheVariants as backup
+use Rattle.base_backup.specs.declared.incr_fault.IncrFault.{IncrFault}
+use Rattle.base_backup.specs.declared.incr_fault.IncrFault.TheVariants as incr
+use Rattle.crew.specs.declared.script.Command.{Command}
 use Rattle.crew.specs.declared.script.Line.{Line}
 use Rattle.crew.specs.declared.answer.Stop.{Stop}
 use Rattle.crew.specs.declared.answer.Stop.TheVariants as stop
-use Rattle.crew.specs.Backups.{backup_taken}
+use Rattle.crew.specs.Backups.{backup_taken, prior_taken}
 use Rattle.crew.specs.Run.{stop_of}
 use Rattle.crew.specs.declared.answer.Answer.{Answer}
 use Rattle.crew.specs.declared.answer.Answer.TheVariants as answer
-use Rattle.command_base.specs.Areas.{area_name, backup_name}
+use Rattle.command_base.specs.Areas.{area_name, sums_name, backup_name}
+use Rattle.command_base.specs.Backups.{manifest_text, systems_text, overlap_text, gap_text}
 use Rattle.command_base.specs.Faults.{refused_line, area_text, store_text, full_text, memory_text}
 use Rattle.run_command.specs.declared.told.Told.{Told}
 use Rattle.run_command.specs.declared.command.RunReport.{RunReport}
@@ -59,11 +63,11 @@ mark_fault_text (mark.Failed area) = area_text (area_name area) Failed
 mark_fault_text (mark.WalFull n) = codes "17 WalFull " ++ decimal n
 mark_fault_text mark.NoMemory = memory_text
 
--- a full backup was taken, between these places
+-- a backup was taken, between these places
 abbrev pub backup_text : Lsn → Lsn → List ℕ
 backup_text start end = codes "backup " ++ (lsn_bytes start.0 ++ (32 ∷ lsn_bytes end.0))
 
--- why a backup of this name was refused, or failed
+-- why a full backup of this name was refused, or failed
 abbrev pub backup_fault_text : List ℕ → BackupFault → List ℕ
 backup_fault_text name backup.NotEmpty = full_text (backup_name name)
 backup_fault_text name (backup.WalFull n) = codes "17 WalFull " ++ decimal n
@@ -71,31 +75,53 @@ backup_fault_text name (backup.StoreFailed area) = area_text (area_name area) Fa
 backup_fault_text name backup.OutFailed = area_text (backup_name name) Failed
 backup_fault_text name backup.NoMemory = memory_text
 
--- by what a line was stopped that takes a backup of this name, if it takes one
-abbrev pub stop_text : List ℕ → Stop → List ℕ
-stop_text name (stop.Store why) = store_text why
-stop_text name stop.Backup = area_text (backup_name name) Failed
+-- why an incremental backup of this name, on this prior one, was refused, or failed
+abbrev pub incr_fault_text : List ℕ → List ℕ → IncrFault → List ℕ
+incr_fault_text name prior incr.NotEmpty = full_text (backup_name name)
+incr_fault_text name prior incr.NoManifest = codes "20 NoManifest " ++ prior
+incr_fault_text name prior (incr.ManifestRefused why) = manifest_text prior why
+incr_fault_text name prior (incr.SystemDiffers have expected) =
+    systems_text prior have expected
+incr_fault_text name prior (incr.Overlap start end) =
+    overlap_text name start end
+incr_fault_text name prior (incr.Gap place) = gap_text place
+incr_fault_text name prior (incr.WalFull n) = codes "17 WalFull " ++ decimal n
+incr_fault_text name prior (incr.StoreFailed area) = area_text (area_name area) Failed
+incr_fault_text name prior incr.SumsFailed = area_text sums_name Failed
+incr_fault_text name prior incr.PriorFailed = area_text (backup_name prior) Failed
+incr_fault_text name prior incr.OutFailed = area_text (backup_name name) Failed
+incr_fault_text name prior incr.NoMemory = memory_text
 
--- the answer to such a line
-abbrev pub answer_text : List ℕ → Answer → List ℕ
-answer_text name (answer.Accepted place) = accepted_text place
-answer_text name (answer.Refused why) = codes "refused " ++ insert_fault_text why
-answer_text name (answer.Grown k place) = grown_text k place
-answer_text name (answer.Stopped k why) =
+-- by what a line was stopped
+abbrev pub stop_text : Command → Stop → List ℕ
+stop_text line (stop.Store why) = store_text why
+stop_text line stop.Backup = area_text (backup_name (backup_taken line)) Failed
+stop_text line stop.Prior = area_text (backup_name (prior_taken line)) Failed
+
+-- the answer to a line
+abbrev pub answer_text : Command → Answer → List ℕ
+answer_text line (answer.Accepted place) = accepted_text place
+answer_text line (answer.Refused why) = codes "refused " ++ insert_fault_text why
+answer_text line (answer.Grown k place) = grown_text k place
+answer_text line (answer.Stopped k why) =
     codes "stopped " ++ (decimal k ++ (32 ∷ insert_fault_text why))
-answer_text name (answer.Redo redo) = codes "redo " ++ lsn_bytes redo.0
-answer_text name (answer.CheckpointRefused why) = codes "refused " ++ mark_fault_text why
-answer_text name (answer.Wrote k) = codes "wrote " ++ decimal k
-answer_text name (answer.CallFailed why) = codes "refused " ++ store_text why
-answer_text name (answer.Backup start end) = backup_text start end
-answer_text name (answer.BackupRefused why) = codes "refused " ++ backup_fault_text name why
-answer_text name answer.NotRun = codes "not run"
+answer_text line (answer.Redo redo) = codes "redo " ++ lsn_bytes redo.0
+answer_text line (answer.CheckpointRefused why) = codes "refused " ++ mark_fault_text why
+answer_text line (answer.Wrote k) = codes "wrote " ++ decimal k
+answer_text line (answer.Published k) = codes "published " ++ decimal k
+answer_text line (answer.CallFailed why) = codes "refused " ++ store_text why
+answer_text line (answer.Backup start end) = backup_text start end
+answer_text line (answer.BackupRefused why) =
+    codes "refused " ++ backup_fault_text (backup_taken line) why
+answer_text line (answer.IncrRefused why) =
+    codes "refused " ++ incr_fault_text (backup_taken line) (prior_taken line) why
+answer_text line answer.NotRun = codes "not run"
 
 -- the worker, the number of the line, and its answer
 abbrev pub answer_line : List ℕ → Line → Answer → List ℕ
 answer_line name line answer =
     name ++ (32 ∷ (decimal line.number
-    ++ (32 ∷ (answer_text (backup_taken line.command) answer ++ (10 ∷ [])))))
+    ++ (32 ∷ (answer_text line.command answer ++ (10 ∷ [])))))
 
 abbrev pub answer_lines : List ℕ → List Line → List Answer → List ℕ
 answer_lines name [] answers = []
@@ -137,7 +163,7 @@ closed_line (Err why) = refused_line (store_text why)
 abbrev pub ending_line : Option (Line × Stop) → Result Lsn StoreFault → List ℕ
 ending_line None closed = closed_line closed
 ending_line (Some first) closed =
-    refused_line (stop_text (backup_taken first.0.command) first.1)
+    refused_line (stop_text first.0.command first.1)
 
 -- the last line
 abbrev pub last_line : RunReport → List ℕ

@@ -37,14 +37,14 @@ use Rattle.crew.specs.declared.script.Line.{Line}
 use Rattle.crew.specs.declared.answer.Stop.{Stop}
 use Rattle.crew.specs.declared.answer.Stop.TheVariants as stop
 use Rattle.crew.specs.Backups.{areas_asked}
-use Rattle.crew.specs.Run.{IsOfWorker, IsAnswered, BackupsStand, BackupFaultsRose, TellsFault, basis_of}
+use Rattle.crew.specs.Run.{IsOfWorker, IsAnswered, BackupsStand, BackupFaultsRose, IncrsStand, TellsFault, IsHonestFor, basis_of}
 use Rattle.command_base.specs.declared.status.Status.{Status}
 use Rattle.command_base.specs.declared.status.Status.TheVariants as status
 use Rattle.run_command.specs.declared.told.Told.{Told}
 use Rattle.run_command.specs.declared.command.RunReport.{RunReport}
 use Rattle.run_command.specs.declared.command.RunFault.{RunFault}
 use Rattle.run_command.specs.declared.command.RunFault.TheVariants as run
-use Rattle.command_base.specs.Areas.{wal_name, data_name, area_name, Keeps, AreaCause}
+use Rattle.command_base.specs.Areas.{wal_name, data_name, sums_name, area_name, Keeps, AreaCause}
 use Rattle.command_base.specs.Outside.{Outside, Works, LeavesSite, IsUntaken}
 use Rattle.run_command.specs.Input.{IsInput, TakesAtMost}
 use Rattle.command_base.specs.Faults.{refused_line, area_text, take_text, begin_text, memory_text, area_status, store_status, begin_status}
@@ -73,7 +73,7 @@ pub record HasRefusedLine (left now : Option (List ℕ)) (line : ℕ) (why : Why
 abbrev pub store_asks : Names
 store_asks = wal_name ∷ data_name 0 ∷ data_name 1 ∷ data_name 2 ∷ data_name 3 ∷ []
 
--- those of the backups that a script takes
+-- those of the backups that a script takes, and that of summaries where it publishes some
 abbrev pub backups_asked : List Task → Names
 backups_asked script = flat_map (λ task. areas_asked task.lines) script
 
@@ -186,11 +186,29 @@ BackupsDone tells s when history new told =
     (worker : ℕ) (t : Told) → slice_get told worker ≡ Some t
     → BackupsStand tells (basis_of s when) worker history t.task.lines t.answers new
 
--- the area of each backup that was told to have failed has a count of faults that rose
+-- so does that of each incremental backup, taken on what the prior backup's area held then, which
+-- stands there too. Where the area of summaries was honest for the entries that were found, it was so
+-- for the history as it was when the backup was begun
+abbrev pub IncrsDone :
+    Type 0 → StoreSettings → ℕ → ℕ → List Entry → Areas → Areas → List Told → Type 0
+IncrsDone tells s when found history old new told =
+    (worker : ℕ) (t : Told) → slice_get told worker ≡ Some t
+    → IncrsStand tells (basis_of s when) worker history found (old sums_name)
+    t.task.lines t.answers new
+
+-- the area of each backup, or of a prior one, that was told to have failed has a count of faults that
+-- rose
 abbrev pub ToldBackupsFailed : Areas → Areas → List Told → Type 0
 ToldBackupsFailed old new told =
     (worker : ℕ) (t : Told) → slice_get told worker ≡ Some t
     → BackupFaultsRose t.task.lines t.answers old new
+
+-- where areas tell their files and no worker was stopped, an area of summaries that was honest for the
+-- entries that were found is honest for the whole history
+abbrev pub KeepsHonest : List Entry → List Entry → Areas → Areas → List Told → Type 0
+KeepsHonest found history old new told =
+    AreTold old → first_told told ≡ None
+    → IsHonestFor found (old sums_name) → IsHonestFor history (new sums_name)
 
 -- a script was run on a store whose WAL has an entry, and whose entries make a store, at a moment, and
 -- came to a history. Whatever else came, the answers are true of that
@@ -204,23 +222,26 @@ pub record RunDone (when : ℕ) (old new : Areas) (report : RunReport) : Type 0 
   pub archive : IfSome (old wal_name).files (HasFound settings found)
   pub opened : report.opened.0 ≡ (found_tip settings found).end
   pub history : List Entry
-  -- the areas of the backups, as they were and as they are
+  -- the areas of the backups and of summaries, as they were and as they are
   pub held : Areas
   pub were : AreAsAt (backups_asked (tasks_told report.told)) held old
   pub kept : Areas
   pub are : AreAsAt (backups_asked (tasks_told report.told)) kept new
   pub happened : HasHistory (AreTold old) settings when found report.told held kept history
   pub completed : BackupsDone (AreTold old) settings when history new report.told
+  pub incremented :
+      IncrsDone (AreTold old) settings when (length found) history old new report.told
   pub left : LeavesWal settings found history (old wal_name) (new wal_name)
   pub closing : IsClosing settings found history old new report.closed
   pub risen : ToldFaultsRose old new report.told
   pub backups_failed : ToldBackupsFailed old new report.told
+  pub honest : KeepsHonest (map entry_of found) history old new report.told
 
 -- ---- what `run` comes to
 
--- no store was begun, and the areas of the backups are as they were: its WAL can't be begun on, and
--- all is as it was; or a data area failed, or memory ran out while the data areas were rebuilt, and
--- the WAL is as it was
+-- no store was begun, and the areas of the backups and of summaries are as they were: its WAL can't be
+-- begun on, and all is as it was; or a data area failed, or memory ran out while the data areas were
+-- rebuilt, and the WAL is as it was
 abbrev pub CantBegin : List Task → Areas → Areas → BeginWhy → Type 0
 CantBegin script old new (begin.Wal why) =
     KeepAll (run_asks script) old new
@@ -280,6 +301,7 @@ run_text (Err fault) = refused_line (run_fault_text fault)
 abbrev pub stop_status : Stop → Status
 stop_status (stop.Store why) = store_status why
 stop_status stop.Backup = status.Device
+stop_status stop.Prior = status.Device
 
 abbrev pub closed_status : Result Lsn StoreFault → Status
 closed_status (Ok end) = status.Done

@@ -9,7 +9,7 @@ ghost use Rattle.run_command.specs.Input.{TakesAtMost};
 ghost use Rattle.run_command.specs.Report.{first_told};
 ghost use Rattle.run_command.specs.Run.{HasScript, run_asks, RunDoes, script_text, run_fault_text, run_text};
 ghost use Rattle.run_command.specs.Run.{stop_status, ending_status, run_status};
-ghost use Rattle.run_command.specs.Inner.{RefusesScript, RunsScript};
+ghost use Rattle.run_command.specs.Inner.{NamePriors, RefusesScript, RunsScript};
 
 use crate::input::read_input;
 use crate::lending::{give_store, run_names, take_run};
@@ -77,6 +77,7 @@ fn run_in<S: Site>(
 ) -> Result<RunReport, RunFault>
     requires few { length script ≤ 1 }
     requires when { when ≤ 253402207199 }
+    requires priors { NamePriors script }
     requires home { AllHome (S.areas site.old) }
     ensures site { Works (run_asks script) (of_site S.Site site.old) (of_site S.Site site.new) }
     ensures answer { RunsScript S.Site when script site.old site.new result }
@@ -167,7 +168,7 @@ fn stop_status(stop: Stop) -> Status
 {
     match stop {
         Stop::Store(fault) => store_status(fault),
-        Stop::Backup => Status::Device,
+        Stop::Backup | Stop::Prior => Status::Device,
     }
 }
 

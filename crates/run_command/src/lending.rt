@@ -1,10 +1,11 @@
 //! The areas of a run, taken from a site, and those of its store given back.
 
-ghost use Rattle.std.specs.Prelude.{◌≡◌, ◌≤◌, ◌++◌, map, length, IfOk, OnOk, bytes_eq};
+ghost use Rattle.std.specs.Prelude.{◌≡◌, ◌≤◌, ◌∷◌, ◌++◌, [], map, length, IfOk, OnOk, bytes_eq};
 ghost use Rattle.std.specs.List.{list_any};
 ghost use Rattle.vault.specs.Site.{AllHome};
 ghost use Rattle.vault.specs.Lending.{AreDistinct, AreOut, GivesBack};
-ghost use Rattle.crew.specs.Backups.{areas_asked};
+ghost use Rattle.command_base.specs.Areas.{backup_name, sums_name};
+ghost use Rattle.crew.specs.Backups.{area_asked, areas_asked};
 ghost use Rattle.run_command.specs.Inner.{held_of, AreEachOnce, AddsAsked, AreAsked, TakesRun};
 
 use command_base::{backup_name, joined};
@@ -24,18 +25,59 @@ pub struct StoreNames {
     pub data3: Text,
 }
 
-/// Notes the area of a command's backup, if it takes one, unless it is noted.
-fn note_area(alloc: Global, names: &mut Vec<Text>, command: &Command) -> Result<(), NoMemory>
-    ensures { OnOk result (AddsAsked command.now names.old.items names.new.items) }
+/// Notes the name of an area, unless it is noted.
+fn note_name(names: &mut Vec<Text>, area: Text) -> Result<(), NoMemory>
+    ensures { OnOk result (AddsAsked (area ∷ []) names.old.items names.new.items) }
 {
-    let Command::Full(name) = command else {
-        return Ok(());
-    };
-    let area = backup_name(alloc, name.as_bytes())?;
     if !is_among(names, area.as_bytes()) {
         names.push(area)?;
     }
     Ok(())
+}
+
+/// Notes the area of a backup's directory.
+fn note_backup(alloc: Global, names: &mut Vec<Text>, name: &Text) -> Result<(), NoMemory>
+    ensures { OnOk result
+        (AddsAsked (backup_name name.now ∷ []) names.old.items names.new.items) }
+{
+    note_name(names, backup_name(alloc, name.as_bytes())?)
+}
+
+/// Notes the area of the summaries.
+fn note_sums(alloc: Global, names: &mut Vec<Text>) -> Result<(), NoMemory>
+    ensures { OnOk result (AddsAsked (sums_name ∷ []) names.old.items names.new.items) }
+{
+    note_name(names, joined(alloc, &[b"sums"])?)
+}
+
+/// Notes the areas of an incremental backup: its own, that of its prior backup, and the summaries'.
+fn note_incr(
+    alloc: Global,
+    names: &mut Vec<Text>,
+    name: &Text,
+    prior: &Text,
+) -> Result<(), NoMemory>
+    ensures { OnOk result (AddsAsked (backup_name name.now ∷ backup_name prior.now ∷ sums_name ∷ [])
+        names.old.items names.new.items) }
+{
+    note_backup(alloc, names, name)?;
+    note_backup(alloc, names, prior)?;
+    note_sums(alloc, names)?;
+    Ok(())
+}
+
+/// Notes the areas that a command asks for, beside those of its store.
+fn note_areas(alloc: Global, names: &mut Vec<Text>, command: &Command) -> Result<(), NoMemory>
+    ensures { OnOk result (AddsAsked (area_asked command.now) names.old.items names.new.items) }
+{
+    match command {
+        Command::Full(name) => note_backup(alloc, names, name),
+        Command::Incr(name, prior) => note_incr(alloc, names, name, prior),
+        Command::Summarise => note_sums(alloc, names),
+        Command::Insert(_) | Command::Grow(_, _, _) | Command::Checkpoint | Command::Flush(_) => Ok(
+            (),
+        ),
+    }
 }
 
 /// Whether a name is among these.
@@ -45,13 +87,13 @@ fn is_among(names: &[Text], name: &[u8]) -> bool
     names.iter().any(|other| name == other.as_bytes())
 }
 
-/// The areas of the backups that lines take, each once.
-fn backup_areas(alloc: Global, lines: &[Line]) -> Result<Vec<Text>, NoMemory>
+/// The areas that lines ask for beside those of their store, each once.
+fn asked_areas(alloc: Global, lines: &[Line]) -> Result<Vec<Text>, NoMemory>
     ensures { IfOk result (λ names. AreEachOnce (areas_asked lines.now) names.items) }
 {
     let mut names = Vec::new(alloc);
     for line in lines {
-        note_area(alloc, &mut names, &line.command)?;
+        note_areas(alloc, &mut names, &line.command)?;
     }
     Ok(names)
 }
@@ -67,11 +109,12 @@ fn push_names(alloc: Global, names: &mut Vec<Text>, more: &[&[u8]]) -> Result<()
     Ok(())
 }
 
-/// The areas that a run of these lines asks for: those of its backups, and those of the store.
+/// The areas that a run of these lines asks for: those of its backups and of summaries, and those of the
+/// store.
 pub fn run_names(alloc: Global, lines: &[Line]) -> Result<Vec<Text>, NoMemory>
     ensures { IfOk result (λ names. AreAsked lines.now names.items) }
 {
-    let mut names = backup_areas(alloc, lines)?;
+    let mut names = asked_areas(alloc, lines)?;
     push_names(
         alloc,
         &mut names,

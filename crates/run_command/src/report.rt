@@ -4,17 +4,22 @@ ghost use Rattle.std.specs.Prelude.{◌≡◌, ◌∷◌, ◌++◌, codes, IfOk,
 ghost use Rattle.std.specs.List.{flat_map};
 ghost use Rattle.std.specs.Fmt.{decimal};
 ghost use Rattle.lsn_core.specs.Names.{lsn_bytes};
-ghost use Rattle.crew.specs.declared.answer.Stop.TheVariants as stop;
+ghost use Rattle.lsn_core.specs.declared.fault.AreaFault.TheVariants.{Failed};
+ghost use Rattle.command_base.specs.Areas.{backup_name};
+ghost use Rattle.command_base.specs.Faults.{area_text};
 ghost use Rattle.run_command.specs.Report.{insert_fault_text, accepted_text, grown_text, mark_fault_text};
-ghost use Rattle.run_command.specs.Report.{backup_text, backup_fault_text, stop_text, answer_text};
+ghost use Rattle.run_command.specs.Report.{backup_text, backup_fault_text, incr_fault_text, stop_text, answer_text};
 ghost use Rattle.run_command.specs.Report.{answer_line, worker_lines, opened_line, closed_line, last_line, report_text};
 
 use crate::command::RunReport;
 use crate::told::Told;
-use base_backup::BackupFault;
-use command_base::{area_text, backup_name, full_text, joined, refused_line, store_text};
-use crew::{Answer, Line, Stop};
-use lsn_core::{AreaFault, Lsn, MarkFault, NoMemory, Place, StoreFault, Text, lsn_text};
+use base_backup::{BackupFault, IncrFault};
+use command_base::{
+    area_text, backup_name, full_text, gap_text, joined, manifest_text, overlap_text, refused_line,
+    store_text, systems_text,
+};
+use crew::{Answer, Command, Line, Stop};
+use lsn_core::{AreaFault, Lsn, MarkFault, NoMemory, Place, StoreArea, StoreFault, Text, lsn_text};
 use shared_store::InsertFault;
 use std::alloc::Global;
 
@@ -115,7 +120,15 @@ fn wrote_text(alloc: Global, count: u32) -> Result<Text, NoMemory>
     joined(alloc, &[b"wrote ", number.as_bytes()])
 }
 
-/// A full backup was taken, between these places.
+/// So many summaries were published.
+fn published_text(alloc: Global, count: u64) -> Result<Text, NoMemory>
+    ensures { IfOk result (λ text. text ≡ codes "published " ++ decimal count) }
+{
+    let number = format!(in alloc; "{count}")?;
+    joined(alloc, &[b"published ", number.as_bytes()])
+}
+
+/// A backup was taken, between these places.
 fn backup_text(alloc: Global, start: Lsn, end: Lsn) -> Result<Text, NoMemory>
     ensures { IfOk result (λ text. text ≡ backup_text start end) }
 {
@@ -125,7 +138,7 @@ fn backup_text(alloc: Global, start: Lsn, end: Lsn) -> Result<Text, NoMemory>
 
 /// The device of the area of this backup failed.
 fn backup_failed_text(alloc: Global, name: &[u8]) -> Result<Text, NoMemory>
-    ensures { IfOk result (λ text. text ≡ stop_text name.now stop.Backup) }
+    ensures { IfOk result (λ text. text ≡ area_text (backup_name name.now) Failed) }
 {
     area_text(
         alloc,
@@ -134,7 +147,7 @@ fn backup_failed_text(alloc: Global, name: &[u8]) -> Result<Text, NoMemory>
     )
 }
 
-/// Why a backup of this name was refused, or failed.
+/// Why a full backup of this name was refused, or failed.
 fn backup_fault_text(alloc: Global, name: &[u8], fault: BackupFault) -> Result<Text, NoMemory>
     ensures { IfOk result (λ text. text ≡ backup_fault_text name.now fault) }
 {
@@ -147,19 +160,45 @@ fn backup_fault_text(alloc: Global, name: &[u8], fault: BackupFault) -> Result<T
     }
 }
 
-/// By what a line was stopped, which takes a backup of this name, if it takes one.
-fn stop_text(alloc: Global, name: &[u8], stop: Stop) -> Result<Text, NoMemory>
-    ensures { IfOk result (λ text. text ≡ stop_text name.now stop) }
+/// Why an incremental backup of this name, on this prior one, was refused, or failed.
+fn incr_fault_text(
+    alloc: Global,
+    name: &[u8],
+    prior: &[u8],
+    fault: IncrFault,
+) -> Result<Text, NoMemory>
+    ensures { IfOk result (λ text. text ≡ incr_fault_text name.now prior.now fault) }
 {
-    match stop {
-        Stop::Store(fault) => store_text(alloc, fault),
-        Stop::Backup => backup_failed_text(alloc, name),
+    match fault {
+        IncrFault::NotEmpty => full_text(alloc, backup_name(alloc, name)?.as_bytes()),
+        IncrFault::NoManifest => joined(alloc, &[b"20 NoManifest ", prior]),
+        IncrFault::ManifestRefused(why) => manifest_text(alloc, prior, why),
+        IncrFault::SystemDiffers(have, expected) => systems_text(alloc, prior, have, expected),
+        IncrFault::Overlap(start, end) => overlap_text(alloc, name, start, end),
+        IncrFault::Gap(place) => gap_text(alloc, place),
+        IncrFault::WalFull(n) => mark_fault_text(alloc, MarkFault::WalFull(n)),
+        IncrFault::StoreFailed(area) => store_text(alloc, StoreFault::Failed(area)),
+        IncrFault::SumsFailed => store_text(alloc, StoreFault::Failed(StoreArea::Sums)),
+        IncrFault::PriorFailed => backup_failed_text(alloc, prior),
+        IncrFault::OutFailed => backup_failed_text(alloc, name),
+        IncrFault::NoMemory => store_text(alloc, StoreFault::NoMemory),
     }
 }
 
-/// The answer to a line that takes a backup of this name, if it takes one.
-fn answer_text(alloc: Global, name: &[u8], answer: &Answer) -> Result<Text, NoMemory>
-    ensures { IfOk result (λ text. text ≡ answer_text name.now answer.now) }
+/// By what a line was stopped.
+fn stop_text(alloc: Global, line: &Command, stop: Stop) -> Result<Text, NoMemory>
+    ensures { IfOk result (λ text. text ≡ stop_text line.now stop) }
+{
+    match stop {
+        Stop::Store(fault) => store_text(alloc, fault),
+        Stop::Backup => backup_failed_text(alloc, line.backup()),
+        Stop::Prior => backup_failed_text(alloc, line.prior()),
+    }
+}
+
+/// The answer to a line.
+fn answer_text(alloc: Global, line: &Command, answer: &Answer) -> Result<Text, NoMemory>
+    ensures { IfOk result (λ text. text ≡ answer_text line.now answer.now) }
 {
     match answer {
         Answer::Accepted(place) => accepted_text(alloc, *place),
@@ -172,11 +211,16 @@ fn answer_text(alloc: Global, name: &[u8], answer: &Answer) -> Result<Text, NoMe
             mark_fault_text(alloc, *why)?.as_bytes(),
         ),
         Answer::Wrote(count) => wrote_text(alloc, *count),
+        Answer::Published(count) => published_text(alloc, *count),
         Answer::CallFailed(why) => refused_text(alloc, store_text(alloc, *why)?.as_bytes()),
         Answer::Backup(start, end) => backup_text(alloc, *start, *end),
         Answer::BackupRefused(why) => refused_text(
             alloc,
-            backup_fault_text(alloc, name, *why)?.as_bytes(),
+            backup_fault_text(alloc, line.backup(), *why)?.as_bytes(),
+        ),
+        Answer::IncrRefused(why) => refused_text(
+            alloc,
+            incr_fault_text(alloc, line.backup(), line.prior(), *why)?.as_bytes(),
         ),
         Answer::NotRun => joined(alloc, &[b"not run"]),
     }
@@ -188,7 +232,7 @@ fn answer_line(alloc: Global, name: &[u8], line: &Line, answer: &Answer) -> Resu
 {
     let number = line.number;
     let number = format!(in alloc; "{number}")?;
-    let answer = answer_text(alloc, line.command.backup(), answer)?;
+    let answer = answer_text(alloc, &line.command, answer)?;
     joined(
         alloc,
         &[
@@ -243,7 +287,7 @@ fn last_line(alloc: Global, report: &RunReport) -> Result<Text, NoMemory>
 {
     match report.told.stop() {
         Some((line, stop)) => {
-            let text = stop_text(alloc, line.command.backup(), stop)?;
+            let text = stop_text(alloc, &line.command, stop)?;
             refused_line(alloc, text.as_bytes())
         }
         None => closed_line(alloc, &report.closed),

@@ -7,7 +7,7 @@ ghost use Rattle.shared_store.specs.Opened.{NoneFell};
 ghost use Rattle.vault.specs.Lending.{AreLater};
 ghost use Rattle.crew.specs.Backups.{areas_asked, areas_of, AreHeld};
 ghost use Rattle.run_command.specs.Run.{tasks_told};
-ghost use Rattle.run_command.specs.Inner.{task_list, HasRoom, RunsTasks, all_tell, RunsOn, lines_in};
+ghost use Rattle.run_command.specs.Inner.{task_list, NamePriors, IsReady, RunsTasks, all_tell, RunsOn, lines_in};
 
 use crate::command::RunReport;
 use crate::told::{Told, ToldTasks};
@@ -46,9 +46,10 @@ pub fn lines_in(task: &Option<Task>) -> &[Line]
 
 /// The task of a script, with room for the answers to its lines.
 pub fn work_of(alloc: Global, script: Script) -> Result<Work, NoMemory>
-    requires { length script ≤ 1 }
+    requires few { length script ≤ 1 }
+    requires priors { NamePriors script }
     ensures script { IfOk result (λ work. task_list work.task ≡ script) }
-    ensures room { IfOk result HasRoom }
+    ensures room { IfOk result IsReady }
 {
     let mut workers = script.into_workers();
     let task = workers.pop();
@@ -80,7 +81,7 @@ fn run_work<J: OfCrew, V: Vault>(
     when: u64,
     work: Work,
 ) -> ToldTasks
-    requires room { HasRoom work }
+    requires room { IsReady work }
     requires when { when ≤ 253402207199 }
     requires held { AreHeld (areas_asked (lines_in work.task)) held.old }
     requires seen { pass.old.list ≡ store.old.history }
@@ -133,7 +134,7 @@ fn run_named<J: OfCrew, V: Vault>(
     when: u64,
     work: Work,
 ) -> (StoreAreas<V>, Result<RunReport, BeginWhy>)
-    requires room { HasRoom work }
+    requires room { IsReady work }
     requires when { when ≤ 253402207199 }
     requires held { AreHeld (areas_asked (lines_in work.task)) held.old }
     requires name { line ≡ J.table }
@@ -172,7 +173,7 @@ fn run_branded<V: Vault>(
     when: u64,
     work: Work,
 ) -> (StoreAreas<V>, Result<RunReport, BeginWhy>)
-    requires room { HasRoom work }
+    requires room { IsReady work }
     requires when { when ≤ 253402207199 }
     requires held { AreHeld (areas_asked (lines_in work.task)) held.old }
     ensures runs { RunsOn V.Vault (all_tell V.Vault areas) when areas result.0
@@ -193,7 +194,7 @@ pub fn run_areas<V: Vault>(
     when: u64,
     work: Work,
 ) -> (Vec<Held<V>>, StoreAreas<V>, Result<RunReport, BeginWhy>)
-    requires room { HasRoom work }
+    requires room { IsReady work }
     requires when { when ≤ 253402207199 }
     requires held { AreHeld (areas_asked (lines_in work.task)) held.items }
     ensures runs { RunsOn V.Vault (all_tell V.Vault areas) when areas result.1

@@ -1,7 +1,6 @@
 -- The area of the name, which is held.
-use Rattle.std.proofs.Common.{◌≡◌, List, ℕ, Some, None, length, get_or, set, refl, sym, subst, ◌∙◌, inl}
+use Rattle.std.proofs.Common.{◌≡◌, List, ℕ, Some, None, get_or, refl, sym, subst, ◌∙◌, inl}
 use Rattle.std.specs.List.{position}
-use Rattle.vault.specs.declared.lending.Held.{Held}
 use Rattle.command_base.specs.Areas.{backup_name}
 use Rattle.crew.specs.Backups.{areas_of}
 use Rattle.crew.proofs.Held.{has_name, found, changed}

@@ -3,7 +3,10 @@ use Rattle.std.proofs.lemmas.List.{take_more, take_all}
 use Rattle.vault.proofs.LentAreas.{later_again}
 use Rattle.crew.specs.declared.script.Line.{Line}
 use Rattle.crew.specs.Backups.{areas_of}
+use Rattle.history.specs.Entry.{Entry}
+use Rattle.shared_store.specs.Records.{IsPlaceOf}
 use Rattle.crew.proofs.Held.{later_same, line_held}
+use Rattle.crew.proofs.Priors.{line_fits}
 use Rattle.crew.proofs.Ran.{IsRunning, runs_none, runs_more, runs_all}
 use Rattle.crew.proofs.run.run_into.Goals as goal
 
@@ -13,6 +16,7 @@ loop-line-init g c = record {
   room = c.requires.room;
   running = runs_none (g.J.OfStore.tells ≡ true) c.args.when c.args.pass.now c.args.store.now (areas_of g.V.Vault c.args.held.now) c.args.answers.now.items c.requires.knows c.requires.none;
   later = later_same g.V.Vault c.args.held.now;
+  known = λ told. subst (λ (h : List Entry). IsPlaceOf h c.first_start-known.result.0) (sym c.requires.knows.whole) (c.first_start-known.ensures.place told);
 }
 
 pub loop-line-preserved : goal.loop-line-preserved
@@ -27,6 +31,7 @@ loop-line-preserved g c =
           (take (c.loop-line.line-index + 1) c.args.lines.now) c.line-item.result c.loop-line.answers.items c.put.new.answers.items c.run_line-answer.result c.loop-line.stopped c.stops-stopped.result c.loop-line.invariant.running
           c.run_line-answer.ensures.runs more c.put.ensures.items c.stops-stopped.ensures;
       later = later_again g.V.Vault c.args.held.now c.loop-line.held c.run_line-answer.new.held c.loop-line.invariant.later c.run_line-answer.ensures.later;
+      known = c.run_line-answer.ensures.known;
     }
 
 pub run_line-answer-requires-clause-held : goal.run_line-answer-requires-clause-held
@@ -38,3 +43,6 @@ returns-clause-run g c =
     let all : take c.loop-line.line-index c.args.lines.now ≡ c.args.lines.now = take_all c.loop-line.line-index c.args.lines.now c.loop-line-test.false in
     runs_all (g.J.OfStore.tells ≡ true) c.args.when c.args.pass.now c.loop-line.pass c.args.store.now c.loop-line.store (areas_of g.V.Vault c.args.held.now) (areas_of g.V.Vault c.loop-line.held) c.args.lines.now c.loop-line.answers.items c.loop-line.stopped
     (subst (λ (ls : List Line). IsRunning (g.J.OfStore.tells ≡ true) c.args.when c.args.pass.now c.loop-line.pass c.args.store.now c.loop-line.store (areas_of g.V.Vault c.args.held.now) (areas_of g.V.Vault c.loop-line.held) ls c.loop-line.answers.items c.loop-line.stopped) all c.loop-line.invariant.running)
+
+pub run_line-answer-requires-clause-prior : goal.run_line-answer-requires-clause-prior
+run_line-answer-requires-clause-prior g c κs within = line_fits c.args.lines.now c.loop-line.line-index c.line-item.result c.requires.priors c.loop-line-test.true c.line-item.is

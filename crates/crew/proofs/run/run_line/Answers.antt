@@ -11,5 +11,8 @@ returns-then-stopped-clause-runs g c =
     subst (λ (b : Bool). LineRuns (g.J.OfStore.tells ≡ true) c.args.when c.args.line.now.command b c.args.pass.now c.args.pass.now c.args.store.now c.args.store.now (areas_of g.V.Vault c.args.held.now) (areas_of g.V.Vault c.args.held.now) NotRun) (sym c.if-stopped.true)
     (not_run (g.J.OfStore.tells ≡ true) c.args.when c.args.line.now.command c.args.pass.now c.args.store.now (areas_of g.V.Vault c.args.held.now) c.requires.knows)
 
+pub returns-then-stopped-clause-known : goal.returns-then-stopped-clause-known
+returns-then-stopped-clause-known g c = c.requires.known
+
 pub returns-then-stopped-clause-later : goal.returns-then-stopped-clause-later
 returns-then-stopped-clause-later g c = later_same g.V.Vault c.args.held.now

@@ -3,6 +3,7 @@ use Rattle.run_command.specs.Run.{RunAnswer}
 use Rattle.command_base.specs.Outside.{of_site, of_all}
 use Rattle.run_command.proofs.RunAnswers.{err_as}
 use Rattle.command_base.proofs.Lent.{none_written}
+use Rattle.crew.proofs.Priors.{scripts_fit}
 use Rattle.run_command.proofs.command.run.Goals as goal
 
 pub returns-in_err-script-clause-does : goal.returns-in_err-script-clause-does
@@ -28,3 +29,6 @@ returns-clause-does g c = (
   c.in_ok-script.ensures.taken,
   c.run_in.ensures.answer _ _ _ _ (g.C.Clock.moment c.args.clock.now) (g.C.Clock.moment c.now-when.new.self) c.in_ok-script.ensures.script,
 )
+
+pub run_in-requires-clause-priors : goal.run_in-requires-clause-priors
+run_in-requires-clause-priors g c κs within = scripts_fit c.in_ok-script.ensures.script.bytes _ c.in_ok-script.ensures.script.script_is

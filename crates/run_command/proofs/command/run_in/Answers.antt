@@ -1,6 +1,5 @@
 -- What was run on areas that were taken from a site and given back.
 use Rattle.std.proofs.Common.{◌≡◌, List, Result, IfOk, ◌∙◌, sym, ap, subst}
-use Rattle.vault.specs.Lending.{Names, AreOut}
 use Rattle.shared_store.specs.declared.begin.BeginWhy.{BeginWhy}
 use Rattle.crew.specs.declared.script.Line.{Line}
 use Rattle.crew.specs.Backups.{areas_asked, areas_of}
@@ -10,7 +9,7 @@ use Rattle.run_command.specs.declared.command.RunFault.TheVariants as run
 use Rattle.run_command.specs.Run.{backups_asked, tasks_told, RunAnswer}
 use Rattle.run_command.specs.Inner.{held_of, task_list, lines_in, all_tell, AreAsked, RunsOn, seen_at}
 use Rattle.run_command.proofs.Noted.{all_distinct, asked_of}
-use Rattle.run_command.proofs.StoreLent.{RunBack, run_out, out_back, asked_held, run_ends, untaken}
+use Rattle.run_command.proofs.StoreLent.{run_out, out_back, asked_held, run_ends, untaken}
 use Rattle.run_command.proofs.RunAnswers.{ran_ok, ran_err, err_as}
 use Rattle.vault.proofs.LentAreas.{out_front}
 use Rattle.run_command.proofs.command.run_in.Goals as goal

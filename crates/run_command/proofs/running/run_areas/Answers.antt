@@ -1,5 +1,5 @@
 -- The areas of the backups, lent as a slice.
-use Rattle.std.proofs.Common.{◌≡◌, ◌++◌, List, length, take, drop, ap, sym, subst, ◌∙◌}
+use Rattle.std.proofs.Common.{◌≡◌, List, length, ap, sym, subst, ◌∙◌}
 use Rattle.vault.specs.declared.lending.Held.{Held}
 use Rattle.vault.specs.Lending.{AreLater}
 use Rattle.crew.specs.Backups.{areas_asked, areas_of, AreHeld}

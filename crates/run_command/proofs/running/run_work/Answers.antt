@@ -3,7 +3,7 @@ use Rattle.std.proofs.Common.{◌≡◌, true, List, [], ◌∷◌, ◌++◌, Op
 use Rattle.crew.specs.declared.script.Line.{Line}
 use Rattle.crew.specs.declared.answer.Answer.{Answer}
 use Rattle.crew.specs.declared.script.Task.{Task}
-use Rattle.crew.specs.Backups.{areas_of, areas_asked, AreHeld}
+use Rattle.crew.specs.Backups.{areas_of, areas_asked, AreHeld, HaveOtherPriors}
 use Rattle.run_command.specs.Inner.{lines_in}
 use Rattle.crew.specs.Run.{RunsLines}
 use Rattle.crew.proofs.Held.{later_same}
@@ -30,3 +30,8 @@ pub run_lines-requires-clause-held : goal.run_lines-requires-clause-held
 run_lines-requires-clause-held g c κs within =
     let there : AreHeld (areas_asked c.in-Some.task.lines) c.args.held.now = subst (λ (t : Option Task). AreHeld (areas_asked (lines_in t)) c.args.held.now) c.in-Some.is c.requires.held in
     subst (λ (ls : List Line). AreHeld (areas_asked ls) c.args.held.now) (sym c.as_slice.ensures) there
+
+pub run_lines-requires-clause-priors : goal.run_lines-requires-clause-priors
+run_lines-requires-clause-priors g c κs within =
+    let there : HaveOtherPriors c.in-Some.task.lines = subst (λ (t : Option Task). HaveOtherPriors (lines_in t)) c.in-Some.is c.requires.room.priors in
+    subst (λ (ls : List Line). HaveOtherPriors ls) (sym c.as_slice.ensures) there

@@ -1,7 +1,7 @@
 use Rattle.std.proofs.Common.{take}
 use Rattle.crew.specs.Backups.{areas_asked}
 use Rattle.run_command.specs.Inner.{AreEachOnce}
-use Rattle.run_command.proofs.lending.backup_areas.Given as goal
+use Rattle.run_command.proofs.lending.asked_areas.Given as goal
 
 -- the areas of the lines before this one are noted
 abbrev pub invariant-loop-line : goal.invariant-loop-line
