@@ -106,7 +106,7 @@ label_there relseg copy label manifest = get_other (insert (files_of relseg copy
 -- what holds of a row of the manifest
 record IsGoodRow (dir : Files) (row : FileRow) : Type 0 where
   listed : IsRowAsListed dir row
-  form : HasForm row
+  form : HasForm dir row
 
 row_there : (dir : Files) (modified : List ℕ) (f : List ℕ × List ℕ) → get dir f.0 ≡ Some f.1 → IsRowAsListed dir (row_of modified f)
 row_there dir modified f there = record { bytes = f.1; there = there; size = refl; summed = spelled f.1 }
@@ -114,7 +114,7 @@ row_there dir modified f there = record { bytes = f.1; there = there; size = ref
 fork_row : (dir : Files) (modified : List ℕ) (f : List ℕ × List ℕ) → IsKept dir f → IsGoodRow dir (row_of modified f)
 fork_row dir modified f is = record {
   listed = row_there dir modified f is.there;
-  form = whole_pages (row_of modified f) is.fork is.seg is.named is.path is.pages;
+  form = whole_pages dir (row_of modified f) is.fork is.seg is.named is.path is.pages;
 }
 
 all_map : {A B : Type 0} (f : A → B) (P : B → Type 0) (xs : List A) → AllByRecursion (λ x. P (f x)) xs → AllByRecursion P (map f xs)
@@ -127,7 +127,7 @@ rows_there relseg copy label manifest modified some named whole =
     all_map (row_of modified) (IsGoodRow dir) (listed_files relseg copy label)
     (all_append (λ (f : List ℕ × List ℕ). IsGoodRow dir (row_of modified f)) (store_files relseg copy) ((label_name, label) ∷ [])
     (all_more (IsKept dir) (λ (f : List ℕ × List ℕ). IsGoodRow dir (row_of modified f)) (store_files relseg copy) (fork_row dir modified) (all_kept relseg copy label manifest some named whole))
-    (record { listed = row_there dir modified (label_name, label) (label_there relseg copy label manifest); form = no_fork (row_of modified (label_name, label)) never_fork }, tt))
+    (record { listed = row_there dir modified (label_name, label) (label_there relseg copy label manifest); form = no_fork dir (row_of modified (label_name, label)) never_fork }, tt))
 
 -- ---- other names
 
@@ -198,7 +198,7 @@ in_directory s name when copy start checkpoint end count files is some read same
       label_row = alike label_name ∙ label_listed s.relseg copy is.label is.modified;
       others = subst (λ (m : Files). HasNoOther m is.rows) (sym same) (no_other s.relseg copy is.label text is.modified is.rows alike);
       label = (subst (λ (b : List ℕ). IsLabel b (full_label start checkpoint is.begun name)) (sym label) read, refl);
-      forms = all_more (IsGoodRow files) HasForm is.rows (λ row g. g.form) good;
+      forms = all_more (IsGoodRow files) (HasForm files) is.rows (λ row g. g.form) good;
     }
 
 pub finished_listed : FinishedBackupsAreListed

@@ -30,8 +30,8 @@ use Rattle.wal_reader.specs.Wal.{stands_behind}
 use Rattle.wal_reader.proofs.Room.{segment_least}
 use Rattle.wal_reader.proofs.SettingsText.{gives_once}
 use Rattle.wal_writer.specs.Stops.{IsSegmentFile}
-use Rattle.backup_restore.proofs.Heads.{no_heads, heads_on}
-use Rattle.backup_restore.proofs.Onwards.{passed}
+use Rattle.wal_pieces.proofs.Heads.{no_heads, heads_on}
+use Rattle.wal_pieces.proofs.Onwards.{passed}
 
 -- ---- the file of settings
 

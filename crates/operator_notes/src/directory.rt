@@ -4,7 +4,7 @@ use crate::areas::area_note;
 use crate::lines::note;
 use chain_check::{ChainFault, FileWhy, LinkFault, ManifestWhy, Refusal};
 use command_base::joined;
-use lsn_core::{AreaFault, NoMemory, Text};
+use lsn_core::{AreaFault, NoMemory, Text, lsn_text};
 use std::alloc::Global;
 
 const USE_ANOTHER: &[u8] = b"bring the file back from a copy of the backup, or use another backup";
@@ -21,7 +21,11 @@ fn manifest_text(why: ManifestWhy) -> &'static [u8] {
 
 fn file_text(why: FileWhy) -> &'static [u8] {
     match why {
-        FileWhy::Form => b"incremental backups are not read yet",
+        FileWhy::Both => b"it is incremental, and its whole form is there too",
+        FileWhy::Length => b"it is incremental, and its size isn't the one that its head gives",
+        FileWhy::Magic => b"it is incremental, and doesn't begin as such a file",
+        FileWhy::Range => b"it is incremental, and a number in its head is too great",
+        FileWhy::Order => b"it is incremental, and the blocks in its head don't rise",
         FileWhy::PageLength => b"its size is no multiple of 8192 bytes",
     }
 }
@@ -138,9 +142,86 @@ fn listed_note(alloc: Global, of: &Judged, fault: &ChainFault) -> Result<Text, N
     }
 }
 
-/// The backup can't be restored alone.
-pub fn link_note(alloc: Global, backup: &[u8], why: LinkFault) -> Result<Text, NoMemory> {
+/// A backup of a chain, with what is wrong, and what to do next.
+fn member_note(alloc: Global, backup: &[u8], wrong: &[u8], next: &[u8]) -> Result<Text, NoMemory> {
+    note(alloc, &[b"backup ", backup, b" ", wrong], next)
+}
+
+/// The backup isn't of the same store as the one before, or starts elsewhere than it should.
+fn numbers_note(alloc: Global, backup: &[u8], why: &LinkFault) -> Result<Text, NoMemory> {
+    let wrong = match why {
+        LinkFault::SystemDiffers(have, expected) => format!(in alloc;
+            "is of the store {have}, and the backup before it of the store {expected}"
+        )?.into_bytes(),
+        LinkFault::WrongPrior(have, expected) => {
+            let have = lsn_text(alloc, *have)?;
+            let expected = lsn_text(alloc, *expected)?;
+            let parts = [
+                b"names a prior at ".as_slice(),
+                have.as_bytes(),
+                b", and the backup before it starts at ",
+                expected.as_bytes(),
+            ];
+            joined(alloc, &parts)?.into_vec()
+        }
+        LinkFault::Overlap(start, end) => {
+            let start = lsn_text(alloc, *start)?;
+            let end = lsn_text(alloc, *end)?;
+            let parts = [
+                b"starts at ".as_slice(),
+                start.as_bytes(),
+                b", before the end of the backup before it at ",
+                end.as_bytes(),
+            ];
+            joined(alloc, &parts)?.into_vec()
+        }
+        _ => return Err(NoMemory),
+    };
+    member_note(
+        alloc,
+        backup,
+        &wrong,
+        b"name the backups of one chain in their order",
+    )
+}
+
+/// A file of the backup is incremental, and can't be taken.
+fn incremental_note(alloc: Global, backup: &[u8], why: &LinkFault) -> Result<Text, NoMemory> {
     match why {
+        LinkFault::NoPriorFile(path) => note(
+            alloc,
+            &[
+                b"file ",
+                backup,
+                b"/",
+                path.as_bytes(),
+                b" is incremental, and the backup before it doesn't have the file",
+            ],
+            b"use another backup",
+        ),
+        LinkFault::FileIncremental(path) => note(
+            alloc,
+            &[
+                b"file ",
+                backup,
+                b"/",
+                path.as_bytes(),
+                b" is incremental in a full backup",
+            ],
+            b"restore another backup",
+        ),
+        _ => Err(NoMemory),
+    }
+}
+
+/// The backup isn't taken as a member of a chain.
+pub fn link_note(alloc: Global, backup: &[u8], why: &LinkFault) -> Result<Text, NoMemory> {
+    match why {
+        LinkFault::TooManyMembers => note(
+            alloc,
+            &[b"more than 64 backups are named"],
+            b"take a full backup",
+        ),
         LinkFault::TimelineDiffers(timeline) => {
             let told = format!(in alloc; " tells timeline {timeline}, and only 1 is read")?;
             note(
@@ -149,14 +230,23 @@ pub fn link_note(alloc: Global, backup: &[u8], why: LinkFault) -> Result<Text, N
                 b"use another backup",
             )
         }
-        LinkFault::FirstIncremental => note(
+        LinkFault::FirstIncremental => member_note(
             alloc,
-            &[
-                b"backup ",
-                backup,
-                b" is incremental: its label names a prior",
-            ],
+            backup,
+            b"is incremental: its label names a prior",
             b"restore a full backup; chains of several backups are not restored yet",
         ),
+        LinkFault::LaterFull => member_note(
+            alloc,
+            backup,
+            b"is no incremental one: its label names no prior",
+            b"name the backups of one chain in their order",
+        ),
+        LinkFault::SystemDiffers(_, _) | LinkFault::WrongPrior(_, _) | LinkFault::Overlap(_, _) =>
+            numbers_note(alloc, backup, why),
+        LinkFault::NoPriorFile(_) | LinkFault::FileIncremental(_) => {
+            incremental_note(alloc, backup, why)
+        }
+        LinkFault::NoMemory => Err(NoMemory),
     }
 }

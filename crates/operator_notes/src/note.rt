@@ -4,12 +4,13 @@ use crate::areas::{area_note, memory_note, not_empty_note, store_note, take_note
 use crate::directory::{directory_note, link_note};
 use crate::lines::note;
 use crate::script::script_note;
-use crate::sums::gap_note;
+use crate::sums::{gap_note, incr_gap_note};
 use crate::usage::usage_of;
 use crate::wal::{early_note, wal_note};
+use base_backup::IncrFault;
 use command_base::{backup_name, output_name};
-use crew::Stop;
-use lsn_core::{AreaFault, NoMemory, Text};
+use crew::{Answer as LineAnswer, Command, Stop};
+use lsn_core::{AreaFault, Lsn, NoMemory, Text};
 use pgbackup_cli::{Answer, InitFault, ReplayFault, RestoreFault, VerifyFault, WalsummaryFault};
 use run_command::{RunFault, RunReport};
 use shared_store::BeginWhy;
@@ -64,26 +65,51 @@ fn run_note(alloc: Global, fault: &RunFault) -> Result<Text, NoMemory> {
 /// The note on a run whose script was run.
 fn ending_note(alloc: Global, report: &RunReport) -> Result<Text, NoMemory> {
     match report.told.stop() {
-        Some((line, stop)) => stop_note(alloc, line.command.backup(), stop),
+        Some((line, stop)) => stop_note(alloc, &line.command, stop),
         None => match report.closed {
-            Ok(_) => Ok(Text::from_vec(Vec::new(alloc))),
+            Ok(_) => answers_note(alloc, report),
             Err(fault) => store_note(alloc, fault),
         },
     }
 }
 
-/// The note on a line that was stopped, which takes a backup of this name, if it takes one.
-fn stop_note(alloc: Global, name: &[u8], stop: Stop) -> Result<Text, NoMemory> {
-    match stop {
-        Stop::Store(fault) => store_note(alloc, fault),
-        Stop::Backup => {
-            area_note(
-                alloc,
-                backup_name(alloc, name)?.as_bytes(),
-                AreaFault::Failed,
-            )
+/// The note on what the lines of a run were answered, none of which stopped its worker: on the first
+/// incremental backup that lacks a summary.
+fn answers_note(alloc: Global, report: &RunReport) -> Result<Text, NoMemory> {
+    for told in report.told.as_slice() {
+        if let Some(at) = gap_in(told.answers.as_slice()) {
+            return incr_gap_note(alloc, at);
         }
     }
+    Ok(Text::from_vec(Vec::new(alloc)))
+}
+
+/// The place that the first of these answers to lack a summary names.
+fn gap_in(answers: &[LineAnswer]) -> Option<Lsn> {
+    for answer in answers {
+        if let LineAnswer::IncrRefused(IncrFault::Gap(at)) = answer {
+            return Some(*at);
+        }
+    }
+    None
+}
+
+/// The note on a line that was stopped.
+fn stop_note(alloc: Global, line: &Command, stop: Stop) -> Result<Text, NoMemory> {
+    match stop {
+        Stop::Store(fault) => store_note(alloc, fault),
+        Stop::Backup => backup_note(alloc, line.backup()),
+        Stop::Prior => backup_note(alloc, line.prior()),
+    }
+}
+
+/// The device of the area of this backup failed.
+fn backup_note(alloc: Global, name: &[u8]) -> Result<Text, NoMemory> {
+    area_note(
+        alloc,
+        backup_name(alloc, name)?.as_bytes(),
+        AreaFault::Failed,
+    )
 }
 
 /// The last word; of those of `verify` the backup's name.
@@ -146,7 +172,7 @@ fn restore_note(
     match fault {
         RestoreFault::Site(fault) => take_note(alloc, fault),
         RestoreFault::Directory(refusal) => directory_note(alloc, backup.as_bytes(), refusal),
-        RestoreFault::Chain(why) => link_note(alloc, backup.as_bytes(), *why),
+        RestoreFault::Chain(why) => link_note(alloc, backup.as_bytes(), why),
         RestoreFault::Early(target, end) => early_note(alloc, *target, *end),
         RestoreFault::NotEmpty => not_empty_note(alloc, output.as_bytes()),
         RestoreFault::Wal(fault) => wal_note(alloc, *fault),

@@ -12,8 +12,8 @@ const INIT: &[u8] = b"usage: pgbackup init [--segment-mib M] [--relseg N] [--sys
 ";
 
 const RUN: &[u8] = b"usage: pgbackup run < SCRIPT
-  reads a script from standard input, runs its lines on the store, and writes their WAL, pages and
-  backups
+  reads a script from standard input, runs its lines on the store, and writes their WAL, pages,
+  summaries and backups
 ";
 
 const REPLAY: &[u8] = b"usage: pgbackup replay [--target LSN] OUT

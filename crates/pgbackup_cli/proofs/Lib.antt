@@ -1,5 +1,4 @@
 pub mod ReplayCauses
-pub mod EmptyOut
 pub mod ReplayedOut
 pub mod Decided
 pub mod Sinks
@@ -8,8 +7,9 @@ pub mod OneVerify
 pub mod OneInit
 pub mod OneRun
 pub mod NewWal
-pub mod ReadOnce
 pub mod LentThree
+pub mod Unlinked
 pub mod RestoredOut
+pub mod OneRestore
 pub mod OneWalsummary
 pub mod Covered

@@ -59,7 +59,7 @@ done_or_refused upto old new other files a f told done cause own =
 done_with : ℕ → ℕ → ℕ → ReplayReport
 done_with end forks pages = record { end = record { 0 = end }; forks = forks; pages = pages }
 
-same_parts : (a b : ReplayReport) → a.end.0 ≡ b.end.0 → a.forks ≡ b.forks → a.pages ≡ b.pages → a ≡ b
+pub same_parts : (a b : ReplayReport) → a.end.0 ≡ b.end.0 → a.forks ≡ b.forks → a.pages ≡ b.pages → a ≡ b
 unfolding done_with
 same_parts a b end forks pages =
     ap (λ (n : ℕ). done_with n a.forks a.pages) end ∙ ap (λ (n : ℕ). done_with b.end.0 n a.pages) forks ∙ ap (λ (n : ℕ). done_with b.end.0 b.forks n) pages

@@ -19,7 +19,7 @@ use Rattle.pgbackup_cli.specs.Laws.{is_decided, HasOneVerify}
 use Rattle.pgbackup_cli.proofs.Decided.{undecided}
 
 -- what is decided the files decide
-of_directory : (fault : ChainFault) → is_decided (directory_status fault) ≡ true → IsOfFiles fault
+pub of_directory : (fault : ChainFault) → is_decided (directory_status fault) ≡ true → IsOfFiles fault
 of_directory chain.NoManifest e = (λ f. absurd cc, λ f. absurd cc)
 of_directory (chain.ManifestDamaged why) e = (λ f. absurd cc, λ f. absurd cc)
 of_directory (chain.ManifestVersion v) e = (λ f. absurd cc, λ f. absurd cc)

@@ -15,8 +15,7 @@ use Rattle.vault.specs.declared.area.Vault.{Ghosts}
 use Rattle.rel_files.specs.Forks.{IsForkPath}
 use Rattle.rel_files.specs.Shown.{AreFilesOf, HoldsStore, ShowsStore, KeepsOthers}
 use Rattle.rel_files.specs.declared.forks.Forks.{Forks}
-use Rattle.backup_restore.proofs.Outputs.{empty_held, told_empty}
-use Rattle.pgbackup_cli.proofs.EmptyOut.{empty_shown, files_shown}
+use Rattle.backup_restore.proofs.Outputs.{empty_held, empty_shown, files_shown, told_empty}
 use Rattle.wal_archive.specs.Rules.{End}
 use Rattle.recovery.specs.declared.fault.RecoveryFault.{RecoveryFault}
 use Rattle.recovery.specs.declared.fault.ReplayFault.{ReplayFault as Unreplayed}
@@ -96,8 +95,8 @@ module _ {V : Type 0} (g : Ghosts V) (p : Pages (Forks V)) where
     done : (r : Replayed) (report : ReplayReport) (c : Came upto wal out wal_now out_now s (Ok r) (Ok report)) → IsSome (g.files out) → ReplayDone upto areas now report
     done r report c told =
         let made = c.into.fresh (fresh (Ok r) (Ok report) c told) in
-        let files : g.files c.new.area ≡ Some (files_of c.old.relseg made.last) =
-        files_shown g c.old c.new made.last (subst (λ (n : ℕ). 0 < n) (sym c.relseg) c.some) (empty_there (Ok r) (Ok report) c told) c.kept (c.shown c.new made.last made.shown) in
+        let files : g.files c.new.area ≡ Some (files_of s.relseg made.last) =
+        files_shown g c.old.area c.new s.relseg made.last c.some (c.kept.relseg ∙ c.relseg) (empty_there (Ok r) (Ok report) c told) c.kept.area (c.shown c.new made.last made.shown) in
         record {
           clear = c.clear;
           settings = s;
@@ -115,7 +114,7 @@ module _ {V : Type 0} (g : Ghosts V) (p : Pages (Forks V)) where
           };
           made = made.whole;
           written =
-              c.finish.0 ∙ files ∙ ap (λ (n : ℕ). Some (files_of n made.last)) c.relseg
+              c.finish.0 ∙ files
               ∙ sym (ap (option_map (λ m. files_of s.relseg made.last)) (told_empty (g.files out) c.clear told));
           end = ap (λ (x : ReplayReport). x.end.0) c.finish.1 ∙ c.into.end;
           forks = ap (λ (x : ReplayReport). x.forks) c.finish.1 ∙ made.forks_are;

@@ -22,9 +22,9 @@ use Rattle.backup_restore.specs.Restored.{RestoreAreas, MakesOf, IsRestored, Has
 use Rattle.command_base.specs.Areas.{AreaCause}
 use Rattle.pgbackup_cli.specs.declared.replay.ReplayReport.{ReplayReport}
 use Rattle.pgbackup_cli.specs.declared.restore.RestoreFault.TheVariants as restore
-use Rattle.pgbackup_cli.specs.Restore.{RestoreResult, RestoresMember, wal_causes_from}
+use Rattle.pgbackup_cli.specs.Restore.{RestoreResult, RestoresMember, ReadsPast, wal_causes_from}
 use Rattle.pgbackup_cli.specs.Inner.{IsMemberIn, IsReady, EndsRestore, restore_areas_in, AnswersRestore}
-use Rattle.pgbackup_cli.proofs.ReadOnce.{one_tip}
+use Rattle.backup_restore.proofs.OneReading.{one_tip}
 use Rattle.pgbackup_cli.proofs.ReplayCauses.{rises}
 use Rattle.pgbackup_cli.proofs.ReplayedOut.{none_or_empty, never_full, area_rises, area_cause}
 
@@ -47,23 +47,24 @@ restored_there s start upto a b c d r same out is = record {
 }
 
 -- why the WAL is refused, with the settings that were read
-cause_there : (s : StoreSettings) (start : Lsn) (upto : Option Lsn) (a c : RestoreAreas) (low before now : ℕ) (why : RecoveryFault) → SameFiles a c → HasSettings c.wal.files s → low ≤ before → CauseOf (restore_causes s start upto a) before now why → CauseOf (wal_causes_from upto c start) low now why
-cause_there s start upto a c low before now (recovery.Damaged mib damage) same given later cause =
+cause_there : (s : StoreSettings) (start : Lsn) (end : ℕ) (upto : Option Lsn) (a c : RestoreAreas) (low before now : ℕ) (why : RecoveryFault) → SameFiles a c → HasSettings c.wal.files s → ReadsPast s c.wal.files upto start end → low ≤ before → CauseOf (restore_causes s start upto a) before now why
+    → CauseOf (wal_causes_from upto c start end) low now why
+cause_there s start end upto a c low before now (recovery.Damaged mib damage) same given past later cause =
     (s, given, subst (λ (o : Option Files). CauseOf (restore_causes s start upto (record a { wal = record a.wal { files = o } })) before now (recovery.Damaged mib damage)) same.wal cause)
-cause_there s start upto a c low before now (recovery.Short end target) same given later cause =
-    (s, given, subst (λ (o : Option Files). CauseOf (restore_causes s start upto (record a { wal = record a.wal { files = o } })) before now (recovery.Short end target)) same.wal cause)
-cause_there s start upto a c low before now (recovery.BadDelta place) same given later cause =
-    (s, given, λ told. bad_there s start upto a.wal.files c.wal.files a.backup.files c.backup.files place same.wal same.backup (cause (subst (λ (o : Option Files). IsSome o) (sym same.out) told)))
+cause_there s start end upto a c low before now (recovery.Short at target) same given past later cause =
+    (s, given, subst (λ (o : Option Files). CauseOf (restore_causes s start upto (record a { wal = record a.wal { files = o } })) before now (recovery.Short at target)) same.wal cause)
+cause_there s start end upto a c low before now (recovery.BadDelta place) same given past later cause =
+    (s, given, past, λ told. bad_there s start upto a.wal.files c.wal.files a.backup.files c.backup.files place same.wal same.backup (cause (subst (λ (o : Option Files). IsSome o) (sym same.out) told)))
   where
     bad_there : (s : StoreSettings) (start : Lsn) (upto : Option Lsn) (w x b d : Option Files) (place : Lsn) → w ≡ x → b ≡ d → IfSome b (λ m. IfSome w (λ f. HasBadEntry s f m start upto place)) → IfSome d (λ m. IfSome x (λ f. HasBadEntry s f m start upto place))
     bad_there s start upto w x b d place wal backup bad =
         subst (λ (o : Option Files). IfSome d (λ m. IfSome o (λ f. HasBadEntry s f m start upto place))) wal
         (subst (λ (o : Option Files). IfSome o (λ m. IfSome w (λ f. HasBadEntry s f m start upto place))) backup bad)
-cause_there s start upto a c low before now recovery.SettingsDamaged same given later cause = absurd cause
-cause_there s start upto a c low before now (recovery.Timeline name) same given later cause = absurd cause
-cause_there s start upto a c low before now recovery.NotInit same given later cause = absurd cause
-cause_there s start upto a c low before now recovery.Failed same given later cause = rises low before now now later (omega arith) cause
-cause_there s start upto a c low before now recovery.NoMemory same given later cause = tt
+cause_there s start end upto a c low before now recovery.SettingsDamaged same given past later cause = absurd cause
+cause_there s start end upto a c low before now (recovery.Timeline name) same given past later cause = absurd cause
+cause_there s start end upto a c low before now recovery.NotInit same given past later cause = absurd cause
+cause_there s start end upto a c low before now recovery.Failed same given past later cause = rises low before now now later (omega arith) cause
+cause_there s start end upto a c low before now recovery.NoMemory same given past later cause = tt
 
 module _ {V : Type 0} (g : Ghosts V) where
   -- the parts of a restore: what was known before anything was written, and what each call did
@@ -104,8 +105,8 @@ module _ {V : Type 0} (g : Ghosts V) where
       replayed = r;
       restored = restored_there c.settings c.member.label.start upto (restore_areas_in g c.wal_read c.backup_read c.out_seen) (restore_areas_in g wal_now backup_now c.made) old new r (same_areas (Ok r) (Ok report) c) (sym c.ends.0) c.restores;
       reached = λ told. subst (λ (t : Tip). c.member.manifest.end ≤ replayed_to upto t)
-          (one_tip c.settings (g.files wal) (g.files c.wal_read) (AtPlace c.member.label.start) upto c.ready.entries c.restores.entries c.ready.last r.tip c.wal_same.files told c.ready.read c.restores.read)
-          c.ready.reached;
+          (one_tip c.settings (g.files wal) (g.files c.wal_read) (AtPlace c.member.label.start) upto c.ready.past.entries c.restores.entries c.ready.past.last r.tip c.wal_same.files told c.ready.past.read c.restores.read)
+          c.ready.past.reached;
       end = ap (λ (x : ReplayReport). x.end.0) c.ends.1;
       forks = ap (λ (x : ReplayReport). x.forks) c.ends.1;
       pages = ap (λ (x : ReplayReport). x.pages) c.ends.1;
@@ -123,8 +124,8 @@ module _ {V : Type 0} (g : Ghosts V) where
           alone = c.found.alone;
           late = c.ready.late;
           clear = c.ready.clear;
-          cause = subst (λ (w : RecoveryFault). CauseOf (wal_causes_from upto old c.member.label.start) (g.faults wal) (g.faults wal_now) w) (sym c.ends.1)
-              (cause_there c.settings c.member.label.start upto (restore_areas_in g c.wal_read c.backup_read c.out_seen) old (g.faults wal) (g.faults c.wal_read) (g.faults wal_now) f (same_areas (Err (unrestored.Wal f)) (Err (restore.Wal why)) c) c.ready.given c.wal_same.faults c.restores);
+          cause = subst (λ (w : RecoveryFault). CauseOf (wal_causes_from upto old c.member.label.start c.member.manifest.end) (g.faults wal) (g.faults wal_now) w) (sym c.ends.1)
+              (cause_there c.settings c.member.label.start c.member.manifest.end upto (restore_areas_in g c.wal_read c.backup_read c.out_seen) old (g.faults wal) (g.faults c.wal_read) (g.faults wal_now) f (same_areas (Err (unrestored.Wal f)) (Err (restore.Wal why)) c) c.ready.given c.ready.past c.wal_same.faults c.restores);
         };
       },
       c.ends.0 ∙ none_or_empty (AgreeBut IsForkPath) (g.files out) (g.files c.made) c.ready.clear (seen (Err (unrestored.Wal f)) (Err (restore.Wal why)) c),

@@ -11,6 +11,7 @@ use Rattle.chain_check.specs.declared.fault.ChainFault.TheVariants as chain
 use Rattle.command_base.specs.declared.status.Status.{Status}
 use Rattle.command_base.specs.declared.status.Status.TheVariants as status
 use Rattle.command_base.specs.Areas.{backup_name}
+use Rattle.command_base.specs.Backups.{of_backup, with_number}
 use Rattle.command_base.specs.Faults.{area_text, memory_text}
 
 -- why the text of a manifest isn't taken
@@ -23,16 +24,12 @@ manifest_why_text manifest.SumKind = codes "SumKind"
 
 -- why the form of a file isn't taken
 abbrev pub file_why_text : FileWhy → List ℕ
-file_why_text file.Form = codes "Form"
+file_why_text file.Both = codes "Both"
+file_why_text file.Length = codes "Length"
+file_why_text file.Magic = codes "Magic"
+file_why_text file.Range = codes "Range"
+file_why_text file.Order = codes "Order"
 file_why_text file.PageLength = codes "PageLength"
-
--- a fault by number and name, the backup, and what stands behind these
-abbrev pub of_backup : List ℕ → List ℕ → List ℕ → List ℕ
-of_backup fault name text = fault ++ (32 ∷ (name ++ (32 ∷ text)))
-
--- the same with a number behind
-abbrev pub with_number : List ℕ → List ℕ → ℕ → List ℕ
-with_number fault name number = of_backup fault name (decimal number)
 
 -- a file has another size than is listed
 abbrev pub size_text : List ℕ → List ℕ → ℕ → ℕ → List ℕ

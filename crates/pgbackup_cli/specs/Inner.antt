@@ -9,7 +9,6 @@ use Rattle.lsn_core.specs.declared.lsn.Lsn.{Lsn}
 use Rattle.lsn_core.specs.Segment.{StoreSettings, IsSegmentMib, IsRelseg}
 use Rattle.lsn_core.specs.declared.fault.AreaFault.{AreaFault}
 use Rattle.lsn_core.specs.declared.fault.AreaFault.TheVariants.{NoMemory}
-use Rattle.lsn_core.specs.Tip.{Tip}
 use Rattle.vault.specs.declared.area.Vault.{Ghosts as Vaults}
 use Rattle.vault.specs.declared.site.Site.{Ghosts as Sites}
 use Rattle.vault.specs.declared.stream.Sink.{Ghosts as Sinks}
@@ -21,11 +20,8 @@ use Rattle.vault.specs.Site.{AreaState, state_in}
 use Rattle.recovery.specs.declared.replaying.Replayed.{Replayed}
 use Rattle.recovery.specs.declared.fault.ReplayFault.{ReplayFault as Unreplayed}
 use Rattle.recovery.specs.declared.fault.ReplayFault.TheVariants as unreplayed
-use Rattle.recovery.specs.declared.reading.Beginning.TheVariants.{AtPlace}
-use Rattle.recovery.specs.Onward.{IsReadFromTo, replayed_to}
 use Rattle.recovery.specs.Causes.{CauseOf, HasSettings}
-use Rattle.wal_record.specs.declared.record.Record.{Record}
-use Rattle.chain_check.specs.Chain.{IsChainOfOne, alone_fault}
+use Rattle.chain_check.specs.Chain.{IsChainOfOne, RefusesAlone}
 use Rattle.chain_check.specs.Directory.{IsAsListed}
 use Rattle.chain_check.specs.declared.member.Member.{Member}
 use Rattle.backup_restore.specs.declared.fault.RestoreFault.{RestoreFault as Unrestored}
@@ -47,7 +43,7 @@ use Rattle.wal_summary.specs.declared.summary.Summary.{Summary}
 use Rattle.wal_summary.specs.Kept.{IsCovering, IsGap}
 use Rattle.pgbackup_cli.specs.declared.walsummary.WalsummaryFault.TheVariants as walsummary
 use Rattle.pgbackup_cli.specs.Walsummary.{WalsummaryResult, WalsummaryAnswer}
-use Rattle.pgbackup_cli.specs.Restore.{RestoreResult, RestoreAnswer, IsOfMember, IsLate, EndsAt, reading_causes_from}
+use Rattle.pgbackup_cli.specs.Restore.{RestoreResult, RestoreAnswer, IsOfMember, IsLate, EndsAt, ReadsPast, reading_causes_from}
 
 -- ---- the outside, as far as a call sees it
 
@@ -210,7 +206,7 @@ abbrev pub MemberAnswer :
 MemberAnswer name old new (Ok member) = IsMemberIn name old member
 MemberAnswer name old new (Err (restore.Directory refusal)) = DirectoryRefused old new refusal
 MemberAnswer name old new (Err (restore.Chain why)) =
-    IsOfMember name old (λ member. alone_fault member.label ≡ Some why)
+    IsOfMember name old (λ member. RefusesAlone member why)
 MemberAnswer name old new (Err (restore.Out why)) = why ≡ NoMemory
 MemberAnswer name old new (Err fault) = ⊥
 
@@ -232,10 +228,7 @@ pub record IsReady (upto : Option Lsn) (member : Member) (wal out : AreaState) (
   pub late : IsLate upto member
   pub clear : IsClear out
   pub given : HasSettings wal.files s
-  pub entries : List Record
-  pub last : Tip
-  pub read : IsReadFromTo s wal.files (AtPlace member.label.start) upto entries last
-  pub reached : member.manifest.end ≤ replayed_to upto last
+  pub past : ReadsPast s wal.files upto member.label.start member.manifest.end
 
 -- so it can, or is refused
 abbrev pub ReadyAnswer : Option Lsn → Member → AreaState → AreaState → AreaState → AreaState

@@ -12,6 +12,7 @@ use Rattle.run_command.specs.declared.command.RunFault.TheVariants as run
 use Rattle.run_command.specs.Run.{RunResult, RunDoes, tasks_told}
 use Rattle.pgbackup_cli.specs.Replay.{ReplayDoes, replay_status}
 use Rattle.pgbackup_cli.specs.Verify.{VerifyDoes, verify_status}
+use Rattle.pgbackup_cli.specs.Restore.{RestoreDoes, restore_status}
 use Rattle.pgbackup_cli.specs.Walsummary.{WalsummaryDoes, walsummary_status}
 use Rattle.command_line.specs.declared.options.InitOptions.{InitOptions}
 
@@ -61,6 +62,11 @@ HasOneReplay =
 
 abbrev pub HasOneVerify : Type 0
 HasOneVerify = (name : List ℕ) → HasOne (VerifyDoes name) verify_status
+
+-- up to a target, where one is given, to an output of a name, of the backup of another name
+abbrev pub HasOneRestore : Type 0
+HasOneRestore =
+    (upto : Option Lsn) (out member : List ℕ) → HasOne (RestoreDoes upto out member) restore_status
 
 -- of a range with a place
 abbrev pub HasOneWalsummary : Type 0

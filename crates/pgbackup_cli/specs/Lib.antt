@@ -2,6 +2,7 @@ pub mod Init
 pub mod Replay
 pub mod Directory
 pub mod Verify
+pub mod Link
 pub mod Restore
 pub mod Walsummary
 pub mod Top

@@ -9,10 +9,8 @@ use Rattle.lsn_core.specs.Tip.{Tip}
 use Rattle.vault.specs.Site.{AreaState}
 use Rattle.vault.specs.Lending.{Names}
 use Rattle.wal_record.specs.declared.record.Record.{Record}
-use Rattle.chain_check.specs.Chain.{IsChainOfOne, alone_fault}
+use Rattle.chain_check.specs.Chain.{IsChainOfOne, RefusesAlone}
 use Rattle.chain_check.specs.Directory.{IsAsListed}
-use Rattle.chain_check.specs.declared.chain.LinkFault.{LinkFault}
-use Rattle.chain_check.specs.declared.chain.LinkFault.TheVariants as link
 use Rattle.chain_check.specs.declared.member.Member.{Member}
 use Rattle.recovery.specs.declared.fault.RecoveryFault.{RecoveryFault}
 use Rattle.recovery.specs.declared.reading.Beginning.TheVariants.{AtPlace}
@@ -28,7 +26,9 @@ use Rattle.command_base.specs.Faults.{refused_line, area_text, full_text, take_t
 use Rattle.pgbackup_cli.specs.declared.replay.ReplayReport.{ReplayReport}
 use Rattle.pgbackup_cli.specs.declared.restore.RestoreFault.{RestoreFault}
 use Rattle.pgbackup_cli.specs.declared.restore.RestoreFault.TheVariants as restore
-use Rattle.pgbackup_cli.specs.Directory.{directory_text, directory_status, with_number}
+use Rattle.pgbackup_cli.specs.Directory.{directory_text, directory_status}
+use Rattle.command_base.specs.Backups.{lsns_text}
+use Rattle.pgbackup_cli.specs.Link.{link_text}
 use Rattle.pgbackup_cli.specs.Replay.{KeepsFull, made_line}
 use Rattle.pgbackup_cli.specs.Verify.{DirectoryRefused}
 
@@ -103,11 +103,20 @@ reading_causes_from upto files start = record (settings_causes files) {
       × (reading_causes s (AtPlace start) upto files).short end target;
 }
 
--- or they can't be redone over what the backup's directory holds
-abbrev pub wal_causes_from : Option Lsn → RestoreAreas → Lsn → RecoveryCauses
-wal_causes_from upto old start = record (reading_causes_from upto old.wal.files start) {
+-- the WAL is read from a place on, up to the target or to its end, which isn't before an end
+pub record ReadsPast
+    (s : StoreSettings) (files : Option Files) (upto : Option Lsn) (start : Lsn) (end : ℕ)
+    : Type 0 where
+  pub entries : List Record
+  pub last : Tip
+  pub read : IsReadFromTo s files (AtPlace start) upto entries last
+  pub reached : end ≤ replayed_to upto last
+
+-- or they are read so, past a backup's end, but can't be redone over what its directory holds
+abbrev pub wal_causes_from : Option Lsn → RestoreAreas → Lsn → ℕ → RecoveryCauses
+wal_causes_from upto old start end = record (reading_causes_from upto old.wal.files start) {
   bad = λ place. (s : StoreSettings) × HasSettings old.wal.files s
-      × (restore_causes s start upto old).bad place;
+      × ReadsPast s old.wal.files upto start end × (restore_causes s start upto old).bad place;
 }
 
 -- the member may be restored up to the target, and the output is clear, but the WAL is refused
@@ -117,7 +126,7 @@ pub record IsUnredone
   pub alone : IsChainOfOne member
   pub late : IsLate upto member
   pub clear : IsClear old.out
-  pub cause : CauseOf (wal_causes_from upto old member.label.start)
+  pub cause : CauseOf (wal_causes_from upto old member.label.start member.manifest.end)
       old.wal.faults new.wal.faults why
 
 -- why `restore` of the backup of a name comes to its answer, where an area that isn't handed out
@@ -131,7 +140,7 @@ RestoreAnswer upto name Untaken old new (Err (restore.Site fault)) = Untaken fau
 RestoreAnswer upto name Untaken old new (Err (restore.Directory refusal)) =
     DirectoryRefused old.backup new.backup refusal × Keeps old.out new.out
 RestoreAnswer upto name Untaken old new (Err (restore.Chain why)) =
-    IsOfMember name old.backup (λ member. alone_fault member.label ≡ Some why)
+    IsOfMember name old.backup (λ member. RefusesAlone member why)
     × Keeps old.out new.out
 RestoreAnswer upto name Untaken old new (Err (restore.Early target end)) =
     IsOfMember name old.backup (IsEarly upto old.wal old.out target end) × Keeps old.out new.out
@@ -171,14 +180,9 @@ RestoreDoes upto out member old new r =
 
 -- ---- what it prints, where these are the backup's name and the output's area, and its status
 
--- the backup is no chain of its own
-abbrev pub link_text : List ℕ → LinkFault → List ℕ
-link_text name (link.TimelineDiffers v) = with_number (codes "34 TimelineDiffers") name v
-link_text name link.FirstIncremental = codes "30 FirstIncremental " ++ name
-
 -- a target is before a backup's end
 abbrev pub early_text : Lsn → Lsn → List ℕ
-early_text target end = codes "40 TargetEarly " ++ (lsn_bytes target.0 ++ (32 ∷ lsn_bytes end.0))
+early_text target end = codes "40 TargetEarly " ++ lsns_text target end
 
 abbrev pub restore_fault_text : List ℕ → List ℕ → RestoreFault → List ℕ
 restore_fault_text name out (restore.Site fault) = take_text fault

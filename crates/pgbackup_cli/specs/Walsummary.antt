@@ -1,7 +1,6 @@
 -- `walsummary`: what telling the kept summaries of a range does, prints and ends with.
-use Rattle.std.specs.Prelude.{◌≡◌, ℕ, List, [], ◌∷◌, ◌++◌, Result, Ok, Err, IfSome, codes}
+use Rattle.std.specs.Prelude.{◌≡◌, ℕ, List, [], ◌∷◌, Result, Ok, Err, IfSome}
 use Rattle.lsn_core.specs.Files.{Files}
-use Rattle.lsn_core.specs.Names.{lsn_bytes}
 use Rattle.lsn_core.specs.declared.lsn.Lsn.{Lsn}
 use Rattle.vault.specs.Site.{AreaState}
 use Rattle.wal_summary.specs.declared.summary.Summary.{Summary}
@@ -12,6 +11,7 @@ use Rattle.command_base.specs.declared.status.Status.{Status}
 use Rattle.command_base.specs.declared.status.Status.TheVariants as status
 use Rattle.command_base.specs.Areas.{sums_name, AreaFails}
 use Rattle.command_base.specs.Outside.{Outside, Works, Untakens, IsUntaken}
+use Rattle.command_base.specs.Backups.{gap_text}
 use Rattle.command_base.specs.Faults.{refused_line, take_text, area_text, area_status}
 use Rattle.pgbackup_cli.specs.declared.walsummary.WalsummaryFault.{WalsummaryFault}
 use Rattle.pgbackup_cli.specs.declared.walsummary.WalsummaryFault.TheVariants as walsummary
@@ -58,7 +58,7 @@ WalsummaryDoes from to old new r = Works [] old new × WalsummaryRan sums_name f
 
 abbrev pub walsummary_fault_text : WalsummaryFault → List ℕ
 walsummary_fault_text (walsummary.Site fault) = take_text fault
-walsummary_fault_text (walsummary.Gap place) = codes "50 SummaryGap " ++ lsn_bytes place.0
+walsummary_fault_text (walsummary.Gap place) = gap_text place
 walsummary_fault_text (walsummary.Sums why) = area_text sums_name why
 
 abbrev pub walsummary_text : WalsummaryResult → List ℕ

@@ -1,12 +1,11 @@
 //! The text and the status of the fault of a backup's directory.
 
 ghost use Rattle.std.specs.Prelude.{◌≡◌, ◌∷◌, ◌++◌, IfOk};
-ghost use Rattle.pgbackup_cli.specs.Directory.{manifest_why_text, file_why_text, of_backup};
-ghost use Rattle.pgbackup_cli.specs.Directory.{with_number, size_text, file_damaged_text};
+ghost use Rattle.pgbackup_cli.specs.Directory.{manifest_why_text, file_why_text, size_text, file_damaged_text};
 ghost use Rattle.pgbackup_cli.specs.Directory.{directory_text, directory_status};
 
 use chain_check::{ChainFault, FileWhy, ManifestWhy};
-use command_base::{Status, area_text, backup_name, joined};
+use command_base::{Status, area_text, backup_name, joined, of_backup, with_number};
 use lsn_core::{AreaFault, NoMemory, Text};
 use std::alloc::Global;
 
@@ -26,28 +25,17 @@ fn file_why_text(why: FileWhy) -> &'static [u8]
     ensures { result.now ≡ file_why_text why }
 {
     match why {
-        FileWhy::Form => b"Form",
+        FileWhy::Both => b"Both",
+        FileWhy::Length => b"Length",
+        FileWhy::Magic => b"Magic",
+        FileWhy::Range => b"Range",
+        FileWhy::Order => b"Order",
         FileWhy::PageLength => b"PageLength",
     }
 }
 
-/// A fault by number and name, the backup, and what stands behind these.
-fn of_backup(alloc: Global, fault: &[u8], name: &[u8], text: &[u8]) -> Result<Text, NoMemory>
-    ensures { IfOk result (λ line. line ≡ of_backup fault.now name.now text.now) }
-{
-    joined(alloc, &[fault, b" ", name, b" ", text])
-}
-
-/// The same with a number behind.
-pub fn with_number(alloc: Global, fault: &[u8], name: &[u8], number: u64) -> Result<Text, NoMemory>
-    ensures { IfOk result (λ line. line ≡ with_number fault.now name.now number) }
-{
-    let number = format!(in alloc; "{number}")?;
-    of_backup(alloc, fault, name, number.as_bytes())
-}
-
 /// A path, and what stands behind it.
-fn spaced(alloc: Global, path: &[u8], text: &[u8]) -> Result<Text, NoMemory>
+pub(crate) fn spaced(alloc: Global, path: &[u8], text: &[u8]) -> Result<Text, NoMemory>
     ensures { IfOk result (λ line. line ≡ path.now ++ (32 ∷ text.now)) }
 {
     joined(alloc, &[path, b" ", text])

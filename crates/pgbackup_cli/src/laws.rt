@@ -1,8 +1,10 @@
 //! What holds of every run of a command.
 
-ghost use Rattle.pgbackup_cli.specs.Laws.{HasOneInit, RunsBeginAlike, HasOneReplay, HasOneVerify, HasOneWalsummary};
+ghost use Rattle.pgbackup_cli.specs.Laws.{HasOneInit, RunsBeginAlike, HasOneReplay, HasOneVerify};
+ghost use Rattle.pgbackup_cli.specs.Laws.{HasOneRestore, HasOneWalsummary};
 
-use chain_check::directories_have_one_answer;
+use backup_restore::restores_end_alike;
+use chain_check::{chains_have_one_answer, directories_have_one_answer};
 use summary_file::summaries_are_read_again;
 use wal_summary::summaries_are_one;
 
@@ -30,6 +32,15 @@ pub fn verify_has_one_answer()
     ensures { HasOneVerify }
 {
     directories_have_one_answer();
+}
+
+/// `restore` of one backup to one output, up to the same target, comes to one answer, too.
+pub fn restore_has_one_answer()
+    ensures { HasOneRestore }
+{
+    directories_have_one_answer();
+    chains_have_one_answer();
+    restores_end_alike();
 }
 
 /// `walsummary` of one range comes to one answer, too: what is kept of an area's files is one list of

@@ -17,6 +17,7 @@ mod directory;
 mod init;
 mod laws;
 mod lending;
+mod link;
 mod new_wal;
 mod replay;
 mod restore;
@@ -28,8 +29,8 @@ pub use answer::Answer;
 pub use command_base::Status;
 pub use init::InitFault;
 pub use laws::{
-    init_has_one_answer, replay_has_one_answer, runs_begin_alike, verify_has_one_answer,
-    walsummary_has_one_answer,
+    init_has_one_answer, replay_has_one_answer, restore_has_one_answer, runs_begin_alike,
+    verify_has_one_answer, walsummary_has_one_answer,
 };
 pub use replay::ReplayFault;
 pub use restore::RestoreFault;

@@ -10,18 +10,20 @@ ghost use Rattle.pgbackup_cli.specs.declared.restore.RestoreFault.TheVariants as
 ghost use Rattle.command_base.specs.Areas.{wal_name, backup_name, output_name};
 ghost use Rattle.command_base.specs.Outside.{of_site, Works};
 ghost use Rattle.pgbackup_cli.specs.Restore.{restore_asks, RestoreRan, RestoreDoes};
-ghost use Rattle.pgbackup_cli.specs.Restore.{link_text, early_text, restore_fault_text, restore_text, restore_status};
+ghost use Rattle.pgbackup_cli.specs.Link.{restore_link};
+ghost use Rattle.pgbackup_cli.specs.Restore.{early_text, restore_fault_text, restore_text, restore_status};
 ghost use Rattle.pgbackup_cli.specs.Inner.{AnswersMember, AnswersPlace, AnswersReady, AnswersRestorable};
 ghost use Rattle.pgbackup_cli.specs.Inner.{EndsRestore, AnswersRestore};
 
-use crate::directory::{directory_status, directory_text, with_number};
+use crate::directory::{directory_status, directory_text};
 use crate::lending::{give_three, three_of};
+use crate::link::link_text;
 use crate::replay::{ReplayReport, made_line};
 use backup_restore::{RestoreFault as Unrestored, restore as restore_into};
 use chain_check::{LinkFault, Member, Refusal, check_alone, check_dir};
 use command_base::{
-    Status, area_status, area_text, backup_name, empty_area, full_text, is_clear, joined, names_of,
-    output_name, refused_line, take_text, wal_status, wal_text,
+    Status, area_status, area_text, backup_name, empty_area, full_text, is_clear, joined,
+    lsns_text, names_of, output_name, refused_line, take_text, wal_status, wal_text,
 };
 use lsn_core::{AreaFault, Lsn, NoMemory, Settings, Text, WalTip, lsn_text};
 use recovery::{Beginning, RecoveryFault, Replayed, read_from, settings_of};
@@ -66,10 +68,13 @@ impl From<Refusal> for RestoreFault {
 }
 
 impl From<LinkFault> for RestoreFault {
-    ghost from_gives = { λ why e. e ≡ restore.Chain why };
+    ghost from_gives = { λ why e. e ≡ restore_link why };
 
     fn from(why: LinkFault) -> Self {
-        RestoreFault::Chain(why)
+        match why {
+            LinkFault::NoMemory => RestoreFault::Out(AreaFault::NoMemory),
+            why => RestoreFault::Chain(why),
+        }
     }
 }
 
@@ -105,7 +110,7 @@ fn member_of<V: Vault>(alloc: Global, area: &mut V, name: &[u8]) -> Result<Membe
 {
     let name = Text::copied(alloc, name)?;
     let member = check_dir(alloc, area, &name)?;
-    check_alone(&member)?;
+    check_alone(alloc, &member)?;
     Ok(member)
 }
 
@@ -282,27 +287,12 @@ pub fn restore<S: Site>(
     restore_in(alloc, upto, name, backup.as_bytes(), out.as_bytes(), site)
 }
 
-fn link_text(alloc: Global, name: &[u8], why: LinkFault) -> Result<Text, NoMemory>
-    ensures { IfOk result (λ text. text ≡ link_text name.now why) }
-{
-    match why {
-        LinkFault::TimelineDiffers(v) => {
-            with_number(alloc, b"34 TimelineDiffers", name, u64::from(v))
-        }
-        LinkFault::FirstIncremental => joined(alloc, &[b"30 FirstIncremental ", name]),
-    }
-}
-
 /// A target is before a backup's end.
 fn early_text(alloc: Global, target: Lsn, end: Lsn) -> Result<Text, NoMemory>
     ensures { IfOk result (λ text. text ≡ early_text target end) }
 {
-    let target = lsn_text(alloc, target)?;
-    let end = lsn_text(alloc, end)?;
-    joined(
-        alloc,
-        &[b"40 TargetEarly ", target.as_bytes(), b" ", end.as_bytes()],
-    )
+    let places = lsns_text(alloc, target, end)?;
+    joined(alloc, &[b"40 TargetEarly ", places.as_bytes()])
 }
 
 fn restore_fault_text(
@@ -316,7 +306,7 @@ fn restore_fault_text(
     match fault {
         RestoreFault::Site(fault) => take_text(alloc, fault),
         RestoreFault::Directory(refusal) => directory_text(alloc, name, &refusal.fault),
-        RestoreFault::Chain(why) => link_text(alloc, name, *why),
+        RestoreFault::Chain(why) => link_text(alloc, name, why),
         RestoreFault::Early(target, end) => early_text(alloc, *target, *end),
         RestoreFault::NotEmpty => full_text(alloc, out),
         RestoreFault::Wal(why) => wal_text(alloc, *why),

@@ -10,8 +10,8 @@ ghost use Rattle.pgbackup_cli.specs.Walsummary.{WalsummaryRan, WalsummaryDoes};
 ghost use Rattle.pgbackup_cli.specs.Walsummary.{walsummary_fault_text, walsummary_text, walsummary_status};
 ghost use Rattle.pgbackup_cli.specs.Inner.{AnswersKept, AnswersWalsummary};
 
-use command_base::{Status, area_status, area_text, joined, refused_line, take_text};
-use lsn_core::{AreaFault, Lsn, NoMemory, Text, lsn_text};
+use command_base::{Status, area_status, area_text, gap_text, joined, refused_line, take_text};
+use lsn_core::{AreaFault, Lsn, NoMemory, Text};
 use std::alloc::Global;
 use summary_store::{Kept, SumsFault};
 use summary_text::summary_text;
@@ -127,10 +127,7 @@ fn walsummary_fault_text(alloc: Global, fault: &WalsummaryFault) -> Result<Text,
 {
     match fault {
         WalsummaryFault::Site(fault) => take_text(alloc, fault),
-        WalsummaryFault::Gap(place) => {
-            let place = lsn_text(alloc, *place)?;
-            joined(alloc, &[b"50 SummaryGap ", place.as_bytes()])
-        }
+        WalsummaryFault::Gap(place) => gap_text(alloc, *place),
         WalsummaryFault::Sums(why) => area_text(alloc, b"sums", *why),
     }
 }
