@@ -74,7 +74,7 @@ const FILES: &[Change<'static>] = &[
 ];
 
 /// Its manifest.
-pub(crate) const WHOLE: &[u8] =
+const WHOLE: &[u8] =
     b"{ \"PostgreSQL-Backup-Manifest-Version\": 2,\n\"System-Identifier\": 7,\n\"Files\": [\n{ \"Path\": \"backup_label\", \"Size\": 200, \"Last-Modified\": \"2023-11-14 22:13:20 GMT\", \"Checksum-Algorithm\": \"SHA256\", \"Checksum\": \"67c229648f8e61f45608cf991942190ffcf72fc04da937b9742d4ef0ea009838\" },\n{ \"Path\": \"base/5/16384\", \"Size\": 81920, \"Last-Modified\": \"2023-11-14 22:13:20 GMT\", \"Checksum-Algorithm\": \"SHA256\", \"Checksum\": \"bf94afaf36ca0898ef37004c61c67ee0edea74010eef3655b1030e41f3dbf214\" }\n],\n\"WAL-Ranges\": [\n{ \"Timeline\": 1, \"Start-LSN\": \"0/1003B0\", \"End-LSN\": \"0/100430\" }\n],\n\"Manifest-Checksum\": \"95fe2d883e5dac53bbb8338896e8139cf01aa2b54520fd1fe1ed690cff39cf32\"}\n";
 
 /// What a directory is, its manifest, how its other files are changed, and what the check tells: the
@@ -244,7 +244,7 @@ static DIRECTORIES: [Case; 30] = [
         "an incremental file",
         b"{ \"PostgreSQL-Backup-Manifest-Version\": 2,\n\"System-Identifier\": 7,\n\"Files\": [\n{ \"Path\": \"backup_label\", \"Size\": 200, \"Last-Modified\": \"2023-11-14 22:13:20 GMT\", \"Checksum-Algorithm\": \"SHA256\", \"Checksum\": \"67c229648f8e61f45608cf991942190ffcf72fc04da937b9742d4ef0ea009838\" },\n{ \"Path\": \"base/5/INCREMENTAL.9_init.1\", \"Size\": 3, \"Last-Modified\": \"2023-11-14 22:13:20 GMT\", \"Checksum-Algorithm\": \"SHA256\", \"Checksum\": \"ba7816bf8f01cfea414140de5dae2223b00361a396177a9cb410ff61f20015ad\" },\n{ \"Path\": \"base/5/16384\", \"Size\": 81920, \"Last-Modified\": \"2023-11-14 22:13:20 GMT\", \"Checksum-Algorithm\": \"SHA256\", \"Checksum\": \"bf94afaf36ca0898ef37004c61c67ee0edea74010eef3655b1030e41f3dbf214\" }\n],\n\"WAL-Ranges\": [\n{ \"Timeline\": 1, \"Start-LSN\": \"0/1003B0\", \"End-LSN\": \"0/100430\" }\n],\n\"Manifest-Checksum\": \"088f11ad63d8ea782bf9aa9183213acffd02f9b6b30ea101b776ea129417eb08\"}\n",
         &[Change::Write(b"base/5/INCREMENTAL.9_init.1", 0, b"abc")],
-        "FileDamaged base/5/INCREMENTAL.9_init.1 Form after 3",
+        "FileDamaged base/5/INCREMENTAL.9_init.1 Length after 3",
     ),
     (
         "a file of such a name that no fork has",
@@ -300,7 +300,11 @@ fn manifest_word(why: ManifestWhy) -> &'static [u8] {
 fn damage_line(alloc: Global, path: &[u8], why: FileWhy) -> Result<Vec<u8>, NoMemory> {
     let mut line = line_of(alloc, b"FileDamaged", path, &[])?;
     line.extend_from_slice(match why {
-        FileWhy::Form => b" Form",
+        FileWhy::Both => b" Both",
+        FileWhy::Length => b" Length",
+        FileWhy::Magic => b" Magic",
+        FileWhy::Range => b" Range",
+        FileWhy::Order => b" Order",
         FileWhy::PageLength => b" PageLength",
     })?;
     Ok(line)
@@ -347,7 +351,7 @@ fn member_line(alloc: Global, member: &Member) -> Result<Vec<u8>, NoMemory> {
 }
 
 /// What the check of a directory tells.
-fn told(alloc: Global, area: &mut MemVault) -> Result<Vec<u8>, NoMemory> {
+pub(crate) fn told(alloc: Global, area: &mut MemVault) -> Result<Vec<u8>, NoMemory> {
     let name = Text::copied(alloc, b"f1")?;
     match check_dir(alloc, area, &name) {
         Ok(member) => member_line(alloc, &member),
@@ -356,7 +360,7 @@ fn told(alloc: Global, area: &mut MemVault) -> Result<Vec<u8>, NoMemory> {
 }
 
 /// The directory with this manifest, and changed. A call is to fail, counted from 1; 0 is none.
-pub(crate) fn directory(
+fn directory(
     alloc: Global,
     manifest: &[u8],
     changes: &[Change],

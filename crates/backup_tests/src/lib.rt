@@ -13,6 +13,8 @@ mod dir_tests;
 #[cfg(test)]
 mod head_tests;
 #[cfg(test)]
+mod incr_dir_tests;
+#[cfg(test)]
 mod label_tests;
 #[cfg(test)]
 mod manifest_tests;

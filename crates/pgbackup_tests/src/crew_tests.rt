@@ -3,7 +3,7 @@
 use crew::{
     Command, Order, OrderEdit, OrderItem, PageShape, Script, ScriptFault, read_script, why_text,
 };
-use lsn_core::{BlockId, ForkId, ForkKind, NoMemory};
+use lsn_core::{BlockId, ForkId, ForkKind, NoMemory, Text};
 use std::alloc::Global;
 
 /// The script of a text, which is shorter than memory is.
@@ -97,17 +97,30 @@ fn grow_text(
     Ok(format!(in alloc; "grow {fork} {block} {count} {shape}")?)
 }
 
+fn push_name(text: &mut String, name: &Text) -> Result<(), NoMemory> {
+    for byte in name.as_bytes() {
+        text.push(char::from(*byte))?;
+    }
+    Ok(())
+}
+
 fn command_text(alloc: Global, command: &Command) -> Result<String, NoMemory> {
     match command {
         Command::Insert(order) => order_text(alloc, order),
         Command::Grow(at, count, shape) => grow_text(alloc, at, *count, *shape),
         Command::Checkpoint => Ok(format!(in alloc; "checkpoint")?),
         Command::Flush(count) => Ok(format!(in alloc; "flush {count}")?),
+        Command::Summarise => Ok(format!(in alloc; "summarise")?),
         Command::Full(name) => {
             let mut text = String::from_str(alloc, "full ")?;
-            for byte in name.as_bytes() {
-                text.push(char::from(*byte))?;
-            }
+            push_name(&mut text, name)?;
+            Ok(text)
+        }
+        Command::Incr(name, prior) => {
+            let mut text = String::from_str(alloc, "incr ")?;
+            push_name(&mut text, name)?;
+            text.push(' ')?;
+            push_name(&mut text, prior)?;
             Ok(text)
         }
     }
@@ -138,7 +151,7 @@ fn is_taken(alloc: Global, line: &str, says: &str) -> Result<bool, NoMemory> {
 }
 
 /// Lines, and what each says.
-static TAKEN: [(&str, &str); 24] = [
+static TAKEN: [(&str, &str); 27] = [
     ("create 1/2", "create main 1 2"),
     ("\tcreate \t 1/2 ", "create main 1 2"),
     ("create 0000000001/0000000002", "create main 1 2"),
@@ -185,7 +198,10 @@ static TAKEN: [(&str, &str); 24] = [
     (" checkpoint\t", "checkpoint"),
     ("flush 0000000001", "flush 1"),
     ("flush 1000000", "flush 1000000"),
+    ("summarise", "summarise"),
+    (" summarise\t", "summarise"),
     ("full f_1", "full f_1"),
+    ("incr i_1 f_1", "incr i_1 f_1"),
     (
         " full\tabcdefghijklmnopqrstuvwxyz012345 ",
         "full abcdefghijklmnopqrstuvwxyz012345",
@@ -201,7 +217,7 @@ fn lines_are_taken(rt: HostRuntime) -> Result<(), NoMemory> {
 }
 
 /// Scripts, and where and why each is refused.
-static REFUSED: [(&str, u32, &str); 72] = [
+static REFUSED: [(&str, u32, &str); 79] = [
     ("\n#\u{7f}\n", 2, "Bytes"),
     ("worker a\r\n", 1, "Bytes"),
     ("x\0", 1, "Bytes"),
@@ -263,9 +279,15 @@ static REFUSED: [(&str, u32, &str); 72] = [
     ("worker a\nflush 0", 2, "Word"),
     ("worker a\nflush 1000001", 2, "Word"),
     ("worker a\nflush 1 1", 2, "Word"),
+    ("worker a\nsummarise 1", 2, "Word"),
+    ("worker a\nsummarises", 2, "Word"),
     ("worker a\nfull", 2, "Word"),
     ("worker a\nfull f1 f2", 2, "Word"),
     ("worker a\nfull F1", 2, "Word"),
+    ("worker a\nincr i1", 2, "Word"),
+    ("worker a\nincr i1 F1", 2, "Word"),
+    ("worker a\nincr f1 f1", 2, "Word"),
+    ("worker a\nincr i1 f1 f2", 2, "Word"),
     (
         "worker a\nfull abcdefghijklmnopqrstuvwxyz0123456",
         2,
@@ -273,6 +295,7 @@ static REFUSED: [(&str, u32, &str); 72] = [
     ),
     ("full f1\nworker a", 1, "NoWorker"),
     ("checkpoint\nworker a", 1, "NoWorker"),
+    ("summarise\nworker a", 1, "NoWorker"),
     ("worker a\nerase 1/2", 2, "Word"),
     ("worker a\nworker B", 2, "Word"),
     ("create 1/2\nworker a", 1, "NoWorker"),

@@ -20,6 +20,8 @@ mod crew_tests;
 #[cfg(test)]
 mod full_tests;
 #[cfg(test)]
+mod incr_tests;
+#[cfg(test)]
 mod kinds_tests;
 #[cfg(test)]
 mod limit_tests;
@@ -30,11 +32,15 @@ mod replay_files_tests;
 #[cfg(test)]
 mod replay_tests;
 #[cfg(test)]
+mod restore_faults_tests;
+#[cfg(test)]
 mod restore_tests;
 #[cfg(test)]
 mod run_faults_tests;
 #[cfg(test)]
 mod store_tests;
+#[cfg(test)]
+mod summarise_tests;
 #[cfg(test)]
 mod verify_tests;
 #[cfg(test)]

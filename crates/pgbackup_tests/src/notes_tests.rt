@@ -132,7 +132,7 @@ pgbackup: hint: empty it if nothing there is needed, or choose another name
         "walsummary 0/1003B0 0/100600",
         Refused::Gap(0x10_0578),
         "pgbackup: error: no summary in sums covers 0/100578
-pgbackup: hint: give a range that the summaries in sums cover; no command of this version makes summaries
+pgbackup: hint: give a range that the summaries in sums cover; a line summarise of a script adds what is missing up to the last checkpoint
 ",
     ),
 ];

@@ -17,19 +17,20 @@ const GROWN: SiteStep = SiteStep::Puts(
     \0\0\x07\0\0\0\x08\0\0\0\x09\0\0\0?+\xa3q",
 );
 
-/// The range behind that, in which it was cut to 2 blocks, and grew to 6.
-const CUT: SiteStep = SiteStep::Puts(
-    b"sums",
-    b"0000000100000000001003B00000000000100578.summary",
-    b"\
+/// The name of the summary of the range behind that, in which it was cut to 2 blocks, and grew to 6.
+pub(crate) const CUT_NAME: &[u8] = b"0000000100000000001003B00000000000100578.summary";
+
+/// Its bytes.
+pub(crate) const CUT_FILE: &[u8] = b"\
     SUM1\xb0\x03\x10\0\0\0\0\0x\x05\x10\0\0\0\0\0\0\xf1Se\0\0\0\0\x01\0\0\0\0\0\0\0\x05\0\0\0\0@\
-    \0\0\0\0\0\0\x02\0\0\0\x04\0\0\0\x02\0\0\0\x03\0\0\0\x04\0\0\0\x05\0\0\0\x94s\xd5{",
-);
+    \0\0\0\0\0\0\x02\0\0\0\x04\0\0\0\x02\0\0\0\x03\0\0\0\x04\0\0\0\x05\0\0\0\x94s\xd5{";
+
+const CUT: SiteStep = SiteStep::Puts(b"sums", CUT_NAME, CUT_FILE);
 
 /// The same file with another sum.
 const DAMAGED: SiteStep = SiteStep::Puts(
     b"sums",
-    b"0000000100000000001003B00000000000100578.summary",
+    CUT_NAME,
     b"\
     SUM1\xb0\x03\x10\0\0\0\0\0x\x05\x10\0\0\0\0\0\0\xf1Se\0\0\0\0\x01\0\0\0\0\0\0\0\x05\0\0\0\0@\
     \0\0\0\0\0\0\x02\0\0\0\x04\0\0\0\x02\0\0\0\x03\0\0\0\x04\0\0\0\x05\0\0\0\x94s\xd5z",

@@ -1,15 +1,17 @@
-//! A WAL that is flushed up to where its third entry ends.
+//! A new WAL in memory to which entries are appended, and one that is flushed up to where its third
+//! entry ends.
 
-ghost use Rattle.std.specs.Prelude.{◌≡◌, IfOk, IfSome};
+ghost use Rattle.std.specs.Prelude.{◌≡◌, ◌<◌, IfOk, IfSome};
+ghost use Rattle.lsn_core.specs.Sizes.{most_blocks};
 ghost use Rattle.wal_record.specs.Spelling.{IsWritable};
 ghost use Rattle.wal_record.specs.Tips.{IsWithin};
 
 use checkpointer::{change_kind, creation_kind};
 use history::{Edit, Item};
-use lsn_core::{BlockId, ForkId, Lsn, NoMemory, SegSize, Settings, WalTip};
+use lsn_core::{BlockId, Lsn, NoMemory, SegSize, Settings, WalTip};
 use pg_page::{Page, make_page, zero_page};
 use std::alloc::Global;
-use test_areas::{Wrong, main_fork};
+use test_areas::{Change, NEW_WAL, SEGMENT, Wrong, main_fork, make_all};
 use vault::MemVault;
 use wal_record::Kind;
 use wal_writer::{Flushed, WalState};
@@ -19,7 +21,7 @@ use wal_writer::{Flushed, WalState};
 pub const PUT: Lsn = Lsn(0x100108);
 
 /// The tip behind the first entry of a new WAL.
-const BEHIND_FIRST: WalTip = WalTip {
+pub const BEHIND_FIRST: WalTip = WalTip {
     end: Lsn(0x100060),
     prev: Lsn(0x100028),
     redo: Lsn(0x100028),
@@ -33,12 +35,13 @@ pub fn settings() -> Option<Settings>
     Settings::new(SegSize::new(1)?, 131_072, 7)
 }
 
-/// A WAL that ends there.
-fn new_wal(alloc: Global, tip: WalTip) -> Result<WalState<MemVault>, Wrong>
+/// A new WAL, whose first entry has this tip behind it.
+pub fn new_wal(alloc: Global, tip: WalTip) -> Result<WalState<MemVault>, Wrong>
     requires { IsWithin 1 tip }
 {
     let settings = settings().ok_or(Wrong::Step(0))?;
-    let area = MemVault::new(alloc, &[])?;
+    let mut area = MemVault::new(alloc, &[])?;
+    make_all(&mut area, &[Change::Write(SEGMENT, 0, &NEW_WAL)])?;
     Ok(WalState::attach(alloc, area, settings, tip))
 }
 
@@ -47,17 +50,17 @@ pub fn page_of(alloc: Global, fill: u8) -> Result<Option<Page>, NoMemory> {
     Ok(make_page(alloc, 32, 8160, fill)?)
 }
 
-/// The kind of entry that puts this page at the beginning of a fork.
-fn put_kind(alloc: Global, fork: ForkId, page: Page) -> Result<Kind, NoMemory>
+/// The kind of entry that puts this page at a block.
+pub fn put_kind(alloc: Global, at: BlockId, page: Page) -> Result<Kind, NoMemory>
+    requires { at.block < most_blocks }
     ensures { IfOk result IsWritable }
 {
-    let at = BlockId { fork, block: 0 };
     let edit = Edit::Put(page);
     change_kind(alloc, &[Item { at, edit }], &[zero_page()], Lsn(0))
 }
 
 /// Appends an entry of this kind.
-fn append(alloc: Global, wal: &mut WalState<MemVault>, kind: Kind) -> Result<(), Wrong>
+pub fn append(alloc: Global, wal: &mut WalState<MemVault>, kind: Kind) -> Result<(), Wrong>
     requires { IsWritable kind }
 {
     match wal.append(alloc, kind) {
@@ -67,7 +70,7 @@ fn append(alloc: Global, wal: &mut WalState<MemVault>, kind: Kind) -> Result<(),
 }
 
 /// Flushes all that was appended.
-fn flush(alloc: Global, wal: &mut WalState<MemVault>) -> Result<Flushed, Wrong> {
+pub fn flush(alloc: Global, wal: &mut WalState<MemVault>) -> Result<Flushed, Wrong> {
     let end = wal.end();
     Ok(wal.flush_to(alloc, end)?)
 }
@@ -78,7 +81,8 @@ pub fn flushed(alloc: Global) -> Result<Flushed, Wrong> {
     let page = page_of(alloc, 65)?.ok_or(Wrong::Step(0))?;
     let mut wal = new_wal(alloc, BEHIND_FIRST)?;
     append(alloc, &mut wal, creation_kind(fork))?;
-    append(alloc, &mut wal, put_kind(alloc, fork, page)?)?;
+    let first = BlockId { fork, block: 0 };
+    append(alloc, &mut wal, put_kind(alloc, first, page)?)?;
     let mark = flush(alloc, &mut wal)?;
     if mark.to() == PUT {
         Ok(mark)

@@ -2,6 +2,8 @@
 //! and what the backup's copy has. The places of the first three entries are those of an
 //! independent implementation of the formats, and the others follow from the entries' lengths.
 
+ghost use Rattle.std.specs.Prelude.{◌≡◌, IfOk};
+
 use crate::flushed::{PUT, page_of, settings};
 use history::{Edit, Item, Items, Op};
 use lsn_core::{BlockId, Lsn, NoMemory};
@@ -13,10 +15,12 @@ use test_areas::{Wrong, main_fork};
 /// What is done with the main fork of 5/16384 and its partition: changes by worker 0, and the
 /// backup by worker 1.
 #[derive(Clone, Copy)]
-enum Does {
+pub enum Does {
     Creates,
     /// A page with a hole, filled with this byte, is put at a block.
     Puts(u32, u8),
+    /// The fork is cut to so many blocks.
+    Cuts(u32),
     Writes,
     Cleans(u32),
     Starts,
@@ -28,7 +32,7 @@ enum Does {
 
 /// What a step answers.
 #[derive(Clone, Copy, PartialEq, Eq)]
-enum Answer {
+pub enum Answer {
     Idle,
     /// The command became the entry of this number, which ends there.
     Accepted(u64, Lsn),
@@ -47,7 +51,9 @@ enum Answer {
 }
 
 /// The block of this number.
-fn block_of(block: u32) -> Result<BlockId, Wrong> {
+pub fn block_of(block: u32) -> Result<BlockId, Wrong>
+    ensures { IfOk result (λ at. at.block ≡ block) }
+{
     let fork = main_fork(16384).ok_or(Wrong::Step(0))?;
     Ok(BlockId { fork, block })
 }
@@ -70,6 +76,7 @@ fn step_of(alloc: Global, does: Does) -> Result<Step, Wrong> {
     Ok(match does {
         Does::Creates => Step::Insert(0, Op::Create(block_of(0)?.fork)),
         Does::Puts(block, fill) => Step::Insert(0, put(alloc, block, fill)?),
+        Does::Cuts(count) => Step::Insert(0, Op::Truncate(block_of(0)?.fork.rel, count)),
         Does::Writes => Step::WritePage(0),
         Does::Cleans(part) => Step::Clean(part),
         Does::Starts => Step::Redo(1),
@@ -147,16 +154,26 @@ fn push(steps: &mut Vec<Step>, step: Step) -> Result<(), NoMemory> {
     Ok(steps.push(step)?)
 }
 
-/// Takes the steps of the backup. The first one that answers otherwise is the error.
-fn run_backup(alloc: Global, machine: &mut Machine) -> Result<(), Wrong> {
+/// The steps in which these things are done.
+fn steps_of(alloc: Global, table: &[(Does, Answer)]) -> Result<Vec<Step>, Wrong> {
     let mut steps = Vec::new(alloc);
-    for (does, _) in &BACKUP {
+    for (does, _) in table {
         push(&mut steps, step_of(alloc, *does)?)?;
     }
+    Ok(steps)
+}
+
+/// Takes steps in turn. The first one that answers otherwise is the error.
+pub fn take_in_turn(
+    alloc: Global,
+    machine: &mut Machine,
+    table: &[(Does, Answer)],
+) -> Result<(), Wrong> {
+    let steps = steps_of(alloc, table)?;
     let replies = machine.run_steps(alloc, &steps)?;
-    for at in 0..BACKUP.len() {
+    for at in 0..table.len() {
         let reply = replies.get(at).ok_or(Wrong::Step(at))?;
-        if answer_of(reply) != BACKUP[at].1 {
+        if answer_of(reply) != table[at].1 {
             return Err(Wrong::Step(at));
         }
     }
@@ -168,7 +185,7 @@ fn a_backup_runs_beside_changes(rt: HostRuntime) -> Result<(), Fail> {
     let alloc = rt.alloc();
     let settings = settings().ok_or("no settings")?;
     let mut machine = Machine::new(alloc, &settings)?;
-    run_backup(alloc, &mut machine)?;
+    take_in_turn(alloc, &mut machine, &BACKUP)?;
     assert_eq!(rt; machine.records().len(), 8);
     let backup = machine.finished().first().ok_or("no backup")?;
     assert!(rt; backup.start == REDO && backup.end == END);

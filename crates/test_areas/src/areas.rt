@@ -113,6 +113,23 @@ pub fn holds_in<S: Site>(
     Ok(found.as_slice() == bytes)
 }
 
+/// A file of an area of a site has so many bytes, and begins with these.
+pub fn begins_in<S: Site>(
+    alloc: Global,
+    site: &mut S,
+    area: &[u8],
+    file: &[u8],
+    bytes: &[u8],
+    size: usize,
+) -> Result<bool, AreaFault>
+    requires { AllHome (S.areas site.old) }
+    ensures { AllHome (S.areas site.new) }
+{
+    let found = read_in(alloc, site, area, file)?;
+    let found = found.as_slice();
+    Ok(found.len() == size && found.starts_with(bytes))
+}
+
 /// Writes these bytes at the begin of a file of an area of a site.
 pub fn put_in<S: Site>(
     site: &mut S,

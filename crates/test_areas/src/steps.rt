@@ -2,7 +2,7 @@
 
 ghost use Rattle.vault.specs.Site.{AllHome};
 
-use crate::areas::{Change, has_names, holds, holds_in, make, put_in, reads, size_of};
+use crate::areas::{Change, begins_in, has_names, holds, holds_in, make, put_in, reads, size_of};
 use lsn_core::{AreaFault, NoMemory};
 use std::alloc::Global;
 use vault::{Site, Vault};
@@ -35,6 +35,8 @@ pub enum SiteStep<'a> {
     PutFails(&'a [u8], &'a [u8], &'a [u8]),
     /// The file has these bytes, or it is missing and there are none.
     Holds(&'a [u8], &'a [u8], &'a [u8]),
+    /// The file has so many bytes, and begins with these.
+    Begins(&'a [u8], &'a [u8], &'a [u8], usize),
     /// Reading the file fails.
     ReadFails(&'a [u8], &'a [u8]),
 }
@@ -100,6 +102,9 @@ fn takes_in<S: Site>(alloc: Global, site: &mut S, step: &SiteStep) -> Result<boo
             Ok(put_in(site, area, file, bytes) == Err(AreaFault::Failed))
         }
         SiteStep::Holds(area, file, bytes) => holds_in(alloc, site, area, file, bytes),
+        SiteStep::Begins(area, file, bytes, size) => {
+            begins_in(alloc, site, area, file, bytes, size)
+        }
         SiteStep::ReadFails(area, file) => {
             Ok(holds_in(alloc, site, area, file, b"") == Err(AreaFault::Failed))
         }
