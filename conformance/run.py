@@ -4,13 +4,14 @@
 
 Each run makes a store with random options, runs one to three scripts of one worker on it, and
 replays its WAL, with both, each in a folder of its own. After each call the lines, the status and
-the bytes of `wal`, `o`, `b` and the data areas are compared, and at the end what the data areas hold
-with what `replay` wrote, and what `verify` of each backup prints. Some scripts have one broken line,
-some stores can't be made.
+the bytes of `wal`, `sums`, `o`, `b` and the data areas are compared, and at the end what the data
+areas hold with what `replay` wrote, and what `verify` of each backup prints. Some scripts have one
+broken line, some stores can't be made.
 Lines change one to four blocks by pages and fragments, grow and cut forks, or are refused in each way
-that a small store knows; checkpoints, flushes and full backups stand between them, at times into a
-folder that isn't empty. Entries go on over pages; now and then one ends just at a page's end, or a few
-bytes before it. The other implementation is told the moment that the program's backups have.
+that a small store knows; checkpoints, flushes, summaries and full backups stand between them, these at
+times into a folder that isn't empty. Entries go on over pages; now and then one ends just at a page's
+end, or a few bytes before it. The other implementation is told the moment of the program's backups and
+summaries.
 At times a script is run by the program in one call and in two, which must write the same WAL.
 Not part of the gate. Skipped where the independent implementation (PGBACKUP_ORACLE) isn't there.
 """
@@ -135,11 +136,22 @@ flush 1 1
 flush -1
 flush 00000000001
 full
+summarise 1
+summarise summarise
+Summarise
 full A
 full a b
 full a-b
 full a.b
 full abcdefghijklmnopqrstuvwxyz0123456
+incr
+incr a
+incr a a
+incr a b c
+incr A b
+incr a B
+incr a a.b
+Incr a b
 Full a
 summarize
 """.strip("\n").split("\n")
@@ -331,17 +343,25 @@ def a_growth(rnd, store):
 
 
 def a_write(rnd, store):
-    """A checkpoint, or a flush."""
-    if rnd.random() < 0.5:
+    """A checkpoint, a flush, or summaries of what is finished."""
+    kind = rnd.random()
+    if kind < 0.45:
         store.take(32 + 56)
         return "checkpoint"
+    if kind < 0.65:
+        return "summarise"
     return "flush " + digits(rnd, rnd.choice([1, 2, 4, 7, rnd.randrange(1, 40), 1000]))
 
 
 def a_backup(rnd, store):
-    """A full backup, at times under a name that is taken. One is of fewer entries where it is refused."""
+    """A backup, full or on another one, at times under a name that is taken, or on one that is none. One is of
+    fewer entries where it is refused."""
+    names = ["f1", "f2", "f_3", "x" * 32, "busy"]
     store.take(32 + 56 + 40)
-    return "full " + rnd.choice(["f1", "f2", "f_3", "x" * 32, "busy"])
+    name = rnd.choice(names)
+    if rnd.random() < 0.5:
+        return "full " + name
+    return "incr %s %s" % (name, rnd.choice([other for other in names + ["none"] if other != name]))
 
 
 def a_line(rnd, store):
@@ -445,16 +465,24 @@ def moment_of(label):
     return calendar.timegm(time.strptime(text, "%Y-%m-%d %H:%M:%S UTC"))
 
 
+def moments():
+    """The moments of our backups and summaries, by their files."""
+    found = {name: moment_of(data) for name, data in labels().items()}
+    summaries = {name: data for name, data in files("ours/sums").items() if len(data) >= 28}
+    found.update({name: int.from_bytes(data[20:28], "little") for name, data in summaries.items()})
+    return found
+
+
 def both(path, words, script=b""):
     """Calls both, and gives what differs as texts."""
-    before = labels()
+    before = moments()
     got = program(path, words, script, "ours")
-    moments = {moment_of(data) for name, data in labels().items() if name not in before}
+    new = {moment for name, moment in moments().items() if before.get(name) != moment}
     os.chdir("theirs")
-    wanted = oracle(words, script, min(moments, default=1700000000))
+    wanted = oracle(words, script, min(new, default=1700000000))
     os.chdir("..")
     differences = [] if wanted == got else ["%s, not %s" % (got, wanted)]
-    for folder in ("wal", "o", "b") + DATA:
+    for folder in ("wal", "sums", "o", "b") + DATA:
         if files("theirs/" + folder) != files("ours/" + folder):
             differences.append("the files of %s differ" % folder)
     return ["%s %s: %s" % (" ".join(words), script, difference) for difference in differences]

@@ -1,19 +1,20 @@
-"""Merged summaries printed by `pgbackup walsummary` and by an independent implementation.
+"""Summaries published by `pgbackup run`, and merged ones printed by `pgbackup walsummary`, beside an
+independent implementation.
 
     python3 conformance/summaries.py PROGRAM [RUNS [SEED]]
 
-Each run makes a store with the other implementation, runs one to three random scripts on it with
-checkpoints and summaries among their lines, and hands the summaries' files to the program. Both are
-asked for six ranges: of ends and starts of summaries, places beside them, and empty or turned ones.
-At times a file was damaged before, renamed, cut, or another one added. Lines and statuses are compared.
+Each run makes a store with both and runs one to four random scripts on it with checkpoints and
+summaries among their lines. Between two scripts, and behind the last, a summary's file is at times
+damaged in both alike, renamed, cut, removed, or another one added. Then both are asked for six ranges:
+of ends and starts of summaries, places beside them, and empty or turned ones. Lines, statuses and all
+files are compared.
 Not part of the gate. Skipped where the independent implementation (PGBACKUP_ORACLE) isn't there.
 """
 import os
-import shutil
 
-from common import compare, oracle, program
+from common import compare
 from restores import lsn
-from run import Store, a_line
+from run import Store, a_line, both
 
 
 def a_script(rnd, store):
@@ -28,41 +29,46 @@ def a_script(rnd, store):
 
 def ends_of(names):
     """The starts and ends that names of summaries' files tell."""
-    return [int(name[at:at + 16], 16) for name in names for at in (8, 24)]
+    return [int(name[at:at + 16], 16) for name in names if len(name) == 48 for at in (8, 24)]
 
 
-def damage(rnd, folder):
-    """Changes, cuts, renames, adds or removes a file."""
-    names = sorted(os.listdir(folder))
-    if not names:
-        return
-    path = os.path.join(folder, rnd.choice(names))
-    with open(path, "rb") as f:
-        content = bytearray(f.read())
-    kind = rnd.randrange(5)
-    if kind == 0:
+def summaries():
+    """The names of our summaries' files, in order."""
+    return sorted(os.listdir("ours/sums")) if os.path.isdir("ours/sums") else []
+
+
+def damaged(rnd, name, content):
+    """A name and what its file is to hold, by one damage to a file. None where it is to be removed."""
+    content, kind = bytearray(content), rnd.randrange(5)
+    if kind == 0 and content:
         content[rnd.randrange(len(content))] ^= 1 << rnd.randrange(8)
-    if kind == 1:
+    if kind == 1 and content:
         del content[rnd.randrange(len(content)):]
     if kind == 2:
-        other = ends_of(names)
+        other = ends_of(summaries())
         name = "00000001%016X%016X.summary" % (rnd.choice(other), rnd.choice(other))
-        path = os.path.join(folder, name)
     if kind == 3:
-        path = os.path.join(folder, rnd.choice(["A", "z", "00000002" + names[0][8:], names[0].lower()]))
-    if kind == 4:
-        os.remove(path)
-        return
-    with open(path, "wb") as f:
-        f.write(content)
+        name = rnd.choice(["A", "z", "00000002" + name[8:], name.lower()])
+    return name, None if kind == 4 else content
 
 
-def theirs(words, script=b""):
-    """What the other implementation answers in its folder."""
-    os.chdir("theirs")
-    answer = oracle(words, script)
-    os.chdir("..")
-    return answer
+def damage(rnd):
+    """Changes, cuts, renames, adds or removes a file of a summary, in both folders alike."""
+    name = rnd.choice(summaries())
+    with open("ours/sums/" + name, "rb") as f:
+        name, content = damaged(rnd, name, f.read())
+    for top in ("ours/sums/", "theirs/sums/"):
+        if content is None:
+            os.remove(top + name)
+            continue
+        with open(top + name, "wb") as f:
+            f.write(content)
+
+
+def a_range(rnd, places):
+    """The words of two places, mostly in order."""
+    near = [max(0, rnd.choice(places) + rnd.choice([0, 0, 0, 0, 1, -1, 8])) for _ in range(2)]
+    return [lsn(place) for place in (near if rnd.random() < 0.1 else sorted(near))]
 
 
 def one_run(path, rnd):
@@ -70,23 +76,15 @@ def one_run(path, rnd):
     for folder in ("ours", "theirs"):
         os.mkdir(folder)
     relseg = str(rnd.choice([1, 3, 7, 131072]))
-    theirs(["init", "--segment-mib", "1", "--system-id", "7", "--relseg", relseg])
+    differences = both(path, ["init", "--segment-mib", "1", "--system-id", "7", "--relseg", relseg])
     store = Store()
-    for _ in range(rnd.randrange(1, 4)):
-        theirs(["run"], a_script(rnd, store))
-    names = sorted(os.listdir("theirs/sums")) if os.path.isdir("theirs/sums") else []
-    if names and rnd.random() < 0.4:
-        damage(rnd, "theirs/sums")
-    if os.path.isdir("theirs/sums"):
-        shutil.copytree("theirs/sums", "ours/sums")
-    places, differences = ends_of(names) or [0x100028], []
+    for _ in range(rnd.randrange(1, 5)):
+        differences += both(path, ["run"], a_script(rnd, store))
+        if summaries() and rnd.random() < 0.25:
+            damage(rnd)
+    places = ends_of(summaries()) or [0x100028]
     for _ in range(6):
-        near = [max(0, rnd.choice(places) + rnd.choice([0, 0, 0, 0, 1, -1, 8])) for _ in range(2)]
-        low, high = near if rnd.random() < 0.1 else sorted(near)
-        words = ["walsummary", lsn(low), lsn(high)]
-        one, other = program(path, words, folder="ours"), theirs(words)
-        if one != other:
-            differences.append("%s: %s against %s" % (" ".join(words), one, other))
+        differences += both(path, ["walsummary"] + a_range(rnd, places))
     return differences
 
 
