@@ -27,15 +27,15 @@ def run(best, way, program, name):
         return best.take(way, [program, "run"], script)
 
 
-def new_store(program):
-    """A store of 256 MiB: eight forks of 4,096 pages without a hole."""
+def new_store(program, behind="flush 1"):
+    """A store of 256 MiB: eight forks of 4,096 pages without a hole, with this line behind each. What its run printed."""
     timed([program, "init", "--system-id", "1"])
     lines = ["worker w"]
     for number in range(FORKS):
         fork = "5/%d" % (16384 + number)
-        lines += ["create " + fork, "grow %s@0 %d 8192,8192,%d" % (fork, PAGES, number), "flush 1"]
+        lines += ["create " + fork, "grow %s@0 %d 8192,8192,%d" % (fork, PAGES, number), behind]
     write("grow", lines)
-    run(Best(), "grow", program, "grow")
+    return run(Best(), "grow", program, "grow")
 
 
 def files():

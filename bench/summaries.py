@@ -12,19 +12,8 @@ import shutil
 import sys
 import tempfile
 
-from full import FORKS, PAGES, run, write
-from wal import Best, segments, timed
-
-
-def new_store(program):
-    """A store of 256 MiB: eight forks of 4,096 pages without a hole, a checkpoint behind each."""
-    timed([program, "init", "--system-id", "1"])
-    lines = ["worker w"]
-    for number in range(FORKS):
-        fork = "5/%d" % (16384 + number)
-        lines += ["create " + fork, "grow %s@0 %d 8192,8192,%d" % (fork, PAGES, number), "checkpoint"]
-    write("grow", lines)
-    return run(Best(), "grow", program, "grow")
+from full import new_store, run, write
+from wal import Best, segments
 
 
 def last_redo(text):
@@ -36,7 +25,7 @@ def main():
     program, rounds = os.path.abspath(sys.argv[1]), int((sys.argv[2:] + ["3"])[0])
     folder, home = tempfile.mkdtemp(dir=os.getcwd()), os.getcwd()
     os.chdir(folder)
-    end = last_redo(new_store(program))
+    end = last_redo(new_store(program, "checkpoint"))
     write("empty", ["worker w"])
     write("summarise", ["worker w", "summarise"])
     best = Best()
