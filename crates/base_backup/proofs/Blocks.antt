@@ -12,10 +12,11 @@ use Rattle.lsn_core.specs.Store.{ForkPages}
 use Rattle.lsn_core.specs.declared.ids.ForkId.{ForkId}
 use Rattle.vault.specs.Area.{after_write}
 use Rattle.history.specs.Entry.{Entry}
-use Rattle.base_backup.specs.Inside.{AddsCopies, AreCopies, ArePagesCopied, ArePagesWhole, Lacks, page_bytes, with_file}
+use Rattle.backup_files.specs.Area.{Lacks, with_file}
+use Rattle.base_backup.specs.Inside.{AddsCopies, AreCopies, ArePagesCopied, ArePagesWhole, page_bytes}
 use Rattle.base_backup.specs.Sent.{AreFor}
 use Rattle.base_backup.specs.IncrInside.{AddsBlocks, ArePagesOf, IsPageSeen, WritesBlocks, WritesPart}
-use Rattle.base_backup.proofs.Contents.{written_more_in, written_new_in}
+use Rattle.backup_files.proofs.Appended.{written_more_in, written_new_in}
 use Rattle.base_backup.proofs.PageLists.{bytes_length, bytes_more, page_later}
 
 -- ---- pages for blocks

@@ -9,9 +9,11 @@ use Rattle.shared_store.specs.Seen.{Seen}
 use Rattle.shared_store.specs.Opened.{Opened, StoreCause, wal_top}
 use Rattle.base_backup.specs.declared.fault.BackupFault.{BackupFault}
 use Rattle.base_backup.specs.Backup.{Site, site_of}
-use Rattle.base_backup.specs.Inside.{CopiesOn, CopyCause, ReadsOn, SparesManifest, area_fault, store_fault}
-use Rattle.base_backup.proofs.Passed.{err_cause}
-use Rattle.base_backup.proofs.Steps.{area_cause, cause_behind, copies_area, copies_store, spares_still, store_cause}
+use Rattle.backup_files.specs.Area.{SparesManifest}
+use Rattle.backup_files.proofs.Kept.{spares_still}
+use Rattle.base_backup.specs.Inside.{CopiesOn, CopyCause, ReadsOn, area_fault, store_fault}
+use Rattle.backup_files.proofs.Passed.{err_cause}
+use Rattle.base_backup.proofs.Steps.{area_cause, cause_behind, copies_area, copies_store, store_cause}
 
 -- a call of the store and then one on the area
 pub both_on : {V : Type 0} (g : Ghosts V) (old new : Opened) (was now : Seen) (before behind : V) → ReadsOn old was new now → SparesManifest g before behind → CopiesOn g (site_of old was before) (site_of new now behind)

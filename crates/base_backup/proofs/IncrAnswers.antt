@@ -36,9 +36,13 @@ use Rattle.base_backup.specs.declared.fault.BackupFault.{BackupFault}
 use Rattle.base_backup.specs.declared.fault.BackupFault.TheVariants as backup
 use Rattle.base_backup.specs.declared.incr_fault.IncrFault.{IncrFault}
 use Rattle.base_backup.specs.declared.incr_fault.IncrFault.TheVariants as fault
-use Rattle.base_backup.specs.Backup.{Site, site_of, FindsNoRoomFor, HasBackup, HoldsNothing, KeepsManifest, LeavesManifest, MayHaveBackup, Proceeds}
+use Rattle.backup_files.specs.Area.{HoldsNothing, KeepsManifest}
+use Rattle.backup_files.proofs.Kept.{kept_on, kept_same, rose_later}
+use Rattle.backup_files.proofs.Passed.{err_cause}
+use Rattle.base_backup.specs.Backup.{Site, site_of, FindsNoRoomFor, HasBackup, LeavesManifest, MayHaveBackup, Proceeds}
 use Rattle.base_backup.specs.Directory.{incr_label, IsDirectory}
-use Rattle.base_backup.specs.Inside.{CanFinish, CopyCause, EndCause, Finishes, LookCause, ReadsOn, SparesManifest}
+use Rattle.backup_files.specs.Area.{SparesManifest}
+use Rattle.base_backup.specs.Inside.{CanFinish, CopyCause, EndCause, Finishes, LookCause, ReadsOn}
 use Rattle.base_backup.specs.Prior.{HasListing, IsOfStore, PriorAnswer}
 use Rattle.base_backup.specs.Sent.{AreListed, IsCopyOf, IsSentAs, SentFile, blocks_sent, file_of}
 use Rattle.base_backup.specs.declared.done.Done.{Done}
@@ -47,8 +51,7 @@ use Rattle.base_backup.specs.IncrInside.{IsPageSeen, IsSeenAs, PriorCause, Sends
 use Rattle.base_backup.specs.IncrSteps.{BeginRefusal, EarlyRefusal, HasBegun, IsSentWhole, SendCause, SendRefusal, StoreProceeds, SumAnswer, advance_fault}
 use Rattle.base_backup.proofs.Blocks.{for_more}
 use Rattle.base_backup.proofs.Runs.{end_is_top, has_backup, in_segment, run_left, start_below}
-use Rattle.base_backup.proofs.Passed.{err_cause}
-use Rattle.base_backup.proofs.Steps.{kept_on, kept_same, rose_later, stays_on, stays_still}
+use Rattle.base_backup.proofs.Steps.{stays_on, stays_still}
 use Rattle.base_backup.proofs.Whole.{all_left, leaves_behind, nothing_left}
 
 -- ---- before the checkpoint

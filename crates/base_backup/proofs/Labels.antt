@@ -13,9 +13,11 @@ use Rattle.backup_label.specs.Time.{IsTimeText}
 use Rattle.vault.specs.Area.{after_write}
 use Rattle.manifest.specs.declared.listing.FileRow.{FileRow}
 use Rattle.shared_store.specs.declared.receipt.Redo.{Redo}
-use Rattle.base_backup.specs.Directory.{label_name, manifest_name}
-use Rattle.base_backup.specs.Inside.{AddsLabel, IsLabelOf, Lacks, backup_label, row_with}
-use Rattle.base_backup.proofs.Contents.{written_new_in}
+use Rattle.backup_files.specs.Area.{Lacks}
+use Rattle.backup_files.specs.Directory.{label_name, manifest_name}
+use Rattle.backup_files.specs.Rows.{row_with}
+use Rattle.base_backup.specs.Inside.{AddsLabel, IsLabelOf, backup_label}
+use Rattle.backup_files.proofs.Appended.{written_new_in}
 
 -- it is another file than the manifest
 pub label_apart : label_name ≢ manifest_name

@@ -5,16 +5,12 @@ pub mod Segments
 pub mod Stores
 pub mod WholePages
 pub mod Lengths
-pub mod Manifests
 pub mod Texts
 pub mod Listings
 pub mod Runs
 pub mod Whole
 pub mod Labels
-pub mod Passed
 pub mod Copying
-pub mod NoFile
-pub mod Digests
 pub mod Sound
 pub mod Blocks
 pub mod Planned

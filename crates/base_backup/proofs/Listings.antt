@@ -1,27 +1,17 @@
 -- Rows of a backup's files, in order, and with distinct paths.
 use Rattle.std.proofs.Common.{◌≡◌, ◌≢◌, ℕ, ◌+◌, ◌-◌, ◌/◌, ◌^◌, ◌<◌, ◌≤◌, Bool, true, false, List, [], ◌∷◌, ◌++◌, map, length, get_or, codes, Option, Some, None, IfSome, Ok, zero, suc, refl, sym, ap, subst, ◌∙◌, arith}
-use Rattle.std.specs.Prelude.{◌==◌, slice_index_or}
+use Rattle.std.specs.Prelude.{◌==◌}
 use Rattle.std.specs.Str.{IsUtf8}
-use Rattle.std.specs.Char.{is_ascii_hexdigit}
-use Rattle.std.specs.List.{AllByRecursion, AllPass, IsDistinct, list_all}
-use Rattle.std.specs.List.Sorted.{IsPermutation, IsSortedByKey, IsStrictlySortedBy}
-use Rattle.std.specs.declared.cmp.Ordering.{Ordering}
-use Rattle.std.specs.declared.cmp.Ordering.TheVariants.{Less, Equal, Greater}
-use Rattle.std.specs.Ordering.{nat_cmp, is_lt, is_eq, ordering_reverse}
+use Rattle.std.specs.List.{AllByRecursion, IsDistinct}
+use Rattle.std.specs.List.Sorted.{IsPermutation}
+use Rattle.std.specs.Ordering.{nat_cmp}
 use Rattle.std.specs.Cmp.Lexicographic.{slice_cmp, nat_list_cmp_total}
 use Rattle.std.specs.FinMap.{entries, get, empty, insert, get-insert, get-empty}
 use Rattle.std.proofs.Math.Nat.{div-le_of_le-mul}
-use Rattle.std.proofs.lemmas.Bool.{and_from, eq-eqb, false_from_ne_true}
+use Rattle.std.proofs.lemmas.Bool.{false_from_ne_true}
 use Rattle.std.proofs.lemmas.Cmp.{eq_by_cmp_equiv}
-use Rattle.std.proofs.lemmas.List.Elements.{All-nil, All-cons, All-head, All-tail}
-use Rattle.std.proofs.lemmas.List.Sorted.{All-permutation, IsPermutation-map, length_permutation}
-use Rattle.std.proofs.lemmas.List.Sums.{list_all-from_AllPass}
-use Rattle.std.proofs.lemmas.Map.Keys.{IsDistinct-IsPermutation}
+use Rattle.std.proofs.lemmas.List.Sorted.{length_permutation}
 use Rattle.json.proofs.Printed.Utf8.{IsUtf8-are_ascii}
-use Rattle.sha2.specs.Sha256.{sha256}
-use Rattle.sha2.proofs.Facts256.{length-sha256}
-use Rattle.hex.specs.Hex.{encode_lower, lower_digits, is_hex_digit}
-use Rattle.hex.proofs.HexLemmas.{decode_of-ok, length-encode_with}
 use Rattle.lsn_core.specs.Files.{Files}
 use Rattle.lsn_core.specs.Segment.{IsRelseg, StoreSettings}
 use Rattle.lsn_core.specs.Names.{fork_path_bytes, IsNamed}
@@ -30,51 +20,27 @@ use Rattle.lsn_core.specs.declared.ids.ForkId.{ForkId}
 use Rattle.lsn_core.specs.declared.lsn.Lsn.{Lsn}
 use Rattle.lsn_core.proofs.AnyAll.{all_append, all_more, all_pieces, all_range, distinct_append}
 use Rattle.lsn_core.proofs.StoreFiles.{same_name, names_tie, distinct_files}
-use Rattle.manifest.specs.Kinds.{is_sum}
 use Rattle.manifest.specs.Shape.{is_path}
 use Rattle.backup_label.specs.Time.{IsTimeText}
 use Rattle.manifest.specs.Reading.{ReadAnswers}
-use Rattle.manifest.specs.Laws.{HasSmallNumbers, WrittenManifestsAreRead}
-use Rattle.manifest.specs.Text.{IsWritable, IsWritableRow, manifest_text}
-use Rattle.manifest.specs.declared.kinds.SumKind.TheVariants.{Sha256}
+use Rattle.manifest.specs.Text.{IsWritableRow, manifest_text}
 use Rattle.manifest.specs.declared.listing.FileRow.{FileRow}
 use Rattle.shared_store.specs.declared.receipt.Redo.{Redo}
-use Rattle.base_backup.specs.Directory.{directory_with, full_manifest, label_name, manifest_name, row_of, IsFullBackup}
-use Rattle.base_backup.specs.Inside.{AddsLabel, AreListable, CanBeListed, Finishes, HoldsCopy, HoldsFiles, IsGoodPath, IsNamedFork, IsWholeFork, Lacks, ListsRows, path_of, with_file}
-use Rattle.base_backup.proofs.Digests.{spelled}
-use Rattle.base_backup.proofs.Segments.{absent, named_at}
+use Rattle.backup_files.specs.Area.{Lacks, with_file}
+use Rattle.backup_files.specs.Directory.{directory_with, listing_with, label_name, manifest_name, row_of}
+use Rattle.backup_files.specs.Rows.{AreListable, ListsRows, path_of}
+use Rattle.backup_files.proofs.Listable.{all_from}
+use Rattle.backup_files.proofs.TimeTexts.{time_is_text}
+use Rattle.base_backup.specs.Directory.{IsFullBackup}
+use Rattle.base_backup.specs.Inside.{AddsLabel, CanBeListed, Finishes, HoldsCopy, HoldsFiles, IsGoodPath, IsNamedFork, IsWholeFork}
+use Rattle.backup_files.proofs.Appended.{absent}
+use Rattle.base_backup.proofs.Segments.{named_at}
 use Rattle.base_backup.proofs.Stores.{named_copy}
-use Rattle.base_backup.proofs.WholePages.{all_from, sizes_fit, whole_copy}
-use Rattle.base_backup.proofs.Texts.{path_text, good_path, never_named, time_is_text}
-
--- ---- sums
-
-hex_digit : (c : ℕ) → is_hex_digit c ≡ true → is_ascii_hexdigit c ≡ true
-hex_digit c e = grind arith
-
-each : (text : List ℕ) → AllPass is_hex_digit text → AllPass is_ascii_hexdigit text
-each [] all = All-nil (λ c. is_ascii_hexdigit c ≡ true)
-each (c ∷ text) all =
-    All-cons (λ c. is_ascii_hexdigit c ≡ true) c text (hex_digit c (All-head (λ c. is_hex_digit c ≡ true) c text all)) (each text (All-tail (λ c. is_hex_digit c ≡ true) c text all))
-
-hex_digits : (text : List ℕ) → AllPass is_hex_digit text → list_all is_ascii_hexdigit text ≡ true
-hex_digits text all = list_all-from_AllPass is_ascii_hexdigit text (each text all)
-
-pub good_sum : (bytes : List ℕ) → is_sum Sha256 (encode_lower (sha256 bytes)) ≡ true
-good_sum bytes =
-    let sum = sha256 bytes in
-    and_from (length (encode_lower sum) == 64) (list_all is_ascii_hexdigit (encode_lower sum))
-    (eq-eqb (length (encode_lower sum)) 64 (omega (arith, length-encode_with lower_digits sum, length-sha256 bytes)))
-    (hex_digits (encode_lower sum) (decode_of-ok (encode_lower sum) sum (spelled bytes)).1)
+use Rattle.base_backup.proofs.WholePages.{sizes_fit, whole_copy}
+use Rattle.base_backup.proofs.Texts.{path_text, good_path, never_named}
+use Rattle.backup_files.proofs.Listable.{row_good, all_map}
 
 -- ---- rows that can be written
-
-pub row_good : (modified path bytes : List ℕ) → IsUtf8 modified → IsUtf8 path → is_path path ≡ true → IsWritableRow (row_of modified (path, bytes))
-row_good modified path bytes m u p = record { path = u; good_path = p; modified = m; sum = good_sum bytes }
-
-all_map : {A B : Type 0} (f : A → B) (P : B → Type 0) (xs : List A) → AllByRecursion (λ x. P (f x)) xs → AllByRecursion P (map f xs)
-all_map f P [] all = tt
-all_map f P (x ∷ xs) all = (all.0, all_map f P xs all.1)
 
 other_name : (fork : ForkId) (seg : ℕ) (incr : Bool) (name : List ℕ) → get_or name 2 0 ≢ 115 → same_name name (fork_path_bytes fork seg incr) ≡ false
 other_name fork seg incr name other =
@@ -155,92 +121,6 @@ copy_held relseg copy modified files rows range held = record {
   listed = held.listed;
 }
 
--- ---- rows in order
-
-abbrev path_cmp : List ℕ → List ℕ → Ordering
-path_cmp = slice_cmp nat_cmp
-
-abbrev Chain : List ℕ → List (List ℕ) → Type 0
-Chain p [] = Unit {0}
-Chain p (q ∷ qs) = (path_cmp p q ≡ Less) × Chain q qs
-
-lower : (a b : List ℕ) (qs : List (List ℕ)) → path_cmp a b ≡ Less → Chain b qs → Chain a qs
-lower a b [] less h = tt
-lower a b (q ∷ qs) less h = (nat_list_cmp_total.trans a b q less h.0, h.1)
-
-all_above : (p : List ℕ) (qs : List (List ℕ)) → Chain p qs → AllByRecursion (λ q. path_cmp p q ≡ Less) qs
-all_above p [] h = tt
-all_above p (q ∷ qs) h = (h.0, all_above p qs (lower p q qs h.0 h.1))
-
-sorted_chain : (p : List ℕ) (qs : List (List ℕ)) → Chain p qs → IsStrictlySortedBy path_cmp qs
-unfolding IsStrictlySortedBy
-sorted_chain p [] h = tt
-sorted_chain p (q ∷ qs) h = (all_above q qs h.1, sorted_chain q qs h.1)
-
-less_of : (o r : Ordering) → o ≡ ordering_reverse r → is_lt r ≡ false → is_eq o ≡ false → o ≡ Less
-less_of o Less e f g = absurd cc
-less_of o Equal e f g = let no : true ≡ false = sym (ap is_eq e) ∙ g in absurd cc
-less_of o Greater e f g = e
-
-abbrev InOrder : List FileRow → Type 0
-InOrder rows = (k : ℕ) (d : FileRow) → 0 ≤ k → k + 1 < length rows → is_lt (path_cmp (slice_index_or rows (k + 1) d).path (slice_index_or rows k d).path) ≡ false
-
-chain_of : (row : FileRow) (rows : List FileRow) → InOrder (row ∷ rows) → IsDistinct same_name (map path_of (row ∷ rows)) → Chain row.path (map path_of rows)
-unfolding IsDistinct
-chain_of row [] order distinct = tt
-chain_of row (next ∷ rows) order distinct = (
-  less_of (path_cmp row.path next.path) (path_cmp next.path row.path) (nat_list_cmp_total.antisymm row.path next.path) (order 0 row (omega arith) (omega arith)) distinct.0.0,
-  chain_of next rows (λ k d low within.
-      let next_one : suc k + 1 ≡ suc (k + 1) = omega arith in
-      subst (λ (j : ℕ). is_lt (path_cmp (slice_index_or (row ∷ next ∷ rows) j d).path (slice_index_or (next ∷ rows) k d).path) ≡ false) next_one (order (suc k) d (omega arith) (omega (arith, within)))) distinct.1,
-)
-
-strictly : (rows : List FileRow) → InOrder rows → IsDistinct same_name (map path_of rows) → IsStrictlySortedBy path_cmp (map path_of rows)
-unfolding IsStrictlySortedBy
-strictly [] order distinct = tt
-strictly (row ∷ rows) order distinct =
-    let chain = chain_of row rows order distinct in
-    (all_above row.path (map path_of rows) chain, sorted_chain row.path (map path_of rows) chain)
-
-flips : (a b : List ℕ) → same_name a b ≡ same_name b a
-flips a b = (eq_by_cmp_equiv nat_list_cmp_total).symm a b
-
-pub rows_rise : (rows sorted : List FileRow) → AreListable rows → IsPermutation rows sorted → IsSortedByKey path_of (slice_cmp nat_cmp) sorted → IsStrictlySortedBy (slice_cmp nat_cmp) (map path_of sorted)
-rows_rise rows sorted are moved order =
-    strictly sorted order (IsDistinct-IsPermutation same_name flips (map path_of rows) (map path_of sorted) (IsPermutation-map path_of rows sorted moved) are.distinct)
-
--- they make a manifest that can be written
-pub manifest_good : (system : ℕ) (rows sorted : List FileRow) (start end : Lsn) → AreListable rows → start.0 < end.0 → IsPermutation rows sorted → IsSortedByKey path_of (slice_cmp nat_cmp) sorted → IsWritable (full_manifest system sorted start end)
-manifest_good system rows sorted start end are rises moved order = record {
-  version = refl;
-  system = refl;
-  rows = All-permutation IsWritableRow rows sorted moved are.writable;
-  order = rows_rise rows sorted are moved order;
-  rises = rises;
-}
-
--- and its numbers are small
-manifest_small : (system : ℕ) (rows sorted : List FileRow) (start end : Lsn) → AreListable rows → IsPermutation rows sorted → system < 2 ^ 64 → start.0 < 2 ^ 64 → end.0 < 2 ^ 64 → HasSmallNumbers (full_manifest system sorted start end)
-manifest_small system rows sorted start end are moved s a b = record {
-  system = s;
-  sizes = All-permutation (λ (row : FileRow). row.size < 2 ^ 64) rows sorted moved are.small;
-  start = a;
-  end = b;
-}
-
--- it is listed so, and read again
-pub lists_rows : WrittenManifestsAreRead → (system : ℕ) (rows sorted : List FileRow) (start end : Lsn) (text : List ℕ) → AreListable rows → start.0 < end.0 → system < 2 ^ 64 → start.0 < 2 ^ 64 → end.0 < 2 ^ 64 → IsPermutation rows sorted → IsSortedByKey path_of (slice_cmp nat_cmp) sorted
-    → text ≡ manifest_text (full_manifest system sorted start end) → ListsRows system rows start end text
-lists_rows written system rows sorted start end text are rises s a b moved order is =
-    let m = full_manifest system sorted start end in
-    record {
-      sorted = sorted;
-      same = moved;
-      order = rows_rise rows sorted are moved order;
-      text_is = is;
-      read = subst (λ (x : List ℕ). ReadAnswers 2 x (Ok m)) (sym is) (written m (manifest_good system rows sorted start end are rises moved order) (manifest_small system rows sorted start end are moved s a b));
-    }
-
 -- ---- an area of files
 
 not_there : (put : List (List ℕ × List ℕ)) (name : List ℕ) → ((path : List ℕ) → IsGoodPath path → same_name name path ≡ false) → CanBeListed put → get (with_files empty put) name ≡ None
@@ -295,11 +175,11 @@ finished settings redo prior end name when modified old mid new rows more count 
     order = lists.order;
   };
   counted = counted ∙ sym (length_permutation more lists.sorted lists.same);
-  manifest_read = subst (λ (x : List ℕ). ReadAnswers 2 x (Ok (full_manifest settings.system lists.sorted redo.redo end))) lists.text_is lists.read;
+  manifest_read = subst (λ (x : List ℕ). ReadAnswers 2 x (Ok (listing_with settings.system lists.sorted redo.redo end))) lists.text_is lists.read;
   files_are =
-      subst (λ (o : Option Files). IfSome o (λ m. m ≡ directory_with put adds.text (manifest_text (full_manifest settings.system lists.sorted redo.redo end))))
-      (sym (stands ∙ (ap (λ (x : List ℕ). with_file manifest_name x mid) lists.text_is ∙ ap (with_file manifest_name (manifest_text (full_manifest settings.system lists.sorted redo.redo end))) adds.stands)))
-      (whole_of put adds.text (manifest_text (full_manifest settings.system lists.sorted redo.redo end)) old held.stand);
+      subst (λ (o : Option Files). IfSome o (λ m. m ≡ directory_with put adds.text (manifest_text (listing_with settings.system lists.sorted redo.redo end))))
+      (sym (stands ∙ (ap (λ (x : List ℕ). with_file manifest_name x mid) lists.text_is ∙ ap (with_file manifest_name (manifest_text (listing_with settings.system lists.sorted redo.redo end))) adds.stands)))
+      (whole_of put adds.text (manifest_text (listing_with settings.system lists.sorted redo.redo end)) old held.stand);
 }
 
 -- of a copy's files it is that of a full backup

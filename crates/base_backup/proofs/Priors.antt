@@ -5,7 +5,7 @@ use Rattle.lsn_core.specs.Files.{Files}
 use Rattle.manifest.specs.Listing.{Listing}
 use Rattle.base_backup.specs.declared.incr_fault.IncrFault.{IncrFault}
 use Rattle.base_backup.specs.declared.incr_fault.IncrFault.TheVariants as fault
-use Rattle.base_backup.specs.Directory.{manifest_name}
+use Rattle.backup_files.specs.Directory.{manifest_name}
 use Rattle.base_backup.specs.IncrInside.{FileAnswer}
 use Rattle.base_backup.specs.Prior.{PriorAnswer}
 

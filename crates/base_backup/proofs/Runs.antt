@@ -31,8 +31,9 @@ use Rattle.wal_record.specs.Tips.{first_tip}
 use Rattle.base_backup.specs.declared.fault.BackupFault.{BackupFault}
 use Rattle.base_backup.specs.Backup.{Site, site_of, BackupCause, HasBackup, MayHaveBackup, Proceeds}
 use Rattle.base_backup.specs.Inside.{CopiesOn, CopiesStore, HoldsCopy, IsCopiedSoFar, IsRun, mark_fault}
-use Rattle.base_backup.proofs.Passed.{err_cause}
-use Rattle.base_backup.proofs.Steps.{rose_later, stays_on}
+use Rattle.backup_files.proofs.Kept.{rose_later}
+use Rattle.backup_files.proofs.Passed.{err_cause}
+use Rattle.base_backup.proofs.Steps.{stays_on}
 
 -- ---- entries
 

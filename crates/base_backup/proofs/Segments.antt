@@ -1,9 +1,7 @@
 -- The files of a fork, segment behind segment.
-use Rattle.std.proofs.Common.{◌≡◌, ℕ, ◌+◌, ◌*◌, ◌-◌, ◌^◌, ◌<◌, ◌≤◌, min, ◌⊎◌, false, cond, List, [], ◌∷◌, ◌++◌, map, length, take, drop, Option, Some, None, zero, suc, refl, sym, ap, subst, ◌∙◌, arith, inl, inr}
+use Rattle.std.proofs.Common.{◌≡◌, ℕ, ◌+◌, ◌*◌, ◌-◌, ◌^◌, ◌<◌, ◌≤◌, min, ◌⊎◌, false, List, [], ◌∷◌, ◌++◌, map, length, take, drop, Option, Some, None, zero, suc, refl, sym, ap, subst, ◌∙◌, arith, inl, inr}
 use Rattle.std.specs.List.{AllByRecursion, range_with_len}
 use Rattle.std.specs.Option.{option_map}
-use Rattle.std.specs.Cmp.Lexicographic.{nat_list_cmp_total}
-use Rattle.std.specs.FinMap.{get, insert, get-insert}
 use Rattle.std.proofs.lemmas.Bool.{false_from_ne_true}
 use Rattle.std.proofs.lemmas.List.{append-nil, append_assoc, take_all}
 use Rattle.std.proofs.lemmas.List.FromFn.{map-range_with_len_more}
@@ -19,9 +17,12 @@ use Rattle.lsn_core.proofs.StoreFiles.{same_name, names_tie, with_files-append}
 use Rattle.rel_files.proofs.Segments.{below, has_segment, segments_hold}
 use Rattle.history.specs.Entry.{Entry}
 use Rattle.manifest.specs.declared.listing.FileRow.{FileRow}
-use Rattle.base_backup.specs.Directory.{row_of}
-use Rattle.base_backup.specs.Inside.{AreCopies, WritesCopies, Lacks, LacksFork, PutsFiles, PutsSegment, PutsFork, first_files, row_with, page_bytes, with_file}
+use Rattle.backup_files.specs.Area.{Lacks, with_file}
+use Rattle.backup_files.specs.Directory.{row_of}
+use Rattle.backup_files.specs.Rows.{row_with}
+use Rattle.base_backup.specs.Inside.{AreCopies, WritesCopies, LacksFork, PutsFiles, PutsSegment, PutsFork, first_files, page_bytes}
 use Rattle.base_backup.proofs.PageLists.{copies_none, copies_more, bytes_length}
+use Rattle.backup_files.proofs.Appended.{absent}
 
 -- ---- files put into an area, and listed
 
@@ -49,11 +50,6 @@ puts_on modified xs ys a b c r s t first rest = record {
 }
 
 -- ---- names that aren't there
-
-pub absent : (m : Files) (name : List ℕ) (files : List (List ℕ × List ℕ)) → AllByRecursion (λ f. same_name name f.0 ≡ false) files → get (with_files m files) name ≡ get m name
-absent m name [] all = refl
-absent m name (f ∷ files) all =
-    absent (insert m f.0 f.1) name files all.1 ∙ (get-insert nat_list_cmp_total m f.0 f.1 name ∙ ap (λ b. cond b (Some f.1) (get m name)) all.0)
 
 lacks_by : (files : Option Files) (name : List ℕ) (put : List (List ℕ × List ℕ)) → AllByRecursion (λ f. same_name name f.0 ≡ false) put → Lacks files name → Lacks (option_map (λ m. with_files m put) files) name
 lacks_by None name put all lacks = tt

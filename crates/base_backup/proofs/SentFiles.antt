@@ -30,15 +30,17 @@ use Rattle.incr_file.specs.declared.plan.FilePlan.{FilePlan}
 use Rattle.incr_file.specs.declared.plan.FilePlan.TheVariants.{Whole, Incr}
 use Rattle.shared_store.specs.Copied.{listed_length}
 use Rattle.base_backup.specs.declared.basis.Basis.{Basis}
-use Rattle.base_backup.specs.Directory.{row_of}
-use Rattle.base_backup.specs.Backup.{HoldsNothing}
-use Rattle.base_backup.specs.Inside.{IsGoodPath, Lacks, ListsForks, PutsFiles, PutsSegment, page_bytes, row_with, with_file}
+use Rattle.backup_files.specs.Area.{HoldsNothing, Lacks, with_file}
+use Rattle.backup_files.specs.Directory.{row_of}
+use Rattle.backup_files.specs.Rows.{row_with}
+use Rattle.base_backup.specs.Inside.{IsGoodPath, ListsForks, PutsFiles, PutsSegment, page_bytes}
 use Rattle.base_backup.specs.Sent.{SegmentPlan, SentFile, blocks_sent, file_of, fork_plans, is_part, list_plans, segment_plan, sent_path}
 use Rattle.base_backup.specs.IncrInside.{ArePagesOf, IsSeenAs, LacksForms, SendsFiles, SendsList, SendsPart, SendsStore, WritesPart}
 use Rattle.base_backup.proofs.Blocks.{pages_bytes_length, range_pages, seen_later}
 use Rattle.base_backup.proofs.Listings.{count_fits, fork_path_good}
 use Rattle.base_backup.proofs.PageLists.{bytes_length}
-use Rattle.base_backup.proofs.Segments.{absent, named_at, puts_none, puts_on}
+use Rattle.backup_files.proofs.Appended.{absent}
+use Rattle.base_backup.proofs.Segments.{named_at, puts_none, puts_on}
 use Rattle.base_backup.proofs.Stores.{listed_later, stands_of}
 
 -- ---- one file

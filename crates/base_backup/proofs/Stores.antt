@@ -30,8 +30,8 @@ use Rattle.history.specs.Apply.{is_same_fork}
 use Rattle.history.specs.Entry.{Entry}
 use Rattle.manifest.specs.declared.listing.FileRow.{FileRow}
 use Rattle.shared_store.specs.Copied.{listed_length}
-use Rattle.base_backup.specs.Backup.{HoldsNothing}
-use Rattle.base_backup.specs.Inside.{ArePagesCopied, IsPageCopied, Lacks, LacksFork, PutsFiles, PutsFork, PutsStore, ListsForks, IsForkListed, IsNamedFork, IsWholeFork, CopiesStore}
+use Rattle.backup_files.specs.Area.{HoldsNothing, Lacks}
+use Rattle.base_backup.specs.Inside.{ArePagesCopied, IsPageCopied, LacksFork, PutsFiles, PutsFork, PutsStore, ListsForks, IsForkListed, IsNamedFork, IsWholeFork, CopiesStore}
 use Rattle.base_backup.proofs.PageLists.{pages_later}
 use Rattle.base_backup.proofs.Segments.{puts_none, puts_on}
 

@@ -17,12 +17,14 @@ use Rattle.shared_store.specs.declared.receipt.Redo.{Redo}
 use Rattle.shared_store.specs.Opened.{Opened}
 use Rattle.base_backup.specs.declared.fault.BackupFault.{BackupFault}
 use Rattle.base_backup.specs.declared.fault.BackupFault.TheVariants as fault
-use Rattle.base_backup.specs.Directory.{manifest_name}
-use Rattle.base_backup.specs.Backup.{HasBackup, IsTakenFull, IsTakenWhole, KeepsManifest, LeavesManifest, MayHaveBackup, RoseTwice}
-use Rattle.base_backup.specs.Inside.{CanFinish, Finishes, HoldsCopy, IsRun, LeavesText, SparesManifest, area_fault, with_file}
+use Rattle.backup_files.specs.Area.{KeepsManifest, RoseTwice, LeavesText, with_file}
+use Rattle.backup_files.specs.Directory.{manifest_name}
+use Rattle.backup_files.proofs.Kept.{kept_on, kept_same, rose_later}
+use Rattle.backup_files.proofs.Passed.{err_cause}
+use Rattle.base_backup.specs.Backup.{HasBackup, IsTakenFull, IsTakenWhole, LeavesManifest, MayHaveBackup}
+use Rattle.backup_files.specs.Area.{SparesManifest}
+use Rattle.base_backup.specs.Inside.{CanFinish, Finishes, HoldsCopy, IsRun, area_fault}
 use Rattle.base_backup.proofs.Listings.{copy_held, full_finished}
-use Rattle.base_backup.proofs.Passed.{err_cause}
-use Rattle.base_backup.proofs.Steps.{kept_on, kept_same, rose_later}
 
 -- ---- entries
 

@@ -1,9 +1,8 @@
 -- Copies whose pages are whole, and the sizes of their files.
 use Rattle.std.proofs.Common.{◌≡◌, ℕ, ◌*◌, ◌^◌, ◌<◌, List, [], ◌∷◌, length, take, drop, false, zero, suc, sym, subst, ◌∙◌, arith}
-use Rattle.std.specs.List.{All, AllByRecursion}
+use Rattle.std.specs.List.{AllByRecursion}
 use Rattle.std.specs.FinMap.{entries, get-entries}
 use Rattle.std.proofs.lemmas.List.{length-take}
-use Rattle.std.proofs.lemmas.List.Elements.{All-nil, All-cons}
 use Rattle.lsn_core.specs.Names.{fork_path_bytes}
 use Rattle.lsn_core.specs.Segment.{IsRelseg}
 use Rattle.lsn_core.specs.Store.{Store, ForkPages, fork_files, segment_content, segment_count, store_files}
@@ -12,12 +11,9 @@ use Rattle.rel_files.specs.Forks.{HasWholePages}
 use Rattle.base_backup.specs.Inside.{ArePagesWhole, IsWholeFork}
 use Rattle.base_backup.proofs.PageLists.{bytes_length}
 use Rattle.base_backup.proofs.Stores.{found_one}
+use Rattle.backup_files.proofs.Listable.{all_from}
 
 -- ---- pages
-
-pub all_from : {A : Type 0} (P : A → Type 0) (xs : List A) → AllByRecursion P xs → All P xs
-all_from P [] all = All-nil P
-all_from P (x ∷ xs) all = All-cons P x xs all.0 (all_from P xs all.1)
 
 pub whole_copy : (copy : Store) → AllByRecursion IsWholeFork (entries copy) → HasWholePages copy
 whole_copy copy all fork pages is =

@@ -1,13 +1,10 @@
 -- What a full backup answers and leaves.
-use Rattle.std.specs.Prelude.{◌≡◌, ◌≢◌, ℕ, ◌+◌, ◌-◌, ◌^◌, ◌≤◌, min, ◌⊎◌, List, [], ◌∷◌, ◌++◌, length, take, Option, IfSome}
-use Rattle.std.specs.Option.{option_map}
-use Rattle.std.specs.FinMap.{get, insert, empty}
+use Rattle.std.specs.Prelude.{◌≡◌, ◌≢◌, ℕ, ◌+◌, ◌-◌, ◌^◌, ◌≤◌, ◌⊎◌, List, [], ◌∷◌, ◌++◌, length, take, Option, IfSome}
+use Rattle.std.specs.FinMap.{empty}
 use Rattle.lsn_core.specs.Causes.{Rose}
 use Rattle.lsn_core.specs.Files.{Files}
 use Rattle.lsn_core.specs.Store.{Store}
 use Rattle.vault.specs.declared.area.Vault.{Ghosts}
-use Rattle.vault.specs.Area.{Related}
-use Rattle.vault.specs.Stops.{Event, noted, synced, wrote}
 use Rattle.history.specs.Entry.{Entry, Mark, RedoMark, Online, BackupEnd}
 use Rattle.fuzzy_copies.specs.Taken.{IsTaken}
 use Rattle.shared_store.specs.Seen.{Seen, StaysBy}
@@ -16,7 +13,8 @@ use Rattle.shared_store.specs.Calls.{IsMarkOf, FindsNoRoom, HasNoRoom, GoesOn}
 use Rattle.base_backup.specs.declared.done.Done.{Done}
 use Rattle.base_backup.specs.declared.fault.BackupFault.{BackupFault}
 use Rattle.base_backup.specs.declared.fault.BackupFault.TheVariants.{NotEmpty, WalFull, StoreFailed, OutFailed, NoMemory}
-use Rattle.base_backup.specs.Directory.{manifest_name, IsFullBackup}
+use Rattle.base_backup.specs.Directory.{IsFullBackup}
+use Rattle.backup_files.specs.Area.{HoldsNothing, HoldsSomething, KeepsManifest, RoseTwice}
 
 -- ---- its entries
 
@@ -60,16 +58,6 @@ pub record IsTakenFull (tells : Type 0) (worker : ℕ) (name : List ℕ) (when :
       done.start (record { 0 = checkpoint }) done.end done.files files
   pub taken : tells → IsTaken copy new.history done.start.0 done.end.0
 
--- the last that was done to an area: all files but the manifest were synced, and then the manifest
--- was written and synced
-pub record EndsSynced {V : Type 0} (g : Ghosts V) (out : V) : Type 0 where
-  pub before : Option Files
-  pub text : List ℕ
-  pub earlier : Option (List Event)
-  pub files : g.files out ≡ option_map (λ m. insert m manifest_name text) before
-  pub past : g.past out ≡ noted (synced (g.files out)) (noted (wrote manifest_name 0 text)
-      (noted (synced before) earlier))
-
 -- it was taken, whatever is answered
 abbrev pub IsTakenWhole : Type 0 → ℕ → List ℕ → ℕ → Opened → Opened → Option Files → Type 0
 IsTakenWhole tells worker name when old new files =
@@ -90,13 +78,6 @@ pub record EndsWithoutRoom (mib worker : ℕ) (old new : List Entry) : Type 0 wh
 abbrev pub FindsNoRoomFor : ℕ → ℕ → List Entry → List Entry → Type 0
 FindsNoRoomFor mib worker old new =
     FindsNoRoom mib worker old new ⊎ EndsWithoutRoom mib worker old new
-
--- an area holds no file, or one at least, where that is told
-abbrev pub HoldsNothing : Option Files → Type 0
-HoldsNothing files = IfSome files (λ m. m ≡ empty)
-
-abbrev pub HoldsSomething : Option Files → Type 0
-HoldsSomething files = IfSome files (λ m. m ≢ empty)
 
 -- a store, a worker's pass and the area of a backup
 pub record Site (V : Type 0) : Type 0 where
@@ -139,14 +120,6 @@ pub record IsUntouched {V : Type 0} (g : Ghosts V) (old new : Site V) : Type 0 w
 -- where the area held a file, whatever the refusal is
 abbrev pub KeepsFull : {V : Type 0} → Ghosts V → Site V → Site V → Type 0
 KeepsFull g old new = IfSome (g.files old.out) (λ m. m ≢ empty → IsUntouched g old new)
-
--- the manifest's file is as it was: missing, in an area that held nothing
-abbrev pub KeepsManifest : Option Files → Option Files → Type 0
-KeepsManifest old new = Related (λ m n. get n manifest_name ≡ get m manifest_name) old new
-
--- a count rose twice; at its type's end it stays
-abbrev pub RoseTwice : ℕ → ℕ → Type 0
-RoseTwice before now = min (before + 2) (2 ^ 64 - 1) ≤ now
 
 -- what a refusal leaves of the manifest: nothing. Its removal alone, which follows a fault in
 -- writing or syncing it, may fail too: then the area's count rose twice, or once and there was no

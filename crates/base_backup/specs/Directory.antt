@@ -1,49 +1,21 @@
 -- The directory of a full backup (PostgreSQL manual, pg_basebackup; Backup Manifest Format).
-use Rattle.std.specs.Prelude.{◌≡◌, ℕ, List, [], ◌∷◌, ◌++◌, map, length, codes, Option, Some, None, IfSome, Ok}
-use Rattle.std.specs.List.Sorted.{IsPermutation, IsStrictlySortedBy}
-use Rattle.std.specs.Ordering.{nat_cmp}
-use Rattle.std.specs.Cmp.Lexicographic.{slice_cmp}
-use Rattle.std.specs.FinMap.{empty, insert}
-use Rattle.sha2.specs.Sha256.{sha256}
-use Rattle.hex.specs.Hex.{encode_lower}
+use Rattle.std.specs.Prelude.{◌≡◌, ℕ, List, [], ◌∷◌, ◌++◌, length, codes, Option, Some, None, IfSome, Ok}
+use Rattle.std.specs.FinMap.{insert}
 use Rattle.lsn_core.specs.Files.{Files}
 use Rattle.lsn_core.specs.Laws.{HasNamedForks}
 use Rattle.lsn_core.specs.Segment.{StoreSettings}
-use Rattle.lsn_core.specs.Store.{Store, store_files, files_of, with_files}
+use Rattle.lsn_core.specs.Store.{Store, store_files, files_of}
 use Rattle.lsn_core.specs.declared.lsn.Lsn.{Lsn}
 use Rattle.rel_files.specs.Forks.{HasWholePages}
 use Rattle.backup_label.specs.declared.label.Label.{Label}
 use Rattle.backup_label.specs.Label.{HasNoLineEnd, IsLabel, label_text}
 use Rattle.backup_label.specs.Time.{IsTimeText}
-use Rattle.manifest.specs.declared.kinds.SumKind.TheVariants.{Sha256}
 use Rattle.manifest.specs.declared.listing.FileRow.{FileRow}
-use Rattle.manifest.specs.Listing.{Listing}
 use Rattle.manifest.specs.Reading.{ReadAnswers}
 use Rattle.manifest.specs.Text.{manifest_text}
-
-abbrev pub label_name : List ℕ
-label_name = codes "backup_label"
-
-abbrev pub manifest_name : List ℕ
-manifest_name = codes "backup_manifest"
+use Rattle.backup_files.specs.Directory.{label_name, manifest_name, AreRowsOf, listing_with, directory_with}
 
 -- ---- what is listed
-
--- the row of a file, with the text of when it was last modified
-abbrev pub row_of : List ℕ → List ℕ × List ℕ → FileRow
-row_of modified file = record {
-  path = file.0;
-  size = length file.1;
-  modified = modified;
-  kind = Sha256;
-  sum = encode_lower (sha256 file.1);
-}
-
--- rows list these files and no others, each once, in byte order of their paths
-pub record AreRowsOf (modified : List ℕ) (files : List (List ℕ × List ℕ)) (rows : List FileRow)
-    : Type 0 where
-  pub same : IsPermutation (map (row_of modified) files) rows
-  pub order : IsStrictlySortedBy (slice_cmp nat_cmp) (map (λ row. row.path) rows)
 
 -- the files that are listed: those of the pages that were copied, and the label
 abbrev pub listed_files : ℕ → Store → List ℕ → List (List ℕ × List ℕ)
@@ -60,16 +32,6 @@ full_label start checkpoint begun name = record {
   label = name;
   timeline = 1;
   prior = None;
-}
-
--- a manifest of version 2 with these rows, of a WAL from a place to another
-abbrev pub full_manifest : ℕ → List FileRow → Lsn → Lsn → Listing
-full_manifest system rows start end = record {
-  version = 2;
-  system = Some system;
-  files = rows;
-  start = start.0;
-  end = end.0;
 }
 
 -- the files of the pages that were copied, the label and the manifest, and no others
@@ -95,10 +57,10 @@ pub record IsFullBackup (settings : StoreSettings) (name : List ℕ) (when : ℕ
   pub rows : List FileRow
   pub listed : AreRowsOf modified (listed_files settings.relseg copy label) rows
   pub counted : count ≡ length rows
-  pub manifest_read : ReadAnswers 2 (manifest_text (full_manifest settings.system rows start end))
-      (Ok (full_manifest settings.system rows start end))
+  pub manifest_read : ReadAnswers 2 (manifest_text (listing_with settings.system rows start end))
+      (Ok (listing_with settings.system rows start end))
   pub files_are : IfSome files (λ m. m ≡ directory_of settings.relseg copy label
-      (manifest_text (full_manifest settings.system rows start end)))
+      (manifest_text (listing_with settings.system rows start end)))
 
 -- ---- any backup's directory
 
@@ -112,11 +74,6 @@ incr_label start checkpoint prior begun name = record {
   timeline = 1;
   prior = Some (prior, 1);
 }
-
--- files, a label and a manifest, and no others
-abbrev pub directory_with : List (List ℕ × List ℕ) → List ℕ → List ℕ → Files
-directory_with put label manifest =
-    insert (insert (with_files empty put) label_name label) manifest_name manifest
 
 -- the files of an area are these, a label and a manifest that lists them, and no others. The label
 -- is one that tells when the backup was begun, and the manifest's range of the WAL goes from a place
@@ -134,7 +91,7 @@ pub record IsDirectory (settings : StoreSettings) (label_of : List ℕ → Label
   pub rows : List FileRow
   pub listed : AreRowsOf modified (put ++ ((label_name, label) ∷ [])) rows
   pub counted : count ≡ length rows
-  pub manifest_read : ReadAnswers 2 (manifest_text (full_manifest settings.system rows start end))
-      (Ok (full_manifest settings.system rows start end))
+  pub manifest_read : ReadAnswers 2 (manifest_text (listing_with settings.system rows start end))
+      (Ok (listing_with settings.system rows start end))
   pub files_are : IfSome files (λ m. m ≡ directory_with put label
-      (manifest_text (full_manifest settings.system rows start end)))
+      (manifest_text (listing_with settings.system rows start end)))

@@ -19,7 +19,8 @@ use Rattle.base_backup.specs.declared.done.Done.{Done}
 use Rattle.base_backup.specs.declared.incr_fault.IncrFault.{IncrFault}
 use Rattle.base_backup.specs.declared.incr_fault.IncrFault.TheVariants.{NotEmpty, NoManifest, ManifestRefused, SystemDiffers, Overlap, Gap, WalFull, StoreFailed, SumsFailed, PriorFailed, OutFailed, NoMemory}
 use Rattle.base_backup.specs.Directory.{incr_label, IsDirectory}
-use Rattle.base_backup.specs.Backup.{HasBackup, MayHaveBackup, EndsSynced, HoldsNothing, HoldsSomething, FindsNoRoomFor, KeepsManifest, RoseTwice}
+use Rattle.backup_files.specs.Area.{EndsSynced, HoldsNothing, HoldsSomething, KeepsManifest, RoseTwice}
+use Rattle.base_backup.specs.Backup.{HasBackup, MayHaveBackup, FindsNoRoomFor}
 use Rattle.base_backup.specs.Prior.{HasListing, IsOfStore, PriorAnswer}
 use Rattle.base_backup.specs.Sent.{SentFile, AreListed, AreSent, file_of}
 

@@ -29,7 +29,8 @@ use Rattle.base_backup.specs.declared.fault.BackupFault.TheVariants as backup
 use Rattle.base_backup.specs.declared.incr_fault.IncrFault.{IncrFault}
 use Rattle.base_backup.specs.declared.incr_fault.IncrFault.TheVariants as fault
 use Rattle.base_backup.specs.declared.basis.Basis.{Basis}
-use Rattle.base_backup.specs.Inside.{IsPageCopied, Lacks, PutsFiles, ListsForks, page_bytes, with_file, HoldsFiles}
+use Rattle.backup_files.specs.Area.{Lacks, with_file}
+use Rattle.base_backup.specs.Inside.{IsPageCopied, PutsFiles, ListsForks, page_bytes, HoldsFiles}
 use Rattle.base_backup.specs.Prior.{IsOfStore}
 use Rattle.base_backup.specs.Sent.{SegmentPlan, SentFile, AreFor, blocks_sent, file_of, list_plans}
 

@@ -26,7 +26,8 @@ use Rattle.base_backup.specs.declared.fault.BackupFault.TheVariants as backup
 use Rattle.base_backup.specs.declared.incr_fault.IncrFault.{IncrFault}
 use Rattle.base_backup.specs.declared.incr_fault.IncrFault.TheVariants as fault
 use Rattle.base_backup.specs.declared.basis.Basis.{Basis}
-use Rattle.base_backup.specs.Backup.{Site, HoldsNothing, HoldsSomething}
+use Rattle.backup_files.specs.Area.{HoldsNothing, HoldsSomething}
+use Rattle.base_backup.specs.Backup.{Site}
 use Rattle.base_backup.specs.Prior.{PriorAnswer}
 use Rattle.base_backup.specs.Incr.{BeginsAt}
 use Rattle.base_backup.specs.IncrInside.{SendsStore}

@@ -1,11 +1,11 @@
 -- What the crate's private functions answer: no public contract cites these.
-use Rattle.std.specs.Prelude.{◌≡◌, ℕ, ◌+◌, ◌*◌, ◌-◌, ◌^◌, ◌<◌, ◌≤◌, min, ◌⊎◌, true, false, List, [], ◌∷◌, ◌++◌, map, length, codes, Option, Some, None, IfSome, unwrap_or, Ok}
-use Rattle.std.specs.List.{All, AllByRecursion, IsDistinct, flat_map, range_with_len}
-use Rattle.std.specs.List.Sorted.{IsPermutation, IsStrictlySortedBy}
+use Rattle.std.specs.Prelude.{◌≡◌, ℕ, ◌+◌, ◌*◌, ◌-◌, ◌^◌, ◌<◌, ◌≤◌, min, ◌⊎◌, true, false, List, [], ◌∷◌, ◌++◌, map, length, codes, Option, Some, None, IfSome, unwrap_or}
+use Rattle.std.specs.List.{AllByRecursion, IsDistinct, flat_map, range_with_len}
+use Rattle.std.specs.List.Sorted.{IsStrictlySortedBy}
 use Rattle.std.specs.Option.{option_map}
 use Rattle.std.specs.Ordering.{nat_cmp, eq_by_cmp}
 use Rattle.std.specs.Cmp.Lexicographic.{slice_cmp}
-use Rattle.std.specs.FinMap.{empty, get, insert, entries}
+use Rattle.std.specs.FinMap.{empty, entries}
 use Rattle.std.specs.Str.{IsUtf8}
 use Rattle.std.specs.BTreeMap.{BTreeMap}
 use Rattle.std.specs.BTreeMap as tree
@@ -13,7 +13,6 @@ use mathlib.Core.List.{IsPrefix}
 use Rattle.sha2.specs.Sha256.{sha256}
 use Rattle.sha2.specs.Hashers.{Holds256}
 use Rattle.sha2.specs.declared.Sha256.{Sha256}
-use Rattle.hex.specs.Hex.{encode_lower}
 use Rattle.lsn_core.specs.Blocks.{block_of, block_count}
 use Rattle.lsn_core.specs.Causes.{Rose}
 use Rattle.lsn_core.specs.Files.{Files}
@@ -31,16 +30,14 @@ use Rattle.lsn_core.specs.declared.fault.StoreFault.TheVariants as store
 use Rattle.lsn_core.specs.declared.fault.MarkFault.{MarkFault}
 use Rattle.lsn_core.specs.declared.fault.MarkFault.TheVariants as mark
 use Rattle.vault.specs.declared.area.Vault.{Ghosts}
-use Rattle.vault.specs.Area.{Related, after_write, after_remove}
+use Rattle.vault.specs.Area.{after_write}
 use Rattle.pg_page.specs.Header.{zero_page}
 use Rattle.history.specs.Entry.{Entry}
 use Rattle.fuzzy_copies.specs.Taken.{IsBlockCopied, IsListed, IsTaken}
 use Rattle.backup_label.specs.declared.label.Label.{Label}
 use Rattle.backup_label.specs.Label.{HasNoLineEnd, IsLabel, label_text}
 use Rattle.backup_label.specs.Time.{IsTimeText}
-use Rattle.manifest.specs.Reading.{ReadAnswers}
 use Rattle.manifest.specs.Shape.{is_path}
-use Rattle.manifest.specs.Text.{IsWritableRow, manifest_text}
 use Rattle.manifest.specs.declared.kinds.SumKind.TheVariants as kind
 use Rattle.manifest.specs.declared.listing.FileRow.{FileRow}
 use Rattle.shared_store.specs.declared.receipt.Redo.{Redo}
@@ -50,8 +47,12 @@ use Rattle.shared_store.specs.Calls.{GoesOn}
 use Rattle.shared_store.specs.Copied.{HasRedoPoint, listed_length}
 use Rattle.base_backup.specs.declared.fault.BackupFault.{BackupFault}
 use Rattle.base_backup.specs.declared.fault.BackupFault.TheVariants as fault
-use Rattle.base_backup.specs.Directory.{label_name, manifest_name, row_of, full_manifest, IsDirectory}
-use Rattle.base_backup.specs.Backup.{Site, HasBackup, HoldsSomething, KeepsManifest, RoseTwice}
+use Rattle.backup_files.specs.Area.{HoldsSomething}
+use Rattle.backup_files.specs.Directory.{label_name, manifest_name, row_of}
+use Rattle.base_backup.specs.Directory.{IsDirectory}
+use Rattle.base_backup.specs.Backup.{Site, HasBackup}
+use Rattle.backup_files.specs.Area.{Lacks, with_file}
+use Rattle.backup_files.specs.Area.{SparesManifest}
 
 -- ---- faults
 
@@ -83,11 +84,6 @@ pub record ReadsOn (old : Opened) (was : Seen) (new : Opened) (now : Seen) : Typ
   pub same : new.history ≡ old.history
   pub seen : StaysBy was now
   pub accepted : now.accepted ≡ was.accepted
-
--- of the backup's area, the manifest's file is left alone, and the count didn't fall
-pub record SparesManifest {V : Type 0} (g : Ghosts V) (old new : V) : Type 0 where
-  pub manifest : KeepsManifest (g.files old) (g.files new)
-  pub faults : g.faults old ≤ g.faults new
 
 -- a step of copying
 pub record CopiesOn {V : Type 0} (g : Ghosts V) (old new : Site V) : Type 0 where
@@ -144,10 +140,6 @@ pub record AddsPiece (tells : Type 0) (seen : List Entry) (from : ℕ) (fork : F
   pub written : new ≡ option_map (after_write path (done * 8192) (page_bytes pages)) old
   pub hashed : (m : List ℕ) → Holds256 before m → Holds256 now (m ++ page_bytes pages)
 
--- an area with a file
-abbrev pub with_file : List ℕ → List ℕ → Option Files → Option Files
-with_file name bytes files = option_map (λ m. insert m name bytes) files
-
 -- a file that wasn't there holds them, and their SHA-256 is told
 pub record WritesCopies (tells : Type 0) (seen : List Entry) (from : ℕ) (fork : ForkId)
     (block count : ℕ) (path : List ℕ) (old new : Option Files) (sum : List ℕ) : Type 0 where
@@ -156,26 +148,7 @@ pub record WritesCopies (tells : Type 0) (seen : List Entry) (from : ℕ) (fork 
   pub stands : new ≡ with_file path (page_bytes pages) old
   pub sum_is : sum ≡ sha256 (page_bytes pages)
 
--- ---- rows
-
-abbrev pub path_of : FileRow → List ℕ
-path_of row = row.path
-
--- the row of a file with a SHA-256 and so many bytes
-abbrev pub row_with : List ℕ → ℕ → List ℕ → List ℕ → FileRow
-row_with path size modified sum = record {
-  path = path;
-  size = size;
-  modified = modified;
-  kind = kind.Sha256;
-  sum = encode_lower sum;
-}
-
 -- ---- files of forks
-
--- an area has no file of a name, where that is told
-abbrev pub Lacks : Option Files → List ℕ → Type 0
-Lacks files name = IfSome files (λ m. get m name ≡ None)
 
 -- no segment file of a fork
 abbrev pub LacksFork : Option Files → ForkId → Type 0
@@ -379,50 +352,3 @@ pub record AddsLabel (settings : StoreSettings) (redo : Redo) (prior : Option Ls
   pub fits : length text < 2 ^ 64
   pub stands : new ≡ with_file label_name text old
   pub listed : rows ≡ before ++ (row_of modified (label_name, text) ∷ [])
-
--- ---- the manifest
-
--- rows that a manifest can list: with distinct paths, and sizes below 2^64
-pub record AreListable (rows : List FileRow) : Type 0 where
-  pub writable : All IsWritableRow rows
-  pub distinct : IsDistinct (eq_by_cmp (slice_cmp nat_cmp)) (map path_of rows)
-  pub small : All (λ row. row.size < 2 ^ 64) rows
-
--- a manifest that lists them, in order of their paths, and is read as it was written
-pub record ListsRows (system : ℕ) (rows : List FileRow) (start end : Lsn) (text : List ℕ)
-    : Type 0 where
-  pub sorted : List FileRow
-  pub same : IsPermutation rows sorted
-  pub order : IsStrictlySortedBy (slice_cmp nat_cmp) (map path_of sorted)
-  pub text_is : text ≡ manifest_text (full_manifest system sorted start end)
-  pub read : ReadAnswers 2 text (Ok (full_manifest system sorted start end))
-
--- either both of two areas tell their files, or neither
-abbrev pub TellAlike : Option Files → Option Files → Type 0
-TellAlike old new = Related (λ m n. Unit {0}) old new
-
--- writing the manifest failed, or syncing behind it
-abbrev pub FailsToWrite : {V : Type 0} → Ghosts V → List ℕ → V → V → AreaFault → Type 0
-FailsToWrite g text old new area.Failed =
-    Rose (g.faults old) (g.faults new) × TellAlike (g.files old) (g.files new)
-FailsToWrite g text old new area.NoMemory =
-    (g.files new ≡ g.files old) ⊎ (g.files new ≡ with_file manifest_name text (g.files old))
-
--- the manifest was removed; or its removal failed, and the count rose; or there was no memory for
--- it, which is answered
-abbrev pub Withdraws : {V : Type 0} → Ghosts V → AreaFault → V → V → AreaFault → Type 0
-Withdraws g why old new answer =
-    ((answer ≡ why) × (g.files new ≡ option_map (after_remove manifest_name) (g.files old)))
-    ⊎ (((answer ≡ why) × Rose (g.faults old) (g.faults new))
-    ⊎ ((answer ≡ area.NoMemory) × (g.files new ≡ g.files old)))
-
--- what is left of the manifest where it can't be written and synced: nothing, unless its removal
--- failed too. Then the count rose twice; or once, and there was no memory; or memory was missing
--- twice, and the text stands
-abbrev pub LeavesText : {V : Type 0} → Ghosts V → List ℕ → V → V → AreaFault → Type 0
-LeavesText g text old new area.Failed =
-    KeepsManifest (g.files old) (g.files new) ⊎ RoseTwice (g.faults old) (g.faults new)
-LeavesText g text old new area.NoMemory =
-    KeepsManifest (g.files old) (g.files new)
-    ⊎ (Rose (g.faults old) (g.faults new)
-    ⊎ (g.files new ≡ with_file manifest_name text (g.files old)))

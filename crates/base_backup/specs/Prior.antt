@@ -6,7 +6,7 @@ use Rattle.manifest.specs.Listing.{Listing}
 use Rattle.manifest.specs.Reading.{ReadAnswers}
 use Rattle.manifest.specs.declared.fault.ManifestFault.{ManifestFault}
 use Rattle.manifest.specs.declared.fault.ManifestFault.TheVariants as manifest
-use Rattle.base_backup.specs.Directory.{manifest_name}
+use Rattle.backup_files.specs.Directory.{manifest_name}
 use Rattle.base_backup.specs.declared.incr_fault.IncrFault.{IncrFault}
 use Rattle.base_backup.specs.declared.incr_fault.IncrFault.TheVariants.{NoManifest, ManifestRefused, SystemDiffers, PriorFailed, NoMemory}
 

@@ -2,9 +2,10 @@
 
 ghost use Rattle.std.specs.Prelude.{◌≡◌, ◌≢◌, ◌+◌, ◌*◌, ◌-◌, ◌^◌, ◌<◌, true, IfOk, OnOk, IfErr};
 ghost use Rattle.shared_store.specs.Copied.{HasRedoPoint};
-ghost use Rattle.base_backup.specs.Directory.{manifest_name};
+ghost use Rattle.backup_files.specs.Area.{Lacks};
+ghost use Rattle.backup_files.specs.Directory.{manifest_name};
 ghost use Rattle.base_backup.specs.Backup.{site_of};
-ghost use Rattle.base_backup.specs.Inside.{CopyCause, CopiesOn, AddsPiece, WritesCopies, Lacks};
+ghost use Rattle.base_backup.specs.Inside.{CopyCause, CopiesOn, AddsPiece, WritesCopies};
 
 use crate::fault::BackupFault;
 use crate::pages::copy_pages;

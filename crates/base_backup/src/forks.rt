@@ -6,12 +6,13 @@ ghost use Rattle.lsn_core.specs.Names.{fork_path_bytes, IsNamed};
 ghost use Rattle.lsn_core.specs.Segment.{IsRelseg};
 ghost use Rattle.lsn_core.specs.Store.{fork_cmp, segment_count};
 ghost use Rattle.shared_store.specs.Copied.{HasRedoPoint};
-ghost use Rattle.base_backup.specs.Backup.{site_of, HoldsNothing};
-ghost use Rattle.base_backup.specs.Inside.{CopyCause, CopiesOn, Lacks, LacksFork, PutsSegment, PutsFork, PutsStore};
+ghost use Rattle.backup_files.specs.Area.{HoldsNothing, Lacks};
+ghost use Rattle.base_backup.specs.Backup.{site_of};
+ghost use Rattle.base_backup.specs.Inside.{CopyCause, CopiesOn, LacksFork, PutsSegment, PutsFork, PutsStore};
 
 use crate::fault::BackupFault;
 use crate::files::copy_file;
-use crate::rows::file_row;
+use backup_files::file_row;
 use lsn_core::{ForkId, ForkLen, Lsn, NoMemory, PAGE, Text, fork_path};
 use manifest::FileRow;
 use shared_store::{OfCrew, Pass, Store};

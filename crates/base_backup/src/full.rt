@@ -1,33 +1,28 @@
 //! A full backup.
 
-ghost use Rattle.std.specs.Prelude.{◌≡◌, ◌↔◌, ◌<◌, ◌≤◌, ℕ, true, IsTrue, [], codes, IfOk, OnOk, OnErr, IfErr};
+ghost use Rattle.std.specs.Prelude.{◌≡◌, ◌<◌, ◌≤◌, ℕ, true, codes, IfOk, OnOk, OnErr, IfErr};
 ghost use Rattle.shared_store.specs.Opened.{IsLawfulOf};
 ghost use Rattle.shared_store.specs.Copied.{HasRedoPoint};
 ghost use Rattle.backup_label.specs.Time.{IsTimeText};
+ghost use Rattle.backup_files.specs.Area.{EndsSynced, HoldsNothing};
 ghost use Rattle.base_backup.specs.Backup.{site_of, Proceeds, MayHaveBackup, IsTakenFull, IsTakenWhole, KeepsFull};
-ghost use Rattle.base_backup.specs.Backup.{BackupCause, EndsSynced, GoesPast, LeavesManifest, HoldsNothing};
-ghost use Rattle.base_backup.specs.Inside.{SparesManifest, CopyCause, CopiesOn, CopiesStore, IsRun};
+ghost use Rattle.base_backup.specs.Backup.{BackupCause, GoesPast, LeavesManifest};
+ghost use Rattle.backup_files.specs.Area.{SparesManifest};
+ghost use Rattle.base_backup.specs.Inside.{CopyCause, CopiesOn, CopiesStore, IsRun};
 ghost use Rattle.base_backup.specs.Inside.{LookCause, EndCause, CanFinish, Finishes};
 
 use crate::done::Done;
 use crate::fault::BackupFault;
 use crate::forks::copy_forks;
-use crate::listed::{add_label, manifest_text};
+use crate::listed::add_label;
 use crate::listing::all_forks;
-use crate::publishing::publish;
+use backup_files::{is_empty, manifest_text, publish};
 use backup_label::time_text;
 use lsn_core::{Lsn, Settings, Text};
 use manifest::FileRow;
 use shared_store::{OfCrew, Pass, Redo, Store};
 use std::alloc::Global;
 use vault::Vault;
-
-/// Whether there are no names.
-fn has_none(names: &[Text]) -> bool
-    ensures { IsTrue result ↔ (names.now ≡ []) }
-{
-    names.is_empty()
-}
 
 /// Looks whether an area is empty. Errs with `NotEmpty` exactly where it holds a file.
 pub(crate) fn check_empty<V: Vault>(alloc: Global, out: &mut V) -> Result<(), BackupFault>
@@ -37,8 +32,7 @@ pub(crate) fn check_empty<V: Vault>(alloc: Global, out: &mut V) -> Result<(), Ba
     ensures later { V.faults out.old ≤ V.faults out.new }
     ensures cause { IfErr result (LookCause V.Vault out.old out.new) }
 {
-    let names = out.names(alloc)?;
-    if has_none(&names) {
+    if is_empty(alloc, out)? {
         return Ok(());
     }
     Err(BackupFault::NotEmpty)
@@ -129,7 +123,7 @@ pub(crate) fn finish<V: Vault>(
         alloc, out, settings, redo, prior, name, when, modified, &mut rows,
     )?;
     let count = rows.len() as u64;
-    let text = manifest_text(alloc, settings, rows, redo.redo, end)?;
+    let text = manifest_text(alloc, settings.system(), rows, redo.redo, end)?;
     publish(out, &text)?;
     Ok(count)
 }

@@ -31,8 +31,6 @@ mod pages;
 mod parts;
 mod planning;
 mod prior;
-mod publishing;
-mod rows;
 mod sending;
 
 pub use done::Done;

@@ -1,17 +1,19 @@
-//! The label of a backup, and the text of its manifest.
+//! The label of a backup.
 
 ghost use Rattle.std.specs.Prelude.{◌≡◌, ◌^◌, ◌<◌, ◌≤◌, IfOk, IfSome, OnOk};
 ghost use Rattle.std.specs.Option.{option_map};
 ghost use Rattle.lsn_core.specs.Causes.{HasCause};
 ghost use Rattle.lsn_core.specs.Names.{segment_number};
 ghost use Rattle.lsn_core.specs.Sizes.{most_segments};
-ghost use Rattle.base_backup.specs.Directory.{label_name};
-ghost use Rattle.base_backup.specs.Inside.{Lacks, SparesManifest, IsLabelOf, AddsLabel, AreListable, ListsRows};
+ghost use Rattle.backup_files.specs.Area.{Lacks};
+ghost use Rattle.backup_files.specs.Directory.{label_name};
+ghost use Rattle.backup_files.specs.Area.{SparesManifest};
+ghost use Rattle.base_backup.specs.Inside.{IsLabelOf, AddsLabel};
 
-use crate::rows::{file_row, sort_rows};
+use backup_files::file_row;
 use backup_label::{Label, time_text, write_label, written_labels_are_read};
 use lsn_core::{AreaFault, Lsn, NoMemory, Settings, Text};
-use manifest::{FileRow, Manifest, manifests_are_read_again, write_manifest};
+use manifest::FileRow;
 use sha2::{Digest, Sha256};
 use shared_store::Redo;
 use std::alloc::Global;
@@ -83,31 +85,4 @@ pub(crate) fn add_label<V: Vault>(
     let sum = Sha256::digest(&text);
     rows.push(file_row(alloc, path, text.len() as u64, modified, &sum)?)?;
     Ok(())
-}
-
-/// The text of the manifest that lists these rows, in order of their paths.
-pub(crate) fn manifest_text(
-    alloc: Global,
-    settings: Settings,
-    rows: Vec<FileRow>,
-    start: Lsn,
-    end: Lsn,
-) -> Result<Vec<u8>, NoMemory>
-    requires rows { AreListable rows.items }
-    requires rises { start.0 < end.0 }
-    ensures { IfOk result (λ text.
-        ListsRows settings.system rows.items start end text.items) }
-{
-    // known: a manifest is read as it was written
-    manifests_are_read_again();
-    let mut rows = rows;
-    sort_rows(&mut rows);
-    let manifest = Manifest {
-        version: 2,
-        system: Some(settings.system()),
-        files: rows,
-        start,
-        end,
-    };
-    write_manifest(alloc, &manifest)
 }

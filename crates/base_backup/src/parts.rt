@@ -4,9 +4,10 @@ ghost use Rattle.std.specs.Prelude.{◌≡◌, ◌≢◌, ◌+◌, ◌*◌, ◌^
 ghost use Rattle.std.specs.List.{AllByRecursion};
 ghost use Rattle.shared_store.specs.Copied.{HasRedoPoint};
 ghost use Rattle.shared_store.specs.Opened.{StoreCause};
-ghost use Rattle.base_backup.specs.Directory.{manifest_name};
+ghost use Rattle.backup_files.specs.Area.{Lacks};
+ghost use Rattle.backup_files.specs.Directory.{manifest_name};
 ghost use Rattle.base_backup.specs.Backup.{site_of};
-ghost use Rattle.base_backup.specs.Inside.{CopyCause, CopiesOn, Lacks, ReadsOn};
+ghost use Rattle.base_backup.specs.Inside.{CopyCause, CopiesOn, ReadsOn};
 ghost use Rattle.base_backup.specs.IncrInside.{AddsBlocks, WritesBlocks, WritesPart};
 
 use crate::fault::BackupFault;

@@ -3,12 +3,12 @@
 ghost use Rattle.std.specs.Prelude.{◌≡◌, IfOk, IfErr, IfSome};
 ghost use Rattle.lsn_core.specs.Causes.{HasCause};
 ghost use Rattle.vault.specs.Frame.{OnlyReads};
-ghost use Rattle.base_backup.specs.Directory.{manifest_name};
+ghost use Rattle.backup_files.specs.Directory.{manifest_name};
 ghost use Rattle.base_backup.specs.Prior.{IsOfStore, PriorAnswer};
 ghost use Rattle.base_backup.specs.IncrInside.{prior_fault, IsFile, TextAnswer, FileAnswer, PriorCause};
 
 use crate::incr_fault::IncrFault;
-use crate::publishing::MANIFEST;
+use backup_files::MANIFEST;
 use lsn_core::AreaFault;
 use manifest::{Manifest, read_manifest};
 use std::alloc::Global;

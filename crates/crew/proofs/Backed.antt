@@ -19,7 +19,8 @@ use Rattle.shared_store.specs.Calls.{GoesOn}
 use Rattle.base_backup.specs.declared.done.Done.{Done}
 use Rattle.base_backup.specs.declared.fault.BackupFault.{BackupFault}
 use Rattle.base_backup.specs.declared.fault.BackupFault.TheVariants as backup
-use Rattle.base_backup.specs.Backup.{AreOfBackup, HasBackup, MayHaveBackup, IsTakenFull, IsTakenWhole, HoldsNothing, BackupCause, GoesPast, LeavesManifest, KeepsFull, IsUntouched, Proceeds, FindsNoRoomFor, site_of}
+use Rattle.backup_files.specs.Area.{HoldsNothing}
+use Rattle.base_backup.specs.Backup.{AreOfBackup, HasBackup, MayHaveBackup, IsTakenFull, IsTakenWhole, BackupCause, GoesPast, LeavesManifest, KeepsFull, IsUntouched, Proceeds, FindsNoRoomFor, site_of}
 use Rattle.base_backup.specs.Directory.{IsFullBackup}
 use Rattle.command_base.specs.Areas.{backup_name}
 use Rattle.crew.specs.declared.script.Command.TheVariants as command

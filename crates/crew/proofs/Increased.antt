@@ -14,7 +14,7 @@ use Rattle.fuzzy_copies.specs.Orderly.{IsOrderly}
 use Rattle.manifest.specs.Listing.{Listing}
 use Rattle.manifest.specs.Text.{manifest_text}
 use Rattle.base_backup.specs.Sent.{file_of}
-use Rattle.base_backup.specs.Directory.{manifest_name, directory_with, full_manifest}
+use Rattle.backup_files.specs.Directory.{manifest_name, directory_with, listing_with}
 use Rattle.base_backup.specs.Prior.{HasListing}
 use Rattle.shared_store.specs.Seen.{accepted_by}
 use Rattle.command_base.specs.Areas.{backup_name, sums_name}
@@ -80,8 +80,8 @@ taken_stands tells b w h found from next start_sums line lines start end held mi
           (λ some. let m = some_told (mid (backup_name n)).files some in (
             m.0,
             m.1,
-            directory_bare (map file_of holding.files) holding.directory.label (manifest_text (full_manifest b.settings.system holding.directory.rows start end)) m.0
-                (at_told (mid (backup_name n)).files m.0 (λ f. f ≡ directory_with (map file_of holding.files) holding.directory.label (manifest_text (full_manifest b.settings.system holding.directory.rows start end))) m.1 holding.directory.files_are),
+            directory_bare (map file_of holding.files) holding.directory.label (manifest_text (listing_with b.settings.system holding.directory.rows start end)) m.0
+                (at_told (mid (backup_name n)).files m.0 (λ f. f ≡ directory_with (map file_of holding.files) holding.directory.label (manifest_text (listing_with b.settings.system holding.directory.rows start end))) m.1 holding.directory.files_are),
           )) rest keeps,
       kept_to (backup_name p) lines (held (backup_name p)).files mid new prior_same (never_sums p)
           (λ some. let m = some_told (held (backup_name p)).files some in (m.0, m.1, listed_bare m.0 holding.plan.prior (at_told (held (backup_name p)).files m.0 (λ files. HasListing files holding.plan.prior) m.1 holding.prior.told))) rest keeps,

@@ -26,7 +26,8 @@ use Rattle.shared_store.specs.Calls.{IsMarkOf}
 use Rattle.base_backup.specs.declared.done.Done.{Done}
 use Rattle.base_backup.specs.declared.incr_fault.IncrFault.{IncrFault}
 use Rattle.base_backup.specs.declared.incr_fault.IncrFault.TheVariants as incr
-use Rattle.base_backup.specs.Backup.{HoldsNothing, FindsNoRoomFor}
+use Rattle.backup_files.specs.Area.{HoldsNothing}
+use Rattle.base_backup.specs.Backup.{FindsNoRoomFor}
 use Rattle.base_backup.specs.Directory.{IsDirectory, incr_label}
 use Rattle.base_backup.specs.Sent.{AreListed, AreSent, file_of}
 use Rattle.base_backup.specs.Incr.{IncrSite, incr_site, BeginsAt, IsTakenIncr, IsTakenIncrWhole, IsFinishedIncr, IsRefusedIncr, IncrCause, IsJudged, LeavesBehind, LeavesIncrManifest, KeepsIncrFull, ProceedsIncr}

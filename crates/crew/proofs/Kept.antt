@@ -21,8 +21,9 @@ use Rattle.std.specs.Cmp.Lexicographic.{slice_cmp, nat_list_cmp_total}
 use Rattle.std.specs.Cmp.{eq_by_cmp_equiv}
 use Rattle.std.specs.FinMap.{get, insert, empty, get-insert, get-empty}
 use Rattle.lsn_core.specs.Store.{Store, files_of}
-use Rattle.base_backup.specs.Backup.{HoldsNothing}
-use Rattle.base_backup.specs.Directory.{label_name, manifest_name, directory_of}
+use Rattle.backup_files.specs.Area.{HoldsNothing}
+use Rattle.backup_files.specs.Directory.{label_name, manifest_name}
+use Rattle.base_backup.specs.Directory.{directory_of}
 use Rattle.command_base.specs.Areas.{backup_name, sums_name}
 use Rattle.command_base.proofs.Told.{some_told, at_told}
 use Rattle.crew.specs.declared.script.Command.{Command}

@@ -35,7 +35,8 @@ use Rattle.shared_store.specs.Opened.{Opened, count_of}
 use Rattle.shared_store.specs.Calls.{IsMarkOf, FindsNoRoom, GoesOn}
 use Rattle.base_backup.specs.declared.fault.BackupFault.{BackupFault}
 use Rattle.base_backup.specs.declared.fault.BackupFault.TheVariants as backup
-use Rattle.base_backup.specs.Backup.{AreOfBackup, FindsNoRoomFor, HoldsNothing, HoldsSomething, KeepsManifest, RoseTwice}
+use Rattle.backup_files.specs.Area.{HoldsNothing, HoldsSomething, KeepsManifest, RoseTwice}
+use Rattle.base_backup.specs.Backup.{AreOfBackup, FindsNoRoomFor}
 use Rattle.base_backup.specs.Directory.{IsFullBackup, IsDirectory, incr_label}
 use Rattle.base_backup.specs.declared.basis.Basis.{Basis as Plan}
 use Rattle.base_backup.specs.declared.incr_fault.IncrFault.{IncrFault}

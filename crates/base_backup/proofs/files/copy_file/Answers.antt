@@ -1,7 +1,8 @@
 use Rattle.std.proofs.Common.{◌≡◌, ◌+◌, [], true, refl, arith}
 use Rattle.base_backup.specs.Backup.{site_of}
 use Rattle.base_backup.proofs.Copying.{area_failed, step_failed}
-use Rattle.base_backup.proofs.Steps.{copies_area, copies_on, reads_nothing, redo_on, spares_write}
+use Rattle.backup_files.proofs.Kept.{spares_write}
+use Rattle.base_backup.proofs.Steps.{copies_area, copies_on, reads_nothing, redo_on}
 use Rattle.base_backup.proofs.Contents.{begun, further, file_written_whole}
 use Rattle.base_backup.proofs.files.copy_file.Goals as goal
 

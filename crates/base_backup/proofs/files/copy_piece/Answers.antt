@@ -3,7 +3,8 @@ use Rattle.std.specs.Option.{option_map}
 use Rattle.vault.specs.Area.{after_write}
 use Rattle.base_backup.specs.Backup.{site_of}
 use Rattle.base_backup.proofs.Copying.{area_failed, both_on, store_failed}
-use Rattle.base_backup.proofs.Steps.{copies_store, spares_write}
+use Rattle.backup_files.proofs.Kept.{spares_write}
+use Rattle.base_backup.proofs.Steps.{copies_store}
 use Rattle.base_backup.proofs.Contents.{piece_added}
 use Rattle.base_backup.proofs.files.copy_piece.Goals as goal
 

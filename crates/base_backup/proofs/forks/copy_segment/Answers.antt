@@ -1,6 +1,7 @@
 use Rattle.std.proofs.Common.{◌≡◌, ◌≢◌, ◌*◌, true, false, List, ℕ, sym, ap, subst, ◌∙◌, arith}
-use Rattle.base_backup.specs.Directory.{manifest_name}
-use Rattle.base_backup.specs.Inside.{Lacks, row_with}
+use Rattle.backup_files.specs.Area.{Lacks}
+use Rattle.backup_files.specs.Directory.{manifest_name}
+use Rattle.backup_files.specs.Rows.{row_with}
 use Rattle.base_backup.proofs.Segments.{full_before, segment_put}
 use Rattle.base_backup.proofs.Texts.{never_named}
 use Rattle.base_backup.proofs.forks.copy_segment.Goals as goal

@@ -1,5 +1,5 @@
 use Rattle.std.proofs.Common.{ℕ, List, length, refl, sym, subst, ◌∙◌, rules}
-use Rattle.base_backup.specs.Inside.{ListsRows}
+use Rattle.backup_files.specs.Rows.{ListsRows}
 use Rattle.base_backup.proofs.Listings.{finished, label_missing, manifest_missing, rows_listable}
 use Rattle.base_backup.proofs.Whole.{publish_failed}
 use Rattle.base_backup.proofs.full.finish.Goals as goal
@@ -27,7 +27,7 @@ returns-in_err-publish-clause-left g c =
       length c.add_label.new.rows.items,
       finished c.args.settings c.args.redo c.args.prior c.args.end c.args.name.now c.args.when c.args.modified.now (g.V.Vault.files c.args.out.now) (g.V.Vault.files c.add_label.new.out) (g.V.Vault.files c.publish.new.out)
           c.args.rows.items c.add_label.new.rows.items (length c.add_label.new.rows.items) c.deref.result.now c.requires.modified c.in_ok-add_label.ensures.added refl
-          (subst (λ (x : List ℕ). ListsRows c.args.settings.system c.add_label.new.rows.items c.args.redo.redo c.args.end x) (sym c.deref.ensures.value) c.in_ok-text.ensures) stands,
+          (subst (λ (x : List ℕ). ListsRows c.args.settings.system c.add_label.new.rows.items c.args.redo.redo c.args.end x) (sym c.deref.ensures.value) (subst (λ (n : ℕ). ListsRows n c.add_label.new.rows.items c.args.redo.redo c.args.end c.in_ok-text.text.items) c.system.ensures.value c.in_ok-text.ensures)) stands,
     ))
     c.in_err-publish.ensures.left
 
@@ -35,4 +35,4 @@ pub returns-clause-done : goal.returns-clause-done
 returns-clause-done g c =
     finished c.args.settings c.args.redo c.args.prior c.args.end c.args.name.now c.args.when c.args.modified.now (g.V.Vault.files c.args.out.now) (g.V.Vault.files c.add_label.new.out) (g.V.Vault.files c.publish.new.out) c.args.rows.items c.add_label.new.rows.items
     _ c.deref.result.now c.requires.modified c.in_ok-add_label.ensures.added (c.len-count.ensures ∙ c.add_label.new.rows.ok.0)
-    (subst (λ (x : List ℕ). ListsRows c.args.settings.system c.add_label.new.rows.items c.args.redo.redo c.args.end x) (sym c.deref.ensures.value) c.in_ok-text.ensures) c.in_ok-publish.ensures.written
+    (subst (λ (x : List ℕ). ListsRows c.args.settings.system c.add_label.new.rows.items c.args.redo.redo c.args.end x) (sym c.deref.ensures.value) (subst (λ (n : ℕ). ListsRows n c.add_label.new.rows.items c.args.redo.redo c.args.end c.in_ok-text.text.items) c.system.ensures.value c.in_ok-text.ensures)) c.in_ok-publish.ensures.written

@@ -2,7 +2,7 @@ use Rattle.std.proofs.Common.{◌≡◌, ◌≤◌, ℕ, true, ap, sym, subst, �
 use Rattle.lsn_core.specs.Segment.{StoreSettings}
 use Rattle.shared_store.proofs.Goes.{goes_on}
 use Rattle.base_backup.specs.Backup.{site_of}
-use Rattle.base_backup.proofs.Passed.{on_err}
+use Rattle.backup_files.proofs.Passed.{on_err}
 use Rattle.base_backup.proofs.Runs.{copy_left, ending_failed, is_run, marks_left, proceeds_copy, proceeds_on, proceeds_store, run_left}
 use Rattle.base_backup.proofs.full.run_backup.Goals as goal
 

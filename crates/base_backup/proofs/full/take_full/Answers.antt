@@ -1,7 +1,7 @@
 use Rattle.std.proofs.Common.{◌≡◌, true, None, refl, subst, arith}
 use Rattle.lsn_core.specs.Segment.{IsRelseg, StoreSettings}
 use Rattle.base_backup.specs.Inside.{Finishes}
-use Rattle.base_backup.proofs.Passed.{on_err}
+use Rattle.backup_files.proofs.Passed.{on_err}
 use Rattle.base_backup.proofs.Whole.{all_left, can_finish, finish_left, nothing_left, taken_full}
 use Rattle.base_backup.proofs.full.take_full.Goals as goal
 

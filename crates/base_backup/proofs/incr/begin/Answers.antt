@@ -1,4 +1,4 @@
-use Rattle.base_backup.proofs.Passed.{on_err}
+use Rattle.backup_files.proofs.Passed.{on_err}
 use Rattle.base_backup.proofs.Runs.{copy_left, marks_left}
 use Rattle.base_backup.proofs.IncrAnswers.{store_on}
 use Rattle.base_backup.proofs.incr.begin.Goals as goal

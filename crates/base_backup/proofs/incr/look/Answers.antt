@@ -1,6 +1,6 @@
 use Rattle.base_backup.specs.IncrInside.{incr_fault}
 use Rattle.base_backup.specs.IncrSteps.{EarlyRefusal}
-use Rattle.base_backup.proofs.Passed.{err_cause}
+use Rattle.backup_files.proofs.Passed.{err_cause}
 use Rattle.base_backup.proofs.IncrAnswers.{look_failed, prior_failed, prior_told}
 use Rattle.base_backup.proofs.incr.look.Goals as goal
 

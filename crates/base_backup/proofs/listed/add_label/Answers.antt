@@ -1,8 +1,8 @@
 use Rattle.std.proofs.Common.{ℕ, List, ap, ◌∙◌, arith}
 use Rattle.std.specs.Option.{option_map}
 use Rattle.vault.specs.Area.{after_write}
-use Rattle.base_backup.specs.Directory.{label_name}
-use Rattle.base_backup.proofs.Steps.{spares_write}
+use Rattle.backup_files.specs.Directory.{label_name}
+use Rattle.backup_files.proofs.Kept.{spares_write}
 use Rattle.base_backup.proofs.Labels.{label_added, label_apart}
 use Rattle.base_backup.proofs.listed.add_label.Goals as goal
 

@@ -4,7 +4,7 @@ use Rattle.lsn_core.specs.declared.lsn.Lsn.{Lsn}
 use Rattle.backup_label.specs.declared.label.Label.{Label}
 use Rattle.backup_label.specs.Label.{label_text}
 use Rattle.base_backup.specs.Inside.{IsLabelOf}
-use Rattle.base_backup.proofs.Passed.{ok_more}
+use Rattle.backup_files.proofs.Passed.{ok_more}
 use Rattle.base_backup.proofs.Labels.{label_says}
 use Rattle.base_backup.proofs.listed.label_text.Goals as goal
 

@@ -1,5 +1,5 @@
 use Rattle.std.proofs.Common.{refl}
-use Rattle.base_backup.proofs.Passed.{no_items}
+use Rattle.backup_files.proofs.Passed.{no_items}
 use Rattle.base_backup.proofs.Lengths.{noted_further, noted_whole}
 use Rattle.base_backup.proofs.listing.note_all.Goals as goal
 

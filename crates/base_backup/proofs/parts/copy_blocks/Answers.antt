@@ -1,6 +1,6 @@
 use Rattle.std.proofs.Common.{◌≡◌, ◌+◌, ◌^◌, ◌<◌, ℕ, true, subst, arith, rules}
 use Rattle.std.specs.List.{AllByRecursion}
-use Rattle.base_backup.proofs.Passed.{no_items}
+use Rattle.backup_files.proofs.Passed.{no_items}
 use Rattle.base_backup.proofs.Steps.{reads_nothing, reads_on, redo_on}
 use Rattle.base_backup.proofs.Blocks.{blocks_added, blocks_begun, blocks_further}
 use Rattle.base_backup.proofs.parts.copy_blocks.Goals as goal

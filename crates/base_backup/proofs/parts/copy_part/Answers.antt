@@ -2,9 +2,10 @@ use Rattle.std.proofs.Common.{◌≡◌, ℕ, ◌+◌, ◌^◌, ◌<◌, length,
 use Rattle.std.specs.List.{AllByRecursion}
 use Rattle.std.proofs.lemmas.Bool.{eqb-true}
 use Rattle.base_backup.specs.Backup.{site_of}
-use Rattle.base_backup.proofs.Passed.{no_items}
+use Rattle.backup_files.proofs.Passed.{no_items}
 use Rattle.base_backup.proofs.Copying.{area_failed, step_failed}
-use Rattle.base_backup.proofs.Steps.{copies_area, copies_on, reads_nothing, redo_on, spares_write}
+use Rattle.backup_files.proofs.Kept.{spares_write}
+use Rattle.base_backup.proofs.Steps.{copies_area, copies_on, reads_nothing, redo_on}
 use Rattle.base_backup.proofs.Blocks.{part_begun, part_further, part_written, piece_length, split_length, split_parts}
 use Rattle.base_backup.proofs.WholePages.{all_drop}
 use Rattle.base_backup.proofs.parts.copy_part.Goals as goal

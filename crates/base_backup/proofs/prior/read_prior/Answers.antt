@@ -2,7 +2,7 @@ use Rattle.std.proofs.Common.{◌∙◌, sym, ap, List, ℕ, Option, Some}
 use Rattle.std.specs.Global.{Vec}
 use Rattle.std.specs.Option.{option_map}
 use Rattle.byte_words.specs.Told.{when_told}
-use Rattle.base_backup.specs.Directory.{manifest_name}
+use Rattle.backup_files.specs.Directory.{manifest_name}
 use Rattle.base_backup.specs.IncrInside.{IsFile}
 use Rattle.base_backup.specs.Prior.{PriorAnswer}
 use Rattle.base_backup.proofs.Priors.{file_answer}

@@ -1,6 +1,6 @@
 use Rattle.std.proofs.Common.{◌≡◌, true, arith}
 use Rattle.base_backup.specs.Backup.{site_of}
-use Rattle.base_backup.proofs.Passed.{no_items}
+use Rattle.backup_files.proofs.Passed.{no_items}
 use Rattle.base_backup.proofs.Copying.{copies_nothing, step_failed}
 use Rattle.base_backup.proofs.Steps.{copies_on, redo_on}
 use Rattle.base_backup.proofs.SentFiles.{list_begun, list_further, list_sent, next_fork}

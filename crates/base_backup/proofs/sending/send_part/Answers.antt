@@ -1,5 +1,5 @@
 use Rattle.std.proofs.Common.{◌≡◌, ℕ, ◌*◌, ◌+◌, true, List, length, sym, ap, ◌∙◌, arith}
-use Rattle.base_backup.specs.Inside.{row_with}
+use Rattle.backup_files.specs.Rows.{row_with}
 use Rattle.base_backup.proofs.Planned.{few_blocks}
 use Rattle.base_backup.proofs.SentFiles.{part_sent}
 use Rattle.base_backup.proofs.sending.send_part.Goals as goal

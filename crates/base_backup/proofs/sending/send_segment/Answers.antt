@@ -4,7 +4,7 @@ use Rattle.incr_file.specs.Plan.{IsPlan}
 use Rattle.base_backup.specs.Inside.{PutsSegment}
 use Rattle.base_backup.specs.Sent.{segment_plan}
 use Rattle.base_backup.specs.IncrInside.{SendsFiles}
-use Rattle.base_backup.proofs.Passed.{on_ok_more}
+use Rattle.backup_files.proofs.Passed.{on_ok_more}
 use Rattle.base_backup.proofs.Planned.{head_within}
 use Rattle.base_backup.proofs.Segments.{full_before}
 use Rattle.base_backup.proofs.SentFiles.{incr_sent, whole_sent}

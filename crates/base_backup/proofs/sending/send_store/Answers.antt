@@ -5,7 +5,7 @@ use Rattle.lsn_core.specs.declared.ids.ForkLen.{ForkLen}
 use Rattle.base_backup.specs.Backup.{site_of}
 use Rattle.base_backup.specs.Inside.{CopyCause, ListsForks}
 use Rattle.base_backup.specs.IncrInside.{SendsList, SendsStore}
-use Rattle.base_backup.proofs.Passed.{ok_more, err_more}
+use Rattle.backup_files.proofs.Passed.{ok_more, err_more}
 use Rattle.base_backup.proofs.Copying.{store_failed}
 use Rattle.base_backup.proofs.Steps.{cause_behind, copies_on, copies_store, redo_on}
 use Rattle.base_backup.proofs.SentFiles.{store_sent}

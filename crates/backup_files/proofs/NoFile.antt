@@ -5,7 +5,7 @@ use Rattle.std.specs.Ordering.{nat_cmp}
 use Rattle.std.specs.Cmp.Lexicographic.{slice_cmp}
 use Rattle.std.proofs.lemmas.List.{length-map}
 use Rattle.lsn_core.specs.Files.{Files}
-use Rattle.base_backup.specs.Backup.{HoldsNothing, HoldsSomething}
+use Rattle.backup_files.specs.Area.{HoldsNothing, HoldsSomething}
 
 no_length : {X : Type 0} (xs : List X) → length xs ≡ 0 → xs ≡ []
 no_length [] e = refl

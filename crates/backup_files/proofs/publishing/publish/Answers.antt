@@ -1,9 +1,9 @@
 use Rattle.std.proofs.Common.{Option, sym, subst}
 use Rattle.lsn_core.specs.Files.{Files}
-use Rattle.base_backup.specs.Directory.{manifest_name}
-use Rattle.base_backup.specs.Inside.{Lacks}
-use Rattle.base_backup.proofs.Manifests.{left_behind, withdrawn}
-use Rattle.base_backup.proofs.publishing.publish.Goals as goal
+use Rattle.backup_files.specs.Area.{Lacks}
+use Rattle.backup_files.specs.Directory.{manifest_name}
+use Rattle.backup_files.proofs.Manifests.{left_behind, withdrawn}
+use Rattle.backup_files.proofs.publishing.publish.Goals as goal
 
 pub returns-in-Err-clause-left : goal.returns-in-Err-clause-left
 returns-in-Err-clause-left g c =

@@ -10,10 +10,10 @@ use Rattle.lsn_core.specs.declared.fault.AreaFault.TheVariants as area
 use Rattle.lsn_core.proofs.StoreFiles.{name_itself}
 use Rattle.vault.specs.declared.area.Vault.{Ghosts}
 use Rattle.vault.specs.Area.{after_remove}
-use Rattle.base_backup.specs.Directory.{manifest_name}
-use Rattle.base_backup.specs.Backup.{KeepsManifest, RoseTwice}
-use Rattle.base_backup.specs.Inside.{FailsToWrite, Lacks, LeavesText, TellAlike, Withdraws, with_file}
-use Rattle.base_backup.proofs.Steps.{kept_same}
+use Rattle.backup_files.specs.Area.{KeepsManifest, RoseTwice, Lacks, LeavesText, TellAlike, with_file}
+use Rattle.backup_files.specs.Directory.{manifest_name}
+use Rattle.backup_files.specs.Inside.{FailsToWrite, Withdraws}
+use Rattle.backup_files.proofs.Kept.{kept_same}
 
 -- ---- areas that tell alike
 

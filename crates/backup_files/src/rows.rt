@@ -4,14 +4,14 @@ ghost use Rattle.std.specs.Prelude.{◌≡◌, IfOk};
 ghost use Rattle.std.specs.List.Sorted.{IsPermutation, IsSortedByKey};
 ghost use Rattle.std.specs.Ordering.{nat_cmp};
 ghost use Rattle.std.specs.Cmp.Lexicographic.{slice_cmp};
-ghost use Rattle.base_backup.specs.Inside.{path_of, row_with};
+ghost use Rattle.backup_files.specs.Rows.{path_of, row_with};
 
 use lsn_core::{NoMemory, Text};
 use manifest::{FileRow, SumKind};
 use std::alloc::Global;
 
 /// The row of a file with this SHA-256 and so many bytes.
-pub(crate) fn file_row(
+pub fn file_row(
     alloc: Global,
     path: Text,
     size: u64,
@@ -32,7 +32,7 @@ pub(crate) fn file_row(
 }
 
 /// Puts rows into the byte order of their paths.
-pub(crate) fn sort_rows(rows: &mut Vec<FileRow>)
+pub fn sort_rows(rows: &mut Vec<FileRow>)
     ensures same { IsPermutation rows.old.items rows.new.items }
     ensures sorted { IsSortedByKey path_of (slice_cmp nat_cmp) rows.new.items }
 {

@@ -4,8 +4,8 @@ use Rattle.std.specs.Cmp.Lexicographic.{slice_cmp}
 use Rattle.std.proofs.lemmas.Cmp.{nat_list_cmp_total}
 use Rattle.std.proofs.lemmas.List.Sorted.{ranks_by}
 use Rattle.std.proofs.lemmas.Fn.{always_returns_same}
-use Rattle.base_backup.specs.Inside.{path_of}
-use Rattle.base_backup.proofs.rows.sort_rows.Goals as goal
+use Rattle.backup_files.specs.Rows.{path_of}
+use Rattle.backup_files.proofs.rows.sort_rows.Goals as goal
 
 pub returns-clause-sorted : goal.returns-clause-sorted
 returns-clause-sorted c =

@@ -3,15 +3,15 @@
 ghost use Rattle.std.specs.Prelude.{◌≡◌, ◌≤◌, IfErr, OnOk};
 ghost use Rattle.lsn_core.specs.Causes.{HasCause};
 ghost use Rattle.vault.specs.Stops.{noted, synced, wrote};
-ghost use Rattle.base_backup.specs.Directory.{manifest_name};
-ghost use Rattle.base_backup.specs.Backup.{EndsSynced};
-ghost use Rattle.base_backup.specs.Inside.{Lacks, with_file, FailsToWrite, Withdraws, LeavesText};
+ghost use Rattle.backup_files.specs.Directory.{manifest_name};
+ghost use Rattle.backup_files.specs.Area.{Lacks, EndsSynced, LeavesText, with_file};
+ghost use Rattle.backup_files.specs.Inside.{FailsToWrite, Withdraws};
 
 use lsn_core::AreaFault;
 use vault::Vault;
 
 /// The name of the manifest's file.
-pub(crate) const MANIFEST: &[u8] = b"backup_manifest";
+pub const MANIFEST: &[u8] = b"backup_manifest";
 
 /// Writes the manifest, which isn't there, and syncs.
 fn write_synced<V: Vault>(out: &mut V, text: &[u8]) -> Result<(), AreaFault>
@@ -42,7 +42,7 @@ fn withdraw<V: Vault>(out: &mut V, fault: AreaFault) -> AreaFault
 
 /// Syncs, and then writes the manifest, which isn't there, and syncs again. After a fault in
 /// writing or syncing it is removed.
-pub(crate) fn publish<V: Vault>(out: &mut V, text: &[u8]) -> Result<(), AreaFault>
+pub fn publish<V: Vault>(out: &mut V, text: &[u8]) -> Result<(), AreaFault>
     requires { Lacks (V.files out.old) manifest_name }
     ensures written { OnOk result
         (V.files out.new ≡ with_file manifest_name text.now (V.files out.old)) }

@@ -1,0 +1,4 @@
+pub mod Directory
+pub mod Area
+pub mod Rows
+pub mod Inside
