@@ -10,7 +10,8 @@ use Rattle.lsn_core.specs.declared.ids.ForkId.{ForkId}
 use Rattle.lsn_core.proofs.ForkPaths.{one_place}
 use Rattle.manifest.specs.declared.listing.FileRow.{FileRow}
 use Rattle.vault.specs.Area.{bytes_of}
-use Rattle.chain_check.specs.Directory.{IsForkFile, IsIncrFile, HasForm}
+use Rattle.chain_files.specs.Segments.{IsIncrFile}
+use Rattle.chain_check.specs.Directory.{IsForkFile, HasForm}
 use Rattle.chain_check.specs.Inside.{HeadWhy, FormWhy}
 use Rattle.chain_check.specs.Refusals.{HasBoth, IsAlone}
 use Rattle.chain_check.specs.declared.fault.FileWhy.{FileWhy}
@@ -18,6 +19,10 @@ use Rattle.chain_check.specs.declared.fault.FileWhy.TheVariants.{Both, Length, M
 
 abbrev pub fork_file : {path : List ℕ} {incr : Bool} (fork : ForkId) (seg : ℕ) → IsNamed fork seg → path ≡ fork_path_bytes fork seg incr → IsForkFile path incr
 fork_file fork seg named spelled = record { fork = fork; seg = seg; named = named; spelled = spelled }
+
+pub told_all : {A : Type 0} (o : Option A) (P : A → Type 0) → ((x : A) → P x) → IfSome o P
+told_all None P all = tt
+told_all (Some x) P all = all x
 
 pub no_fork : (files : Files) (row : FileRow) → NamesNoFork row.path → HasForm files row
 no_fork files row none = record {

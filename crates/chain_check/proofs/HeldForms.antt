@@ -1,5 +1,5 @@
 -- Whether a path is that of an incremental file that rows hold.
-use Rattle.std.proofs.Common.{◌≡◌, ℕ, Bool, true, false, ◌||◌, List, refl, sym, ap, ◌∙◌, IsTrue}
+use Rattle.std.proofs.Common.{◌≡◌, ℕ, Bool, true, false, ◌||◌, List, refl, sym, ap, ◌∙◌}
 use Rattle.lsn_core.specs.Names.{fork_path_bytes, IsNamed, NamesNoFork}
 use Rattle.lsn_core.specs.declared.ids.ForkId.{ForkId}
 use Rattle.manifest.specs.declared.listing.FileRow.{FileRow}
@@ -34,10 +34,3 @@ form_held rows path plain fork seg held named spelled other is told =
     second (is_listed rows path) (is_listed rows (fork_path_bytes f.fork f.seg false)) other
     ∙ (ap (λ (p : List ℕ). is_listed rows p) (one_plain path f own ∙ sym is) ∙ sym told) in
     (λ t. record { listed = λ f. same f ∙ t }, λ none h. (let never : true ≡ false = sym (h.listed own) ∙ (same own ∙ none) in cc))
-
-pub incremental_tells : (path : List ℕ) (fork : ForkId) (seg : ℕ) (incr : Bool) → IsNamed fork seg → path ≡ fork_path_bytes fork seg incr → (IsTrue incr → IsForkFile path true) × (IsForkFile path true → IsTrue incr)
-incremental_tells path fork seg true named spelled = (λ t. fork_file fork seg named spelled, λ f. refl)
-incremental_tells path fork seg false named spelled = (λ t. absurd cc, λ f. absurd (one_form path (fork_file fork seg named spelled) f))
-
-pub no_fork_tells : (path : List ℕ) → NamesNoFork path → (IsTrue false → IsForkFile path true) × (IsForkFile path true → IsTrue false)
-no_fork_tells path none = (λ t. absurd cc, λ f. absurd (none f.fork f.seg true f.named f.spelled))

@@ -4,7 +4,6 @@ mod Sorted
 mod Others
 mod Turns
 pub mod ForkFiles
-mod Shown
 mod Manifests
 mod Listed
 mod Counted
@@ -13,3 +12,4 @@ mod Once
 mod Links
 mod HeldForms
 mod Judged
+mod ListedForms

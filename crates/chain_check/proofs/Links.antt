@@ -6,11 +6,11 @@ use Rattle.std.proofs.lemmas.Bool.{eq-eqb, ltb-false, le-ltb}
 use Rattle.lsn_core.specs.declared.lsn.Lsn.{Lsn}
 use Rattle.backup_label.specs.declared.label.Label.{Label}
 use Rattle.manifest.specs.declared.listing.FileRow.{FileRow}
-use Rattle.chain_check.specs.Chain.{timelines_of, IsOnOneTimeline, system_of, IsFirst, IsHeld, IsLinked, AreLinked, IsChain, IsAccepted, timeline_fault, first_fault, system_fault, prior_fault, overlap_fault, named_fault, label_fault, IsFirstUnheld, RefusesLater, IsFirstUnlinked, RefusesMember, IsChainRefused, IsPlain, IsChainOfOne, IsFirstIncremental, RefusesAlone}
+use Rattle.chain_check.specs.Chain.{timelines_of, IsOnOneTimeline, system_of, IsFirst, IsHeld, IsLinked, AreLinked, IsChain, IsAccepted, timeline_fault, first_fault, system_fault, prior_fault, overlap_fault, named_fault, label_fault, IsFirstUnheld, RefusesLater, IsFirstUnlinked, RefusesMember, IsChainRefused}
 use Rattle.chain_check.specs.declared.member.Member.{Member}
 use Rattle.chain_check.specs.declared.chain.ChainRefusal.{ChainRefusal}
 use Rattle.chain_check.specs.declared.link.LinkFault.{LinkFault}
-use Rattle.chain_check.specs.declared.link.LinkFault.TheVariants.{TooManyMembers, TimelineDiffers, FirstIncremental, LaterFull, SystemDiffers, WrongPrior, Overlap, NoPriorFile, FileIncremental, NoMemory}
+use Rattle.chain_check.specs.declared.link.LinkFault.TheVariants.{TooManyMembers, TimelineDiffers, FirstIncremental, LaterFull, SystemDiffers, WrongPrior, Overlap, NoPriorFile, NoMemory}
 use Rattle.chain_check.proofs.OneText.{one_value}
 use Rattle.chain_check.proofs.Turns.{neither, both_none, some_none, passes, passed, fails, failed}
 
@@ -144,7 +144,6 @@ part_of prior member (SystemDiffers have expected) is = inl is
 part_of prior member (WrongPrior have expected) is = inl is
 part_of prior member (Overlap start end) is = inl is
 part_of prior member (NoPriorFile path) is = inr (path, is.0, is.1, refl)
-part_of prior member (FileIncremental path) is = inl is
 part_of prior member NoMemory is = inl is
 
 part_once : (prior member : Member) (why more : LinkFault) → LaterPart prior member why → LaterPart prior member more → why ≡ more
@@ -203,54 +202,3 @@ refused_once members r s (inl is) (inl was) = same_refusal r s (is.1 ∙ sym was
 refused_once members r s (inl is) (inr was) = absurd (omega (arith, is.0, was.0))
 refused_once members r s (inr is) (inl was) = absurd (omega (arith, is.0, was.0))
 refused_once members r s (inr is) (inr was) = member_once members r s is.1 was.1
-
--- ---- a member alone
-
-all_plain : (rows : List FileRow) (path : List ℕ) → IsPlain rows → IsFirstIncremental rows path → ⊥
-all_plain [] path all is = is
-all_plain (row ∷ rows) path all (inl is) = all.0 is.1
-all_plain (row ∷ rows) path all (inr is) = all_plain rows path all.1 is.1
-
-incremental_once : (rows : List FileRow) (path more : List ℕ) → IsFirstIncremental rows path → IsFirstIncremental rows more → path ≡ more
-incremental_once [] path more is was = absurd is
-incremental_once (row ∷ rows) path more (inl is) (inl was) = sym is.0 ∙ was.0
-incremental_once (row ∷ rows) path more (inl is) (inr was) = absurd (was.0 is.1)
-incremental_once (row ∷ rows) path more (inr is) (inl was) = absurd (is.0 was.1)
-incremental_once (row ∷ rows) path more (inr is) (inr was) = incremental_once rows path more is.1 was.1
-
-abbrev AlonePart : Member → LinkFault → Type 0
-AlonePart member why =
-    (first_fault member.label ≡ Some why)
-    ⊎ ((path : List ℕ) × (first_fault member.label ≡ None) × IsFirstIncremental member.manifest.files path × (why ≡ FileIncremental path))
-
-part_alone : (member : Member) (why : LinkFault) → RefusesAlone member why → AlonePart member why
-part_alone member TooManyMembers is = inl is
-part_alone member (TimelineDiffers v) is = inl is
-part_alone member FirstIncremental is = inl is
-part_alone member LaterFull is = inl is
-part_alone member (SystemDiffers have expected) is = inl is
-part_alone member (WrongPrior have expected) is = inl is
-part_alone member (Overlap start end) is = inl is
-part_alone member (NoPriorFile path) is = inl is
-part_alone member (FileIncremental path) is = inr (path, is.0, is.1, refl)
-part_alone member NoMemory is = inl is
-
-pub alone_is : (member : Member) → first_fault member.label ≡ None → IsPlain member.manifest.files → IsChainOfOne member
-alone_is member e plain = let is = full member.label e in record { timelines = is.0; full = is.1; plain = plain }
-
-alone_or_part : (member : Member) (why : LinkFault) → IsChainOfOne member → AlonePart member why → ⊥
-alone_or_part member why is (inl was) = some_none (first_fault member.label) why (not_first member.label (is.timelines, is.full)) was
-alone_or_part member why is (inr was) = all_plain member.manifest.files was.0 is.plain was.2
-
-pub alone_or_refused : (member : Member) (why : LinkFault) → IsChainOfOne member → RefusesAlone member why → ⊥
-alone_or_refused member why is was = alone_or_part member why is (part_alone member why was)
-
-part_alone_once : (member : Member) (why more : LinkFault) → AlonePart member why → AlonePart member more → why ≡ more
-part_alone_once member why more (inl is) (inl was) = one_value (first_fault member.label) why more is was
-part_alone_once member why more (inl is) (inr was) = absurd (some_none (first_fault member.label) why was.1 is)
-part_alone_once member why more (inr is) (inl was) = absurd (some_none (first_fault member.label) more is.1 was)
-part_alone_once member why more (inr is) (inr was) =
-    is.3 ∙ (ap (λ (p : List ℕ). FileIncremental p) (incremental_once member.manifest.files is.0 was.0 is.2 was.2) ∙ sym was.3)
-
-pub alone_refused_once : (member : Member) (why more : LinkFault) → RefusesAlone member why → RefusesAlone member more → why ≡ more
-alone_refused_once member why more is was = part_alone_once member why more (part_alone member why is) (part_alone member more was)

@@ -12,7 +12,8 @@ use Rattle.backup_label.specs.declared.label.Label.{Label}
 use Rattle.manifest.specs.Listing.{Listing}
 use Rattle.manifest.specs.declared.listing.FileRow.{FileRow}
 use Rattle.chain_check.specs.Sums.{sum_of, is_decoded, has_sum}
-use Rattle.chain_check.specs.Directory.{label_path, HasManifest, IsRowAsListed, is_listed, IsAsListed}
+use Rattle.backup_files.specs.Directory.{label_name}
+use Rattle.chain_check.specs.Directory.{HasManifest, IsRowAsListed, is_listed, IsAsListed}
 use Rattle.chain_check.specs.Refusals.{file_fault, row_fault, rows_fault, label_row_fault, extra_fault, listing_fault}
 use Rattle.chain_check.specs.Inside.{ListedAnswer}
 use Rattle.chain_check.specs.declared.fault.ChainFault.{ChainFault}
@@ -69,7 +70,7 @@ as_listed files name label m read is =
     record {
       manifest = read;
       rows = rows_are files m.files first.0;
-      label_row = passes (is_listed m.files label_path) (FileMissing label_path) rest.0;
+      label_row = passes (is_listed m.files label_name) (FileMissing label_name) rest.0;
       others = none_other files m.files rest.1;
       label = is.1;
       forms = is.2;
@@ -79,4 +80,4 @@ pub no_listing_fault : (files : Files) (member : Member) → IsAsListed files me
 no_listing_fault files member is =
     let rows = member.manifest.files in
     both_none (rows_fault files rows) (option_or (label_row_fault rows) (extra_fault files rows)) (rows_none files rows is.rows)
-    (both_none (label_row_fault rows) (extra_fault files rows) (passed (is_listed rows label_path) (FileMissing label_path) is.label_row) (no_extra files rows is.others))
+    (both_none (label_row_fault rows) (extra_fault files rows) (passed (is_listed rows label_name) (FileMissing label_name) is.label_row) (no_extra files rows is.others))

@@ -16,7 +16,8 @@ use Rattle.manifest.specs.Reading.{ReadAnswers}
 use Rattle.manifest.specs.declared.fault.ManifestFault.{ManifestFault}
 use Rattle.manifest.specs.declared.fault.ManifestFault.TheVariants as manifest
 use Rattle.manifest.specs.declared.listing.FileRow.{FileRow}
-use Rattle.chain_check.specs.Directory.{manifest_path, label_path, HasManifest, IsForkFile, HasForm, IsLabelFrom, IsAsListed}
+use Rattle.backup_files.specs.Directory.{manifest_name, label_name}
+use Rattle.chain_check.specs.Directory.{HasManifest, IsForkFile, HasForm, IsLabelFrom, IsAsListed}
 use Rattle.chain_check.specs.Refusals.{fault_of, chain_fault_read, RefusesManifest, RefusesLine, HasBoth, HasHeadFault, HasFormFault, IsFirstForm, listing_fault, rows_checked, RefusedFor, IsCheckedBefore, HasRefusal, IsOfFiles}
 use Rattle.chain_check.specs.declared.fault.ManifestWhy.{ManifestWhy}
 use Rattle.chain_check.specs.declared.fault.ManifestWhy.TheVariants.{Lines, Sum, Json, Shape, SumKind}
@@ -47,17 +48,17 @@ not_ok m f nf (inr e) = let same : f ≡ manifest.NoMemory = cc in nf same
 module _ (law : TextsHaveOneManifest) where
   pub manifest_once : (files : Files) (m n : Listing) → HasManifest files m → HasManifest files n → m ≡ n
   manifest_once files m n is was =
-      let same = one_value (get files manifest_path) was.0 is.0 was.1 is.1 in
+      let same = one_value (get files manifest_name) was.0 is.0 was.1 is.1 in
       same_ok m n (law 2 is.0 m (Ok n) is.2 (subst (λ (b : List ℕ). ReadAnswers 2 b (Ok n)) same was.2))
 
   pub read_or_refused : (files : Files) (m : Listing) (f : ManifestFault) → f ≢ manifest.NoMemory → HasManifest files m → RefusesManifest files f → ⊥
   read_or_refused files m f nf is was =
-      let same = one_value (get files manifest_path) was.0 is.0 was.1 is.1 in
+      let same = one_value (get files manifest_name) was.0 is.0 was.1 is.1 in
       not_ok m f nf (law 2 is.0 m (Err f) is.2 (subst (λ (b : List ℕ). ReadAnswers 2 b (Err f)) same was.2))
 
 refusal_once : (files : Files) (f g : ManifestFault) → f ≢ manifest.NoMemory → g ≢ manifest.NoMemory → RefusesManifest files f → RefusesManifest files g → f ≡ g
 refusal_once files f g nf ng is was =
-    let same = one_value (get files manifest_path) is.0 was.0 is.1 was.1 in
+    let same = one_value (get files manifest_name) is.0 was.0 is.1 was.1 in
     refused_once was.0 f g nf ng (subst (λ (b : List ℕ). ReadAnswers 2 b (Err f)) same is.2) was.2
 
 -- ---- labels
@@ -187,12 +188,12 @@ abbrev Behind : Files → Listing → ChainFault → Type 0
 Behind files m fault =
     (listing_fault files m.files ≡ Some fault)
     ⊎ ((listing_fault files m.files ≡ None)
-    × (((line : ℕ) × RefusesLine m.start (bytes_of files label_path) line × (fault ≡ LabelDamaged line))
-    ⊎ ((label : Label) × (path : List ℕ) × (why : FileWhy) × IsLabelFrom m.start (bytes_of files label_path) label × IsFirstForm files m.files path why × (fault ≡ FileDamaged path why))))
+    × (((line : ℕ) × RefusesLine m.start (bytes_of files label_name) line × (fault ≡ LabelDamaged line))
+    ⊎ ((label : Label) × (path : List ℕ) × (why : FileWhy) × IsLabelFrom m.start (bytes_of files label_name) label × IsFirstForm files m.files path why × (fault ≡ FileDamaged path why))))
 
 abbrev Stage : Files → ChainFault → Type 0
 Stage files fault =
-    ((get files manifest_path ≡ None) × (fault ≡ NoManifest))
+    ((get files manifest_name ≡ None) × (fault ≡ NoManifest))
     ⊎ (((f : ManifestFault) × (f ≢ manifest.NoMemory) × RefusesManifest files f × (fault ≡ chain_fault_read f))
     ⊎ ((m : Listing) × HasManifest files m × Behind files m fault))
 
@@ -223,12 +224,12 @@ stage_of files (FileDamaged path why) of is = inr (inr (is.0, is.2.0.0, inr (is.
 stage_of files Failed of is = absurd (of.0 refl)
 stage_of files NoMemory of is = absurd (of.1 refl)
 
-missing_text : (files : Files) (bytes : List ℕ) → get files manifest_path ≡ None → get files manifest_path ≡ Some bytes → ⊥
+missing_text : (files : Files) (bytes : List ℕ) → get files manifest_name ≡ None → get files manifest_name ≡ Some bytes → ⊥
 missing_text files bytes e f = let never : None ≡ Some bytes = sym e ∙ f in cc
 
 not_behind : (files : Files) (member : Member) (fault : ChainFault) → IsAsListed files member → Behind files member.manifest fault → ⊥
 not_behind files member fault is (inl was) = some_none (listing_fault files member.manifest.files) fault (no_listing_fault files member is) was
-not_behind files member fault is (inr (none, inl was)) = line_or_label member.manifest.start (bytes_of files label_path) member.label was.0 is.label was.1
+not_behind files member fault is (inr (none, inl was)) = line_or_label member.manifest.start (bytes_of files label_name) member.label was.0 is.label was.1
 not_behind files member fault is (inr (none, inr was)) = forms_or_fault files member.manifest.files was.1 was.2 is.forms was.4
 
 module _ (law : TextsHaveOneManifest) (heads : HeadsHaveOneAnswer) where
@@ -237,9 +238,9 @@ module _ (law : TextsHaveOneManifest) (heads : HeadsHaveOneAnswer) where
   behind_once files m f g (inl is) (inr was) = absurd (some_none (listing_fault files m.files) f was.0 is)
   behind_once files m f g (inr is) (inl was) = absurd (some_none (listing_fault files m.files) g is.0 was)
   behind_once files m f g (inr (none, inl is)) (inr (also, inl was)) =
-      is.2 ∙ (ap (λ (n : ℕ). LabelDamaged n) (line_once m.start (bytes_of files label_path) is.0 was.0 is.1 was.1) ∙ sym was.2)
-  behind_once files m f g (inr (none, inl is)) (inr (also, inr was)) = absurd (line_or_label m.start (bytes_of files label_path) was.0 is.0 was.3 is.1)
-  behind_once files m f g (inr (none, inr is)) (inr (also, inl was)) = absurd (line_or_label m.start (bytes_of files label_path) is.0 was.0 is.3 was.1)
+      is.2 ∙ (ap (λ (n : ℕ). LabelDamaged n) (line_once m.start (bytes_of files label_name) is.0 was.0 is.1 was.1) ∙ sym was.2)
+  behind_once files m f g (inr (none, inl is)) (inr (also, inr was)) = absurd (line_or_label m.start (bytes_of files label_name) was.0 is.0 was.3 is.1)
+  behind_once files m f g (inr (none, inr is)) (inr (also, inl was)) = absurd (line_or_label m.start (bytes_of files label_name) is.0 was.0 is.3 was.1)
   behind_once files m f g (inr (none, inr is)) (inr (also, inr was)) =
       is.5 ∙ (form_once heads files m.files is.1 was.1 is.2 was.2 is.4 was.4 ∙ sym was.5)
 
@@ -261,7 +262,7 @@ module _ (law : TextsHaveOneManifest) (heads : HeadsHaveOneAnswer) where
 
   pub one_member : (files : Files) (one other : Member) → one.name ≡ other.name → IsAsListed files one → IsAsListed files other → one ≡ other
   one_member files one other name is was =
-      same_member one other name (one_label (bytes_of files label_path) one.label other.label is.label.0 was.label.0)
+      same_member one other name (one_label (bytes_of files label_name) one.label other.label is.label.0 was.label.0)
       (manifest_once law files one.manifest other.manifest is.manifest was.manifest)
 
   listed_stage : (files : Files) (member : Member) (fault : ChainFault) → IsAsListed files member → Stage files fault → ⊥

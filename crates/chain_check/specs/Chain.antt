@@ -10,7 +10,7 @@ use Rattle.manifest.specs.declared.listing.FileRow.{FileRow}
 use Rattle.chain_check.specs.Directory.{is_listed, IsForkFile}
 use Rattle.chain_check.specs.declared.member.Member.{Member}
 use Rattle.chain_check.specs.declared.link.LinkFault.{LinkFault}
-use Rattle.chain_check.specs.declared.link.LinkFault.TheVariants.{TooManyMembers, TimelineDiffers, FirstIncremental, LaterFull, SystemDiffers, WrongPrior, Overlap, NoPriorFile, FileIncremental}
+use Rattle.chain_check.specs.declared.link.LinkFault.TheVariants.{TooManyMembers, TimelineDiffers, FirstIncremental, LaterFull, SystemDiffers, WrongPrior, Overlap, NoPriorFile}
 use Rattle.chain_check.specs.declared.chain.ChainRefusal.{ChainRefusal}
 
 -- ---- what label and manifest of a member tell
@@ -146,28 +146,3 @@ IsChainRefused members refusal =
     ((most_members < length members) × (refusal.member ≡ most_members)
     × (refusal.why ≡ TooManyMembers))
     ⊎ ((length members ≤ most_members) × RefusesMember members refusal)
-
--- ---- members that a restore takes alone
-
--- no row is of an incremental file
-abbrev pub IsPlain : List FileRow → Type 0
-IsPlain rows = AllByRecursion (λ row. IsForkFile row.path true → ⊥) rows
-
--- a member is a chain of its own, and its files are copied as they are
-pub record IsChainOfOne (member : Member) : Type 0 where
-  pub timelines : IsOnOneTimeline member.label
-  pub full : member.label.prior ≡ None
-  pub plain : IsPlain member.manifest.files
-
--- the first row, in their order, that is of an incremental file
-abbrev pub IsFirstIncremental : List FileRow → List ℕ → Type 0
-IsFirstIncremental [] path = ⊥
-IsFirstIncremental (row ∷ rows) path =
-    ((row.path ≡ path) × IsForkFile row.path true)
-    ⊎ ((IsForkFile row.path true → ⊥) × IsFirstIncremental rows path)
-
--- a member that is to be one is refused so: for what its label tells, and else for a file
-abbrev pub RefusesAlone : Member → LinkFault → Type 0
-RefusesAlone member (FileIncremental path) =
-    (first_fault member.label ≡ None) × IsFirstIncremental member.manifest.files path
-RefusesAlone member why = first_fault member.label ≡ Some why

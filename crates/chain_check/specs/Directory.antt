@@ -9,27 +9,20 @@ use Rattle.lsn_core.specs.declared.ids.ForkId.{ForkId}
 use Rattle.vault.specs.Area.{bytes_of}
 use Rattle.backup_label.specs.Label.{IsLabel}
 use Rattle.backup_label.specs.declared.label.Label.{Label}
-use Rattle.incr_file.specs.Head.{IsHead}
-use Rattle.incr_file.specs.Reading.{head_in, HasFront}
+use Rattle.backup_files.specs.Directory.{manifest_name, label_name}
+use Rattle.chain_files.specs.Segments.{IsIncrFile}
 use Rattle.manifest.specs.Listing.{Listing}
 use Rattle.manifest.specs.Reading.{ReadAnswers}
 use Rattle.manifest.specs.declared.listing.FileRow.{FileRow}
 use Rattle.chain_check.specs.Sums.{HasSum}
 use Rattle.chain_check.specs.declared.member.Member.{Member}
 
--- the file that lists the others, and the label
-abbrev pub manifest_path : List ℕ
-manifest_path = codes "backup_manifest"
-
-abbrev pub label_path : List ℕ
-label_path = codes "backup_label"
-
 -- ---- what the manifest lists
 
 -- the directory's manifest is of version 2 and of its grammar, and says this
 abbrev pub HasManifest : Files → Listing → Type 0
 HasManifest files m =
-    (bytes : List ℕ) × (get files manifest_path ≡ Some bytes) × ReadAnswers 2 bytes (Ok m)
+    (bytes : List ℕ) × (get files manifest_name ≡ Some bytes) × ReadAnswers 2 bytes (Ok m)
 
 -- the file of a row is there, and has the row's size and sum
 pub record IsRowAsListed (files : Files) (row : FileRow) : Type 0 where
@@ -46,7 +39,7 @@ is_listed rows path = list_any (λ row. bytes_eq row.path path) rows
 -- in the folder of the WAL, whose files need no row
 abbrev pub may_stand : List FileRow → List ℕ → Bool
 may_stand rows name =
-    bytes_eq name manifest_path
+    bytes_eq name manifest_name
     || (starts_with nat_eq name (codes "pg_wal/") || is_listed rows name)
 
 -- no other file stands there
@@ -68,12 +61,6 @@ pub record IsForkFile (path : List ℕ) (incr : Bool) : Type 0 where
   pub named : IsNamed fork seg
   pub spelled : path ≡ fork_path_bytes fork seg incr
 
--- bytes begin as an incremental file of this size does: its head is of the grammar, and gives the
--- size
-pub record IsIncrFile (bytes : List ℕ) (size : ℕ) : Type 0 where
-  pub front : HasFront bytes size
-  pub head : IsHead (head_in bytes)
-
 -- the file of a row, where it is that of a fork's segment, has its form: an incremental file is one
 -- by its head, and isn't there in the plain form too; a plain one is of whole pages
 pub record HasForm (files : Files) (row : FileRow) : Type 0 where
@@ -89,7 +76,7 @@ pub record HasForm (files : Files) (row : FileRow) : Type 0 where
 pub record IsAsListed (files : Files) (member : Member) : Type 0 where
   pub manifest : HasManifest files member.manifest
   pub rows : AllByRecursion (IsRowAsListed files) member.manifest.files
-  pub label_row : is_listed member.manifest.files label_path ≡ true
+  pub label_row : is_listed member.manifest.files label_name ≡ true
   pub others : HasNoOther files member.manifest.files
-  pub label : IsLabelFrom member.manifest.start (bytes_of files label_path) member.label
+  pub label : IsLabelFrom member.manifest.start (bytes_of files label_name) member.label
   pub forms : AllByRecursion (HasForm files) member.manifest.files

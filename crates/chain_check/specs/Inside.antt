@@ -1,5 +1,5 @@
 -- What the crate's private functions answer: no public contract cites these.
-use Rattle.std.specs.Prelude.{◌≡◌, ◌≢◌, ◌<◌, ℕ, ◌+◌, List, ◌++◌, length, get_or, Option, Some, None, Result, Ok, Err}
+use Rattle.std.specs.Prelude.{◌≡◌, ◌≢◌, ℕ, List, Option, Some, None, Result, Ok, Err}
 use Rattle.std.specs.Global.{Vec}
 use Rattle.std.specs.List.{AllByRecursion}
 use Rattle.std.specs.Option.{option_map}
@@ -13,8 +13,10 @@ use Rattle.manifest.specs.declared.fault.ManifestFault.TheVariants as manifest
 use Rattle.manifest.specs.declared.listing.FileRow.{FileRow}
 use Rattle.incr_file.specs.Reading.{HeadAnswers}
 use Rattle.incr_file.specs.declared.decode.HeadFault.TheVariants as head
-use Rattle.chain_check.specs.Chain.{IsHeld, IsFirstUnheld, IsLinked, AreLinked, RefusesLater, IsFirstUnlinked, IsPlain, IsFirstIncremental}
-use Rattle.chain_check.specs.Directory.{manifest_path, label_path, HasManifest, IsIncrFile, HasForm, IsLabelFrom}
+use Rattle.chain_files.specs.Segments.{IsIncrFile}
+use Rattle.chain_check.specs.Chain.{IsHeld, IsFirstUnheld, IsLinked, AreLinked, RefusesLater, IsFirstUnlinked}
+use Rattle.backup_files.specs.Directory.{manifest_name, label_name}
+use Rattle.chain_check.specs.Directory.{HasManifest, HasForm, IsLabelFrom}
 use Rattle.chain_check.specs.Refusals.{fault_of, rows_fault, rows_checked, others_fault, listing_fault, RefusesManifest, RefusesLine, HasFormFault, IsFirstForm, HasRefusal}
 use Rattle.chain_check.specs.declared.member.Member.{Member}
 use Rattle.chain_check.specs.declared.chain.ChainRefusal.{ChainRefusal}
@@ -74,7 +76,7 @@ IsFile files name found = option_map (λ v. v.items) found ≡ get files name
 -- the manifest, or why there is none
 abbrev pub ManifestAnswer : Files → Result Listing ChainFault → Type 0
 ManifestAnswer files (Ok m) = HasManifest files m
-ManifestAnswer files (Err NoManifest) = get files manifest_path ≡ None
+ManifestAnswer files (Err NoManifest) = get files manifest_name ≡ None
 ManifestAnswer files (Err (ManifestDamaged why)) = RefusesManifest files (fault_of why)
 ManifestAnswer files (Err (ManifestVersion v)) = RefusesManifest files (manifest.Version v)
 ManifestAnswer files (Err (TimelineDiffers v)) = RefusesManifest files (manifest.TimelineIs v)
@@ -104,14 +106,6 @@ pub record FormsLeft (files : Files) (rows left : List FileRow) : Type 0 where
       → IsFirstForm files left path why → IsFirstForm files rows path why
   pub all : AllByRecursion (HasForm files) left → AllByRecursion (HasForm files) rows
 
--- bytes, so far as they go, are those of a file from a place on, and zeros behind its end
-abbrev pub ShowsFrom : List ℕ → ℕ → List ℕ → Type 0
-ShowsFrom file at bytes = (i : ℕ) → i < length bytes → get_or bytes i 0 ≡ get_or file (at + i) 0
-
--- bytes go on behind a beginning
-abbrev pub GoesOn : List ℕ → List ℕ → Type 0
-GoesOn front bytes = (more : List ℕ) × (bytes ≡ front ++ more)
-
 -- what is wrong with the head of an incremental file of this size, if anything
 abbrev pub HeadWhy : List ℕ → ℕ → Option FileWhy → Type 0
 HeadWhy bytes size None = IsIncrFile bytes size
@@ -131,13 +125,13 @@ FormWhy files row (Some why) = HasFormFault files row why
 abbrev pub BehindAnswer : Files → Listing → Result Label ChainFault → Type 0
 BehindAnswer files m (Ok label) =
     (others_fault files m.files ≡ None)
-    × IsLabelFrom m.start (bytes_of files label_path) label
+    × IsLabelFrom m.start (bytes_of files label_name) label
     × AllByRecursion (HasForm files) m.files
 BehindAnswer files m (Err (LabelDamaged line)) =
-    (others_fault files m.files ≡ None) × RefusesLine m.start (bytes_of files label_path) line
+    (others_fault files m.files ≡ None) × RefusesLine m.start (bytes_of files label_name) line
 BehindAnswer files m (Err (FileDamaged path why)) =
     (label : Label) × (others_fault files m.files ≡ None)
-    × IsLabelFrom m.start (bytes_of files label_path) label
+    × IsLabelFrom m.start (bytes_of files label_name) label
     × IsFirstForm files m.files path why
 BehindAnswer files m (Err fault) = Answers (others_fault files m.files) (Err fault)
 
@@ -145,7 +139,7 @@ BehindAnswer files m (Err fault) = Answers (others_fault files m.files) (Err fau
 abbrev pub ListedAnswer : Files → Listing → Result Label Refusal → Type 0
 ListedAnswer files m (Ok label) =
     (listing_fault files m.files ≡ None)
-    × IsLabelFrom m.start (bytes_of files label_path) label
+    × IsLabelFrom m.start (bytes_of files label_name) label
     × AllByRecursion (HasForm files) m.files
 ListedAnswer files m (Err refusal) = HasManifest files m → HasRefusal files refusal
 
@@ -156,12 +150,6 @@ abbrev pub HeldAnswer : List FileRow → List FileRow → Result (Unit {0}) Link
 HeldAnswer held rows (Ok done) = AllByRecursion (λ row. IsHeld held row.path) rows
 HeldAnswer held rows (Err (link.NoPriorFile path)) = IsFirstUnheld held rows path
 HeldAnswer held rows (Err why) = why ≡ link.NoMemory
-
--- rows whose files are plain, or the first one whose isn't
-abbrev pub PlainAnswer : List FileRow → Result (Unit {0}) LinkFault → Type 0
-PlainAnswer rows (Ok done) = IsPlain rows
-PlainAnswer rows (Err (link.FileIncremental path)) = IsFirstIncremental rows path
-PlainAnswer rows (Err why) = why ≡ link.NoMemory
 
 -- a later member that is linked to its predecessor, or what it is refused for
 abbrev pub LaterAnswer : Member → Member → Result (Unit {0}) LinkFault → Type 0

@@ -1,11 +1,11 @@
 -- What the checks answer, and what holds of the answers on a directory and on a chain.
 use Rattle.std.specs.Prelude.{◌≡◌, ◌≢◌, List, Result, Ok, Err}
 use Rattle.lsn_core.specs.Files.{Files}
+use Rattle.chain_files.specs.Segments.{HasForms}
 use Rattle.chain_check.specs.Directory.{IsAsListed}
 use Rattle.chain_check.specs.Refusals.{RefusedFor, HasRefusal, IsOfFiles}
-use Rattle.chain_check.specs.Chain.{IsAccepted, IsChainRefused, IsChainOfOne, RefusesAlone}
+use Rattle.chain_check.specs.Chain.{IsAccepted, IsChainRefused}
 use Rattle.chain_check.specs.declared.member.Member.{Member}
-use Rattle.chain_check.specs.declared.link.LinkFault.{LinkFault}
 use Rattle.chain_check.specs.declared.link.LinkFault.TheVariants.{NoMemory}
 use Rattle.chain_check.specs.declared.chain.ChainRefusal.{ChainRefusal}
 use Rattle.chain_check.specs.declared.fault.ChainFault.{ChainFault}
@@ -29,15 +29,14 @@ RefusalsAreOne =
     (files : Files) (refusal other : Refusal) → IsOfFiles refusal.fault → IsOfFiles other.fault
     → HasRefusal files refusal → HasRefusal files other → refusal ≡ other
 
+-- in a directory that is as listed the incremental files of forks have their form: each is a row's
+abbrev pub ListedHaveForms : Type 0
+ListedHaveForms = (files : Files) (member : Member) → IsAsListed files member → HasForms files
+
 -- what a check of a chain answers, where memory suffices: it is accepted, or refused so
 abbrev pub ChainAnswer : List Member → Result (Unit {0}) ChainRefusal → Type 0
 ChainAnswer members (Ok done) = IsAccepted members
 ChainAnswer members (Err refusal) = refusal.why ≢ NoMemory → IsChainRefused members refusal
-
--- and what one of a member that is to be restored alone does
-abbrev pub AloneAnswer : Member → Result (Unit {0}) LinkFault → Type 0
-AloneAnswer member (Ok done) = IsChainOfOne member
-AloneAnswer member (Err why) = why ≢ NoMemory → RefusesAlone member why
 
 -- a chain that is accepted isn't refused
 abbrev pub AcceptedIsNotRefused : Type 0
@@ -50,13 +49,3 @@ abbrev pub ChainRefusalsAreOne : Type 0
 ChainRefusalsAreOne =
     (members : List Member) (refusal other : ChainRefusal)
     → IsChainRefused members refusal → IsChainRefused members other → refusal ≡ other
-
--- the same of a member that is to be restored alone
-abbrev pub AloneIsNotRefused : Type 0
-AloneIsNotRefused =
-    (member : Member) (why : LinkFault) → IsChainOfOne member → RefusesAlone member why → ⊥
-
-abbrev pub AloneRefusalsAreOne : Type 0
-AloneRefusalsAreOne =
-    (member : Member) (why other : LinkFault)
-    → RefusesAlone member why → RefusesAlone member other → why ≡ other

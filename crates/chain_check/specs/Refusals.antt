@@ -21,7 +21,8 @@ use Rattle.manifest.specs.declared.fault.ManifestFault.{ManifestFault}
 use Rattle.manifest.specs.declared.fault.ManifestFault.TheVariants as manifest
 use Rattle.manifest.specs.declared.listing.FileRow.{FileRow}
 use Rattle.chain_check.specs.Sums.{has_sum}
-use Rattle.chain_check.specs.Directory.{manifest_path, label_path, HasManifest, is_listed, may_stand, IsLabelFrom, IsForkFile, HasForm, IsAsListed}
+use Rattle.backup_files.specs.Directory.{manifest_name, label_name}
+use Rattle.chain_check.specs.Directory.{HasManifest, is_listed, may_stand, IsLabelFrom, IsForkFile, HasForm, IsAsListed}
 use Rattle.chain_check.specs.declared.member.Member.{Member}
 use Rattle.chain_check.specs.declared.fault.ManifestWhy.{ManifestWhy}
 use Rattle.chain_check.specs.declared.fault.ManifestWhy.TheVariants.{Lines, Sum, Json, Shape, SumKind}
@@ -44,7 +45,7 @@ fault_of SumKind = manifest.SumKind
 -- the directory's manifest is refused so
 abbrev pub RefusesManifest : Files → ManifestFault → Type 0
 RefusesManifest files fault =
-    (bytes : List ℕ) × (get files manifest_path ≡ Some bytes) × ReadAnswers 2 bytes (Err fault)
+    (bytes : List ℕ) × (get files manifest_name ≡ Some bytes) × ReadAnswers 2 bytes (Err fault)
 
 -- ---- the files that it lists
 
@@ -71,7 +72,7 @@ rows_checked files rows = position_or_len (λ row. is_some (row_fault files row)
 
 -- a label that isn't listed is missing
 abbrev pub label_row_fault : List FileRow → Option ChainFault
-label_row_fault rows = if is_listed rows label_path then None else Some (FileMissing label_path)
+label_row_fault rows = if is_listed rows label_name then None else Some (FileMissing label_name)
 
 -- the first file, in byte order, that may not stand beside those of the rows
 abbrev pub extra_fault : Files → List FileRow → Option ChainFault
@@ -136,11 +137,11 @@ HasListingFault files m fault =
 -- the files are as the manifest lists them, and the label is its label
 abbrev pub HasLabel : Files → Listing → Label → Type 0
 HasLabel files m label =
-    HasListingFault files m None × IsLabelFrom m.start (bytes_of files label_path) label
+    HasListingFault files m None × IsLabelFrom m.start (bytes_of files label_name) label
 
 -- the cause of each fault; a device that failed and want of memory have theirs elsewhere
 abbrev pub RefusedFor : Files → ChainFault → Type 0
-RefusedFor files NoManifest = get files manifest_path ≡ None
+RefusedFor files NoManifest = get files manifest_name ≡ None
 RefusedFor files (ManifestDamaged why) = RefusesManifest files (fault_of why)
 RefusedFor files (ManifestVersion v) = RefusesManifest files (manifest.Version v)
 RefusedFor files (TimelineDiffers v) = RefusesManifest files (manifest.TimelineIs v)
@@ -152,7 +153,7 @@ RefusedFor files (FileSum path) = (m : Listing) × HasListingFault files m (Some
 RefusedFor files (FileExtra path) = (m : Listing) × HasListingFault files m (Some (FileExtra path))
 RefusedFor files (LabelDamaged line) =
     (m : Listing) × HasListingFault files m None
-    × RefusesLine m.start (bytes_of files label_path) line
+    × RefusesLine m.start (bytes_of files label_name) line
 RefusedFor files (FileDamaged path why) =
     (m : Listing) × (label : Label) × HasLabel files m label × IsFirstForm files m.files path why
 RefusedFor files Failed = Unit {0}

@@ -1,17 +1,17 @@
-//! Chains of backups, and members that are to be restored alone.
+//! Chains of backups.
 
 ghost use Rattle.std.specs.Prelude.{◌≡◌, ◌≤◌, ◌<◌, ◌+◌, length};
 ghost use Rattle.chain_check.specs.Chain.{most_members, IsFirst, IsLinked};
 ghost use Rattle.chain_check.specs.Inside.{LaterAnswer, AllLaterAnswer};
-ghost use Rattle.chain_check.specs.Laws.{ChainAnswer, AloneAnswer};
+ghost use Rattle.chain_check.specs.Laws.{ChainAnswer};
 
-use crate::held::{check_held, check_plain};
+use crate::held::check_held;
 use crate::link::{LinkFault, first_fault, label_fault};
 use crate::member::Member;
 use std::alloc::Global;
 
 /// The most members of a chain (profile).
-const MOST_MEMBERS: usize = 64;
+pub const MOST_MEMBERS: usize = 64;
 
 /// Why a chain of backups isn't taken.
 #[derive(Debug, Drop)]
@@ -75,16 +75,4 @@ pub fn check_chain(alloc: Global, members: &[Member]) -> Result<(), ChainRefusal
         return Err(ChainRefusal { member: 0, why });
     }
     check_all_later(alloc, first, later)
-}
-
-/// Judges a member that is to be restored alone, with its files copied as they are. It is accepted
-/// exactly where all timelines of its label are 1, it names no prior, and it lists no incremental
-/// file; otherwise it is refused for the first fault, in the order of `LinkFault`.
-pub fn check_alone(alloc: Global, member: &Member) -> Result<(), LinkFault>
-    ensures { AloneAnswer member.now result }
-{
-    match first_fault(&member.label) {
-        Some(why) => Err(why),
-        None => check_plain(alloc, &member.manifest.files),
-    }
 }

@@ -13,13 +13,11 @@ ghost use Rattle.chain_check.specs.Inside.{path_of, Answers, NeverFails};
 
 use crate::fault::ChainFault;
 use crate::label::LABEL;
+use backup_files::MANIFEST;
 use lsn_core::Text;
 use manifest::FileRow;
 use std::alloc::Global;
 use vault::Vault;
-
-/// The path of the manifest.
-pub(crate) const MANIFEST: &[u8] = b"backup_manifest";
 
 /// Whether rows, in byte order of their paths, have this path.
 pub(crate) fn is_listed(rows: &[FileRow], path: &[u8]) -> bool

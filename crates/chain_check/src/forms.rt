@@ -3,16 +3,39 @@
 ghost use Rattle.std.specs.Prelude.{◌≡◌, true, IfOk, IfSome};
 ghost use Rattle.lsn_core.specs.Causes.{HasCause};
 ghost use Rattle.lsn_core.specs.Names.{fork_path_bytes, IsNamed};
+ghost use Rattle.vault.specs.Area.{bytes_of};
 ghost use Rattle.vault.specs.Frame.{OnlyReads};
 ghost use Rattle.chain_check.specs.Refusals.{FailsRisen};
-ghost use Rattle.chain_check.specs.Inside.{FormsAnswer, FormWhy};
+ghost use Rattle.chain_check.specs.Inside.{FormsAnswer, FormWhy, HeadWhy};
 
 use crate::fault::{ChainFault, FileWhy};
-use crate::heads::head_why;
+use chain_files::read_head;
+use incr_file::HeadFault;
 use lsn_core::{AreaFault, ForkId, PAGE, Text, fork_path, path_fork};
 use manifest::FileRow;
 use std::alloc::Global;
 use vault::Vault;
+
+/// What is wrong with the head of a row's file, if anything.
+fn head_why<V: Vault>(
+    alloc: Global,
+    area: &mut V,
+    row: &FileRow,
+) -> Result<Option<FileWhy>, AreaFault>
+    ensures why { IfOk result (λ why. IfSome (V.files area.old) (λ m.
+        HeadWhy (bytes_of m row.now.path) row.now.size why)) }
+    ensures reads { OnlyReads V.Vault area.old area.new }
+    ensures cause { HasCause (V.faults area.old) (V.faults area.new) result }
+{
+    match read_head(alloc, area, row.path.as_bytes(), row.size)? {
+        Ok(_) => Ok(None),
+        Err(HeadFault::Length) => Ok(Some(FileWhy::Length)),
+        Err(HeadFault::Magic) => Ok(Some(FileWhy::Magic)),
+        Err(HeadFault::Range) => Ok(Some(FileWhy::Range)),
+        Err(HeadFault::Order) => Ok(Some(FileWhy::Order)),
+        Err(HeadFault::NoMemory) => Err(AreaFault::NoMemory),
+    }
+}
 
 /// What is wrong with a row's file, which is that of this segment of a fork in the incremental form,
 /// if anything.

@@ -1,12 +1,12 @@
 //! Incremental files, and whether a backup has them in one of their forms.
 
-ghost use Rattle.std.specs.Prelude.{◌≡◌, ◌↔◌, true, false, IsTrue, IfOk};
+ghost use Rattle.std.specs.Prelude.{◌≡◌, true, false, IfOk};
 ghost use Rattle.std.specs.Ordering.{nat_cmp};
 ghost use Rattle.std.specs.Cmp.Lexicographic.{slice_cmp};
 ghost use Rattle.std.specs.List.Sorted.{IsSortedByKey};
-ghost use Rattle.chain_check.specs.Directory.{is_listed, IsForkFile};
+ghost use Rattle.chain_check.specs.Directory.{is_listed};
 ghost use Rattle.chain_check.specs.Chain.{IsHeld};
-ghost use Rattle.chain_check.specs.Inside.{path_of, HeldAnswer, PlainAnswer};
+ghost use Rattle.chain_check.specs.Inside.{path_of, HeldAnswer};
 
 use crate::extra::is_listed;
 use crate::link::LinkFault;
@@ -63,31 +63,6 @@ pub(crate) fn check_held(alloc: Global, held: &[FileRow], rows: &[FileRow]) -> R
         if !is_held(alloc, held, rising, row.path.as_bytes())? {
             let path = Text::copied(alloc, row.path.as_bytes())?;
             return Err(LinkFault::NoPriorFile(path));
-        }
-        left = behind;
-    }
-    Ok(())
-}
-
-/// Whether a path is that of an incremental file.
-fn is_incremental(path: &[u8]) -> bool
-    ensures { IsTrue result ↔ IsForkFile path.now true }
-{
-    match path_fork(path) {
-        Some((_, _, incr)) => incr,
-        None => false,
-    }
-}
-
-/// Errs with the first of some rows, in their order, whose file is incremental.
-pub(crate) fn check_plain(alloc: Global, rows: &[FileRow]) -> Result<(), LinkFault>
-    ensures { PlainAnswer rows.now result }
-{
-    let mut left = rows;
-    while let Some((row, behind)) = left.split_first() {
-        if is_incremental(row.path.as_bytes()) {
-            let path = Text::copied(alloc, row.path.as_bytes())?;
-            return Err(LinkFault::FileIncremental(path));
         }
         left = behind;
     }

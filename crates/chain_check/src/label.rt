@@ -3,7 +3,7 @@
 ghost use Rattle.std.specs.Prelude.{IfSome};
 ghost use Rattle.vault.specs.Area.{bytes_of};
 ghost use Rattle.vault.specs.Frame.{OnlyReads};
-ghost use Rattle.chain_check.specs.Directory.{label_path};
+ghost use Rattle.backup_files.specs.Directory.{label_name};
 ghost use Rattle.chain_check.specs.Refusals.{FailsRisen};
 ghost use Rattle.chain_check.specs.Inside.{LabelAnswer, NeverFails};
 
@@ -36,7 +36,7 @@ pub(crate) fn label_of<V: Vault>(
     start: Lsn,
 ) -> Result<Label, ChainFault>
     ensures answer { IfSome (V.files area.old) (λ m.
-        LabelAnswer start.0 (bytes_of m label_path) result) }
+        LabelAnswer start.0 (bytes_of m label_name) result) }
     ensures reads { OnlyReads V.Vault area.old area.new }
     ensures cause { FailsRisen (V.faults area.old) (V.faults area.new) result }
 {

@@ -1,19 +1,20 @@
 //! Laws of the checks: each is the contract of a function that changes nothing.
 
 ghost use Rattle.chain_check.specs.Laws.{DirectoriesAreOneMember, ListedIsNotRefused};
-ghost use Rattle.chain_check.specs.Laws.{RefusalsAreOne};
+ghost use Rattle.chain_check.specs.Laws.{RefusalsAreOne, ListedHaveForms};
 ghost use Rattle.chain_check.specs.Laws.{AcceptedIsNotRefused, ChainRefusalsAreOne};
-ghost use Rattle.chain_check.specs.Laws.{AloneIsNotRefused, AloneRefusalsAreOne};
 
 use incr_file::heads_are_read_as_written;
 use manifest::manifests_are_read_again;
 
 /// A directory that is as listed is one member of a name, and isn't refused; one that isn't is
 /// refused for one fault, behind one number of files. Want of memory and failing devices are aside.
+/// The incremental files of forks in one that is as listed have their form.
 pub fn directories_have_one_answer()
     ensures one { DirectoriesAreOneMember }
     ensures apart { ListedIsNotRefused }
     ensures first { RefusalsAreOne }
+    ensures forms { ListedHaveForms }
 {
     // known: a text is read as one manifest, and a file as one head
     manifests_are_read_again();
@@ -21,10 +22,8 @@ pub fn directories_have_one_answer()
 }
 
 /// A chain that is accepted isn't refused, and one that isn't is refused for one fault of one
-/// member; the same of a member that is to be restored alone.
+/// member.
 pub fn chains_have_one_answer()
     ensures apart { AcceptedIsNotRefused }
     ensures first { ChainRefusalsAreOne }
-    ensures alone { AloneIsNotRefused }
-    ensures one { AloneRefusalsAreOne }
 {}

@@ -5,12 +5,13 @@
 //! as listed (`specs/Directory.antt`), and otherwise a `Refusal`: its first fault, in the order of
 //! `specs/Refusals.antt`, and how many files were found as listed before it. Each listed file is
 //! read whole, in pieces, and of an incremental file the head once more. `check_chain` judges
-//! members by their labels and manifests, and `check_alone` one that is to be restored alone
-//! (`specs/Chain.antt`). `laws` say that a directory and a chain have one answer. `Member` stands
-//! here, since `manifest` knows no label.
+//! members by their labels and manifests (`specs/Chain.antt`). `laws` say that a directory and a
+//! chain have one answer, and that in a directory that is as listed the incremental files of forks
+//! have their form. `Member` stands here, since `manifest` knows no label.
 //!
 //! Left to others: what manifest, label and the head of an incremental file say (`manifest`,
-//! `backup_label`, `incr_file`), what the pages of the files hold, and what a chain is combined to.
+//! `backup_label`, `incr_file`), how a head is read (`chain_files`), what the pages of the files
+//! hold, and what a chain is combined to.
 #![tactic(auto)]
 
 mod chain;
@@ -18,7 +19,6 @@ mod dir;
 mod extra;
 mod fault;
 mod forms;
-mod heads;
 mod held;
 mod label;
 mod laws;
@@ -29,7 +29,7 @@ mod refusal;
 mod rows;
 mod sums;
 
-pub use chain::{ChainRefusal, check_alone, check_chain};
+pub use chain::{ChainRefusal, MOST_MEMBERS, check_chain};
 pub use dir::check_dir;
 pub use fault::{ChainFault, FileWhy, ManifestWhy};
 pub use laws::{chains_have_one_answer, directories_have_one_answer};

@@ -13,8 +13,8 @@ use backup_label::Label;
 use lsn_core::{Lsn, NoMemory, Text};
 use std::alloc::AllocError;
 
-/// Why a member isn't taken as a part of a chain of backups. All but the last two stand in the order
-/// in which they are judged.
+/// Why a member isn't taken as a part of a chain of backups. All but the last stand in the order in
+/// which they are judged.
 #[derive(Debug, Drop)]
 pub enum LinkFault {
     /// The chain has more than 64 members.
@@ -37,9 +37,6 @@ pub enum LinkFault {
     /// The file of this path is incremental, the first such one in byte order that the predecessor
     /// lists in neither form.
     NoPriorFile(Text),
-    /// The member is to be restored alone, and the file of this path is incremental, the first one
-    /// in byte order.
-    FileIncremental(Text),
     /// Memory ran out.
     NoMemory,
 }

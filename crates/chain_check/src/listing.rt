@@ -6,13 +6,14 @@ ghost use Rattle.std.specs.Cmp.Lexicographic.{slice_cmp};
 ghost use Rattle.std.specs.List.Sorted.{IsSortedByKey};
 ghost use Rattle.lsn_core.specs.Causes.{HasCause};
 ghost use Rattle.vault.specs.Frame.{OnlyReads};
-ghost use Rattle.chain_check.specs.Directory.{manifest_path};
+ghost use Rattle.backup_files.specs.Directory.{manifest_name};
 ghost use Rattle.chain_check.specs.Refusals.{others_fault, FailsRisen};
 ghost use Rattle.chain_check.specs.Inside.{path_of, Answers, IsFile, TextAnswer, ManifestAnswer};
 ghost use Rattle.chain_check.specs.Inside.{NeverFails};
 
-use crate::extra::{MANIFEST, check_extra, check_label_row};
+use crate::extra::{check_extra, check_label_row};
 use crate::fault::ChainFault;
+use backup_files::MANIFEST;
 use lsn_core::AreaFault;
 use manifest::{FileRow, Manifest, read_manifest};
 use std::alloc::Global;
@@ -21,7 +22,7 @@ use vault::{Vault, read_whole};
 /// The bytes of the manifest, where it is there.
 fn manifest_bytes<V: Vault>(alloc: Global, area: &mut V) -> Result<Option<Vec<u8>>, AreaFault>
     ensures bytes { IfOk result (λ found. IfSome (V.files area.old) (λ m.
-        IsFile m manifest_path found)) }
+        IsFile m manifest_name found)) }
     ensures reads { OnlyReads V.Vault area.old area.new }
     ensures cause { HasCause (V.faults area.old) (V.faults area.new) result }
 {

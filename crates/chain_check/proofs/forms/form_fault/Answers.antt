@@ -1,7 +1,6 @@
 use Rattle.std.proofs.Common.{◌∙◌, sym, ap, subst, Bool}
 use Rattle.lsn_core.specs.Names.{fork_path_bytes, NamesNoFork}
-use Rattle.chain_check.proofs.Shown.{told_all}
-use Rattle.chain_check.proofs.ForkFiles.{no_fork, whole_pages}
+use Rattle.chain_check.proofs.ForkFiles.{told_all, no_fork, whole_pages}
 use Rattle.chain_check.proofs.forms.form_fault.Goals as goal
 
 pub returns-in_default-clause-why : goal.returns-in_default-clause-why

@@ -1,0 +1,5 @@
+pub mod Segments
+pub mod Held
+pub mod Told
+pub mod Sources
+pub mod Inside
