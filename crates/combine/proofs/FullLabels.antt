@@ -1,0 +1,86 @@
+-- The first seven lines of a label's text are the text of the label without its prior.
+use Rattle.std.proofs.Common.{◌≡◌, ℕ, suc, Bool, false, List, [], ◌∷◌, ◌++◌, length, Option, Some, None, refl, sym, ap, ◌∙◌, append_assoc}
+use Rattle.std.specs.Prelude.{◌==◌, if◌then◌else◌}
+use Rattle.std.specs.List.{AllByRecursion, list_any}
+use Rattle.lsn_core.specs.declared.lsn.Lsn.{Lsn}
+use Rattle.backup_label.specs.Label.{LabelLine, Start, Checkpoint, Method, From, Time, Name, Timeline, PriorStart, PriorTimeline, full_lines, prior_lines, label_lines, key_of, ValueSays, HasNoLineEnd, IsKeyLine, Lines, LineOf, IsLabel}
+use Rattle.backup_label.specs.declared.label.Label.{Label}
+use Rattle.combine.specs.Combined.{first_lines}
+use Rattle.combine.specs.Laws.{full_label}
+use Rattle.combine.proofs.Standing.{neither}
+
+-- ---- one line
+
+one_line : (n : ℕ) (text tail : List ℕ) → HasNoLineEnd text → first_lines (suc n) (text ++ (10 ∷ tail)) ≡ text ++ (10 ∷ first_lines n tail)
+one_line n [] tail free = refl
+one_line n (b ∷ text) tail free =
+    let behind = text ++ (10 ∷ tail) in
+    ap (λ (is : Bool). b ∷ (if is then first_lines n behind else first_lines (suc n) behind)) free.0
+    ∙ ap (λ (l : List ℕ). b ∷ l) (one_line n text tail free.1)
+
+both_free : (a b : List ℕ) → HasNoLineEnd a → HasNoLineEnd b → HasNoLineEnd (a ++ b)
+both_free [] b x y = y
+both_free (c ∷ a) b x y = (x.0, both_free a b x.1 y)
+
+free : (text : List ℕ) → list_any (λ b. b == 10) text ≡ false → HasNoLineEnd text
+free [] e = tt
+free (b ∷ text) e = let both = neither (b == 10) (list_any (λ c. c == 10) text) e in (both.0, free text both.1)
+
+key_free : (line : LabelLine) → HasNoLineEnd (key_of line)
+key_free Start = free (key_of Start) refl
+key_free Checkpoint = free (key_of Checkpoint) refl
+key_free Method = free (key_of Method) refl
+key_free From = free (key_of From) refl
+key_free Time = free (key_of Time) refl
+key_free Name = free (key_of Name) refl
+key_free Timeline = free (key_of Timeline) refl
+key_free PriorStart = free (key_of PriorStart) refl
+key_free PriorTimeline = free (key_of PriorTimeline) refl
+
+first_line : (n : ℕ) (key value text tail : List ℕ) → HasNoLineEnd key → IsKeyLine key value text tail → IsKeyLine key value (first_lines (suc n) text) (first_lines n tail)
+first_line n key value text tail free is = record {
+  whole =
+      ap (first_lines (suc n)) (is.whole ∙ sym (append_assoc key value (10 ∷ tail)))
+      ∙ (one_line n (key ++ value) tail (both_free key value free is.single)
+      ∙ append_assoc key value (10 ∷ first_lines n tail));
+  single = is.single;
+}
+
+-- ---- some lines
+
+-- what a line says of one label it says of another one
+abbrev Keeps : Label → Label → LabelLine → Type 0
+Keeps l m line = (value : List ℕ) → ValueSays l line value → ValueSays m line value
+
+lines_kept : (l m : Label) (lines : List LabelLine) (text rest : List ℕ) → AllByRecursion (Keeps l m) lines → Lines (LineOf l) lines text rest → Lines (LineOf m) lines (first_lines (length lines) text) []
+lines_kept l m [] text rest keeps is = refl
+lines_kept l m (line ∷ lines) text rest keeps is =
+    let value = is.1.0 in (
+      first_lines (length lines) is.0,
+      (value, first_line (length lines) (key_of line) value text is.0 (key_free line) is.1.1, keeps.0 value is.1.2),
+      lines_kept l m lines is.0 rest keeps.1 is.2,
+    )
+
+-- what stands behind the first lines
+abbrev Starts : Label → List LabelLine → List ℕ → Type 0
+Starts l lines text = (rest : List ℕ) × Lines (LineOf l) lines text rest
+
+first_part : (l : Label) (lines more : List LabelLine) (text rest : List ℕ) → Lines (LineOf l) (lines ++ more) text rest → Starts l lines text
+first_part l [] more text rest is = (text, refl)
+first_part l (line ∷ lines) more text rest is =
+    let next = first_part l lines more is.0 rest is.2 in
+    (next.0, (is.0, is.1, next.1))
+
+-- ---- the label
+
+by_prior : (l : Label) (prior : Option (Lsn × ℕ)) (text : List ℕ) → Lines (LineOf l) (label_lines prior) text [] → Starts l full_lines text
+by_prior l None text is = ([], is)
+by_prior l (Some prior) text is = first_part l full_lines prior_lines text [] is
+
+full_keeps : (l : Label) → AllByRecursion (Keeps l (full_label l)) full_lines
+full_keeps l = (λ v s. s, (λ v s. s, (λ v s. s, (λ v s. s, (λ v s. s, (λ v s. s, (λ v s. s, tt)))))))
+
+pub full_text : (text : List ℕ) (l : Label) → IsLabel text l → IsLabel (first_lines 7 text) (full_label l)
+full_text text l is =
+    let front = by_prior l l.prior text is in
+    lines_kept l (full_label l) full_lines text front.0 (full_keeps l) front.1

@@ -1,0 +1,4 @@
+pub mod Combined
+pub mod Calls
+pub mod Inside
+pub mod Laws
