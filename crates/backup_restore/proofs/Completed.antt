@@ -101,5 +101,5 @@ sound_completed s files records entries last tip copy start to upto size whole_w
     ap (redo_all copy) (same ∙ sym replayed) ∙ records_complete copy records start.0 to place rise sound far
 
 pub restores_replay : RestoresAreReplays
-restores_replay s files records entries last tip start to upto backup out replayed made size whole_wal sound read far =
+restores_replay s files records entries last tip start to upto chain out replayed made size whole_wal sound read far =
     (sym (sound_completed s files records entries last tip made.copy start to upto size whole_wal sound read far) ∙ made.redone, made.written)

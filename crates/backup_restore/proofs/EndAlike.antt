@@ -18,12 +18,13 @@ use Rattle.recovery.specs.Replay.{bad_behind}
 use Rattle.recovery.specs.Recovered.{first_bad_redo}
 use Rattle.recovery.specs.Causes.{IsShortFrom}
 use Rattle.recovery.proofs.OneWal.{same_lsn}
+use Rattle.chain_files.specs.Segments.{chain_segments}
 use Rattle.backup_restore.specs.declared.fault.RestoreFault.{RestoreFault}
 use Rattle.backup_restore.specs.declared.fault.RestoreFault.TheVariants.{Backup, Wal, Out}
 use Rattle.backup_restore.specs.Restored.{RestoreAreas, MakesOf, IsRestored, HasBadEntry, RestoreAnswer}
 use Rattle.backup_restore.specs.Laws.{IsRestoreOf, FilesDecide, RestoresEndAlike}
 use Rattle.backup_restore.proofs.Directories.{one_store}
-use Rattle.backup_restore.proofs.OneAnswer.{some_is, told_is, one_answer}
+use Rattle.backup_restore.proofs.OneAnswer.{some_is, told_is, chain_is, one_answer}
 use Rattle.backup_restore.proofs.OneReading.{both_end, ends_or_damaged, one_damage, short_or_reached, short_or_damaged, one_short}
 
 -- ---- entries are redone, or one can't be
@@ -56,35 +57,35 @@ answer_of (BadAt place) = Err (Wal (fault.BadDelta place))
 
 -- ---- of these files, by these settings
 
-module _ (s : StoreSettings) (wal backup : Files) (start : Lsn) (upto : Option Lsn) where
+module _ (s : StoreSettings) (wal : Files) (chain : List Files) (start : Lsn) (upto : Option Lsn) where
   -- the first entry that can't be redone, over one copy and of one reading
-  bad_of : (place : Lsn) (entries : List Record) (last : Tip) (copy : Store) → (bad : HasBadEntry s wal backup start upto place) → bad.copy ≡ copy → bad.entries ≡ entries → bad.last ≡ last → bad_by upto copy entries last ≡ Some place.0
+  bad_of : (place : Lsn) (entries : List Record) (last : Tip) (copy : Store) → (bad : HasBadEntry s wal chain start upto place) → bad.copy ≡ copy → bad.entries ≡ entries → bad.last ≡ last → bad_by upto copy entries last ≡ Some place.0
   unfolding bad_by
   bad_of place entries last copy bad same read end =
       sym (ap (λ (c : Store). bad_by upto c bad.entries bad.last) same ∙ (ap (λ (rs : List Record). bad_by upto copy rs bad.last) read ∙ ap (bad_by upto copy entries) end)) ∙ bad.bad
 
-  one_bad : (place other : Lsn) → HasBadEntry s wal backup start upto place → HasBadEntry s wal backup start upto other → place ≡ other
+  one_bad : (place other : Lsn) → HasBadEntry s wal chain start upto place → HasBadEntry s wal chain start upto other → place ≡ other
   one_bad place other a b =
       let one = both_end s wal (AtPlace start) upto a.entries b.entries a.last b.last a.read b.read in
-      let copies : a.copy ≡ b.copy = one_store s.relseg backup a.copy b.copy a.held b.held in
+      let copies : a.copy ≡ b.copy = one_store s.relseg (chain_segments chain) a.copy b.copy a.held b.held in
       same_lsn place other (some_is place.0 other.0 (sym (bad_of place b.entries b.last b.copy a copies one.entries one.tips) ∙ bad_of other b.entries b.last b.copy b refl refl refl))
 
   -- a restore that was done, of these files
   record WasRestored (replayed : Replayed) : Type 0 where
     old : RestoreAreas
     new : RestoreAreas
-    of : IsRestoreOf wal backup old
+    of : IsRestoreOf wal chain old
     is : IsRestored s start upto old new replayed
 
   read_of : (replayed : Replayed) → (was : WasRestored replayed) → IsReadFrom s wal (AtPlace start) upto was.is.entries replayed.tip End
   read_of replayed was = told_is (λ m. IsReadFrom s m (AtPlace start) upto was.is.entries replayed.tip End) was.old.wal.files wal was.of.wal_told was.is.read.archive
 
-  made_or_bad : (replayed : Replayed) (place : Lsn) → WasRestored replayed → HasBadEntry s wal backup start upto place → ⊥
+  made_or_bad : (replayed : Replayed) (place : Lsn) → WasRestored replayed → HasBadEntry s wal chain start upto place → ⊥
   unfolding bad_by
   made_or_bad replayed place was bad =
       let one = both_end s wal (AtPlace start) upto bad.entries was.is.entries bad.last replayed.tip bad.read (read_of replayed was) in
-      let made = told_is (λ m. MakesOf s.relseg m was.is.entries (replayed_to upto replayed.tip) replayed was.new.out.files) was.old.backup.files backup was.of.backup_told (was.is.made was.of.out_told) in
-      let copies : bad.copy ≡ made.copy = one_store s.relseg backup bad.copy made.copy bad.held made.held in
+      let made = chain_is (λ m. MakesOf s.relseg m was.is.entries (replayed_to upto replayed.tip) replayed was.new.out.files) was.old.chain chain was.of.chain_told was.of.forms (was.is.made was.of.out_told) in
+      let copies : bad.copy ≡ made.copy = one_store s.relseg (chain_segments chain) bad.copy made.copy bad.held made.held in
       redone_or_bad made.copy (ending_by (replayed_to upto replayed.tip) was.is.entries) made.store place.0 made.redone (bad_of place was.is.entries replayed.tip made.copy bad copies one.entries one.tips)
 
   -- what an outcome says of them
@@ -92,9 +93,9 @@ module _ (s : StoreSettings) (wal backup : Files) (start : Lsn) (upto : Option L
   Came (Done replayed) = WasRestored replayed
   Came (Broken mib damage) = (mib ≡ s.segment) × HasDamageFrom s wal (AtPlace start) upto damage
   Came (Early end target) = IsShortFrom s wal (AtPlace start) upto end target
-  Came (BadAt place) = HasBadEntry s wal backup start upto place
+  Came (BadAt place) = HasBadEntry s wal chain start upto place
 
-  came : (old new : RestoreAreas) (a : Result Replayed RestoreFault) → IsRestoreOf wal backup old → RestoreAnswer s start upto old new a → FilesDecide a → (o : Outcome) × (Came o × (a ≡ answer_of o))
+  came : (old new : RestoreAreas) (a : Result Replayed RestoreFault) → IsRestoreOf wal chain old → RestoreAnswer s start upto old new a → FilesDecide a → (o : Outcome) × (Came o × (a ≡ answer_of o))
   unfolding answer_of
   came old new (Ok replayed) of answer own = (Done replayed, (record { old = old; new = new; of = of; is = answer }, refl))
   came old new (Err (Wal (fault.Damaged mib damage))) of answer own =
@@ -104,8 +105,8 @@ module _ (s : StoreSettings) (wal backup : Files) (start : Lsn) (upto : Option L
   came old new (Err (Wal (fault.BadDelta place))) of answer own = (
     BadAt place,
     (
-      told_is (λ w. HasBadEntry s w backup start upto place) old.wal.files wal of.wal_told
-          (told_is (λ b. IfSome old.wal.files (λ w. HasBadEntry s w b start upto place)) old.backup.files backup of.backup_told (answer of.out_told)),
+      told_is (λ w. HasBadEntry s w chain start upto place) old.wal.files wal of.wal_told
+          (chain_is (λ b. IfSome old.wal.files (λ w. HasBadEntry s w b start upto place)) old.chain chain of.chain_told of.forms (answer of.out_told)),
       refl,
     ),
   )
@@ -114,12 +115,12 @@ module _ (s : StoreSettings) (wal backup : Files) (start : Lsn) (upto : Option L
   came old new (Err (Wal fault.NotInit)) of answer own = absurd answer
   came old new (Err (Wal fault.Failed)) of answer own = absurd (own.0 refl)
   came old new (Err (Wal fault.NoMemory)) of answer own = absurd (own.1 refl)
-  came old new (Err (Backup why)) of answer own = absurd own
+  came old new (Err (Backup fault)) of answer own = absurd own
   came old new (Err (Out why)) of answer own = absurd own
 
   one_outcome : (o q : Outcome) → Came o → Came q → answer_of o ≡ answer_of q
   unfolding answer_of
-  one_outcome (Done r) (Done t) a b = ap (λ (x : Replayed). answer_of (Done x)) (one_answer s start upto wal backup a.old a.new b.old b.new r t a.of b.of a.is b.is).0
+  one_outcome (Done r) (Done t) a b = ap (λ (x : Replayed). answer_of (Done x)) (one_answer s start upto wal chain a.old a.new b.old b.new r t a.of b.of a.is b.is).0
   one_outcome (Done r) (Broken mib damage) a b = absurd (ends_or_damaged s wal (AtPlace start) upto a.is.entries r.tip damage (read_of r a) b.1)
   one_outcome (Done r) (Early end target) a b = absurd (short_or_reached s wal (AtPlace start) upto end target a.is.entries r.tip b (read_of r a) a.is.read.reached)
   one_outcome (Done r) (BadAt place) a b = absurd (made_or_bad r place a b)
@@ -140,7 +141,7 @@ module _ (s : StoreSettings) (wal backup : Files) (start : Lsn) (upto : Option L
   one_outcome (BadAt place) (BadAt other) a b = ap (λ (x : Lsn). answer_of (BadAt x)) (one_bad place other a b)
 
 pub end_alike : RestoresEndAlike
-end_alike s start upto wal backup old new before behind a b of also first second own other =
-    let p = came s wal backup start upto old new a of first own in
-    let q = came s wal backup start upto before behind b also second other in
-    p.1.1 ∙ (one_outcome s wal backup start upto p.0 q.0 p.1.0 q.1.0 ∙ sym q.1.1)
+end_alike s start upto wal chain old new before behind a b of also first second own other =
+    let p = came s wal chain start upto old new a of first own in
+    let q = came s wal chain start upto before behind b also second other in
+    p.1.1 ∙ (one_outcome s wal chain start upto p.0 q.0 p.1.0 q.1.0 ∙ sym q.1.1)

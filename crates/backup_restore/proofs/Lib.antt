@@ -1,4 +1,5 @@
-mod PageReads
+mod Chains
+mod WholeChains
 mod Behind
 mod Pieces
 mod Made

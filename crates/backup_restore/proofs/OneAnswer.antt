@@ -13,6 +13,8 @@ use Rattle.recovery.specs.declared.reading.Beginning.TheVariants.{AtPlace}
 use Rattle.recovery.specs.declared.replaying.Replayed.{Replayed}
 use Rattle.recovery.specs.Onward.{IsReadFrom, replayed_to, ending_by, end_from}
 use Rattle.recovery.proofs.OneWal.{same_lsn}
+use Rattle.chain_files.specs.Segments.{chain_segments, AllHaveForms}
+use Rattle.chain_files.specs.Sources.{OfChain}
 use Rattle.backup_restore.specs.Restored.{MakesOf}
 use Rattle.backup_restore.specs.Laws.{RestoresHaveOneAnswer}
 use Rattle.backup_restore.proofs.Directories.{one_store}
@@ -39,9 +41,9 @@ record IsSameMade (one other : Replayed) (out left : Option Files) : Type 0 wher
   pages : one.pages ≡ other.pages
   files : out ≡ left
 
-same_made : (relseg : ℕ) (backup : Files) (entries : List Record) (place : ℕ) (one other : Replayed) (out left : Option Files) → MakesOf relseg backup entries place one out → MakesOf relseg backup entries place other left → IsSameMade one other out left
-same_made relseg backup entries place one other out left a b =
-    let copies : a.copy ≡ b.copy = one_store relseg backup a.copy b.copy a.held b.held in
+same_made : (relseg : ℕ) (chain : List Files) (entries : List Record) (place : ℕ) (one other : Replayed) (out left : Option Files) → MakesOf relseg chain entries place one out → MakesOf relseg chain entries place other left → IsSameMade one other out left
+same_made relseg chain entries place one other out left a b =
+    let copies : a.copy ≡ b.copy = one_store relseg (chain_segments chain) a.copy b.copy a.held b.held in
     let stores : a.store ≡ b.store = some_is a.store b.store (sym a.redone ∙ ap (λ (c : Store). redo_all c (ending_by place entries)) copies ∙ b.redone) in
     record {
       forks = a.forks ∙ ap len stores ∙ sym b.forks;
@@ -53,17 +55,20 @@ same_made relseg backup entries place one other out left a b =
 pub told_is : (P : Files → Type 0) (o : Option Files) (m : Files) → o ≡ Some m → IfSome o P → P m
 told_is P o m is held = subst (λ (x : Option Files). IfSome x P) is held
 
+pub chain_is : (P : List Files → Type 0) (o : Option (List Files)) (chain : List Files) → o ≡ Some chain → AllHaveForms chain → OfChain o P → P chain
+chain_is P o chain is forms held = subst (λ (x : Option (List Files)). OfChain x P) is held forms
+
 pub one_answer : RestoresHaveOneAnswer
-one_answer s start upto wal backup old new before behind one other a b restored again =
+one_answer s start upto wal chain old new before behind one other a b restored again =
     let first = told_is (λ m. IsReadFrom s m (AtPlace start) upto restored.entries one.tip End) old.wal.files wal a.wal_told restored.read.archive in
     let second = told_is (λ m. IsReadFrom s m (AtPlace start) upto again.entries other.tip End) before.wal.files wal b.wal_told again.read.archive in
     let read = both_end s wal (AtPlace start) upto restored.entries again.entries one.tip other.tip first second in
     let place : replayed_to upto one.tip ≡ replayed_to upto other.tip = ap (replayed_to upto) read.tips in
-    let made = told_is (λ m. MakesOf s.relseg m restored.entries (replayed_to upto one.tip) one new.out.files) old.backup.files backup a.backup_told (restored.made a.out_told) in
-    let made_again = told_is (λ m. MakesOf s.relseg m again.entries (replayed_to upto other.tip) other behind.out.files) before.backup.files backup b.backup_told (again.made b.out_told) in
-    let moved = subst (λ (rs : List Record). MakesOf s.relseg backup rs (replayed_to upto one.tip) other behind.out.files) (sym read.entries)
-    (subst (λ (n : ℕ). MakesOf s.relseg backup again.entries n other behind.out.files) (sym place) made_again) in
-    let same = same_made s.relseg backup restored.entries (replayed_to upto one.tip) one other new.out.files behind.out.files made moved in
+    let made = chain_is (λ m. MakesOf s.relseg m restored.entries (replayed_to upto one.tip) one new.out.files) old.chain chain a.chain_told a.forms (restored.made a.out_told) in
+    let made_again = chain_is (λ m. MakesOf s.relseg m again.entries (replayed_to upto other.tip) other behind.out.files) before.chain chain b.chain_told b.forms (again.made b.out_told) in
+    let moved = subst (λ (rs : List Record). MakesOf s.relseg chain rs (replayed_to upto one.tip) other behind.out.files) (sym read.entries)
+    (subst (λ (n : ℕ). MakesOf s.relseg chain again.entries n other behind.out.files) (sym place) made_again) in
+    let same = same_made s.relseg chain restored.entries (replayed_to upto one.tip) one other new.out.files behind.out.files made moved in
     let ends : one.end.0 ≡ other.end.0 =
     restored.end
     ∙ ap (λ (rs : List Record). end_from s.segment (AtPlace start) (ending_by (replayed_to upto one.tip) rs)) read.entries

@@ -14,6 +14,7 @@ use Rattle.vault.specs.Area.{Related}
 use Rattle.vault.specs.Frame.{AgreeBut, ChangesOnly}
 use Rattle.vault.proofs.Changed.{changes_on}
 use Rattle.vault.specs.declared.area.Vault.{Ghosts}
+use Rattle.vault.specs.declared.lending.Held.{Held}
 use Rattle.rel_files.specs.Forks.{IsForkPath, Holds, HasWholePages}
 use Rattle.rel_files.specs.Shown.{AreFilesOf, HoldsStore, ShowsStore, KeepsOthers}
 use Rattle.rel_files.specs.declared.forks.Forks.{Forks}
@@ -26,10 +27,13 @@ use Rattle.recovery.specs.declared.tally.Tally.{Tally}
 use Rattle.recovery.specs.Causes.{CauseOf}
 use Rattle.recovery.specs.Onward.{replayed_to}
 use Rattle.recovery.specs.Recovered.{IsRecovered, HasBadRedo, redo_causes}
+use Rattle.chain_files.specs.Sources.{OfChain}
+use Rattle.chain_files.specs.Told.{chain_told}
 use Rattle.backup_restore.specs.declared.fault.RestoreFault.{RestoreFault}
 use Rattle.backup_restore.specs.declared.fault.RestoreFault.TheVariants.{Backup, Wal, Out}
 use Rattle.backup_restore.specs.Restored.{MakesOf, HasBadEntry, restore_causes}
 use Rattle.backup_restore.specs.Inside.{IsShownIn, area_shows, IsCopied, CopiesStore, RedoesOver, areas_in, Restores}
+use Rattle.backup_restore.proofs.Chains.{when_chain}
 
 none_some : {X : Type 0} (x : X) → None ≡ Some x → ⊥
 none_some x e = absurd cc
@@ -75,8 +79,8 @@ pub nothing_shown : (relseg : ℕ) (told : Option Files) → told ≡ Some empty
 nothing_shown relseg told is = record { files = empty_held relseg told is; whole = empty_whole }
 
 module _ {V : Type 0} (g : Ghosts V) (p : Pages (Forks V)) where
-  -- a backup was copied into an area's files, and the WAL redone over the forks in them
-  pub record Came (s : StoreSettings) (start : Lsn) (upto : Option Lsn) (wal backup out wal_now : V) (came : Result Replayed RestoreFault) : Type 0 where
+  -- a chain was copied into an area's files, and the WAL redone over the forks in them
+  pub record Came (s : StoreSettings) (start : Lsn) (upto : Option Lsn) (places : List ℕ) (wal : V) (areas : List (Held V)) (out wal_now : V) (came : Result Replayed RestoreFault) : Type 0 where
     pub mid : V
     pub counted : Tally
     pub old : Forks V
@@ -85,7 +89,7 @@ module _ {V : Type 0} (g : Ghosts V) (p : Pages (Forks V)) where
     pub shown : (f : Forks V) (store : Store) → p.shows f store → ShowsStore g f store
     pub faults : (f : Forks V) → p.faults f ≡ g.faults f.area
     pub clear : IfSome (g.files out) (λ m. m ≡ empty)
-    pub copied : CopiesStore (area_shows g s.relseg) s.relseg (g.files backup) out mid counted
+    pub copied : CopiesStore (area_shows g s.relseg) s.relseg (chain_told g areas places) out mid counted
     pub changes : ChangesOnly g IsForkPath out mid
     pub relseg : old.relseg ≡ s.relseg
     pub some : 0 < s.relseg
@@ -94,11 +98,11 @@ module _ {V : Type 0} (g : Ghosts V) (p : Pages (Forks V)) where
     pub kept : KeepsOthers g old new
     pub redone : RedoesOver g p s start upto counted wal wal_now old new came
 
-  module _ (s : StoreSettings) (start : Lsn) (upto : Option Lsn) (wal backup out wal_now : V) (came : Result Replayed RestoreFault) (c : Came s start upto wal backup out wal_now came) where
+  module _ (s : StoreSettings) (start : Lsn) (upto : Option Lsn) (places : List ℕ) (wal : V) (areas : List (Held V)) (out wal_now : V) (came : Result Replayed RestoreFault) (c : Came s start upto places wal areas out wal_now came) where
     -- the copy that the pages show before the WAL is redone
-    copy_in : IsSome (g.files out) → IfSome (g.files backup) (λ m. IsCopied (p.shows c.old) s.relseg m c.counted)
+    copy_in : IsSome (g.files out) → OfChain (chain_told g areas places) (λ m. IsCopied (p.shows c.old) s.relseg m c.counted)
     copy_in told =
-        when_told (g.files backup) (λ m. IsCopied (area_shows g s.relseg c.mid) s.relseg m c.counted) (λ m. IsCopied (p.shows c.old) s.relseg m c.counted)
+        when_chain (chain_told g areas places) (λ m. IsCopied (area_shows g s.relseg c.mid) s.relseg m c.counted) (λ m. IsCopied (p.shows c.old) s.relseg m c.counted)
         (λ m copy. record {
           copy = copy.copy;
           held = copy.held;
@@ -111,9 +115,9 @@ module _ {V : Type 0} (g : Ghosts V) (p : Pages (Forks V)) where
     all_changes = changes_on g IsForkPath out c.mid c.new.area c.changes (subst (λ (v : V). ChangesOnly g IsForkPath v c.new.area) c.area c.kept.area)
 
     made_of : (r : Replayed) → (done : IsRecovered p s (g.files wal) (AtPlace start) upto c.counted c.old c.new r) → IsSome (g.files out)
-        → IfSome (g.files backup) (λ m. MakesOf s.relseg m done.entries (replayed_to upto r.tip) r (g.files c.new.area))
+        → OfChain (chain_told g areas places) (λ m. MakesOf s.relseg m done.entries (replayed_to upto r.tip) r (g.files c.new.area))
     made_of r done told =
-        when_told (g.files backup) (λ m. IsCopied (p.shows c.old) s.relseg m c.counted) (λ m. MakesOf s.relseg m done.entries (replayed_to upto r.tip) r (g.files c.new.area))
+        when_chain (chain_told g areas places) (λ m. IsCopied (p.shows c.old) s.relseg m c.counted) (λ m. MakesOf s.relseg m done.entries (replayed_to upto r.tip) r (g.files c.new.area))
         (λ m copy. let one = done.redone copy.copy copy.there in record {
           copy = copy.copy;
           held = copy.held;
@@ -125,9 +129,9 @@ module _ {V : Type 0} (g : Ghosts V) (p : Pages (Forks V)) where
         }) (copy_in told)
 
     bad_entry : (place : Lsn) → IfSome (g.files wal) (λ w. HasBadRedo (p.shows c.old) s w (AtPlace start) upto place) → IsSome (g.files out)
-        → IfSome (g.files backup) (λ b. IfSome (g.files wal) (λ w. HasBadEntry s w b start upto place))
+        → OfChain (chain_told g areas places) (λ b. IfSome (g.files wal) (λ w. HasBadEntry s w b start upto place))
     bad_entry place bad told =
-        when_told (g.files backup) (λ m. IsCopied (p.shows c.old) s.relseg m c.counted) (λ b. IfSome (g.files wal) (λ w. HasBadEntry s w b start upto place))
+        when_chain (chain_told g areas places) (λ m. IsCopied (p.shows c.old) s.relseg m c.counted) (λ b. IfSome (g.files wal) (λ w. HasBadEntry s w b start upto place))
         (λ b copy. when_told (g.files wal) (λ w. HasBadRedo (p.shows c.old) s w (AtPlace start) upto place) (λ w. HasBadEntry s w b start upto place)
         (λ w has. record {
           entries = has.entries;
@@ -139,30 +143,30 @@ module _ {V : Type 0} (g : Ghosts V) (p : Pages (Forks V)) where
           bad = has.bad copy.copy copy.there;
         }) bad) (copy_in told)
 
-  refused : (s : StoreSettings) (start : Lsn) (upto : Option Lsn) (wal backup out wal_now : V) (came : Result Replayed RestoreFault) (c : Came s start upto wal backup out wal_now came) (why : RecoveryFault)
+  refused : (s : StoreSettings) (start : Lsn) (upto : Option Lsn) (places : List ℕ) (wal : V) (areas : List (Held V)) (out wal_now : V) (came : Result Replayed RestoreFault) (c : Came s start upto places wal areas out wal_now came) (why : RecoveryFault)
       → CauseOf (redo_causes (p.shows c.old) s (AtPlace start) upto (g.files wal)) (g.faults wal) (g.faults wal_now) why
-      → CauseOf (restore_causes s start upto (areas_in g wal backup out)) (g.faults wal) (g.faults wal_now) why
-  refused s start upto wal backup out wal_now came c (fault.Damaged mib damage) cause = cause
-  refused s start upto wal backup out wal_now came c (fault.Short end target) cause = cause
-  refused s start upto wal backup out wal_now came c (fault.BadDelta place) cause = λ told. bad_entry s start upto wal backup out wal_now came c place cause told
-  refused s start upto wal backup out wal_now came c fault.SettingsDamaged cause = absurd cause
-  refused s start upto wal backup out wal_now came c (fault.Timeline name) cause = absurd cause
-  refused s start upto wal backup out wal_now came c fault.NotInit cause = absurd cause
-  refused s start upto wal backup out wal_now came c fault.Failed cause = cause
-  refused s start upto wal backup out wal_now came c fault.NoMemory cause = cause
+      → CauseOf (restore_causes s start upto (areas_in g places wal areas out)) (g.faults wal) (g.faults wal_now) why
+  refused s start upto places wal areas out wal_now came c (fault.Damaged mib damage) cause = cause
+  refused s start upto places wal areas out wal_now came c (fault.Short end target) cause = cause
+  refused s start upto places wal areas out wal_now came c (fault.BadDelta place) cause = λ told. bad_entry s start upto places wal areas out wal_now came c place cause told
+  refused s start upto places wal areas out wal_now came c fault.SettingsDamaged cause = absurd cause
+  refused s start upto places wal areas out wal_now came c (fault.Timeline name) cause = absurd cause
+  refused s start upto places wal areas out wal_now came c fault.NotInit cause = absurd cause
+  refused s start upto places wal areas out wal_now came c fault.Failed cause = cause
+  refused s start upto places wal areas out wal_now came c fault.NoMemory cause = cause
 
-  pub restored_out : (s : StoreSettings) (start : Lsn) (upto : Option Lsn) (wal backup out wal_now backup_now out_now : V) (came : Result Replayed RestoreFault) (c : Came s start upto wal backup out wal_now came) → out_now ≡ c.new.area
-      → Restores g s start upto wal backup out wal_now backup_now out_now came
-  restored_out s start upto wal backup out wal_now backup_now out_now (Ok r) c same = record {
+  pub restored_out : (s : StoreSettings) (start : Lsn) (upto : Option Lsn) (places : List ℕ) (wal : V) (areas : List (Held V)) (out wal_now : V) (areas_now : List (Held V)) (out_now : V) (came : Result Replayed RestoreFault) (c : Came s start upto places wal areas out wal_now came) → out_now ≡ c.new.area
+      → Restores g s start upto places wal areas out wal_now areas_now out_now came
+  restored_out s start upto places wal areas out wal_now areas_now out_now (Ok r) c same = record {
     entries = c.redone.entries;
     read = c.redone.read;
     end = c.redone.end;
-    made = λ told. subst (λ (v : V). IfSome (g.files backup) (λ m. MakesOf s.relseg m c.redone.entries (replayed_to upto r.tip) r (g.files v))) (sym same)
-        (made_of s start upto wal backup out wal_now (Ok r) c r c.redone told);
+    made = λ told. subst (λ (v : V). OfChain (chain_told g areas places) (λ m. MakesOf s.relseg m c.redone.entries (replayed_to upto r.tip) r (g.files v))) (sym same)
+        (made_of s start upto places wal areas out wal_now (Ok r) c r c.redone told);
   }
-  restored_out s start upto wal backup out wal_now backup_now out_now (Err (Wal why)) c same = refused s start upto wal backup out wal_now (Err (Wal why)) c why c.redone
-  restored_out s start upto wal backup out wal_now backup_now out_now (Err (Backup why)) c same = absurd c.redone
-  restored_out s start upto wal backup out wal_now backup_now out_now (Err (Out why)) c same = λ failed.
+  restored_out s start upto places wal areas out wal_now areas_now out_now (Err (Wal why)) c same = refused s start upto places wal areas out wal_now (Err (Wal why)) c why c.redone
+  restored_out s start upto places wal areas out wal_now areas_now out_now (Err (Backup fault)) c same = absurd c.redone
+  restored_out s start upto places wal areas out wal_now areas_now out_now (Err (Out why)) c same = λ failed.
       subst (λ (v : V). Rose (g.faults out) (g.faults v)) (sym same)
       (rose_later (g.faults out) (g.faults c.mid) (g.faults c.new.area) c.changes.faults
       (subst (λ (v : V). Rose (g.faults v) (g.faults c.new.area)) c.area

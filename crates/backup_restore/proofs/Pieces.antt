@@ -1,12 +1,10 @@
 -- A piece of pages written behind those of a fork, in the segment file where they stand.
-use Rattle.std.proofs.Common.{◌≡◌, ℕ, zero, suc, ◌+◌, ◌-◌, ◌*◌, ◌/◌, ◌%◌, ◌<◌, ◌≤◌, false, List, [], ◌∷◌, ◌++◌, length, take, drop, replicate, map, Option, unwrap_or, refl, sym, ap, subst, ◌∙◌, arith}
-use Rattle.std.specs.List.{range_with_len}
+use Rattle.std.proofs.Common.{◌≡◌, ℕ, ◌+◌, ◌-◌, ◌*◌, ◌/◌, ◌%◌, ◌<◌, ◌≤◌, false, List, [], ◌∷◌, ◌++◌, length, drop, replicate, Option, unwrap_or, refl, sym, ap, subst, ◌∙◌, arith}
 use Rattle.std.specs.Option.{option_map}
 use Rattle.std.specs.FinMap.{insert}
-use Rattle.std.proofs.lemmas.List.{append-nil, append_assoc, length-append, length-take-le, length-drop, take_all, drop_all, drop-drop}
+use Rattle.std.proofs.lemmas.List.{append-nil, append_assoc, length-append, take_all, drop_all}
 use Rattle.std.proofs.lemmas.List.Elements.{recursion_from_All}
 use Rattle.std.proofs.lemmas.Nat.{div-mul-add, mod-mul-add}
-use Rattle.std.proofs.Math.Seq.{take-add}
 use Rattle.byte_words.specs.Pieces.{overwritten}
 use Rattle.lsn_core.specs.Blocks.{with_page, pages_of}
 use Rattle.lsn_core.specs.Files.{Files}
@@ -23,30 +21,6 @@ use Rattle.rel_files.proofs.WholePages.{AreWhole, whole_all, put_whole}
 use Rattle.backup_restore.specs.Inside.{IsShownIn}
 use Rattle.backup_restore.proofs.Behind.{put_behind}
 use Rattle.backup_restore.proofs.WrittenStores.{HaveSize, flat_length, part, part_length, part_whole, content_or_none}
-
--- ---- pages of a file, and their bytes
-
-abbrev pub pages_at : ℕ → List ℕ → ℕ → ℕ → ForkPages
-pages_at size bytes n count = map (λ i. take size (drop (i * size) bytes)) (range_with_len n count)
-
-pub flat_again : (size : ℕ) (bytes : List ℕ) (n count : ℕ) → flat (pages_at size bytes n count) ≡ take (count * size) (drop (n * size) bytes)
-flat_again size bytes n zero = let none : 0 * size ≡ 0 = omega arith in ap (λ (k : ℕ). take k (drop (n * size) bytes)) (sym none)
-flat_again size bytes n (suc count) =
-    let next : n * size + size ≡ (n + 1) * size = omega arith in
-    let more : size + count * size ≡ suc count * size = omega arith in
-    ap (λ (l : List ℕ). take size (drop (n * size) bytes) ++ l) (flat_again size bytes (n + 1) count)
-    ∙ ap (λ (k : ℕ). take size (drop (n * size) bytes) ++ take (count * size) (drop k bytes)) (sym next)
-    ∙ ap (λ (l : List ℕ). take size (drop (n * size) bytes) ++ take (count * size) l) (sym (drop-drop size (n * size) bytes))
-    ∙ sym (take-add size (count * size) (drop (n * size) bytes))
-    ∙ ap (λ (k : ℕ). take k (drop (n * size) bytes)) more
-
-pub have_size : (size : ℕ) (bytes : List ℕ) (n count : ℕ) → (n + count) * size ≤ length bytes → HaveSize size (pages_at size bytes n count)
-have_size size bytes n zero within = tt
-have_size size bytes n (suc count) within =
-    let rest : (n + 1 + count) * size ≡ (n + suc count) * size = ap (λ (k : ℕ). k * size) (let e : n + 1 + count ≡ n + suc count = omega arith in e) in
-    let here : n * size + size ≤ (n + suc count) * size = omega arith in
-    let long = length-drop (n * size) bytes in
-    (length-take-le size (drop (n * size) bytes) (omega (arith, long, here, within)), have_size size bytes (n + 1) count (omega (arith, rest, within)))
 
 -- ---- a write behind the end of a file
 

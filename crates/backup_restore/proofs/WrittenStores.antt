@@ -1,11 +1,11 @@
 -- Files that have the segment files of a store hold that store.
-use Rattle.std.proofs.Common.{◌≡◌, ℕ, zero, suc, ◌+◌, ◌-◌, ◌*◌, ◌/◌, ◌^◌, ◌<◌, ◌≤◌, min, inl, inr, Bool, true, false, cond, List, [], ◌∷◌, ◌++◌, length, take, drop, map, Option, Some, None, is_some, unwrap_or, refl, sym, ap, ◌∙◌, arith}
+use Rattle.std.proofs.Common.{◌≡◌, ℕ, zero, suc, ◌+◌, ◌-◌, ◌*◌, ◌/◌, ◌^◌, ◌<◌, ◌≤◌, min, inl, inr, Bool, true, false, cond, List, [], ◌∷◌, ◌++◌, length, take, drop, map, Option, Some, None, is_some, unwrap_or, option_map, refl, sym, ap, ◌∙◌, arith}
 use Rattle.std.specs.List.{AllByRecursion, range_with_len}
 use Rattle.std.specs.FinMap.{get}
 use Rattle.std.proofs.Math.Nat.{mul-le-mul_right, lt-div-mul-add, div-mul-le_self, div-le_self}
 use Rattle.std.proofs.Math.Seq.{take-add, drop-append_seam}
 use Rattle.std.proofs.lemmas.Bool.{le-leb, lt-leb, lt-ltb, le-ltb, cases_lt}
-use Rattle.std.proofs.lemmas.List.{append-nil, append_assoc, length-append, length-take, length-drop, take_all, take_at, drop_all}
+use Rattle.std.proofs.lemmas.List.{append_assoc, length-append, length-take, length-drop, take_all, take_at, drop_all}
 use Rattle.std.proofs.lemmas.List.Elements.{All-take, All-drop, recursion_from_All}
 use Rattle.lsn_core.specs.Files.{Files}
 use Rattle.lsn_core.specs.Names.{fork_path_bytes, IsNamed}
@@ -14,9 +14,11 @@ use Rattle.lsn_core.specs.declared.ids.ForkId.{ForkId}
 use Rattle.lsn_core.proofs.StoreFiles.{held}
 use Rattle.rel_files.proofs.Pages.{flat}
 use Rattle.rel_files.proofs.WholePages.{AreWhole}
-use Rattle.backup_restore.specs.Copy.{most_pages, segment_bytes, pages_in, pages_held, pages_up_to, IsForkIn}
+use Rattle.incr_file.specs.Form.{whole_pages}
+use Rattle.chain_files.specs.Held.{most_pages, pages_taken, pages_up_to, is_full, IsForkOf}
+use Rattle.chain_files.specs.Segments.{plain_segments}
 use Rattle.backup_restore.specs.Directories.{IsWritable, StoresAreHeld}
-use Rattle.backup_restore.proofs.Directories.{up_to_longer}
+use Rattle.backup_restore.proofs.Directories.{up_to_more}
 
 -- ---- the bytes of whole pages, cut into pages again
 
@@ -42,10 +44,10 @@ flat_length size (page ∷ pages) all = length-append page (flat pages) ∙ omeg
 count_again : (pages : ForkPages) → AreWhole pages → length (flat pages) / 8192 ≡ length pages
 count_again pages whole = omega (arith, flat_length 8192 pages (recursion_from_All (λ page. length page ≡ 8192) pages whole))
 
-pages_again : (relseg : ℕ) (pages : ForkPages) → length pages ≤ relseg → AreWhole pages → pages_in relseg (flat pages) ≡ pages
-pages_again relseg pages few whole =
-    let count : pages_held relseg (flat pages) ≡ length pages = omega (arith, few, count_again pages whole) in
-    ap (λ (n : ℕ). map (λ k. take 8192 (drop (k * 8192) (flat pages))) (range_with_len 0 n)) count
+pages_again : (pages : ForkPages) → AreWhole pages → whole_pages (flat pages) ≡ pages
+unfolding whole_pages
+pages_again pages whole =
+    ap (λ (n : ℕ). map (λ k. take 8192 (drop (k * 8192) (flat pages))) (range_with_len 0 n)) (count_again pages whole)
     ∙ cut_again 8192 0 [] pages (omega arith) (recursion_from_All (λ page. length page ≡ 8192) pages whole)
 
 -- ---- the pages of a segment
@@ -89,10 +91,35 @@ content_or_none relseg pages seg some = elim (cases_lt seg (segment_count relseg
       ∙ sym (none_past relseg pages seg (past_pages relseg (length pages) seg some past))
 ]
 
+-- so its pages are those of the part
+pages_or_none : (relseg : ℕ) (pages : ForkPages) (seg : ℕ) → 0 < relseg → AreWhole pages → unwrap_or (option_map whole_pages (segment_in relseg seg (Some pages))) [] ≡ part relseg pages seg
+pages_or_none relseg pages seg some whole = elim (cases_lt seg (segment_count relseg (length pages))) [
+  | inl less ↦
+      ap (λ (b : Bool). unwrap_or (option_map whole_pages (cond b (Some (segment_content relseg pages seg)) None)) []) (lt-ltb seg (segment_count relseg (length pages)) less)
+      ∙ pages_again (part relseg pages seg) (part_whole relseg pages seg whole)
+  | inr past ↦
+      ap (λ (b : Bool). unwrap_or (option_map whole_pages (cond b (Some (segment_content relseg pages seg)) None)) []) (le-ltb seg (segment_count relseg (length pages)) past)
+      ∙ sym (ap (take relseg) (drop_all (seg * relseg) pages (past_pages relseg (length pages) seg some past)) ∙ take_all relseg [] (omega arith))
+]
+
+-- ---- what is taken of a file
+
+taken_all : (relseg : ℕ) (found : Option ForkPages) → pages_taken relseg found ≡ take relseg (unwrap_or found [])
+taken_all relseg None = sym (take_all relseg [] (omega arith))
+taken_all relseg (Some pages) = refl
+
+enough : (relseg : ℕ) (found : Option ForkPages) → 0 < relseg → relseg ≤ length (unwrap_or found []) → is_full relseg found ≡ true
+enough relseg None some le = absurd (omega (arith, some, le))
+enough relseg (Some pages) some le = le-leb relseg (length pages) le
+
+too_few : (relseg : ℕ) (found : Option ForkPages) → length (unwrap_or found []) < relseg → is_full relseg found ≡ false
+too_few relseg None less = refl
+too_few relseg (Some pages) less = lt-leb relseg (length pages) less
+
 -- a fork that is there has a first segment, and another one none
-has_first : (relseg : ℕ) (o : Option ForkPages) → is_some o ≡ is_some (segment_in relseg 0 o)
+has_first : (relseg : ℕ) (o : Option ForkPages) → is_some o ≡ is_some (option_map whole_pages (segment_in relseg 0 o))
 has_first relseg None = refl
-has_first relseg (Some pages) = sym (ap (λ (b : Bool). is_some (cond b (Some (segment_content relseg pages 0)) None)) (lt-ltb 0 (segment_count relseg (length pages)) (omega arith)))
+has_first relseg (Some pages) = sym (ap (λ (b : Bool). is_some (option_map whole_pages (cond b (Some (segment_content relseg pages 0)) None))) (lt-ltb 0 (segment_count relseg (length pages)) (omega arith)))
 
 -- so many first segments are full, and the next one isn't
 full_before : (relseg blocks seg : ℕ) → seg < blocks / relseg → relseg ≤ blocks - seg * relseg
@@ -130,35 +157,33 @@ module _ (relseg : ℕ) (files : Files) (store : Store) (some : 0 < relseg) (is 
     segs_named : (seg : ℕ) → seg ≤ length pages → IsNamed fork seg
     segs_named seg le = seg_named fork (length pages) seg (is.named fork pages there) le
 
-    bytes_are : (seg : ℕ) → seg ≤ length pages → segment_bytes files fork seg ≡ flat (part relseg pages seg)
-    bytes_are seg le =
-        ap (λ (o : Option (List ℕ)). unwrap_or o []) (file_in fork seg (segs_named seg le) ∙ ap (segment_in relseg seg) there)
-        ∙ content_or_none relseg pages seg some
-
-    pages_are : (seg : ℕ) → seg ≤ length pages → pages_in relseg (segment_bytes files fork seg) ≡ part relseg pages seg
+    pages_are : (seg : ℕ) → seg ≤ length pages → unwrap_or (plain_segments files fork seg) [] ≡ part relseg pages seg
     pages_are seg le =
-        ap (pages_in relseg) (bytes_are seg le)
-        ∙ pages_again relseg (part relseg pages seg) (part_few relseg pages seg) (part_whole relseg pages seg (is.pages fork pages there))
+        ap (λ (o : Option (List ℕ)). unwrap_or (option_map whole_pages o) []) (file_in fork seg (segs_named seg le) ∙ ap (segment_in relseg seg) there)
+        ∙ pages_or_none relseg pages seg some (is.pages fork pages there)
 
-    count_is : (seg : ℕ) → seg ≤ length pages → length (segment_bytes files fork seg) / 8192 ≡ min relseg (length pages - seg * relseg)
-    count_is seg le =
-        ap (λ (bytes : List ℕ). length bytes / 8192) (bytes_are seg le)
-        ∙ count_again (part relseg pages seg) (part_whole relseg pages seg (is.pages fork pages there))
-        ∙ part_length relseg pages seg
+    count_is : (seg : ℕ) → seg ≤ length pages → length (unwrap_or (plain_segments files fork seg) []) ≡ min relseg (length pages - seg * relseg)
+    count_is seg le = ap length (pages_are seg le) ∙ part_length relseg pages seg
 
-    first_pages_are : (count : ℕ) → count ≤ length pages + 1 → pages_up_to relseg files fork count ≡ take (count * relseg) pages
+    taken_are : (seg : ℕ) → seg ≤ length pages → pages_taken relseg (plain_segments files fork seg) ≡ part relseg pages seg
+    taken_are seg le =
+        taken_all relseg (plain_segments files fork seg)
+        ∙ ap (take relseg) (pages_are seg le)
+        ∙ take_all relseg (part relseg pages seg) (part_few relseg pages seg)
+
+    first_pages_are : (count : ℕ) → count ≤ length pages + 1 → pages_up_to relseg (plain_segments files fork) count ≡ take (count * relseg) pages
     first_pages_are zero le = let none : 0 * relseg ≡ 0 = omega arith in ap (λ (n : ℕ). take n pages) (sym none)
     first_pages_are (suc count) le =
         let more : suc count ≡ count + 1 = omega arith in
         let size : count * relseg + relseg ≡ suc count * relseg = omega arith in
-        ap (pages_up_to relseg files fork) more
-        ∙ up_to_longer relseg files fork count 1
-        ∙ ap (λ (l : ForkPages). l ++ (pages_in relseg (segment_bytes files fork count) ++ [])) (first_pages_are count (omega (arith, le)))
-        ∙ ap (λ (l : ForkPages). take (count * relseg) pages ++ l) (append-nil (pages_in relseg (segment_bytes files fork count)) ∙ pages_are count (omega (arith, le)))
+        ap (pages_up_to relseg (plain_segments files fork)) more
+        ∙ up_to_more relseg (plain_segments files fork) count
+        ∙ ap (λ (l : ForkPages). l ++ pages_taken relseg (plain_segments files fork count)) (first_pages_are count (omega (arith, le)))
+        ∙ ap (λ (l : ForkPages). take (count * relseg) pages ++ l) (taken_are count (omega (arith, le)))
         ∙ sym (take-add (count * relseg) relseg pages)
         ∙ ap (λ (n : ℕ). take n pages) size
 
-    fork_held : IsForkIn relseg files fork pages
+    fork_held : IsForkOf relseg (plain_segments files fork) pages
     fork_held =
         let blocks : ℕ = length pages in
         let full : ℕ = blocks / relseg in
@@ -167,8 +192,8 @@ module _ (relseg : ℕ) (files : Files) (store : Store) (some : 0 < relseg) (is 
         let size : full * relseg + relseg ≡ (full + 1) * relseg = omega arith in
         record {
           full = full;
-          before = λ seg less. le-leb relseg (length (segment_bytes files fork seg) / 8192) (omega (arith, count_is seg (omega (arith, less, within)), full_before relseg blocks seg less));
-          stops = inl (lt-leb relseg (length (segment_bytes files fork full) / 8192) (omega (arith, count_is full within, short)));
+          before = λ seg less. enough relseg (plain_segments files fork seg) some (omega (arith, count_is seg (omega (arith, less, within)), full_before relseg blocks seg less));
+          stops = inl (too_few relseg (plain_segments files fork full) (omega (arith, count_is full within, short)));
           are = sym (
               ap (take most_pages) (first_pages_are (full + 1) (omega (arith, within)) ∙ take_all ((full + 1) * relseg) pages (omega (arith, short, size)))
               ∙ take_all most_pages pages (few_enough (length pages) (is.named fork pages there).seg_fits));
@@ -179,6 +204,6 @@ module _ (relseg : ℕ) (files : Files) (store : Store) (some : 0 < relseg) (is 
 pub store_held : StoresAreHeld
 store_held relseg files store some is same = record {
   named = λ fork there. named_some fork (get store fork) there (is.named fork);
-  forks = λ fork named. has_first relseg (get store fork) ∙ ap is_some (sym (file_in relseg files store some is same fork 0 named));
+  forks = λ fork named. has_first relseg (get store fork) ∙ ap (λ (o : Option (List ℕ)). is_some (option_map whole_pages o)) (sym (file_in relseg files store some is same fork 0 named));
   pages = λ fork pages there. fork_held relseg files store some is same fork pages there;
 }

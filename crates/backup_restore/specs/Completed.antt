@@ -33,9 +33,9 @@ SoundCopiesAreCompleted =
 abbrev pub RestoresAreReplays : Type 0
 RestoresAreReplays =
     (s : StoreSettings) (files : Files) (records entries : List Record) (last tip : Tip)
-    (start : Lsn) (to : ℕ) (upto : Option Lsn) (backup : Files) (out : Option Files)
+    (start : Lsn) (to : ℕ) (upto : Option Lsn) (chain : List Files) (out : Option Files)
     (replayed : Replayed)
-    (made : MakesOf s.relseg backup entries (replayed_to upto tip) replayed out)
+    (made : MakesOf s.relseg chain entries (replayed_to upto tip) replayed out)
     → IsSegmentMib s.segment → IsWal s files records last
     → IsSoundCopy made.copy (map entry_of records) start.0 to
     → IsReadFromTo s (Some files) (AtPlace start) upto entries tip

@@ -1,19 +1,19 @@
 -- What the crate's functions answer to one another.
-use Rattle.std.specs.Prelude.{◌≡◌, ◌≤◌, ◌⊎◌, ℕ, ◌-◌, ◌*◌, ◌/◌, min, false, List, ◌++◌, take, drop, length, Option, Result, Ok, Err, IfSome}
-use Rattle.std.specs.FinMap.{empty, insert, contains_key}
+use Rattle.std.specs.Prelude.{◌≡◌, ◌≤◌, ◌⊎◌, ℕ, ◌-◌, min, Bool, false, List, [], ◌∷◌, ◌++◌, take, length, reverse, Option, Result, Ok, Err}
+use Rattle.std.specs.FinMap.{empty, insert, contains_key, keys}
 use Rattle.lsn_core.specs.Blocks.{with_fork}
 use Rattle.lsn_core.specs.Causes.{Rose}
 use Rattle.lsn_core.specs.Files.{Files}
-use Rattle.lsn_core.specs.Names.{IsNamed}
+use Rattle.lsn_core.specs.Names.{fork_path_bytes, IsNamed}
 use Rattle.lsn_core.specs.Segment.{StoreSettings}
 use Rattle.lsn_core.specs.Store.{Store, ForkPages}
-use Rattle.lsn_core.specs.declared.fault.AreaFault.TheVariants.{Failed}
+use Rattle.lsn_core.specs.declared.fault.AreaFault.TheVariants.{Failed, NoMemory}
 use Rattle.lsn_core.specs.declared.ids.ForkId.{ForkId}
 use Rattle.lsn_core.specs.declared.lsn.Lsn.{Lsn}
 use Rattle.lsn_core.specs.declared.pages.Pages.{Ghosts as PagesGhosts}
-use Rattle.vault.specs.Area.{bytes_of}
 use Rattle.vault.specs.Site.{state_in}
 use Rattle.vault.specs.declared.area.Vault.{Ghosts}
+use Rattle.vault.specs.declared.lending.Held.{Held}
 use Rattle.rel_files.specs.Forks.{HasWholePages}
 use Rattle.rel_files.specs.Shown.{AreFilesOf}
 use Rattle.recovery.specs.declared.fault.ReplayFault.{ReplayFault}
@@ -24,9 +24,13 @@ use Rattle.recovery.specs.declared.tally.Tally.{Tally}
 use Rattle.recovery.specs.Tally.{IsTallyOf}
 use Rattle.recovery.specs.Causes.{CauseOf}
 use Rattle.recovery.specs.Recovered.{IsRecovered, redo_causes}
+use Rattle.chain_files.specs.declared.fault.MemberFault.{MemberFault}
+use Rattle.chain_files.specs.Held.{most_pages, pages_taken, IsForkOf, IsStoreOfChain}
+use Rattle.chain_files.specs.Segments.{chain_segments}
+use Rattle.chain_files.specs.Sources.{OfChain}
+use Rattle.chain_files.specs.Told.{chain_told, faults_at, FailsAt}
 use Rattle.backup_restore.specs.declared.fault.RestoreFault.{RestoreFault}
 use Rattle.backup_restore.specs.declared.fault.RestoreFault.TheVariants.{Backup, Wal, Out}
-use Rattle.backup_restore.specs.Copy.{most_pages, first_path, segment_bytes, pages_in, pages_held, IsForkIn, IsStoreIn}
 use Rattle.backup_restore.specs.Restored.{RestoreAreas, RestoreAnswer}
 
 -- ---- faults
@@ -35,11 +39,16 @@ abbrev pub restore_fault_of : ReplayFault → RestoreFault
 restore_fault_of (replay.Wal why) = Wal why
 restore_fault_of (replay.Out why) = Out why
 
--- a copy fails where the backup's area or the pages do
-abbrev pub CopyCause : ℕ → ℕ → ℕ → ℕ → RestoreFault → Type 0
-CopyCause before now out_before out_now (Backup why) = why ≡ Failed → Rose before now
-CopyCause before now out_before out_now (Wal why) = ⊥
-CopyCause before now out_before out_now (Out why) = why ≡ Failed → Rose out_before out_now
+-- memory ran out, on no area's account
+abbrev pub no_memory : MemberFault
+no_memory = record { area = 0; why = NoMemory }
+
+-- a copy fails where the area of a member or the pages do
+abbrev pub CopyCause : {V : Type 0} → Ghosts V → List (Held V) → List (Held V) → ℕ → ℕ
+    → RestoreFault → Type 0
+CopyCause g before now out_before out_now (Backup fault) = FailsAt g before now fault
+CopyCause g before now out_before out_now (Wal why) = ⊥
+CopyCause g before now out_before out_now (Out why) = why ≡ Failed → Rose out_before out_now
 
 -- ---- pages
 
@@ -52,22 +61,16 @@ pub record IsShownIn (relseg : ℕ) (told : Option Files) (store : Store) : Type
 abbrev pub area_shows : {V : Type 0} → Ghosts V → ℕ → V → Store → Type 0
 area_shows g relseg area store = IsShownIn relseg (g.files area) store
 
--- pages of a file were read into a piece, from one on, counted from 0: as many as stand there
--- whole, but at most so many
-pub record ArePagesIn (bytes : List ℕ) (n most : ℕ) (piece : List ℕ) (count : ℕ) : Type 0 where
-  pub counted : count ≡ min most (length bytes / 8192 - n)
-  pub are : take (count * 8192) piece ≡ take (count * 8192) (drop (n * 8192) bytes)
-
-abbrev pub ReadsPages : Option Files → List ℕ → ℕ → ℕ → List ℕ → ℕ → Type 0
-ReadsPages files name n most piece count =
-    IfSome files (λ m. ArePagesIn (bytes_of m name) n most piece count)
-
 -- an empty fork was made over each store without it
 abbrev pub MakesFork : {P : Type 0} → (P → Store → Type 0) → P → P → ForkId → Type 0
 MakesFork shows before behind fork =
     (s : Store) → contains_key s fork ≡ false → shows before s → shows behind (with_fork s fork)
 
 -- ---- a fork
+
+-- the pages that are taken of a segment file that a chain is combined to, at most so many
+abbrev pub taken : ℕ → List Files → ForkId → ℕ → ForkPages
+taken relseg chain fork seg = pages_taken relseg (chain_segments chain fork seg)
 
 -- over each store, where pages showed it with these pages of a fork they show it now with those
 abbrev pub Puts : {P : Type 0} → (P → Store → Type 0) → P → P → ForkId → ForkPages → ForkPages
@@ -77,71 +80,85 @@ Puts shows before behind fork old new =
 
 -- so many first pages of a segment file were put behind as many as were there
 abbrev pub PutsPages : {P : Type 0} → (P → Store → Type 0)
-    → ℕ → Files → ForkId → ℕ → ℕ → P → P → ℕ → Type 0
-PutsPages shows relseg files fork seg first before behind count =
+    → ℕ → List Files → ForkId → ℕ → ℕ → P → P → ℕ → Type 0
+PutsPages shows relseg chain fork seg first before behind count =
     (pages : ForkPages) → length pages ≡ first → Puts shows before behind fork pages
-    (pages ++ take count (pages_in relseg (segment_bytes files fork seg)))
+    (pages ++ take count (taken relseg chain fork seg))
 
 -- and these are all that are read of it
 pub record PutsSegment {P : Type 0} (shows : P → Store → Type 0)
-    (relseg : ℕ) (files : Option Files) (fork : ForkId) (seg first : ℕ) (before behind : P)
+    (relseg : ℕ) (told : Option (List Files)) (fork : ForkId) (seg first : ℕ) (before behind : P)
     (count : ℕ) : Type 0 where
-  pub put : IfSome files (λ m. PutsPages shows relseg m fork seg first before behind count)
-  pub all : IfSome files (λ m.
-      count ≡ min (pages_held relseg (segment_bytes m fork seg)) (most_pages - first))
+  pub put : OfChain told (λ chain. PutsPages shows relseg chain fork seg first before behind count)
+  pub all : OfChain told (λ chain.
+      count ≡ min (length (taken relseg chain fork seg)) (most_pages - first))
   pub few : count ≤ relseg
   pub within : count ≤ most_pages - first
 
 -- all pages of a fork that wasn't there were put
 pub record IsForkPut {P : Type 0} (shows : P → Store → Type 0)
-    (relseg : ℕ) (files : Files) (fork : ForkId) (before behind : P) (count : ℕ)
+    (relseg : ℕ) (chain : List Files) (fork : ForkId) (before behind : P) (count : ℕ)
     : Type 0 where
   pub pages : ForkPages
-  pub are : IsForkIn relseg files fork pages
+  pub are : IsForkOf relseg (chain_segments chain fork) pages
   pub counted : count ≡ length pages
   pub put : (s : Store) → contains_key s fork ≡ false → shows before s
       → shows behind (insert s fork pages)
 
 abbrev pub PutsFork : {P : Type 0} → (P → Store → Type 0)
-    → ℕ → Option Files → ForkId → P → P → ℕ → Type 0
-PutsFork shows relseg files fork before behind count =
-    IfSome files (λ m. IsForkPut shows relseg m fork before behind count)
+    → ℕ → Option (List Files) → ForkId → P → P → ℕ → Type 0
+PutsFork shows relseg told fork before behind count =
+    OfChain told (λ chain. IsForkPut shows relseg chain fork before behind count)
 
 -- ---- a store
 
+-- the newest one of some directories, the newest first; an empty one, where there is none
+abbrev pub newest_of : List Files → Files
+newest_of [] = empty
+newest_of (files ∷ older) = files
+
+-- the names of the files of a chain's newest directory
+abbrev pub newest_names : List Files → List (List ℕ)
+newest_names chain = keys (newest_of (reverse chain))
+
 -- over each store without the fork whose first file has a name, this was put, and counted
 pub record IsNamedPut {P : Type 0} (shows : P → Store → Type 0)
-    (relseg : ℕ) (files : Files) (fork : ForkId) (before behind : P) (old new : Tally)
+    (relseg : ℕ) (chain : List Files) (fork : ForkId) (before behind : P) (old new : Tally)
     : Type 0 where
   pub pages : ForkPages
-  pub are : IsForkIn relseg files fork pages
+  pub are : IsForkOf relseg (chain_segments chain fork) pages
   pub put : (s : Store) → contains_key s fork ≡ false → shows before s
       → shows behind (insert s fork pages)
   pub counted : (s : Store) → contains_key s fork ≡ false → IsTallyOf old s
       → IsTallyOf new (insert s fork pages)
 
+-- a fork whose first file has a name, plain or incremental
+pub record IsFirstOf (name : List ℕ) (fork : ForkId) : Type 0 where
+  pub incr : Bool
+  pub named : IsNamed fork 0
+  pub is : name ≡ fork_path_bytes fork 0 incr
+
 -- the fork whose first file has a name was put; or no fork's first file has it, and nothing changed
 abbrev pub AddsNamed : {P : Type 0} → (P → Store → Type 0)
-    → ℕ → Option Files → List ℕ → P → P → Tally → Tally → Type 0
-AddsNamed shows relseg files name before behind old new =
-    ((fork : ForkId) × IsNamed fork 0 × (name ≡ first_path fork)
-    × IfSome files (λ m. IsNamedPut shows relseg m fork before behind old new))
-    ⊎ (((fork : ForkId) → IsNamed fork 0 → name ≡ first_path fork → ⊥)
-    × (behind ≡ before) × (new ≡ old))
+    → ℕ → Option (List Files) → List ℕ → P → P → Tally → Tally → Type 0
+AddsNamed shows relseg told name before behind old new =
+    ((fork : ForkId) × IsFirstOf name fork
+    × OfChain told (λ chain. IsNamedPut shows relseg chain fork before behind old new))
+    ⊎ (((fork : ForkId) → IsFirstOf name fork → ⊥) × (behind ≡ before) × (new ≡ old))
 
--- over pages that showed no fork they show now the store that the files hold, which has so many
+-- over pages that showed no fork they show now the store that the chain holds, which has so many
 -- forks and pages
-pub record IsCopied (shown : Store → Type 0) (relseg : ℕ) (files : Files) (tally : Tally)
+pub record IsCopied (shown : Store → Type 0) (relseg : ℕ) (chain : List Files) (tally : Tally)
     : Type 0 where
   pub copy : Store
-  pub held : IsStoreIn relseg files copy
+  pub held : IsStoreOfChain relseg chain copy
   pub there : shown copy
   pub counted : IsTallyOf tally copy
 
 abbrev pub CopiesStore : {P : Type 0} → (P → Store → Type 0)
-    → ℕ → Option Files → P → P → Tally → Type 0
-CopiesStore shows relseg files before behind tally =
-    shows before empty → IfSome files (λ m. IsCopied (shows behind) relseg m tally)
+    → ℕ → Option (List Files) → P → P → Tally → Type 0
+CopiesStore shows relseg told before behind tally =
+    shows before empty → OfChain told (λ chain. IsCopied (shows behind) relseg chain tally)
 
 -- ---- the whole
 
@@ -154,21 +171,22 @@ RedoesOver g p s start upto counted wal wal_now before behind (Ok replayed) =
 RedoesOver g p s start upto counted wal wal_now before behind (Err (Wal why)) =
     CauseOf (redo_causes (p.shows before) s (AtPlace start) upto (g.files wal)) (g.faults wal)
     (g.faults wal_now) why
-RedoesOver g p s start upto counted wal wal_now before behind (Err (Backup why)) = ⊥
+RedoesOver g p s start upto counted wal wal_now before behind (Err (Backup fault)) = ⊥
 RedoesOver g p s start upto counted wal wal_now before behind (Err (Out why)) =
     why ≡ Failed → Rose (p.faults before) (p.faults behind)
 
--- over areas
-abbrev pub areas_in : {V : Type 0} → Ghosts V → V → V → V → RestoreAreas
-areas_in g wal backup out = record {
+-- over areas, of which the members of a chain have theirs at places
+abbrev pub areas_in : {V : Type 0} → Ghosts V → List ℕ → V → List (Held V) → V → RestoreAreas
+areas_in g places wal areas out = record {
   wal = state_in g wal;
-  backup = state_in g backup;
+  chain = chain_told g areas places;
+  faults = faults_at g areas;
   out = state_in g out;
 }
 
 abbrev pub Restores : {V : Type 0} → Ghosts V
-    → StoreSettings → Lsn → Option Lsn → V → V → V → V → V → V
+    → StoreSettings → Lsn → Option Lsn → List ℕ → V → List (Held V) → V → V → List (Held V) → V
     → Result Replayed RestoreFault → Type 0
-Restores g s start upto wal backup out wal_now backup_now out_now r =
-    RestoreAnswer s start upto (areas_in g wal backup out)
-    (areas_in g wal_now backup_now out_now) r
+Restores g s start upto places wal areas out wal_now areas_now out_now r =
+    RestoreAnswer s start upto (areas_in g places wal areas out)
+    (areas_in g places wal_now areas_now out_now) r

@@ -1,7 +1,6 @@
-pub mod Copy
 pub mod Restored
-pub mod Onwards
 pub mod Inside
+pub mod Onwards
 pub mod Completed
 pub mod Directories
 pub mod Laws

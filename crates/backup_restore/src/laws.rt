@@ -1,8 +1,10 @@
 //! What holds of every reading of a WAL that begins at one of its entries, of every restore of a
-//! sound copy, of the store that a directory's files hold, and of two restores of the same files.
+//! sound copy, of the store that segment files hold, and of two restores of the same files.
 
 ghost use Rattle.backup_restore.specs.Completed.{RestoresAreReplays, SoundCopiesAreCompleted};
-ghost use Rattle.backup_restore.specs.Directories.{FilesHoldOneStore, StoresAreHeld};
+ghost use Rattle.backup_restore.specs.Directories.{AlikeFilesHoldOneStore, FilesHoldOneStore};
+ghost use Rattle.backup_restore.specs.Directories.{DirectoriesAreCombinedToThemselves};
+ghost use Rattle.backup_restore.specs.Directories.{PlainDirectoriesAreChains, StoresAreHeld};
 ghost use Rattle.backup_restore.specs.Laws.{RestoresHaveOneAnswer, RestoresEndAlike};
 ghost use Rattle.backup_restore.specs.Onwards.{EntriesAreFoundAtTheirStart, ReadingGoesOn};
 ghost use Rattle.backup_restore.specs.Onwards.{ReadingFromEntryIsRest};
@@ -22,17 +24,21 @@ pub fn sound_copies_are_completed()
     ensures replays { RestoresAreReplays }
 {}
 
-/// Files hold one store at most.
+/// Segment files hold one store at most, and those that are alike hold the same.
 pub fn directories_hold_one_store()
-    ensures { FilesHoldOneStore }
+    ensures one { FilesHoldOneStore }
+    ensures alike { AlikeFilesHoldOneStore }
 {}
 
-/// Files that have the segment files of a store, and no other ones, hold that store.
+/// Files that have the segment files of a store, and no other ones, hold that store. Without
+/// incremental files a directory is as a chain of one what it is on its own.
 pub fn stores_are_held_by_their_files()
-    ensures { StoresAreHeld }
+    ensures held { StoresAreHeld }
+    ensures alike { DirectoriesAreCombinedToThemselves }
+    ensures chain { PlainDirectoriesAreChains }
 {}
 
-/// Two restores of the same files of a backup and of the WAL, up to the same target, answer the same
+/// Two restores of the same files of a chain and of the WAL, up to the same target, answer the same
 /// and leave the same files.
 pub fn restores_have_one_answer()
     ensures { RestoresHaveOneAnswer }

@@ -4,13 +4,14 @@ use Rattle.vault.specs.Frame.{ChangesOnly}
 use Rattle.vault.proofs.Changed.{changes_on}
 use Rattle.rel_files.specs.Forks.{IsForkPath}
 use Rattle.rel_files.specs.Shown.{AreFilesOf}
+use Rattle.chain_files.specs.Told.{chain_told}
 use Rattle.backup_restore.specs.Inside.{CopiesStore, area_shows}
 use Rattle.backup_restore.proofs.Outputs.{restored_out}
 use Rattle.backup_restore.proofs.restoring.restore.Goals as goal
 
 pub returns-clause-answer : goal.returns-clause-answer
 returns-clause-answer g c =
-    restored_out g.V.Vault _ c.args.settings.now c.args.start c.args.upto c.args.wal.now c.args.backup.now c.args.out c.redo_over-came.new.wal c.copy_store.new.area c.area.result c.redo_over-came.result (record {
+    restored_out g.V.Vault _ c.args.settings.now c.args.start c.args.upto c.args.places.now c.args.wal.now c.args.areas.now c.args.out c.redo_over-came.new.wal c.copy_store.new.areas c.area.result c.redo_over-came.result (record {
       mid = c.copy_store.new.out;
       counted = c.in-Ok.counted;
       old = c.new-forks.result;
@@ -19,7 +20,7 @@ returns-clause-answer g c =
       shown = λ f s held. held;
       faults = λ f. refl;
       clear = c.requires.clear;
-      copied = subst (λ (n : ℕ). CopiesStore (area_shows g.V.Vault n) n (g.V.Vault.files c.args.backup.now) c.args.out c.copy_store.new.out c.in-Ok.counted) c.relseg-relseg.ensures.value c.in-Ok.ensures.copied;
+      copied = subst (λ (n : ℕ). CopiesStore (area_shows g.V.Vault n) n (chain_told g.V.Vault c.args.areas.now c.args.places.now) c.args.out c.copy_store.new.out c.in-Ok.counted) c.relseg-relseg.ensures.value c.in-Ok.ensures.copied;
       changes = c.in-Ok.ensures.kept;
       relseg = c.new-forks.ensures.relseg ∙ c.relseg-relseg.ensures.value;
       some = subst (λ (n : ℕ). 0 < n) c.relseg-relseg.ensures.value c.relseg-relseg.ensures.least;
