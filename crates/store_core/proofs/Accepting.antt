@@ -29,7 +29,7 @@ use Rattle.store_core.specs.State.{Part, State, end_of_wal, records_of}
 use Rattle.store_core.specs.Parts.{dirty_after, works_after, part_after}
 use Rattle.store_core.specs.Refusals.{most_pages, part_of_op, frames_for, page_total, judged_op, judged_total, judged_room, judged, command_record, is_past_room}
 use Rattle.store_core.specs.Steps.{command_count, inserted, accepted}
-use Rattle.store_core.specs.Inside.{done_items, done_op, part_in, part_behind, worker_at, commands_at, HasGoodEdits, IsCrewCounted, HasAppended}
+use Rattle.store_core.specs.Inside.{done_items, done_op, published_in, part_in, part_behind, worker_at, commands_at, HasGoodEdits, IsCrewCounted, HasAppended}
 use Rattle.store_core.specs.Shown.{finished_in, Shows, IsReached, HasStepped}
 use Rattle.store_core.proofs.Judged.{judged-fit, judged-fresh, judged-own, part_below, formed}
 use Rattle.store_core.proofs.Keeps.{kinds_same}
@@ -126,7 +126,7 @@ part_same end entries command part e =
 pub accept_step : (m a : Machine) (crew : Crew) (s : State) (worker q entries seq : ℕ) (d e f new : Pool) (command : Op) (full : Bool) (kind : Kind) (place : Place) → IsReached s → Shows m s → q ≡ part_of_op command → q < 4 → entries ≡ m.tip.count
     → None ≡ judged_op entries (get_or m.parts q d).frames command → judged_total s command ≡ cond full (Some (StoreFull (length s.history))) None → full ≡ false → kind ≡ kind_of (get_or m.parts q e).frames m.tip.redo (act_of_op command)
     → HasAppended m a kind place → part_in new ≡ part_behind place.end.0 command (part_in (get_or a.parts q f)) → seq ≡ commands_at a.crew.list.items worker → IsCrewCounted a.crew.list.items crew.list.items worker
-    → HasStepped (record { settings = a.settings; records = a.records; tip = a.tip; parts = slice_set a.parts q new; crew = crew; finished = a.finished }) (inserted s worker command (judged s command)) (reply.Accepted (record { number = entries; seq = seq; place = place }))
+    → HasStepped (record { settings = a.settings; records = a.records; tip = a.tip; summaries = a.summaries; summed = a.summed; parts = slice_set a.parts q new; crew = crew; finished = a.finished }) (inserted s worker command (judged s command)) (reply.Accepted (record { number = entries; seq = seq; place = place }))
 accept_step m a crew s worker q entries seq d e f new command full kind place reached shown is l count told total is_none kind_is app part_new seq_is counted =
     let machine = reached_machine s reached in
     let act = act_of_op command in
@@ -150,9 +150,12 @@ accept_step m a crew s worker q entries seq d e f new command full kind place re
     let behind : part_in new ≡ part_after r.end.0 act (s.parts k) =
     part_new ∙ ap (λ (x : _). part_behind x.0 command (part_in (get_or a.parts q f))) end ∙ ap (part_behind r.end.0 command) old ∙ part_same r.end.0 (length s.history) command (s.parts k) none in
     let there : q < length a.parts = subst (λ (ps : List Pool). q < length ps) (sym app.parts) (part_there m s q shown l) in
-    let last : Machine = record { settings = a.settings; records = a.records; tip = a.tip; parts = slice_set a.parts q new; crew = crew; finished = a.finished } in
+    let last : Machine = record { settings = a.settings; records = a.records; tip = a.tip; summaries = a.summaries; summed = a.summed; parts = slice_set a.parts q new; crew = crew; finished = a.finished } in
     let shown_last : Shows last (accepted s worker command r).0 = record {
       mib = ap (λ (x : _). x.segment) app.settings ∙ shown.mib;
+      relseg = ap (λ (x : _). x.relseg) app.settings ∙ shown.relseg;
+      published = ap (λ (x : _). map published_in x.items) app.summaries ∙ shown.published;
+      summed = ap (λ (x : _). x.0) app.summed ∙ shown.summed;
       records = app.records ∙ ap (λ (rs : List Record). rs ++ (record_at_tip m.settings.segment m.tip kind ∷ [])) shown.records ∙ ap (λ (x : Record). records_of s ++ (x ∷ [])) same ∙ sym (records_push s act r worker (Some n) machine.run written);
       tip = app.tip ∙ ap (λ (x : Record). tip_after m.tip x) same ∙ ap (λ (t : Tip). tip_after t r) shown.tip ∙ sym (tip_on s act r worker (Some n) machine.run written);
       parts = λ p less. ap (option_map part_in) (got_set a.parts q new p there) ∙ by_test (p == q)

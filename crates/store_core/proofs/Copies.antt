@@ -1,8 +1,8 @@
 -- A backup under way: each listing and each copied block was an answer at a moment of its own.
-use Rattle.std.proofs.Common.{◌≡◌, ℕ, zero, suc, ◌+◌, ◌<◌, ◌≤◌, Bool, true, false, cond, ◌&&◌, ◌||◌, List, [], ◌∷◌, ◌++◌, map, length, Option, Some, None, unwrap_or, option_map, is_some, refl, ap, sym, subst, ◌∙◌, arith, append_assoc, true≢false, eqb-true}
-use Rattle.std.specs.Prelude.{◌==◌, max, nat_lt, slice_get}
+use Rattle.std.proofs.Common.{◌≡◌, ℕ, zero, suc, ◌+◌, ◌<◌, ◌≤◌, Bool, true, false, cond, ◌&&◌, ◌||◌, List, [], ◌∷◌, ◌++◌, map, length, Option, Some, None, IfSome, unwrap_or, option_map, is_some, refl, ap, sym, subst, ◌∙◌, arith, append_assoc, true≢false, eqb-true}
+use Rattle.std.specs.Prelude.{◌==◌, max, nat_lt, not, slice_get}
 use Rattle.std.specs.List.{list_any, list_all, flat_map, range_with_len}
-use Rattle.std.specs.FinMap.{get, insert, empty, keys, contains_key, get-empty, contains_key-keys}
+use Rattle.std.specs.FinMap.{get, insert, keys, contains_key, get-empty, contains_key-keys}
 use Rattle.std.proofs.lemmas.Bool.{and_parts, or_parts, or_left, or_right, eq-eqb, eqb-false, ltb-true}
 use Rattle.std.proofs.lemmas.List.{append-nil, length-replicate}
 use Rattle.std.proofs.lemmas.List.Folds.{list_any-append, list_all-append}
@@ -24,8 +24,8 @@ use Rattle.fuzzy_copies.proofs.Pages.{got}
 use Rattle.fuzzy_copies.proofs.Taken.{listed_blocks}
 use Rattle.fuzzy_copies.proofs.Completed.{or_second}
 use Rattle.fuzzy_copies.proofs.Covering.{answers}
-use Rattle.store_core.specs.State.{Part, Backup, first_record, part_numbers}
-use Rattle.store_core.specs.Steps.{is_listed, unread, with_forks, with_listing, is_within, with_copied, fork_blocks, blocks_of, is_complete}
+use Rattle.store_core.specs.State.{Part, Published, Prior, Backup, first_record, part_numbers}
+use Rattle.store_core.specs.Steps.{new_backup, is_listed, unread, with_forks, with_listing, is_within, with_copied, fork_blocks, blocks_of, sends, is_settled, is_complete}
 use Rattle.store_core.proofs.Behind.{has_before, page_block}
 use Rattle.store_core.proofs.Caused.{any_weaker, tidy_from, covers_of}
 use Rattle.store_core.proofs.Judged.{blocks_put}
@@ -57,8 +57,14 @@ pub record CopiedAt (history : List Entry) (from : ℕ) (fork : ForkId) (block :
   pub copied : IsBlockCopied seen from fork block answer
   pub written : page ≡ unwrap_or answer zero_page
 
+-- the backup that one from a redo point on is made over
+pub record IsPrior (mib : ℕ) (history : List Entry) (from : ℕ) (p : Prior) : Type 0 where
+  pub start : IsRedoOf mib history p.start
+  pub below : p.start < from
+
 pub record IsBackup (mib : ℕ) (history : List Entry) (parts : ℕ → Part) (b : Backup) : Type 0 where
   pub start : IsRedoOf mib history b.start
+  pub prior : IfSome b.prior (IsPrior mib history b.start)
   pub points : (q : ℕ) → q < 4 → b.start ≤ (parts q).point
   pub forks : (fork : ForkId) → is_listed b (partition_of fork.rel) ≡ true → ListedAt history b.start b.copy fork
   pub blocks : (at : BlockId) (page : List ℕ) → is_named at b.copied ≡ true → block_of b.copy at.fork at.block ≡ Some page → CopiedAt history b.start at.fork at.block page
@@ -73,12 +79,20 @@ redo_push mib history from e r = record {
   later = r.later;
 }
 
+pub over_some : {X : Type 0} (P Q : X → Type 0) (o : Option X) → ((x : X) → P x → Q x) → IfSome o P → IfSome o Q
+over_some P Q None f k = tt
+over_some P Q (Some x) f k = f x k
+
+prior_push : (mib : ℕ) (history : List Entry) (from : ℕ) (p : Prior) (e : Entry) → IsPrior mib history from p → IsPrior mib (history ++ (e ∷ [])) from p
+prior_push mib history from p e is = record { start = redo_push mib history p.start e is.start; below = is.below }
+
 seen_push : (seen history : List Entry) (from : ℕ) (e : Entry) → SeenSoFar seen history from → SeenSoFar seen (history ++ (e ∷ [])) from
 seen_push seen history from e s = record { behind = s.behind ++ (e ∷ []); all = ap (λ (h : List Entry). h ++ (e ∷ [])) s.all ∙ append_assoc seen s.behind (e ∷ []); holds = s.holds }
 
 pub backup_push : (mib : ℕ) (history : List Entry) (parts : ℕ → Part) (b : Backup) (e : Entry) → IsBackup mib history parts b → IsBackup mib (history ++ (e ∷ [])) parts b
 backup_push mib history parts b e is = record {
   start = redo_push mib history b.start e is.start;
+  prior = over_some (IsPrior mib history b.start) (IsPrior mib (history ++ (e ∷ [])) b.start) b.prior (λ p k. prior_push mib history b.start p e k) is.prior;
   points = is.points;
   forks = λ fork there. let l = is.forks fork there in record { seen = l.seen; prefix = seen_push l.seen history b.start e l.prefix; listed = l.listed };
   blocks = λ at page named there.
@@ -92,6 +106,7 @@ backup_push mib history parts b e is = record {
 pub backup_moved : (mib : ℕ) (history : List Entry) (old new : ℕ → Part) (b : Backup) → ((q : ℕ) → (old q).point ≤ (new q).point) → IsBackup mib history old b → IsBackup mib history new b
 backup_moved mib history old new b rise is = record {
   start = is.start;
+  prior = is.prior;
   points = λ q l. (let p = is.points q l in omega (arith, p, rise q));
   forks = is.forks;
   blocks = is.blocks;
@@ -100,9 +115,10 @@ backup_moved mib history old new b rise is = record {
 }
 
 -- it begins
-pub backup_begins : (mib : ℕ) (history : List Entry) (parts : ℕ → Part) (from : ℕ) → IsRedoOf mib history from → ((q : ℕ) → q < 4 → from ≤ (parts q).point) → IsBackup mib history parts (record { start = from; listed = []; copy = empty; copied = [] })
-backup_begins mib history parts from redo points = record {
+pub backup_begins : (mib : ℕ) (history : List Entry) (parts : ℕ → Part) (from : ℕ) (prior : Option Prior) → IsRedoOf mib history from → IfSome prior (IsPrior mib history from) → ((q : ℕ) → q < 4 → from ≤ (parts q).point) → IsBackup mib history parts (new_backup from prior)
+backup_begins mib history parts from prior redo before points = record {
   start = redo;
+  prior = before;
   points = points;
   forks = λ fork there. absurd (true≢false (sym there));
   blocks = λ at page named there. absurd (true≢false (sym named));
@@ -126,7 +142,7 @@ disk_answers q mib history run part from fork f low mine =
 
 -- ---- a listing
 
-either_way : {X : Type 0} (t : Bool) (x : X) → cond t x x ≡ x
+pub either_way : {X : Type 0} (t : Bool) (x : X) → cond t x x ≡ x
 either_way true x = refl
 either_way false x = refl
 
@@ -185,6 +201,7 @@ backup_lists q mib history run parts b l f unlisted is =
     let apart = λ (fork : ForkId) (away : (q == partition_of fork.rel) ≡ false). listing_apart q mib history run.store (parts q) b.copy fork f (turned q (partition_of fork.rel) false away) in
     record {
       start = is.start;
+      prior = is.prior;
       points = is.points;
       forks = λ fork there. by_test (q == partition_of fork.rel)
           (λ here. record {
@@ -249,6 +266,7 @@ backup_copies q mib history run parts b at mine l f listed within is =
     let less = ltb-true at.block (unwrap_or (block_count b.copy at.fork) 0) within in
     record {
       start = is.start;
+      prior = is.prior;
       points = is.points;
       forks = λ fork there.
           let before = is.forks fork there in
@@ -278,7 +296,7 @@ backup_copies q mib history run parts b at mine l f listed within is =
 
 -- ---- its end
 
-each_listed : (t : ℕ → Bool) → list_all t part_numbers ≡ true → (q : ℕ) → q < 4 → t q ≡ true
+pub each_listed : (t : ℕ → Bool) → list_all t part_numbers ≡ true → (q : ℕ) → q < 4 → t q ≡ true
 each_listed t all zero l = (and_parts (t 0) _ all).0
 each_listed t all (suc zero) l = (and_parts (t 1) _ (and_parts (t 0) _ all).1).0
 each_listed t all (suc (suc zero)) l = (and_parts (t 2) _ (and_parts (t 1) _ (and_parts (t 0) _ all).1).1).0
@@ -319,7 +337,7 @@ block_listed t store fork b page all there = go (get store fork) refl there
         (let k = short_of pages b page e in omega (arith, k, ap (λ (o : Option ForkPages). length (unwrap_or o [])) is))
 
 -- seen up to an entry that ends the backup
-seen_to : (seen history : List Entry) (from : ℕ) (e : Entry) → SeenSoFar seen history from → IsSeen seen (history ++ (e ∷ [])) from e.end
+pub seen_to : (seen history : List Entry) (from : ℕ) (e : Entry) → SeenSoFar seen history from → IsSeen seen (history ++ (e ∷ [])) from e.end
 seen_to seen history from e s = record {
   behind = s.behind ++ (e ∷ []);
   all = ap (λ (h : List Entry). h ++ (e ∷ [])) s.all ∙ append_assoc seen s.behind (e ∷ []);
@@ -327,14 +345,21 @@ seen_to seen history from e s = record {
   ends = list_any-append (λ (x : Entry). x.end == e.end) s.behind (e ∷ []) ∙ or_right (list_any (λ (x : Entry). x.end == e.end) s.behind) _ (ap (λ c. c || false) (eq-eqb e.end e.end refl));
 }
 
-pub backup_taken : (mib : ℕ) (history : List Entry) (parts : ℕ → Part) (b : Backup) (e : Entry) → IsBackup mib history parts b → is_complete b ≡ true → IsTaken b.copy (history ++ (e ∷ [])) b.start e.end
-backup_taken mib history parts b e is complete =
-    let p = and_parts (list_all (is_listed b) part_numbers) (list_all (λ at. is_named at b.copied) (blocks_of b.copy)) complete in
+pub backup_taken : (mib relseg : ℕ) (history : List Entry) (parts : ℕ → Part) (published : List Published) (b : Backup) (e : Entry) → IsBackup mib history parts b → is_complete relseg published b ≡ true → b.prior ≡ None → IsTaken b.copy (history ++ (e ∷ [])) b.start e.end
+backup_taken mib relseg history parts published b e is complete full =
+    let p = and_parts (list_all (is_listed b) part_numbers) (list_all (is_settled relseg published b) (blocks_of b.copy)) complete in
     record {
       forks = λ fork.
           let l = is.forks fork (each_listed (is_listed b) p.0 (partition_of fork.rel) (omega arith)) in
           record { seen = l.seen; prefix = seen_to l.seen history b.start e l.prefix; listed = l.listed };
       blocks = λ fork block page there.
-          let c = is.blocks (record { fork = fork; block = block }) page (block_listed (λ at. is_named at b.copied) b.copy fork block page p.1 there) there in
+          let at : BlockId = record { fork = fork; block = block } in
+          let settled = block_listed (is_settled relseg published b) b.copy fork block page p.1 there in
+          let named : is_named at b.copied ≡ true = copied_of (is_named at b.copied) (ap (λ (o : Option Prior). is_named at b.copied || not (sends relseg published b o at)) (sym full) ∙ settled) in
+          let c = is.blocks at page named there in
           record { seen = c.seen; prefix = seen_to c.seen history b.start e c.prefix; answer = c.answer; copied = c.copied; written = c.written };
     }
+  where
+    copied_of : (t : Bool) → (t || false) ≡ true → t ≡ true
+    copied_of true k = refl
+    copied_of false k = absurd (true≢false (sym k))

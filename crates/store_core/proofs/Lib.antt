@@ -4,6 +4,8 @@ pub mod Behind
 pub mod Caused
 pub mod Runs
 pub mod Follows
+pub mod Planned
+pub mod Publishing
 pub mod Copies
 pub mod Logs
 pub mod Crews
@@ -12,5 +14,8 @@ pub mod Good
 pub mod Taking
 pub mod Accepting
 pub mod Stored
+pub mod Overlaid
+pub mod Extending
+pub mod Together
 pub mod Keeps
 pub mod Holds

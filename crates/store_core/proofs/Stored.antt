@@ -40,7 +40,7 @@ emptied store fork =
     (λ away.
     ap (λ c. cond c (Some []) (get (remove store fork) f)) away ∙ removed store fork f ∙ ap (λ c. cond c None (get store f)) away ∙ sym (got store fork [] f ∙ ap (λ c. cond c (Some []) (get store f)) away)))
 
-pages_here : (store : Store) (fork : ForkId) (pages : ForkPages) → pages_of (insert store fork pages) fork ≡ pages
+pub pages_here : (store : Store) (fork : ForkId) (pages : ForkPages) → pages_of (insert store fork pages) fork ≡ pages
 pages_here store fork pages = ap (λ (o : Option ForkPages). unwrap_or o []) (get_here store fork fork pages (fork_self fork))
 
 -- a page put behind the first ones
@@ -72,7 +72,7 @@ copied_next start copy now pages fork block n page same is l page_is put =
     ∙ ap (λ (p : List ℕ). some ++ (p ∷ [])) (page_is ∙ ap (λ (k : ℕ). get_or pages k zero_page) same) ∙ sym (take_more pages block zero_page l))
 
 -- a page of zeros put at the last place makes all before it
-last_set : (n m : ℕ) → m ≡ suc n → slice_set (replicate m zero_page) n zero_page ≡ replicate m zero_page
+pub last_set : (n m : ℕ) → m ≡ suc n → slice_set (replicate m zero_page) n zero_page ≡ replicate m zero_page
 last_set n m is = ap (λ (k : ℕ). slice_set (replicate k zero_page) n zero_page) is ∙ go n ∙ ap (λ (k : ℕ). replicate k zero_page) (sym is)
   where
     go : (n : ℕ) → slice_set (replicate (suc n) zero_page) n zero_page ≡ replicate (suc n) zero_page

@@ -27,9 +27,10 @@ replies_push s (y ∷ steps) x = ap (λ (rs : List Reply). (step_of s y).1 ∷ r
 reached_push : (s : State) (x : Step) → PutsPages x → IsReached s → IsReached (step_of s x).0
 reached_push s x pages r = record {
   mib = r.mib;
+  relseg = r.relseg;
   steps = r.steps ++ (x ∷ []);
   may = record { segment = r.may.segment; pages = All-push PutsPages r.steps x r.may.pages pages };
-  is = ap (λ (t : State). (step_of t x).0) r.is ∙ sym (behind_push (first_state r.mib) r.steps x);
+  is = ap (λ (t : State). (step_of t x).0) r.is ∙ sym (behind_push (first_state r.mib r.relseg) r.steps x);
 }
 
 pub run_begins : (m : Machine) (s : State) (replies : List Reply) → IsReached s → Shows m s → replies ≡ [] → HasRun m s [] replies

@@ -1,5 +1,5 @@
 -- What the crate's private functions do: no public contract cites these.
-use Rattle.std.specs.Prelude.{◌≡◌, ℕ, ◌+◌, ◌==◌, ◌<◌, ◌≤◌, ◌&&◌, if◌then◌else◌, List, [], ◌∷◌, ◌++◌, map, length, not, Option, None, Some, Result, Ok, Err, nat_le, slice_get}
+use Rattle.std.specs.Prelude.{◌≡◌, ℕ, ◌+◌, ◌==◌, ◌<◌, ◌≤◌, ◌&&◌, ◌||◌, Bool, nat_lt, if◌then◌else◌, List, [], ◌∷◌, ◌++◌, map, length, not, Option, None, Some, Result, Ok, Err, nat_le, slice_get}
 use Rattle.std.specs.List.{filter}
 use Rattle.std.specs.Option.{option_map, unwrap_or}
 use Rattle.lsn_core.specs.declared.ids.ForkId.{ForkId}
@@ -17,7 +17,10 @@ use Rattle.lsn_core.specs.Blocks.{pages_of, with_fork, with_cut}
 use Rattle.lsn_core.specs.Tip.{Tip}
 use Rattle.wal_record.specs.declared.record.Record.{Record}
 use Rattle.wal_record.specs.declared.record.Kind.{Kind}
-use Rattle.wal_record.specs.Tips.{wal_limit, record_at_tip, tip_after}
+use Rattle.wal_record.specs.Tips.{wal_limit, record_at_tip, tip_after, is_redo_mark}
+use Rattle.fuzzy_copies.specs.Summary.{least, is_at_most}
+use Rattle.wal_summary.specs.declared.summary.Summary.{Summary}
+use Rattle.wal_summary.specs.Summary.{table_of_summary}
 use Rattle.store_core.specs.declared.reply.Wrote.{Wrote}
 use Rattle.lsn_core.specs.declared.ids.ForkLen.{ForkLen}
 use Rattle.store_core.specs.declared.backup.Underway.{Underway}
@@ -29,7 +32,9 @@ use Rattle.wal_record.specs.Spelling.{IsWritable}
 use Rattle.history.specs.Written.{kind_of}
 use Rattle.store_core.specs.declared.reply.Refusal.{Refusal}
 use Rattle.store_core.specs.Refusals.{judged_edits, judged_op}
-use Rattle.store_core.specs.State.{Part, Backup, Worker, idle_worker}
+use Rattle.store_core.specs.declared.increment.PriorBackup.{PriorBackup}
+use Rattle.store_core.specs.State.{Part, Published, Prior, Backup, Worker, idle_worker}
+use Rattle.store_core.specs.Increments.{overlaps}
 use Rattle.store_core.specs.Parts.{dirty_after, works_after, next_write}
 
 -- no fragment of an edit is bad
@@ -92,10 +97,42 @@ IsNext mib tip kind None = wal_limit mib < (record_at_tip mib tip kind).end.0
 IsNext mib tip kind (Some r) =
     (r ≡ record_at_tip mib tip kind) × (r.end.0 ≤ wal_limit mib)
 
+-- the first redo point past a place, by the records of a WAL
+abbrev pub next_redo_in : ℕ → List Record → Option ℕ
+next_redo_in place [] = None
+next_redo_in place (r ∷ rs) =
+    if is_redo_mark r.kind && nat_lt place r.start.0 then Some r.start.0 else next_redo_in place rs
+
+-- a summary, as the machine's definitions see it
+abbrev pub published_in : Summary → Published
+published_in sum =
+    record { start = sum.start.0; end = sum.end.0; table = table_of_summary sum }
+
+-- a fork's limit, and whether a block is listed, with what one more summary says, where its range
+-- overlaps another
+abbrev pub limit_past : Option ℕ → ℕ → ℕ → ForkId → Published → Option ℕ
+limit_past limit from to fork p =
+    if overlaps from to p then least limit (p.table.limit fork) else limit
+
+abbrev pub listed_past : Bool → ℕ → ℕ → ForkId → ℕ → Published → Bool
+listed_past listed from to fork block p =
+    if overlaps from to p
+    then (listed && not (is_at_most block (p.table.limit fork))) || p.table.listed fork block
+    else listed
+
+-- a backup that an incremental one is made over, as the machine's definitions see it
+abbrev pub prior_in : PriorBackup → Prior
+prior_in b = record { start = b.start.0; copy = b.copy }
+
 -- a backup under way, as the machine's definitions see it
 abbrev pub underway_in : Underway → Backup
-underway_in b =
-    record { start = b.start.0; listed = b.listed.items; copy = b.copy; copied = b.copied.items }
+underway_in b = record {
+  start = b.start.0;
+  listed = b.listed.items;
+  copy = b.copy;
+  copied = b.copied.items;
+  prior = option_map prior_in b.prior;
+}
 
 -- forks of a disk with their lengths
 abbrev pub lengths_in : Store → List ForkId → List ForkLen
@@ -154,6 +191,8 @@ pub record HasAppended (old new : Machine) (kind : Kind) (place : Place) : Type 
       ≡ old.records.items ++ (record_at_tip old.settings.segment old.tip kind ∷ [])
   pub tip : new.tip ≡ tip_after old.tip (record_at_tip old.settings.segment old.tip kind)
   pub settings : new.settings ≡ old.settings
+  pub summaries : new.summaries ≡ old.summaries
+  pub summed : new.summed ≡ old.summed
   pub parts : new.parts ≡ old.parts
   pub crew : new.crew ≡ old.crew
   pub finished : new.finished ≡ old.finished

@@ -1,6 +1,7 @@
 pub mod Refusals
 pub mod State
 pub mod Parts
+pub mod Increments
 pub mod Steps
 pub mod Facts
 pub mod Laws

@@ -1,26 +1,39 @@
 -- What a machine in memory shows.
 use Rattle.std.specs.Prelude.{◌≡◌, ℕ, ◌<◌, true, false, List, map, Option, None, Some, slice_get}
 use Rattle.std.specs.Option.{option_map}
-use Rattle.store_core.specs.declared.machine.FullBackup.{FullBackup}
+use Rattle.store_core.specs.declared.over.FinishedBackup.{FinishedBackup}
+use Rattle.store_core.specs.declared.over.SentBlocks.{SentBlocks}
 use Rattle.store_core.specs.declared.machine.Machine.{Machine}
 use Rattle.store_core.specs.declared.reply.Reply.{Reply}
 use Rattle.store_core.specs.declared.step.Step.{Step}
-use Rattle.store_core.specs.Inside.{part_in, worker_at, commands_at}
-use Rattle.store_core.specs.State.{Finished, State, records_of, end_of_wal}
+use Rattle.store_core.specs.Inside.{published_in, part_in, worker_at, commands_at}
+use Rattle.store_core.specs.State.{Increment, Finished, State, records_of, end_of_wal}
 use Rattle.lsn_core.specs.declared.lsn.Place.{Place}
 use Rattle.history.specs.Entry.{Marking}
 use Rattle.store_core.specs.Laws.{MayRun}
 use Rattle.store_core.specs.Refusals.{is_past_room}
-use Rattle.store_core.specs.Steps.{command_count, mark_record, with_mark, behind_steps, replies_of, machine_after}
+use Rattle.store_core.specs.Steps.{summaries_end, command_count, mark_record, with_mark, behind_steps, replies_of, machine_after}
 
-abbrev pub finished_in : FullBackup → Finished
-finished_in b = record { copy = b.copy; start = b.start.0; end = b.end.0 }
+-- what an incremental backup tells, and a finished backup, as the definitions see them
+abbrev pub sent_in : SentBlocks → Increment
+sent_in s = record { prior = s.prior.0; sent = s.blocks.items }
+
+abbrev pub finished_in : FinishedBackup → Finished
+finished_in b = record {
+  copy = b.copy;
+  start = b.start.0;
+  end = b.end.0;
+  increment = option_map sent_in b.sent;
+}
 
 -- a machine in memory shows a machine as the definitions have it
 pub record Shows (m : Machine) (s : State) : Type 0 where
   pub mib : m.settings.segment ≡ s.mib
+  pub relseg : m.settings.relseg ≡ s.relseg
   pub records : m.records.items ≡ records_of s
   pub tip : m.tip ≡ end_of_wal s
+  pub published : map published_in m.summaries.items ≡ s.published
+  pub summed : m.summed.0 ≡ summaries_end s
   pub parts : (q : ℕ) → q < 4 → option_map part_in (slice_get m.parts q) ≡ Some (s.parts q)
   pub workers : (w : ℕ) → worker_at m.crew.list.items w ≡ s.workers w
   pub commands : (w : ℕ) → commands_at m.crew.list.items w ≡ command_count w s.history
@@ -35,9 +48,10 @@ pub record ShowsRun (m : Machine) (s : State) (steps : List Step) (replies : Lis
 -- a machine that steps made of a new store's
 pub record IsReached (s : State) : Type 0 where
   pub mib : ℕ
+  pub relseg : ℕ
   pub steps : List Step
   pub may : MayRun mib steps
-  pub is : s ≡ machine_after mib steps
+  pub is : s ≡ machine_after mib relseg steps
 
 -- a machine behind a step, with its answer
 abbrev pub HasStepped : Machine → State × Reply → Reply → Type 0

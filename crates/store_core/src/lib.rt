@@ -1,10 +1,12 @@
-//! The store as a machine of steps, over which the law of full backups stands for every list of
-//! steps.
+//! The store as a machine of steps, over which the laws of full and of incremental backups stand for
+//! every list of steps.
 //!
 //! What the machine holds stands in `specs/State.antt`, what each step leaves and answers in
-//! `Steps.antt`, and why a command is refused in `Refusals.antt`. Laws of their own (`Laws.antt`)
-//! say of every list of steps that each finished backup is sound, also for each later history, and
-//! that replay of the WAL over it gives what the whole WAL gives. `Machine` is the machine in
+//! `Steps.antt`, how an incremental backup is planned and what it makes over an earlier one in
+//! `Increments.antt`, and why a command is refused in `Refusals.antt`. Laws of their own
+//! (`Laws.antt`) say of every list of steps that each finished full backup is sound and that each
+//! incremental one extends sound copies to sound ones, also for each later history, and that replay
+//! of the WAL over a chain of backups gives what the whole WAL gives. `Machine` is the machine in
 //! memory, made to be plain and not fast: it holds and answers what the specs say (`Shown.antt`).
 //!
 //! Left to others: the running store, its locks, devices and flushes, which stand on the same laws
@@ -14,23 +16,27 @@
 mod backup;
 mod crew;
 mod form;
+mod increment;
 mod inserting;
 mod judge;
 mod kinds;
 mod laws;
 mod log;
 mod machine;
+mod over;
 mod pool;
 mod reply;
 mod running;
 mod step;
 mod stores;
+mod summaries;
 mod touching;
 
 pub use laws::{
     finished_backups_are_sound, finished_backups_stay, machines_keep_their_facts,
-    restored_backups_are_whole,
+    published_summaries_are_honest, restored_chains_are_whole,
 };
-pub use machine::{FullBackup, Machine};
+pub use machine::Machine;
+pub use over::{FinishedBackup, SentBlocks};
 pub use reply::{Lengths, Receipt, Refusal, Reply, Wrote};
 pub use step::{Asked, Step, Work};

@@ -1,6 +1,6 @@
 //! The machine in memory.
 
-ghost use Rattle.std.specs.Prelude.{◌≡◌, ◌<◌, ℕ, [], None, IfOk, OnOk};
+ghost use Rattle.std.specs.Prelude.{◌≡◌, ◌<◌, ◌&&◌, ℕ, [], map, None, IfOk, OnOk};
 ghost use Rattle.std.specs.Option.{option_map};
 ghost use Rattle.wal_record.specs.Spelling.{IsWritable};
 ghost use Rattle.history.specs.Entry.{Marking, BackupEnd};
@@ -8,16 +8,21 @@ ghost use Rattle.history.specs.Written.{mark_kind};
 ghost use Rattle.store_core.specs.declared.step.Step.TheVariants as step;
 ghost use Rattle.store_core.specs.State.{State, Worker, end_of_wal, with_worker};
 ghost use Rattle.store_core.specs.Parts.{next_write, cleaned};
-ghost use Rattle.store_core.specs.Steps.{begun, is_behind, machine_after, written, started, completed, listed, copied, ended, step_of, where_part};
+ghost use Rattle.store_core.specs.Increments.{next_redo};
+ghost use Rattle.store_core.specs.Steps.{begun, may_begin, is_behind, summaries_end, published, is_summed, sends, is_complete, machine_after, written, started, completed, listed, copied, ended, step_of, where_part};
 ghost use Rattle.store_core.specs.Inside.{underway_in, MayHaveAppended};
-ghost use Rattle.store_core.specs.Shown.{Shows, ShowsRun, IsReached, HasStepped, HasMarked};
+ghost use Rattle.store_core.specs.Shown.{finished_in, Shows, ShowsRun, IsReached, HasStepped, HasMarked};
 
 use crate::backup::Underway;
 use crate::crew::Crew;
+use crate::increment::PriorBackup;
 use crate::log::next_record;
+use crate::over::FinishedBackup;
 use crate::pool::Pool;
 use crate::reply::Reply;
 use crate::step::Asked;
+use crate::stores::copied;
+use crate::summaries::next_redo;
 use checkpointer::{first_kind, online_kind, redo_kind};
 use history::PageMap;
 use lsn_core::{BlockId, Lsn, NoMemory, Place, Settings, WalTip};
@@ -25,25 +30,20 @@ use partitions::partition_of;
 use std::alloc::Global;
 use wal_pages::Layout;
 use wal_record::{Kind, Record, first_tip, tip_after};
+use wal_summary::{Summary, summarise};
 
-/// A finished backup: its copy, where it starts and where it ends.
-#[derive(Drop)]
-pub struct FullBackup {
-    pub copy: PageMap,
-    pub start: Lsn,
-    pub end: Lsn,
-}
-
-/// The machine: its settings, its WAL and where that ends, its partitions by their numbers, its
-/// workers, and the finished backups, in order.
+/// The machine: its settings, its WAL and where that ends, the published summaries and where they
+/// end, its partitions by their numbers, its workers, and the finished backups, in order.
 #[derive(Drop)]
 pub struct Machine {
     pub(crate) settings: Settings,
     pub(crate) records: Vec<Record>,
     pub(crate) tip: WalTip,
+    pub(crate) summaries: Vec<Summary>,
+    pub(crate) summed: Lsn,
     pub(crate) parts: [Pool; 4],
     pub(crate) crew: Crew,
-    pub(crate) finished: Vec<FullBackup>,
+    pub(crate) finished: Vec<FinishedBackup>,
 }
 
 impl Machine {
@@ -70,7 +70,8 @@ impl Machine {
 
     /// The machine of a new store, whose WAL has its first entry alone.
     pub fn new(alloc: Global, settings: &Settings) -> Result<Machine, NoMemory>
-        ensures { IfOk result (λ m. Shows m (machine_after settings.now.segment [])) }
+        ensures { IfOk result (λ m. Shows m (machine_after settings.now.segment
+            settings.now.relseg [])) }
     {
         let first = first_tip(settings.segment());
         let start = Layout::new(settings).start_after(first.end);
@@ -79,6 +80,7 @@ impl Machine {
             return Err(NoMemory);
         };
         let end = record.end;
+        let summed = record.start;
         let tip = tip_after(first, &record);
         let mut records = Vec::new(alloc);
         records.push(record)?;
@@ -86,6 +88,8 @@ impl Machine {
             settings: *settings,
             records,
             tip,
+            summaries: Vec::new(alloc),
+            summed,
             parts: [
                 Pool::new(alloc, end),
                 Pool::new(alloc, end),
@@ -182,6 +186,21 @@ impl Machine {
         }
     }
 
+    /// A summary of the next range between redo points is published.
+    pub(crate) fn publish(&mut self, alloc: Global) -> Result<Reply, NoMemory>
+        ensures { (s : State) → IsReached s → Shows self.old s → IfOk result (HasStepped self.new
+            (published s (next_redo (summaries_end s) s.history))) }
+    {
+        let start = self.summed;
+        let Some(end) = next_redo(&self.records, start) else {
+            return Ok(Reply::Idle);
+        };
+        let sum = summarise(alloc, &self.records, start, end, 0)?;
+        self.summaries.push(sum)?;
+        self.summed = end;
+        Ok(Reply::Published(end))
+    }
+
     /// Whether a partition's point is below a redo point.
     fn is_behind(&self, redo: Lsn) -> bool
         ensures { (s : State) → Shows self.now s → result ≡ is_behind s redo.0 }
@@ -205,14 +224,15 @@ impl Machine {
         let Some(redo) = self.crew.redo(number) else {
             return Ok(Reply::Idle);
         };
-        if self.is_behind(redo) {
+        if self.is_behind(redo) || !may_begin(&self.finished, redo, what) {
             return Ok(Reply::Idle);
         }
         let entries = self.entries();
         match self.mark(alloc, online_kind(redo))? {
             None => Ok(Reply::WalFull(entries)),
             Some(place) => {
-                self.set_worker(number, None, begun(alloc, redo, what))?;
+                let backup = begun(alloc, &self.finished, redo, what)?;
+                self.set_worker(number, None, backup)?;
                 Ok(Reply::Completed(place.start))
             }
         }
@@ -241,8 +261,32 @@ impl Machine {
         Ok(Reply::Listed(lengths))
     }
 
+    /// Whether the published summaries reach the start of an incremental backup.
+    fn is_summed(&self, backup: &Underway) -> bool
+        ensures { (s : State) → Shows self.now s → result ≡ is_summed s (underway_in backup.now) }
+    {
+        backup.prior.is_none() || backup.start.0 <= self.summed.0
+    }
+
+    /// Whether a backup sends a block, and the published summaries reach its start.
+    fn is_sent(&self, alloc: Global, backup: &Underway, at: &BlockId) -> Result<bool, NoMemory>
+        ensures { (s : State) → Shows self.now s → IfOk result (λ sent. sent
+            ≡ (is_summed s (underway_in backup.now) && sends s.relseg s.published
+            (underway_in backup.now) (underway_in backup.now).prior at.now)) }
+    {
+        if !self.is_summed(backup) {
+            return Ok(false);
+        }
+        backup.sends(alloc, &self.summaries, self.settings.relseg(), at)
+    }
+
     /// A block is copied from its partition's disk into a worker's backup.
-    pub(crate) fn copy(&mut self, number: u32, at: &BlockId) -> Result<Reply, NoMemory>
+    pub(crate) fn copy(
+        &mut self,
+        alloc: Global,
+        number: u32,
+        at: &BlockId,
+    ) -> Result<Reply, NoMemory>
         ensures { (s : State) → Shows self.old s → IfOk result (HasStepped self.new
             (copied s number at.now (s.workers number).backup)) }
     {
@@ -251,6 +295,9 @@ impl Machine {
             None => return Ok(Reply::Idle),
             Some(backup) => {
                 if !backup.is_listed(part) || !backup.is_within(at) || backup.is_copied(at) {
+                    return Ok(Reply::Idle);
+                }
+                if !self.is_sent(alloc, backup, at)? {
                     return Ok(Reply::Idle);
                 }
             }
@@ -266,6 +313,18 @@ impl Machine {
         Ok(Reply::Copied(found))
     }
 
+    /// Whether a backup is complete, and the published summaries reach its start.
+    fn is_to_end(&self, alloc: Global, backup: &Underway) -> Result<bool, NoMemory>
+        ensures { (s : State) → Shows self.now s → IfOk result (λ all. all
+            ≡ (is_summed s (underway_in backup.now)
+            && is_complete s.relseg s.published (underway_in backup.now))) }
+    {
+        if !self.is_summed(backup) {
+            return Ok(false);
+        }
+        backup.is_complete(alloc, &self.summaries, self.settings.relseg())
+    }
+
     /// The end of a worker's backup is written to the WAL.
     pub(crate) fn end(&mut self, alloc: Global, number: u32) -> Result<Reply, NoMemory>
         ensures { (s : State) → IsReached s → Shows self.old s
@@ -274,7 +333,7 @@ impl Machine {
         let start = match self.crew.backup(number) {
             None => return Ok(Reply::Idle),
             Some(backup) => {
-                if !backup.is_complete(alloc)? {
+                if !self.is_to_end(alloc, backup)? {
                     return Ok(Reply::Idle);
                 }
                 backup.start
@@ -288,23 +347,51 @@ impl Machine {
         let Some(backup) = self.crew.take(number) else {
             return Err(NoMemory);
         };
+        let relseg = self.settings.relseg();
+        let finished = backup.finish(alloc, &self.summaries, relseg, place.end)?;
         self.set_worker(number, None, None)?;
-        self.finished.push(FullBackup {
-            copy: backup.copy,
-            start,
-            end: place.end,
-        })?;
+        self.finished.push(finished)?;
         Ok(Reply::Ended(place.end))
     }
 }
 
 /// The backup that begins with a checkpoint, where one was asked for.
-fn begun(alloc: Global, redo: Lsn, what: Asked) -> Option<Underway>
-    ensures { option_map underway_in result ≡ begun redo.0 what }
+fn begun(
+    alloc: Global,
+    finished: &[FinishedBackup],
+    redo: Lsn,
+    what: Asked,
+) -> Result<Option<Underway>, NoMemory>
+    ensures { IfOk result (λ backup. option_map underway_in backup
+        ≡ begun (map finished_in finished.now) redo.0 what) }
 {
     match what {
-        Asked::Nothing => None,
-        Asked::Full => Some(Underway::new(alloc, redo)),
+        Asked::Nothing => Ok(None),
+        Asked::Full => Ok(Some(Underway::new(alloc, redo, None))),
+        Asked::Incr(number) => match finished.get(number as usize) {
+            None => Ok(None),
+            Some(backup) => {
+                let prior = PriorBackup {
+                    start: backup.start,
+                    copy: copied(alloc, &backup.copy)?,
+                };
+                Ok(Some(Underway::new(alloc, redo, Some(prior))))
+            }
+        },
+    }
+}
+
+/// Whether the backup that is asked for may begin at a redo point.
+fn may_begin(finished: &[FinishedBackup], redo: Lsn, what: Asked) -> bool
+    ensures { result ≡ may_begin (map finished_in finished.now) redo.0 what }
+{
+    match what {
+        Asked::Nothing => true,
+        Asked::Full => true,
+        Asked::Incr(number) => match finished.get(number as usize) {
+            None => false,
+            Some(backup) => backup.end.0 <= redo.0,
+        },
     }
 }
 

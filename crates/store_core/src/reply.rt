@@ -24,6 +24,8 @@ pub enum Reply {
     Started(Lsn),
     /// The checkpoint's end stands here.
     Completed(Lsn),
+    /// A summary of the range that ends here was published.
+    Published(Lsn),
     /// The forks and their lengths, in order.
     Listed(Lengths),
     /// Whether the disk had the block. One that it hasn't is copied as zeros.

@@ -8,7 +8,8 @@ ghost use Rattle.store_core.specs.Laws.{PutsPages};
 ghost use Rattle.store_core.specs.Steps.{step_of};
 ghost use Rattle.store_core.specs.Shown.{Shows, ShowsRun, IsReached, HasStepped};
 
-use crate::machine::{FullBackup, Machine};
+use crate::machine::Machine;
+use crate::over::FinishedBackup;
 use crate::reply::Reply;
 use crate::step::Step;
 use history::{Edit, Item, Op};
@@ -25,7 +26,7 @@ impl Machine {
     }
 
     /// The finished backups, in order.
-    pub fn finished(&self) -> &[FullBackup]
+    pub fn finished(&self) -> &[FinishedBackup]
         ensures { result.now ≡ self.now.finished.items }
     {
         self.finished.as_slice()
@@ -67,13 +68,14 @@ impl Machine {
             }
             Step::Redo(worker) => self.start(alloc, *worker),
             Step::Begin(worker, what) => self.complete(alloc, *worker, *what),
+            Step::Publish => self.publish(alloc),
             Step::ListForks(worker, part) => {
                 if *part >= 4 {
                     return Ok(Reply::Idle);
                 }
                 self.list(alloc, *worker, *part)
             }
-            Step::CopyBlock(worker, at) => self.copy(*worker, at),
+            Step::CopyBlock(worker, at) => self.copy(alloc, *worker, at),
             Step::End(worker) => self.end(alloc, *worker),
         }
     }

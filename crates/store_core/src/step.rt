@@ -17,6 +17,9 @@ pub enum Step {
     Redo(u32),
     /// The end of that checkpoint is written to the WAL; a backup that was asked for begins.
     Begin(u32, Asked),
+    /// A summary is published of the range of the WAL from where the last one ends, or from the
+    /// first entry on, to the next redo point.
+    Publish,
     /// The forks on a partition's disk are listed for the worker's backup, with their lengths.
     ListForks(u32, u32),
     /// A block is copied from its partition's disk into the worker's backup.
@@ -32,6 +35,9 @@ pub enum Asked {
     Nothing,
     /// A full backup, from the checkpoint's redo point on.
     Full,
+    /// An incremental backup from there on, over the finished backup of this number, counted from
+    /// 0.
+    Incr(u32),
 }
 
 /// A work on a partition's disk, to be done before its dirty pages are written.

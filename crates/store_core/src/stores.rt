@@ -1,6 +1,6 @@
 //! Stores in memory, fork by fork.
 
-ghost use Rattle.std.specs.Prelude.{◌≡◌, [], IfOk, OnOk, length, replicate};
+ghost use Rattle.std.specs.Prelude.{◌≡◌, ◌-◌, [], ◌++◌, IfOk, OnOk, length, replicate};
 ghost use Rattle.std.specs.FinMap.{insert};
 ghost use Rattle.lsn_core.specs.Blocks.{pages_of, page_put, with_fork, with_cut, without_fork};
 ghost use Rattle.pg_page.specs.Header.{zero_page};
@@ -56,6 +56,28 @@ pub(crate) fn add_unread(copy: &mut PageMap, from: &PageMap, fork: &ForkId) -> R
     Ok(())
 }
 
+/// Puts a fork of one store into another, with its pages, and zeros behind them up to so many.
+pub(crate) fn raise_fork(
+    copy: &mut PageMap,
+    from: &PageMap,
+    fork: &ForkId,
+    count: u32,
+) -> Result<(), NoMemory>
+    ensures { OnOk result (copy.new ≡ insert copy.old fork.now (pages_of from.now fork.now
+        ++ replicate (count - length (pages_of from.now fork.now)) zero_page)) }
+{
+    copy_fork(copy, from, fork)?;
+    let size = blocks_in(from, fork);
+    if count as usize > size {
+        let at = BlockId {
+            fork: *fork,
+            block: count - 1,
+        };
+        put_page(copy, at, &zero_page())?;
+    }
+    Ok(())
+}
+
 /// A number that fits, as those of all blocks do that memory holds.
 pub(crate) fn number(count: usize) -> Result<u32, NoMemory>
     ensures { IfOk result (λ n. n ≡ count) }
@@ -77,7 +99,7 @@ pub(crate) fn blocks_in(store: &PageMap, fork: &ForkId) -> usize
 }
 
 /// Makes a fork that has no page, whatever it was before.
-fn empty_fork(store: &mut PageMap, fork: &ForkId) -> Result<(), NoMemory>
+pub(crate) fn empty_fork(store: &mut PageMap, fork: &ForkId) -> Result<(), NoMemory>
     ensures { OnOk result (store.new ≡ insert store.old fork.now []) }
 {
     remove_fork(store, *fork)?;
