@@ -1,5 +1,6 @@
 -- What the words of the command line ask for (profile).
-use Rattle.std.specs.Prelude.{ℕ, ◌+◌, ◌*◌, ◌<◌, Bool, List, [], ◌∷◌, Option, Some, None, codes, bytes_eq, nat_lt, ◌&&◌, if◌then◌else◌}
+use Rattle.std.specs.Prelude.{ℕ, ◌+◌, ◌*◌, ◌<◌, ◌≤◌, List, [], ◌∷◌, ◌++◌, length, take, drop, Option, Some, None, codes, bytes_eq, nat_lt, ◌&&◌, if◌then◌else◌}
+use Rattle.std.specs.List.{position}
 use Rattle.std.specs.Option.{option_map}
 use Rattle.byte_words.specs.Numbers.{◌>>=◌}
 use Rattle.byte_words.specs.Cuts.{cut_at}
@@ -9,17 +10,20 @@ use Rattle.crew.specs.Cuts.{is_name}
 use Rattle.command_line.specs.declared.options.InitOptions.{InitOptions}
 use Rattle.command_line.specs.declared.words.Command.{Command}
 use Rattle.command_line.specs.declared.words.Command.TheVariants as command
+use Rattle.command_line.specs.Members.{names_in, are_members, is_target}
 use Rattle.command_line.specs.Options.{none_given, options_in, IsInRange}
 
 -- a new store, a script to be run, a replay to an output of that name, up to a target where one is
--- given, the check of the backup of a name, the backup of the second name restored to an output of the
--- first, up to a target where one is given, or the summary of a range of the WAL
+-- given, the check of the backup of a name, the chain of the backups of some names restored to an output
+-- of a name, up to a target where one is given, such a chain combined to a backup of a name, or the
+-- summary of a range of the WAL
 pub data Asked : Type 0 where
   Init : InitOptions → Asked
   Run : Asked
   Replay : Option Lsn → List ℕ → Asked
   Verify : List ℕ → Asked
-  Restore : Option Lsn → List ℕ → List ℕ → Asked
+  Restore : Option Lsn → List ℕ → List (List ℕ) → Asked
+  Combine : List ℕ → List (List ℕ) → Asked
   Walsummary : Lsn → Lsn → Asked
 
 -- what the words behind the command's name ask
@@ -47,9 +51,6 @@ replay_to target name = if is_name name then Some (Replay target name) else None
 abbrev pub replay_up_to : List ℕ → List ℕ → Option Asked
 replay_up_to value name = lsn_value value >>= λ target. replay_to (Some target) name
 
-abbrev pub is_target : List ℕ → Bool
-is_target word = bytes_eq word (codes "--target")
-
 -- the option stands before the name or behind it
 abbrev pub replay_with : List ℕ → List ℕ → List ℕ → Option Asked
 replay_with first second third =
@@ -71,29 +72,37 @@ verify_asked [] = None
 verify_asked (name ∷ []) = verify_name name
 verify_asked (name ∷ (more ∷ words)) = None
 
-abbrev pub restore_to : Option Lsn → List ℕ → List ℕ → Option Asked
-restore_to target out member =
-    if is_name out && is_name member then Some (Restore target out member) else None
+abbrev pub restore_to : Option Lsn → List ℕ → List (List ℕ) → Option Asked
+restore_to target out members =
+    if is_name out && are_members members then Some (Restore target out members) else None
 
-abbrev pub restore_up_to : List ℕ → List ℕ → List ℕ → Option Asked
-restore_up_to value out member = lsn_value value >>= λ target. restore_to (Some target) out member
+-- the output's name, and behind it those of the members
+abbrev pub restore_named : Option Lsn → List (List ℕ) → Option Asked
+restore_named target [] = None
+restore_named target (out ∷ members) = restore_to target out members
 
--- the option stands before the names, between them or behind them
-abbrev pub restore_with : List ℕ → List ℕ → List ℕ → List ℕ → Option Asked
-restore_with first second third fourth =
-    if is_target first then restore_up_to second third fourth
-    else (if is_target second then restore_up_to third first fourth
-    else (if is_target third then restore_up_to fourth first second else None))
+-- the words before the option and those from it on, which has a value behind it
+abbrev pub restore_cut : List (List ℕ) → List (List ℕ) → Option Asked
+restore_cut front [] = None
+restore_cut front (option ∷ []) = None
+restore_cut front (option ∷ (value ∷ behind)) =
+    lsn_value value >>= λ target. restore_named (Some target) (front ++ behind)
 
--- one backup is taken so far
+abbrev pub restore_at : List (List ℕ) → Option ℕ → Option Asked
+restore_at words None = restore_named None words
+restore_at words (Some place) = restore_cut (take place words) (drop place words)
+
+-- the option may stand before the names, between them or behind them
 abbrev pub restore_asked : List (List ℕ) → Option Asked
-restore_asked [] = None
-restore_asked (out ∷ []) = None
-restore_asked (out ∷ (member ∷ [])) = restore_to None out member
-restore_asked (first ∷ (second ∷ (third ∷ []))) = None
-restore_asked (first ∷ (second ∷ (third ∷ (fourth ∷ [])))) =
-    restore_with first second third fourth
-restore_asked (first ∷ (second ∷ (third ∷ (fourth ∷ (more ∷ words))))) = None
+restore_asked words = restore_at words (position is_target words)
+
+abbrev pub combine_to : List ℕ → List (List ℕ) → Option Asked
+combine_to out members =
+    if is_name out && are_members members then Some (Combine out members) else None
+
+abbrev pub combine_asked : List (List ℕ) → Option Asked
+combine_asked [] = None
+combine_asked (out ∷ members) = combine_to out members
 
 -- a range has a place at least
 abbrev pub walsummary_of : Lsn → Lsn → Option Asked
@@ -118,7 +127,8 @@ asked (word ∷ words) =
     else (if bytes_eq word (codes "replay") then replay_asked words
     else (if bytes_eq word (codes "verify") then verify_asked words
     else (if bytes_eq word (codes "restore") then restore_asked words
-    else (if bytes_eq word (codes "walsummary") then walsummary_asked words else None)))))
+    else (if bytes_eq word (codes "combine") then combine_asked words
+    else (if bytes_eq word (codes "walsummary") then walsummary_asked words else None))))))
 
 -- a command asks for this
 abbrev pub asks : Command → Asked
@@ -126,14 +136,16 @@ asks (command.Init options) = Init options
 asks command.Run = Run
 asks (command.Replay upto name) = Replay upto name.now
 asks (command.Verify name) = Verify name.now
-asks (command.Restore upto out member) = Restore upto out.now member.now
+asks (command.Restore upto out members) = Restore upto out.now (names_in members)
+asks (command.Combine out members) = Combine out.now (names_in members)
 asks (command.Walsummary from to) = Walsummary from to
 
--- the options of a command are in their ranges, and a range has a place
+-- the options of a command are in their ranges, a range has a place, and a chain a member
 abbrev pub HasRange : Command → Type 0
 HasRange (command.Init options) = IsInRange options
 HasRange command.Run = Unit {0}
 HasRange (command.Replay upto name) = Unit {0}
 HasRange (command.Verify name) = Unit {0}
-HasRange (command.Restore upto out member) = Unit {0}
+HasRange (command.Restore upto out members) = 1 ≤ length (names_in members)
+HasRange (command.Combine out members) = 1 ≤ length (names_in members)
 HasRange (command.Walsummary from to) = from.0 < to.0

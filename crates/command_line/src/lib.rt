@@ -8,8 +8,10 @@
 //! (`text_numbers`, `lsn_core`), and what a command does (`pgbackup_cli`).
 #![tactic(auto)]
 
+mod members;
 mod options;
 mod words;
 
+pub use members::MemberNames;
 pub use options::InitOptions;
 pub use words::{Command, command_of};

@@ -2,11 +2,13 @@
 
 ghost use Rattle.std.specs.Prelude.{◌≡◌, IfSome};
 ghost use Rattle.std.specs.Option.{option_map};
-ghost use Rattle.command_line.specs.Words.{init_asked, run_asked, lsn_value, replay_to, replay_up_to, is_target, replay_with, replay_asked, verify_name, verify_asked, asked};
-ghost use Rattle.command_line.specs.Words.{restore_to, restore_up_to, restore_with, restore_asked};
+ghost use Rattle.command_line.specs.Words.{init_asked, run_asked, lsn_value, replay_to, replay_up_to, replay_with, replay_asked, verify_name, verify_asked, asked};
+ghost use Rattle.command_line.specs.Members.{names_in, is_target};
+ghost use Rattle.command_line.specs.Words.{restore_to, restore_named, restore_cut, restore_asked, combine_to, combine_asked};
 ghost use Rattle.command_line.specs.Words.{walsummary_of, walsummary_values, walsummary_asked};
 ghost use Rattle.command_line.specs.Words.{asks, HasRange};
 
+use crate::members::{MemberNames, all_of, are_members, first_of, option_place};
 use crate::options::{InitOptions, options_of};
 use crew::is_name;
 use lsn_core::{Lsn, Text, lsn_read};
@@ -23,9 +25,11 @@ pub enum Command<'a> {
     Replay(Option<Lsn>, &'a [u8]),
     /// The directory of the backup of this name checked.
     Verify(&'a [u8]),
-    /// Restored up to the target, where one is given, to an output of the first name: the backup of
-    /// the second name, and the WAL from its start on.
-    Restore(Option<Lsn>, &'a [u8], &'a [u8]),
+    /// Restored up to the target, where one is given, to an output of this name: the chain of the
+    /// backups of these names, and the WAL from the last one's start on.
+    Restore(Option<Lsn>, &'a [u8], MemberNames<'a>),
+    /// The chain of the backups of these names combined to a backup of this name.
+    Combine(&'a [u8], MemberNames<'a>),
     /// What the kept summaries tell of the range from the first place to below the second, which is
     /// past it.
     Walsummary(Lsn, Lsn),
@@ -74,7 +78,8 @@ fn replay_up_to<'a>(value: &[u8], name: &'a [u8]) -> Option<Command<'a>>
     replay_to(Some(target), name)
 }
 
-fn is_target(word: &[u8]) -> bool
+/// Whether a word is the option of a target.
+pub(crate) fn is_target(word: &[u8]) -> bool
     ensures { result ≡ is_target word.now }
 {
     word == b"--target".as_slice()
@@ -127,62 +132,74 @@ fn verify_of(words: &[Text]) -> Option<Command<'_>>
     }
 }
 
-fn restore_to<'a>(target: Option<Lsn>, out: &'a [u8], member: &'a [u8]) -> Option<Command<'a>>
-    ensures asked { option_map asks result ≡ restore_to target out.now member.now }
-    ensures range { IfSome result HasRange }
-{
-    if is_name(out) && is_name(member) {
-        return Some(Command::Restore(target, out, member));
-    }
-    None
-}
-
-fn restore_up_to<'a>(value: &[u8], out: &'a [u8], member: &'a [u8]) -> Option<Command<'a>>
-    ensures asked { option_map asks result ≡ restore_up_to value.now out.now member.now }
-    ensures range { IfSome result HasRange }
-{
-    let target = lsn_in(value)?;
-    restore_to(Some(target), out, member)
-}
-
-/// The option stands before the names, between them or behind them.
-fn restore_with<'a>(
-    first: &'a [u8],
-    second: &'a [u8],
-    third: &'a [u8],
-    fourth: &'a [u8],
+/// A member's name is one, and there is one at least.
+fn restore_to<'a>(
+    target: Option<Lsn>,
+    out: &'a [u8],
+    members: MemberNames<'a>,
 ) -> Option<Command<'a>>
-    ensures asked { option_map asks result
-        ≡ restore_with first.now second.now third.now fourth.now }
+    ensures asked { option_map asks result ≡ restore_to target out.now (names_in members.entry) }
     ensures range { IfSome result HasRange }
 {
-    if is_target(first) {
-        return restore_up_to(second, third, fourth);
-    }
-    if is_target(second) {
-        return restore_up_to(third, first, fourth);
-    }
-    if is_target(third) {
-        return restore_up_to(fourth, first, second);
+    if is_name(out) && are_members(&members) {
+        return Some(Command::Restore(target, out, members));
     }
     None
 }
 
-/// One backup is taken so far.
+/// The output's name stands before those of the members.
+fn restore_named(target: Option<Lsn>, names: MemberNames<'_>) -> Option<Command<'_>>
+    ensures asked { option_map asks result ≡ restore_named target (names_in names.entry) }
+    ensures range { IfSome result HasRange }
+{
+    let (out, members) = first_of(names)?;
+    restore_to(target, out, members)
+}
+
+/// The words before the option and those from it on, which has a value behind it.
+fn restore_cut<'a>(front: &'a [Text], rest: &'a [Text]) -> Option<Command<'a>>
+    ensures asked { option_map asks result ≡ restore_cut front.now rest.now }
+    ensures range { IfSome result HasRange }
+{
+    match rest {
+        [_, value, behind @ ..] => {
+            let target = lsn_in(value.as_bytes())?;
+            restore_named(Some(target), MemberNames { front, behind })
+        }
+        _ => None,
+    }
+}
+
+/// The option may stand before the names, between them or behind them.
 fn restore_of(words: &[Text]) -> Option<Command<'_>>
     ensures asked { option_map asks result ≡ restore_asked words.now }
     ensures range { IfSome result HasRange }
 {
-    match words {
-        [out, member] => restore_to(None, out.as_bytes(), member.as_bytes()),
-        [first, second, third, fourth] => restore_with(
-            first.as_bytes(),
-            second.as_bytes(),
-            third.as_bytes(),
-            fourth.as_bytes(),
-        ),
-        _ => None,
+    match option_place(words) {
+        None => restore_named(None, all_of(words)),
+        Some(place) => {
+            let (front, rest) = words.split_at(place);
+            restore_cut(front, rest)
+        }
     }
+}
+
+fn combine_to<'a>(out: &'a [u8], members: MemberNames<'a>) -> Option<Command<'a>>
+    ensures asked { option_map asks result ≡ combine_to out.now (names_in members.entry) }
+    ensures range { IfSome result HasRange }
+{
+    if is_name(out) && are_members(&members) {
+        return Some(Command::Combine(out, members));
+    }
+    None
+}
+
+fn combine_of(words: &[Text]) -> Option<Command<'_>>
+    ensures asked { option_map asks result ≡ combine_asked words.now }
+    ensures range { IfSome result HasRange }
+{
+    let (out, members) = words.split_first()?;
+    combine_to(out.as_bytes(), all_of(members))
 }
 
 /// A range has a place at least.
@@ -236,6 +253,9 @@ pub fn command_of(words: &[Text]) -> Option<Command<'_>>
     }
     if word == b"restore".as_slice() {
         return restore_of(others);
+    }
+    if word == b"combine".as_slice() {
+        return combine_of(others);
     }
     if word == b"walsummary".as_slice() {
         return walsummary_in(others);

@@ -142,6 +142,15 @@ fn listed_note(alloc: Global, of: &Judged, fault: &ChainFault) -> Result<Text, N
     }
 }
 
+/// No manifest can list what a chain to this backup is combined to: its manifest isn't as it was read.
+pub fn unlisted_note(alloc: Global, backup: &[u8]) -> Result<Text, NoMemory> {
+    let of = Judged {
+        backup,
+        behind: b"",
+    };
+    manifest_note(alloc, &of, manifest_text(ManifestWhy::Shape))
+}
+
 /// A backup of a chain, with what is wrong, and what to do next.
 fn member_note(alloc: Global, backup: &[u8], wrong: &[u8], next: &[u8]) -> Result<Text, NoMemory> {
     note(alloc, &[b"backup ", backup, b" ", wrong], next)
@@ -185,33 +194,19 @@ fn numbers_note(alloc: Global, backup: &[u8], why: &LinkFault) -> Result<Text, N
     )
 }
 
-/// A file of the backup is incremental, and can't be taken.
-fn incremental_note(alloc: Global, backup: &[u8], why: &LinkFault) -> Result<Text, NoMemory> {
-    match why {
-        LinkFault::NoPriorFile(path) => note(
-            alloc,
-            &[
-                b"file ",
-                backup,
-                b"/",
-                path.as_bytes(),
-                b" is incremental, and the backup before it doesn't have the file",
-            ],
-            b"use another backup",
-        ),
-        LinkFault::FileIncremental(path) => note(
-            alloc,
-            &[
-                b"file ",
-                backup,
-                b"/",
-                path.as_bytes(),
-                b" is incremental in a full backup",
-            ],
-            b"restore another backup",
-        ),
-        _ => Err(NoMemory),
-    }
+/// The file of this path is incremental, and the backup before doesn't have it.
+fn incremental_note(alloc: Global, backup: &[u8], path: &[u8]) -> Result<Text, NoMemory> {
+    note(
+        alloc,
+        &[
+            b"file ",
+            backup,
+            b"/",
+            path,
+            b" is incremental, and the backup before it doesn't have the file",
+        ],
+        b"use another backup",
+    )
 }
 
 /// The backup isn't taken as a member of a chain.
@@ -234,7 +229,7 @@ pub fn link_note(alloc: Global, backup: &[u8], why: &LinkFault) -> Result<Text, 
             alloc,
             backup,
             b"is incremental: its label names a prior",
-            b"restore a full backup; chains of several backups are not restored yet",
+            b"name the backups of one chain in their order, a full one first",
         ),
         LinkFault::LaterFull => member_note(
             alloc,
@@ -244,9 +239,7 @@ pub fn link_note(alloc: Global, backup: &[u8], why: &LinkFault) -> Result<Text, 
         ),
         LinkFault::SystemDiffers(_, _) | LinkFault::WrongPrior(_, _) | LinkFault::Overlap(_, _) =>
             numbers_note(alloc, backup, why),
-        LinkFault::NoPriorFile(_) | LinkFault::FileIncremental(_) => {
-            incremental_note(alloc, backup, why)
-        }
+        LinkFault::NoPriorFile(path) => incremental_note(alloc, backup, path.as_bytes()),
         LinkFault::NoMemory => Err(NoMemory),
     }
 }

@@ -1,7 +1,7 @@
 //! The note on what the program came to.
 
 use crate::areas::{area_note, memory_note, not_empty_note, store_note, take_note};
-use crate::directory::{directory_note, link_note};
+use crate::directory::{directory_note, link_note, unlisted_note};
 use crate::lines::note;
 use crate::script::script_note;
 use crate::sums::{gap_note, incr_gap_note};
@@ -9,9 +9,13 @@ use crate::usage::usage_of;
 use crate::wal::{early_note, wal_note};
 use base_backup::IncrFault;
 use command_base::{backup_name, output_name};
+use command_line::{Command as Words, MemberNames, command_of};
 use crew::{Answer as LineAnswer, Command, Stop};
 use lsn_core::{AreaFault, Lsn, NoMemory, Text};
-use pgbackup_cli::{Answer, InitFault, ReplayFault, RestoreFault, VerifyFault, WalsummaryFault};
+use pgbackup_cli::{
+    Answer, CombineFault, InitFault, MembersFault, ReplayFault, RestoreFault, VerifyFault,
+    WalsummaryFault,
+};
 use run_command::{RunFault, RunReport};
 use shared_store::BeginWhy;
 use std::alloc::Global;
@@ -28,11 +32,13 @@ pub fn note_of(alloc: Global, words: &[Text], answer: &Answer) -> Result<Text, N
         Answer::Replay(Err(fault)) => replay_note(alloc, output_of(words), fault),
         Answer::Verify(Err(fault)) => verify_note(alloc, last_of(words), fault),
         Answer::Restore(Err(fault)) => restore_note(alloc, names_in(words), fault),
+        Answer::Combine(Err(fault)) => combine_note(alloc, names_in(words), fault),
         Answer::Walsummary(Err(fault)) => walsummary_note(alloc, fault),
         Answer::Init(Ok(_))
         | Answer::Replay(Ok(_))
         | Answer::Verify(Ok(_))
         | Answer::Restore(Ok(_))
+        | Answer::Combine(Ok(_))
         | Answer::Walsummary(Ok(_)) => Ok(Text::from_vec(Vec::new(alloc))),
     }
 }
@@ -151,33 +157,90 @@ fn verify_note(alloc: Global, name: &[u8], fault: &VerifyFault) -> Result<Text, 
     }
 }
 
-/// The names of the output and of the backup in the words of `restore`, in which the option and its
-/// value may stand before, between or behind them.
-fn names_in(words: &[Text]) -> (&[u8], &[u8]) {
-    match words {
-        [_, option, _, out, name] if is_target(option) => (out.as_bytes(), name.as_bytes()),
-        [_, out, option, _, name] if is_target(option) => (out.as_bytes(), name.as_bytes()),
-        [_, out, name, ..] => (out.as_bytes(), name.as_bytes()),
-        _ => (b"", b""),
+/// The names of the output and of the members in the words of `restore` and of `combine`.
+fn names_in(words: &[Text]) -> (&[u8], MemberNames<'_>) {
+    match command_of(words) {
+        Some(Words::Restore(_, out, members) | Words::Combine(out, members)) => (out, members),
+        _ => (
+            b"",
+            MemberNames {
+                front: &[],
+                behind: &[],
+            },
+        ),
+    }
+}
+
+/// The area of the directory of the member of a place.
+fn member_area(alloc: Global, members: &MemberNames, place: u32) -> Result<Text, NoMemory> {
+    backup_name(alloc, members.get(place as usize).unwrap_or(b""))
+}
+
+/// The members of a chain aren't taken.
+fn members_note(
+    alloc: Global,
+    members: &MemberNames,
+    fault: &MembersFault,
+) -> Result<Text, NoMemory> {
+    match fault {
+        MembersFault::Directory(place, refusal) => {
+            let backup = member_area(alloc, members, *place)?;
+            directory_note(alloc, backup.as_bytes(), refusal)
+        }
+        MembersFault::Link(refusal) => {
+            let backup = member_area(alloc, members, refusal.member)?;
+            link_note(alloc, backup.as_bytes(), &refusal.why)
+        }
+        MembersFault::NoMemory => memory_note(alloc),
     }
 }
 
 fn restore_note(
     alloc: Global,
-    names: (&[u8], &[u8]),
+    names: (&[u8], MemberNames),
     fault: &RestoreFault,
 ) -> Result<Text, NoMemory> {
-    let output = output_name(alloc, names.0)?;
-    let backup = backup_name(alloc, names.1)?;
+    let (out, members) = names;
+    let output = output_name(alloc, out)?;
     match fault {
         RestoreFault::Site(fault) => take_note(alloc, fault),
-        RestoreFault::Directory(refusal) => directory_note(alloc, backup.as_bytes(), refusal),
-        RestoreFault::Chain(why) => link_note(alloc, backup.as_bytes(), why),
+        RestoreFault::Members(fault) => members_note(alloc, &members, fault),
         RestoreFault::Early(target, end) => early_note(alloc, *target, *end),
         RestoreFault::NotEmpty => not_empty_note(alloc, output.as_bytes()),
         RestoreFault::Wal(fault) => wal_note(alloc, *fault),
-        RestoreFault::Backup(why) => area_note(alloc, backup.as_bytes(), *why),
+        RestoreFault::Backup(place, why) => {
+            area_note(
+                alloc,
+                member_area(alloc, &members, *place)?.as_bytes(),
+                *why,
+            )
+        }
         RestoreFault::Out(why) => area_note(alloc, output.as_bytes(), *why),
+    }
+}
+
+fn combine_note(
+    alloc: Global,
+    names: (&[u8], MemberNames),
+    fault: &CombineFault,
+) -> Result<Text, NoMemory> {
+    let (out, members) = names;
+    let output = backup_name(alloc, out)?;
+    match fault {
+        CombineFault::Site(fault) => take_note(alloc, fault),
+        CombineFault::Members(fault) => members_note(alloc, &members, fault),
+        CombineFault::NotEmpty => not_empty_note(alloc, output.as_bytes()),
+        CombineFault::Unlisted(place) => {
+            unlisted_note(alloc, member_area(alloc, &members, *place)?.as_bytes())
+        }
+        CombineFault::Backup(place, why) => {
+            area_note(
+                alloc,
+                member_area(alloc, &members, *place)?.as_bytes(),
+                *why,
+            )
+        }
+        CombineFault::Out(why) => area_note(alloc, output.as_bytes(), *why),
     }
 }
 

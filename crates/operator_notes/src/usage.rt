@@ -27,11 +27,18 @@ const VERIFY: &[u8] = b"usage: pgbackup verify NAME
   NAME: 1 to 32 of a to z, 0 to 9 and _
 ";
 
-const RESTORE: &[u8] = b"usage: pgbackup restore [--target LSN] OUT MEMBER
-  restores the backup in b/MEMBER and the WAL from its start on, and writes the relation files that
-  they make to o/OUT
-  LSN: where to stop, at the backup's end or past it (the WAL's end)
-  OUT, MEMBER: 1 to 32 of a to z, 0 to 9 and _
+const RESTORE: &[u8] = b"usage: pgbackup restore [--target LSN] OUT MEMBER..
+  restores the chain of backups in b/MEMBER.. and the WAL from the last one's start on, and writes the
+  relation files that they make to o/OUT
+  LSN: where to stop, at the last backup's end or past it (the WAL's end)
+  OUT, MEMBER: 1 to 32 of a to z, 0 to 9 and _; MEMBER..: a full backup and then incremental ones, each
+  on the one before, at most 64
+";
+
+const COMBINE: &[u8] = b"usage: pgbackup combine OUT MEMBER..
+  combines the chain of backups in b/MEMBER.. to a full backup, and writes it to b/OUT
+  OUT, MEMBER: 1 to 32 of a to z, 0 to 9 and _; MEMBER..: a full backup and then incremental ones, each
+  on the one before, at most 64
 ";
 
 const WALSUMMARY: &[u8] = b"usage: pgbackup walsummary FROM TO
@@ -42,7 +49,7 @@ const WALSUMMARY: &[u8] = b"usage: pgbackup walsummary FROM TO
 
 const HELP: &[u8] = b"usage: pgbackup help [COMMAND]
   prints how a command is used, or all of them: init, run, replay, verify, restore,
-  walsummary
+  combine, walsummary
 ";
 
 /// How this command is used; None where there is no command of that name.
@@ -61,6 +68,9 @@ fn command_usage(name: &[u8]) -> Option<&'static [u8]> {
     }
     if name == b"restore".as_slice() {
         return Some(RESTORE);
+    }
+    if name == b"combine".as_slice() {
+        return Some(COMBINE);
     }
     if name == b"walsummary".as_slice() {
         return Some(WALSUMMARY);
@@ -83,7 +93,9 @@ pub fn usage_of(alloc: Global, words: &[Text]) -> Result<Text, NoMemory> {
         Some(usage) => joined(alloc, &[usage]),
         None => joined(
             alloc,
-            &[INIT, RUN, REPLAY, VERIFY, RESTORE, WALSUMMARY, HELP],
+            &[
+                INIT, RUN, REPLAY, VERIFY, RESTORE, COMBINE, WALSUMMARY, HELP,
+            ],
         ),
     }
 }

@@ -7,9 +7,14 @@ pub mod OneVerify
 pub mod OneInit
 pub mod OneRun
 pub mod NewWal
-pub mod LentThree
-pub mod Unlinked
+pub mod MemberAreas
+pub mod Members
+pub mod ChainAreas
 pub mod RestoredOut
+pub mod RestoreLent
+pub mod CombinedOut
+pub mod CombineLent
+pub mod OneChain
 pub mod OneRestore
 pub mod OneWalsummary
 pub mod Covered

@@ -1,6 +1,7 @@
 -- That a command comes to one answer.
 use Rattle.std.specs.Prelude.{◌≡◌, ◌<◌, ℕ, Option, List, Bool, true, false, Ok, Err}
 use Rattle.lsn_core.specs.declared.lsn.Lsn.{Lsn}
+use Rattle.vault.specs.Lending.{Names}
 use Rattle.command_base.specs.declared.status.Status.{Status}
 use Rattle.command_base.specs.declared.status.Status.TheVariants as status
 use Rattle.command_base.specs.Outside.{Outside, AllTold}
@@ -63,10 +64,11 @@ HasOneReplay =
 abbrev pub HasOneVerify : Type 0
 HasOneVerify = (name : List ℕ) → HasOne (VerifyDoes name) verify_status
 
--- up to a target, where one is given, to an output of a name, of the backup of another name
+-- up to a target, where one is given, to an output of a name, of the members of these names
 abbrev pub HasOneRestore : Type 0
 HasOneRestore =
-    (upto : Option Lsn) (out member : List ℕ) → HasOne (RestoreDoes upto out member) restore_status
+    (upto : Option Lsn) (out : List ℕ) (names : Names)
+    → HasOne (RestoreDoes upto out names) restore_status
 
 -- of a range with a place
 abbrev pub HasOneWalsummary : Type 0

@@ -3,7 +3,9 @@ pub mod Replay
 pub mod Directory
 pub mod Verify
 pub mod Link
+pub mod Chain
 pub mod Restore
+pub mod Combine
 pub mod Walsummary
 pub mod Top
 pub mod Laws

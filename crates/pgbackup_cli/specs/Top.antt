@@ -7,7 +7,7 @@ use Rattle.pgbackup_cli.specs.declared.answer.Answer.TheVariants as answer
 use Rattle.command_base.specs.declared.status.Status.{Status}
 use Rattle.command_base.specs.declared.status.Status.TheVariants as status
 use Rattle.command_line.specs.declared.options.InitOptions.{InitOptions}
-use Rattle.command_line.specs.Words.{Asked, Init, Run, Replay, Verify, Restore, Walsummary, asked}
+use Rattle.command_line.specs.Words.{Asked, Init, Run, Replay, Verify, Restore, Combine, Walsummary, asked}
 use Rattle.command_base.specs.Areas.{output_name}
 use Rattle.command_base.specs.Outside.{Outside, LeavesSite, Prints}
 use Rattle.command_base.specs.Faults.{refused_line, area_status}
@@ -16,6 +16,7 @@ use Rattle.run_command.specs.Run.{RunResult, RunDoes, run_text, run_status}
 use Rattle.pgbackup_cli.specs.Replay.{ReplayResult, ReplayDoes, replay_text, replay_status}
 use Rattle.pgbackup_cli.specs.Verify.{VerifyResult, VerifyDoes, verify_text, verify_status}
 use Rattle.pgbackup_cli.specs.Restore.{RestoreResult, RestoreDoes, restore_text, restore_status}
+use Rattle.pgbackup_cli.specs.Combine.{CombineResult, CombineDoes, combine_text, combine_status}
 use Rattle.pgbackup_cli.specs.Walsummary.{WalsummaryResult, WalsummaryDoes, walsummary_text, walsummary_status}
 
 -- what was asked was done, and this is the answer
@@ -28,22 +29,30 @@ DoesAsked (Some (Replay upto name)) old new came =
     (r : ReplayResult) × (came ≡ answer.Replay r) × ReplayDoes upto name old new r
 DoesAsked (Some (Verify name)) old new came =
     (r : VerifyResult) × (came ≡ answer.Verify r) × VerifyDoes name old new r
-DoesAsked (Some (Restore upto out name)) old new came =
-    (r : RestoreResult) × (came ≡ answer.Restore r) × RestoreDoes upto out name old new r
+DoesAsked (Some (Restore upto out names)) old new came =
+    (r : RestoreResult) × (came ≡ answer.Restore r) × RestoreDoes upto out names old new r
+DoesAsked (Some (Combine out names)) old new came =
+    (r : CombineResult) × (came ≡ answer.Combine r) × CombineDoes out names old new r
 DoesAsked (Some (Walsummary from to)) old new came =
     (r : WalsummaryResult) × (came ≡ answer.Walsummary r) × WalsummaryDoes from to old new r
 
 -- the area of the output that is asked for
 abbrev pub output_asked : Option Asked → List ℕ
 output_asked (Some (Replay upto name)) = output_name name
-output_asked (Some (Restore upto out name)) = output_name out
+output_asked (Some (Restore upto out names)) = output_name out
 output_asked words = []
 
 -- the name of the backup that is asked for
 abbrev pub backup_asked : Option Asked → List ℕ
 backup_asked (Some (Verify name)) = name
-backup_asked (Some (Restore upto out name)) = name
+backup_asked (Some (Combine out names)) = out
 backup_asked words = []
+
+-- the names of the members that are asked for
+abbrev pub members_asked : Option Asked → List (List ℕ)
+members_asked (Some (Restore upto out names)) = names
+members_asked (Some (Combine out names)) = names
+members_asked words = []
 
 -- the lines of an answer
 abbrev pub text_of : Option Asked → Answer → List ℕ
@@ -52,7 +61,8 @@ text_of words (answer.Init r) = init_text r
 text_of words (answer.Run r) = run_text r
 text_of words (answer.Replay r) = replay_text (output_asked words) r
 text_of words (answer.Verify r) = verify_text (backup_asked words) r
-text_of words (answer.Restore r) = restore_text (backup_asked words) (output_asked words) r
+text_of words (answer.Restore r) = restore_text (members_asked words) (output_asked words) r
+text_of words (answer.Combine r) = combine_text (members_asked words) (backup_asked words) r
 text_of words (answer.Walsummary r) = walsummary_text r
 
 -- the status of an answer
@@ -63,6 +73,7 @@ answer_status (answer.Run r) = run_status r
 answer_status (answer.Replay r) = replay_status r
 answer_status (answer.Verify r) = verify_status r
 answer_status (answer.Restore r) = restore_status r
+answer_status (answer.Combine r) = combine_status r
 answer_status (answer.Walsummary r) = walsummary_status r
 
 -- the status of an answer and of its printing: a sink that fails gives Device whatever else
@@ -75,10 +86,11 @@ status_of came (Err why) = area_status why
 abbrev pub ReadsInput : Option Asked → Type 0
 ReadsInput words = words ≡ Some Run
 
--- `run` reads the clock, and `init`, where no system identifier is given
+-- `run` and `combine` read the clock, and `init`, where no system identifier is given
 abbrev pub ReadsClock : Option Asked → Type 0
 ReadsClock words =
     (words ≡ Some Run)
+    ⊎ ((out : List ℕ) × (names : List (List ℕ)) × (words ≡ Some (Combine out names)))
     ⊎ ((options : InitOptions) × (words ≡ Some (Init options)) × (options.system ≡ None))
 
 -- a run of the program on these words that comes to this answer, and ends so

@@ -5,6 +5,7 @@ use Rattle.std.specs.Fmt.{decimal}
 use Rattle.lsn_core.specs.Causes.{Rose}
 use Rattle.lsn_core.specs.Files.{Files}
 use Rattle.lsn_core.specs.Names.{lsn_bytes}
+use Rattle.lsn_core.specs.declared.lsn.Lsn.{Lsn}
 use Rattle.vault.specs.Site.{AreaState}
 use Rattle.chain_check.specs.Directory.{IsAsListed}
 use Rattle.chain_check.specs.Refusals.{HasRefusal}
@@ -72,16 +73,17 @@ kind_text true = codes "incremental"
 kind_text false = codes "full"
 
 -- the range of a backup in the WAL, and how many files it has
-abbrev pub range_text : VerifyReport → List ℕ
-range_text report =
-    lsn_bytes report.start.0 ++ (32 ∷ (lsn_bytes report.end.0 ++ (32 ∷ decimal report.rows)))
+abbrev pub range_text : Lsn → Lsn → ℕ → List ℕ
+range_text start end rows = lsn_bytes start.0 ++ (32 ∷ (lsn_bytes end.0 ++ (32 ∷ decimal rows)))
 
 abbrev pub kind_line : List ℕ → List ℕ → List ℕ → List ℕ
 kind_line name kind range =
     codes "verified " ++ (name ++ (32 ∷ (kind ++ (32 ∷ (range ++ (10 ∷ []))))))
 
 abbrev pub verified_line : List ℕ → VerifyReport → List ℕ
-verified_line name report = kind_line name (kind_text report.incremental) (range_text report)
+verified_line name report =
+    kind_line name (kind_text report.incremental)
+    (range_text report.start report.end report.rows)
 
 abbrev pub verify_fault_text : List ℕ → VerifyFault → List ℕ
 verify_fault_text name (verify.Site fault) = take_text fault

@@ -2,15 +2,18 @@
 
 ghost use Rattle.std.specs.Prelude.{◌≡◌, IfOk};
 ghost use Rattle.command_line.specs.Words.{asked};
-ghost use Rattle.pgbackup_cli.specs.Top.{output_asked, backup_asked, text_of, answer_status, status_of};
+ghost use Rattle.command_line.specs.Members.{names_in};
+ghost use Rattle.pgbackup_cli.specs.Top.{output_asked, backup_asked, members_asked, text_of};
+ghost use Rattle.pgbackup_cli.specs.Top.{answer_status, status_of};
 
+use crate::combining::{CombineFault, CombineReport, combine_status, combine_text};
 use crate::init::{InitFault, init_status, init_text};
 use crate::replay::{ReplayFault, ReplayReport, replay_status, replay_text};
 use crate::restore::{RestoreFault, restore_status, restore_text};
 use crate::verify::{VerifyFault, VerifyReport, verify_status, verify_text};
 use crate::walsummary::{WalsummaryFault, walsummary_status, walsummary_text};
 use command_base::{Status, area_status, output_name, refused_line};
-use command_line::{Command, command_of};
+use command_line::{Command, MemberNames, command_of};
 use lsn_core::{AreaFault, Lsn, NoMemory, Text};
 use run_command::{RunFault, RunReport, run_status, run_text};
 use std::alloc::Global;
@@ -29,8 +32,10 @@ pub enum Answer {
     Replay(Result<ReplayReport, ReplayFault>),
     /// A backup was checked.
     Verify(Result<VerifyReport, VerifyFault>),
-    /// A backup was restored.
+    /// A chain of backups was restored.
     Restore(Result<ReplayReport, RestoreFault>),
+    /// A chain of backups was combined.
+    Combine(Result<CombineReport, CombineFault>),
     /// The kept summaries of a range were merged.
     Walsummary(Result<Summary, WalsummaryFault>),
 }
@@ -41,7 +46,13 @@ fn output_asked(alloc: Global, words: &[Text]) -> Result<Text, NoMemory>
 {
     match command_of(words) {
         Some(Command::Replay(_, name) | Command::Restore(_, name, _)) => output_name(alloc, name),
-        Some(Command::Init(_) | Command::Run | Command::Verify(_) | Command::Walsummary(_, _))
+        Some(
+            Command::Init(_)
+            | Command::Run
+            | Command::Verify(_)
+            | Command::Combine(_, _)
+            | Command::Walsummary(_, _),
+        )
         | None => Ok(Text::from_vec(Vec::new(alloc))),
     }
 }
@@ -51,9 +62,35 @@ fn backup_asked(words: &[Text]) -> &[u8]
     ensures { result.now ≡ backup_asked (asked words.now) }
 {
     match command_of(words) {
-        Some(Command::Verify(name) | Command::Restore(_, _, name)) => name,
-        Some(Command::Init(_) | Command::Run | Command::Replay(_, _) | Command::Walsummary(_, _))
+        Some(Command::Verify(name) | Command::Combine(name, _)) => name,
+        Some(
+            Command::Init(_)
+            | Command::Run
+            | Command::Replay(_, _)
+            | Command::Restore(_, _, _)
+            | Command::Walsummary(_, _),
+        )
         | None => b"",
+    }
+}
+
+/// The names of the members that are asked for, none where no chain is.
+fn members_asked(words: &[Text]) -> MemberNames<'_>
+    ensures { names_in result ≡ members_asked (asked words.now) }
+{
+    match command_of(words) {
+        Some(Command::Restore(_, _, members) | Command::Combine(_, members)) => members,
+        Some(
+            Command::Init(_)
+            | Command::Run
+            | Command::Replay(_, _)
+            | Command::Verify(_)
+            | Command::Walsummary(_, _),
+        )
+        | None => MemberNames {
+            front: &[],
+            behind: &[],
+        },
     }
 }
 
@@ -69,7 +106,10 @@ pub fn text_of(alloc: Global, words: &[Text], answer: &Answer) -> Result<Text, N
         Answer::Verify(came) => verify_text(alloc, backup_asked(words), came),
         Answer::Restore(came) => {
             let out = output_asked(alloc, words)?;
-            restore_text(alloc, backup_asked(words), out.as_bytes(), came)
+            restore_text(alloc, &members_asked(words), out.as_bytes(), came)
+        }
+        Answer::Combine(came) => {
+            combine_text(alloc, &members_asked(words), backup_asked(words), came)
         }
         Answer::Walsummary(came) => walsummary_text(alloc, came),
     }
@@ -85,6 +125,7 @@ fn answer_status(answer: &Answer) -> Status
         Answer::Replay(came) => replay_status(came),
         Answer::Verify(came) => verify_status(came),
         Answer::Restore(came) => restore_status(came),
+        Answer::Combine(came) => combine_status(came),
         Answer::Walsummary(came) => walsummary_status(came),
     }
 }

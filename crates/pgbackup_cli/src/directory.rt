@@ -35,7 +35,7 @@ fn file_why_text(why: FileWhy) -> &'static [u8]
 }
 
 /// A path, and what stands behind it.
-pub(crate) fn spaced(alloc: Global, path: &[u8], text: &[u8]) -> Result<Text, NoMemory>
+fn spaced(alloc: Global, path: &[u8], text: &[u8]) -> Result<Text, NoMemory>
     ensures { IfOk result (λ line. line ≡ path.now ++ (32 ∷ text.now)) }
 {
     joined(alloc, &[path, b" ", text])

@@ -34,7 +34,7 @@ pub fn verify_has_one_answer()
     directories_have_one_answer();
 }
 
-/// `restore` of one backup to one output, up to the same target, comes to one answer, too.
+/// `restore` of one chain to one output, up to the same target, comes to one answer, too.
 pub fn restore_has_one_answer()
     ensures { HasOneRestore }
 {

@@ -13,6 +13,8 @@
 #![tactic(auto)]
 
 mod answer;
+mod chain;
+mod combining;
 mod directory;
 mod init;
 mod laws;
@@ -26,6 +28,8 @@ mod verify;
 mod walsummary;
 
 pub use answer::Answer;
+pub use chain::MembersFault;
+pub use combining::{CombineFault, CombineReport};
 pub use command_base::Status;
 pub use init::InitFault;
 pub use laws::{

@@ -1,22 +1,12 @@
 //! The text of why a member of a chain of backups isn't taken.
 
 ghost use Rattle.std.specs.Prelude.{◌≡◌, IfOk};
-ghost use Rattle.chain_check.specs.declared.link.LinkFault.TheVariants as link;
-ghost use Rattle.pgbackup_cli.specs.Link.{link_text};
+ghost use Rattle.pgbackup_cli.specs.Link.{link_text, link_status};
 
-use crate::directory::spaced;
 use chain_check::LinkFault;
-use command_base::{joined, of_backup, overlap_text, systems_text, with_lsns, with_number};
+use command_base::{Status, joined, of_backup, overlap_text, systems_text, with_lsns, with_number};
 use lsn_core::{NoMemory, Text};
 use std::alloc::Global;
-
-/// A file of the backup that is to be restored alone is incremental.
-fn incremental_text(alloc: Global, name: &[u8], path: &[u8]) -> Result<Text, NoMemory>
-    ensures { IfOk result (λ text. text ≡ link_text name.now (link.FileIncremental path.now)) }
-{
-    let file = spaced(alloc, path, b"Form")?;
-    of_backup(alloc, b"28 FileDamaged", name, file.as_bytes())
-}
 
 /// The member of this name isn't taken.
 pub fn link_text(alloc: Global, name: &[u8], why: &LinkFault) -> Result<Text, NoMemory>
@@ -35,7 +25,23 @@ pub fn link_text(alloc: Global, name: &[u8], why: &LinkFault) -> Result<Text, No
         }
         LinkFault::Overlap(start, end) => overlap_text(alloc, name, *start, *end),
         LinkFault::NoPriorFile(path) => of_backup(alloc, b"36 NoPriorFile", name, path.as_bytes()),
-        LinkFault::FileIncremental(path) => incremental_text(alloc, name, path.as_bytes()),
         LinkFault::NoMemory => joined(alloc, &[b"61 NoMemory"]),
+    }
+}
+
+/// The status of a member that isn't taken.
+pub fn link_status(why: &LinkFault) -> Status
+    ensures { result ≡ link_status why.now }
+{
+    match why {
+        LinkFault::TooManyMembers
+        | LinkFault::TimelineDiffers(_)
+        | LinkFault::FirstIncremental
+        | LinkFault::LaterFull
+        | LinkFault::SystemDiffers(_, _)
+        | LinkFault::WrongPrior(_, _)
+        | LinkFault::Overlap(_, _)
+        | LinkFault::NoPriorFile(_) => Status::Refused,
+        LinkFault::NoMemory => Status::Memory,
     }
 }

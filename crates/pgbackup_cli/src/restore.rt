@@ -1,52 +1,54 @@
-//! `restore`: a backup, and the WAL from its start on, from two areas into a third.
+//! `restore`: a chain of backups, and the WAL from the newest one's start on, restored to an output.
 
-ghost use Rattle.std.specs.Prelude.{◌≡◌, ◌≢◌, ◌≤◌, [], ◌∷◌, length, IfOk};
+ghost use Rattle.std.specs.Prelude.{◌≡◌, ◌≤◌, ◌<◌, [], ◌∷◌, ◌++◌, length, IfOk};
 ghost use Rattle.lsn_core.specs.declared.fault.AreaFault.TheVariants as area;
 ghost use Rattle.vault.specs.Frame.{OnlyReads};
-ghost use Rattle.vault.specs.Lending.{AreDistinct};
 ghost use Rattle.vault.specs.Site.{AllHome};
+ghost use Rattle.chain_check.specs.Chain.{most_members};
+ghost use Rattle.chain_files.specs.Told.{ArePlaces, AllOnlyRead};
 ghost use Rattle.recovery.specs.Onward.{replayed_to};
-ghost use Rattle.pgbackup_cli.specs.declared.restore.RestoreFault.TheVariants as restore;
-ghost use Rattle.command_base.specs.Areas.{wal_name, backup_name, output_name};
+ghost use Rattle.command_base.specs.Areas.{wal_name, output_name};
 ghost use Rattle.command_base.specs.Outside.{of_site, Works};
-ghost use Rattle.pgbackup_cli.specs.Restore.{restore_asks, RestoreRan, RestoreDoes};
-ghost use Rattle.pgbackup_cli.specs.Link.{restore_link};
+ghost use Rattle.command_line.specs.Members.{names_in};
+ghost use Rattle.pgbackup_cli.specs.declared.restore.RestoreFault.TheVariants as restore;
+ghost use Rattle.pgbackup_cli.specs.Restore.{RestoreDoes};
 ghost use Rattle.pgbackup_cli.specs.Restore.{early_text, restore_fault_text, restore_text, restore_status};
-ghost use Rattle.pgbackup_cli.specs.Inner.{AnswersMember, AnswersPlace, AnswersReady, AnswersRestorable};
-ghost use Rattle.pgbackup_cli.specs.Inner.{EndsRestore, AnswersRestore};
+ghost use Rattle.pgbackup_cli.specs.Inner.{AnswersPlace, AnswersReady, AnswersRestorable};
+ghost use Rattle.pgbackup_cli.specs.Inner.{AreOwnPlaces, AreMemberAreas, EndsRestore, AnswersRestore};
 
-use crate::directory::{directory_status, directory_text};
-use crate::lending::{give_three, three_of};
-use crate::link::link_text;
+use crate::chain::{
+    MemberAreas, MembersFault, areas_of, check_count, member_of, members_fault_text,
+    members_status, name_at, newest_at,
+};
+use crate::lending::last_of;
 use crate::replay::{ReplayReport, made_line};
 use backup_restore::{RestoreFault as Unrestored, restore as restore_into};
-use chain_check::{LinkFault, Member, Refusal, check_alone, check_dir};
+use chain_check::Member;
 use command_base::{
     Status, area_status, area_text, backup_name, empty_area, full_text, is_clear, joined,
-    lsns_text, names_of, output_name, refused_line, take_text, wal_status, wal_text,
+    lsns_text, output_name, refused_line, take_text, wal_status, wal_text,
 };
-use lsn_core::{AreaFault, Lsn, NoMemory, Settings, Text, WalTip, lsn_text};
+use command_line::MemberNames;
+use lsn_core::{AreaFault, Lsn, NoMemory, Settings, Text, WalTip};
 use recovery::{Beginning, RecoveryFault, Replayed, read_from, settings_of};
-use std::alloc::Global;
-use vault::{Held, Site, TakeFault, Vault, take_all};
+use std::alloc::{AllocFailed, Global};
+use vault::{Held, Site, TakeFault, Vault, give_all, give_two, take_all};
 
-/// Why a backup isn't restored.
+/// Why a chain of backups isn't restored.
 #[derive(Debug, Drop)]
 pub enum RestoreFault {
     /// The site didn't hand out an area.
     Site(TakeFault),
-    /// The backup's directory isn't as its manifest lists it, its area failed, or memory ran out.
-    Directory(Refusal),
-    /// The backup can't be restored alone.
-    Chain(LinkFault),
-    /// The target, or else the WAL's end, is before the backup's end.
+    /// The members aren't taken, an area of theirs failed, or memory ran out.
+    Members(MembersFault),
+    /// The target, or else the WAL's end, is before the newest member's end.
     Early(Lsn, Lsn),
     /// The output's area holds a file.
     NotEmpty,
     /// The WAL can't be read or redone.
     Wal(RecoveryFault),
-    /// The area of the backup failed while it was copied, or memory ran out.
-    Backup(AreaFault),
+    /// The area of the member of this place failed while the chain was copied, or memory ran out.
+    Backup(u32, AreaFault),
     /// The output's area failed, or memory ran out.
     Out(AreaFault),
 }
@@ -59,22 +61,11 @@ impl From<TakeFault> for RestoreFault {
     }
 }
 
-impl From<Refusal> for RestoreFault {
-    ghost from_gives = { λ refusal e. e ≡ restore.Directory refusal };
+impl From<MembersFault> for RestoreFault {
+    ghost from_gives = { λ fault e. e ≡ restore.Members fault };
 
-    fn from(refusal: Refusal) -> Self {
-        RestoreFault::Directory(refusal)
-    }
-}
-
-impl From<LinkFault> for RestoreFault {
-    ghost from_gives = { λ why e. e ≡ restore_link why };
-
-    fn from(why: LinkFault) -> Self {
-        match why {
-            LinkFault::NoMemory => RestoreFault::Out(AreaFault::NoMemory),
-            why => RestoreFault::Chain(why),
-        }
+    fn from(fault: MembersFault) -> Self {
+        RestoreFault::Members(fault)
     }
 }
 
@@ -102,16 +93,12 @@ impl From<NoMemory> for RestoreFault {
     }
 }
 
-/// The member that the directory in an area is, that of the backup of this name, which can be
-/// restored alone.
-fn member_of<V: Vault>(alloc: Global, area: &mut V, name: &[u8]) -> Result<Member, RestoreFault>
-    ensures answer { AnswersMember V.Vault name.now area.old area.new result }
-    ensures reads { OnlyReads V.Vault area.old area.new }
-{
-    let name = Text::copied(alloc, name)?;
-    let member = check_dir(alloc, area, &name)?;
-    check_alone(alloc, &member)?;
-    Ok(member)
+impl<T: Drop> From<AllocFailed<T>> for RestoreFault {
+    ghost from_gives = { λ _ e. e ≡ restore.Out area.NoMemory };
+
+    fn from(_: AllocFailed<T>) -> Self {
+        RestoreFault::Out(AreaFault::NoMemory)
+    }
 }
 
 /// Whether a place up to which is restored, where one is known, is at a backup's end or past it.
@@ -134,63 +121,70 @@ fn place_of(upto: Option<Lsn>, tip: WalTip) -> Lsn
     }
 }
 
-/// What a member's restore needs before anything is written: that the target isn't before the
-/// backup's end, that the output's area is empty, the settings of the WAL, and a first reading of it
-/// from the backup's start on, up to the target, which finds all damage.
-fn prepare_member<V: Vault>(
+/// What the restore of a chain to its newest member needs before anything is written: that the
+/// target isn't before that member's end, that the output's area is empty, the settings of the WAL,
+/// and a first reading of it from the member's start on, up to the target, which finds all damage.
+fn prepare_newest<V: Vault>(
     alloc: Global,
     wal: &mut V,
     out: &mut V,
-    member: &Member,
+    newest: &Member,
     upto: Option<Lsn>,
 ) -> Result<Settings, RestoreFault>
-    ensures answer { AnswersReady V.Vault upto member.now wal.old out.old wal.new out.new result }
+    ensures answer { AnswersReady V.Vault upto newest.now wal.old out.old wal.new out.new result }
     ensures wal { OnlyReads V.Vault wal.old wal.new }
     ensures out { V.files out.new ≡ V.files out.old }
     ensures out_later { V.faults out.old ≤ V.faults out.new }
 {
-    let end = member.manifest.end;
+    let end = newest.manifest.end;
     check_place(upto, end)?;
     if !is_clear(alloc, out)? {
         return Err(RestoreFault::NotEmpty);
     }
     let settings = settings_of(alloc, wal)?;
-    let begin = Beginning::AtPlace(member.label.start);
+    let begin = Beginning::AtPlace(newest.label.start);
     let tip = read_from(alloc, wal, &settings, begin, upto)?;
     check_place(Some(place_of(upto, tip)), end)?;
     Ok(settings)
 }
 
-/// What a restore needs before anything is written: the backup that is restored, and the settings of
-/// the WAL.
+/// What a restore needs before anything is written: the newest member of the chain, which is
+/// accepted, and the settings of the WAL.
 fn prepare<V: Vault>(
     alloc: Global,
     wal: &mut V,
-    backup: &mut V,
+    areas: &mut [Held<V>],
+    places: &[u32],
     out: &mut V,
-    name: &[u8],
+    names: &MemberNames<'_>,
     upto: Option<Lsn>,
 ) -> Result<(Member, Settings), RestoreFault>
-    ensures answer { AnswersRestorable V.Vault upto name.now wal.old backup.old out.old
-        wal.new backup.new out.new result }
+    requires places { ArePlaces (length areas.old) places.now }
+    requires each { length (names_in names.now) ≡ length places.now }
+    requires some { 1 ≤ length places.now }
+    requires few { length places.now ≤ most_members }
+    ensures answer { AnswersRestorable V.Vault upto (names_in names.now) places.now
+        wal.old areas.old out.old wal.new areas.new out.new result }
     ensures wal { OnlyReads V.Vault wal.old wal.new }
-    ensures backup { OnlyReads V.Vault backup.old backup.new }
+    ensures areas { AllOnlyRead V.Vault areas.old areas.new }
     ensures out { V.files out.new ≡ V.files out.old }
     ensures out_later { V.faults out.old ≤ V.faults out.new }
 {
-    let member = member_of(alloc, backup, name)?;
-    let settings = prepare_member(alloc, wal, out, &member, upto)?;
-    Ok((member, settings))
+    let newest = newest_at(alloc, areas, places, names)?;
+    let settings = prepare_newest(alloc, wal, out, &newest, upto)?;
+    Ok((newest, settings))
 }
 
 /// Ends a restore into an area that was empty: makes durable what was written, or takes it away
 /// again where the WAL couldn't be redone.
 fn finish<V: Vault>(
     alloc: Global,
+    places: &[u32],
     out: &mut V,
     came: Result<Replayed, Unrestored>,
 ) -> Result<ReplayReport, RestoreFault>
-    ensures answer { EndsRestore V.Vault came out.old out.new result }
+    requires { length places.now ≤ most_members }
+    ensures answer { EndsRestore V.Vault places.now came out.old out.new result }
     ensures later { V.faults out.old ≤ V.faults out.new }
 {
     match came {
@@ -202,7 +196,9 @@ fn finish<V: Vault>(
                 pages: replayed.pages,
             })
         }
-        Err(Unrestored::Backup(why)) => Err(RestoreFault::Backup(why)),
+        Err(Unrestored::Backup(fault)) => {
+            Err(RestoreFault::Backup(member_of(places, fault.area), fault.why))
+        }
         Err(Unrestored::Out(why)) => Err(RestoreFault::Out(why)),
         Err(Unrestored::Wal(why)) => {
             empty_area(alloc, out)?;
@@ -211,80 +207,106 @@ fn finish<V: Vault>(
     }
 }
 
-/// Checks the backup of this name and reads the WAL from its start on, up to the target, and then
-/// restores both into the output's area, which has to be empty. Gives that area back.
+/// Checks the chain of these members and reads the WAL from the newest one's start on, up to the
+/// target, and then restores both into the output's area, which has to be empty. Gives that area
+/// back.
 fn restore_areas<V: Vault>(
     alloc: Global,
     wal: &mut V,
-    backup: &mut V,
+    areas: &mut [Held<V>],
+    places: &[u32],
     out: V,
-    name: &[u8],
+    names: &MemberNames<'_>,
     upto: Option<Lsn>,
 ) -> (V, Result<ReplayReport, RestoreFault>)
-    ensures answer { AnswersRestore V.Vault upto name.now wal.old backup.old out
-        wal.new backup.new result.0 result.1 }
+    requires own { AreOwnPlaces (length areas.old) places.now }
+    requires places { ArePlaces (length areas.old) places.now }
+    requires each { length (names_in names.now) ≡ length places.now }
+    requires some { 1 ≤ length places.now }
+    requires few { length places.now ≤ most_members }
+    ensures answer { AnswersRestore V.Vault upto (names_in names.now) places.now
+        wal.old areas.old out wal.new areas.new result.0 result.1 }
     ensures wal { OnlyReads V.Vault wal.old wal.new }
-    ensures backup { OnlyReads V.Vault backup.old backup.new }
+    ensures areas { AllOnlyRead V.Vault areas.old areas.new }
     ensures out_later { V.faults out ≤ V.faults result.0 }
 {
     let mut out = out;
-    let (member, settings) = match prepare(alloc, wal, backup, &mut out, name, upto) {
+    let (newest, settings) = match prepare(alloc, wal, areas, places, &mut out, names, upto) {
         Ok(prepared) => prepared,
         Err(fault) => return (out, Err(fault)),
     };
-    let start = member.label.start;
-    let (mut out, came) = restore_into(alloc, wal, backup, out, &settings, start, upto);
-    let answer = finish(alloc, &mut out, came);
+    let start = newest.label.start;
+    let (mut out, came) = restore_into(alloc, wal, areas, places, out, &settings, start, upto);
+    let answer = finish(alloc, places, &mut out, came);
     (out, answer)
 }
 
-/// Restores the backup of this name, from its area of a site, into another area of it.
-fn restore_in<S: Site>(
+/// The names of the areas of a restore: of these, of the WAL and of an output.
+fn names_beside(alloc: Global, names: Vec<Text>, out: &[u8]) -> Result<Vec<Text>, NoMemory>
+    ensures { IfOk result (λ all.
+        all.items ≡ (names.items ++ wal_name ∷ []) ++ output_name out.now ∷ []) }
+{
+    let mut names = names;
+    names.push(joined(alloc, &[b"wal"])?)?;
+    names.push(output_name(alloc, out)?)?;
+    Ok(names)
+}
+
+/// Restores the chain of these members, from their areas of a site, into the area of an output of
+/// it.
+fn restore_from<S: Site>(
     alloc: Global,
     upto: Option<Lsn>,
-    name: &[u8],
-    backup: &[u8],
+    areas: MemberAreas,
     out: &[u8],
+    members: &MemberNames<'_>,
     site: &mut S,
 ) -> Result<ReplayReport, RestoreFault>
-    requires distinct { AreDistinct (restore_asks backup.now out.now) }
+    requires areas { AreMemberAreas (names_in members.now) areas }
+    requires some { 1 ≤ length (names_in members.now) }
+    requires few { length (names_in members.now) ≤ most_members }
     requires home { AllHome (S.areas site.old) }
-    ensures site { Works (out.now ∷ []) (of_site S.Site site.old) (of_site S.Site site.new) }
-    ensures answer { RestoreRan upto name.now backup.now out.now
+    ensures does { RestoreDoes upto out.now (names_in members.now)
         (of_site S.Site site.old) (of_site S.Site site.new) result }
 {
-    let names = names_of(alloc, &[b"wal", backup, out])?;
-    let (mut wal, mut backup, out) = three_of(take_all(alloc, site, names)?);
-    let Held {
-        name: out_name,
+    let MemberAreas { names, places } = areas;
+    let all = names_beside(alloc, names, out)?;
+    let mut held = take_all(alloc, site, all)?;
+    let Held { name, area } = last_of(&mut held);
+    let mut wal = last_of(&mut held);
+    let (area, answer) = restore_areas(
+        alloc,
+        &mut wal.area,
+        &mut held,
+        &places,
         area,
-    } = out;
-    let (area, answer) = restore_areas(alloc, &mut wal.area, &mut backup.area, area, name, upto);
-    let out = Held {
-        name: out_name,
-        area,
-    };
-    give_three(site, wal, backup, out);
+        members,
+        upto,
+    );
+    give_two(site, wal, Held { name, area });
+    give_all(site, held);
     answer
 }
 
-/// `restore`: restores the backup of a name and the WAL from its start on, up to the target, or to
-/// the WAL's end where none is given, to an output of another name.
+/// `restore`: restores the chain of the backups of these names, the oldest one first, and the WAL
+/// from the newest one's start on, up to the target, or to the WAL's end where none is given, to an
+/// output of another name.
 pub fn restore<S: Site>(
     alloc: Global,
     upto: Option<Lsn>,
     out: &[u8],
-    name: &[u8],
+    members: &MemberNames<'_>,
     site: &mut S,
 ) -> Result<ReplayReport, RestoreFault>
-    requires { AllHome (S.areas site.old) }
-    ensures does { RestoreDoes upto out.now name.now
+    requires some { 1 ≤ length (names_in members.now) }
+    requires home { AllHome (S.areas site.old) }
+    ensures does { RestoreDoes upto out.now (names_in members.now)
         (of_site S.Site site.old) (of_site S.Site site.new) result }
     ensures home { AllHome (S.areas site.new) }
 {
-    let backup = backup_name(alloc, name)?;
-    let out = output_name(alloc, out)?;
-    restore_in(alloc, upto, name, backup.as_bytes(), out.as_bytes(), site)
+    check_count(members)?;
+    let areas = areas_of(alloc, members)?;
+    restore_from(alloc, upto, areas, out, members, site)
 }
 
 /// A target is before a backup's end.
@@ -297,40 +319,40 @@ fn early_text(alloc: Global, target: Lsn, end: Lsn) -> Result<Text, NoMemory>
 
 fn restore_fault_text(
     alloc: Global,
-    name: &[u8],
+    names: &MemberNames<'_>,
     out: &[u8],
     fault: &RestoreFault,
 ) -> Result<Text, NoMemory>
-    ensures { IfOk result (λ text. text ≡ restore_fault_text name.now out.now fault.now) }
+    ensures { IfOk result (λ text. text ≡ restore_fault_text (names_in names.now) out.now fault.now) }
 {
     match fault {
         RestoreFault::Site(fault) => take_text(alloc, fault),
-        RestoreFault::Directory(refusal) => directory_text(alloc, name, &refusal.fault),
-        RestoreFault::Chain(why) => link_text(alloc, name, why),
+        RestoreFault::Members(fault) => members_fault_text(alloc, names, fault),
         RestoreFault::Early(target, end) => early_text(alloc, *target, *end),
         RestoreFault::NotEmpty => full_text(alloc, out),
         RestoreFault::Wal(why) => wal_text(alloc, *why),
-        RestoreFault::Backup(why) => {
-            area_text(alloc, backup_name(alloc, name)?.as_bytes(), *why)
+        RestoreFault::Backup(place, why) => {
+            let area = backup_name(alloc, name_at(names, *place))?;
+            area_text(alloc, area.as_bytes(), *why)
         }
         RestoreFault::Out(why) => area_text(alloc, out, *why),
     }
 }
 
-/// The line that `restore` of the backup of this name prints, where this is the output's area.
+/// The line that `restore` of these members prints, where this is the output's area.
 pub fn restore_text(
     alloc: Global,
-    name: &[u8],
+    names: &MemberNames<'_>,
     out: &[u8],
     came: &Result<ReplayReport, RestoreFault>,
 ) -> Result<Text, NoMemory>
-    ensures { IfOk result (λ text. text ≡ restore_text name.now out.now came.now) }
+    ensures { IfOk result (λ text. text ≡ restore_text (names_in names.now) out.now came.now) }
 {
     match came {
         Ok(report) => made_line(alloc, b"restored ", report),
         Err(fault) => refused_line(
             alloc,
-            restore_fault_text(alloc, name, out, fault)?.as_bytes(),
+            restore_fault_text(alloc, names, out, fault)?.as_bytes(),
         ),
     }
 }
@@ -342,11 +364,9 @@ pub fn restore_status(came: &Result<ReplayReport, RestoreFault>) -> Status
     match came {
         Ok(_) => Status::Done,
         Err(RestoreFault::Site(fault)) => area_status(fault.why),
-        Err(RestoreFault::Directory(refusal)) => directory_status(&refusal.fault),
-        Err(RestoreFault::Chain(_) | RestoreFault::Early(_, _) | RestoreFault::NotEmpty) => {
-            Status::Refused
-        }
+        Err(RestoreFault::Members(fault)) => members_status(fault),
+        Err(RestoreFault::Early(_, _) | RestoreFault::NotEmpty) => Status::Refused,
         Err(RestoreFault::Wal(why)) => wal_status(*why),
-        Err(RestoreFault::Backup(why) | RestoreFault::Out(why)) => area_status(*why),
+        Err(RestoreFault::Backup(_, why) | RestoreFault::Out(why)) => area_status(*why),
     }
 }

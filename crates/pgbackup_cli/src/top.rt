@@ -8,6 +8,7 @@ ghost use Rattle.pgbackup_cli.specs.Top.{DoesAsked, ReadsInput, ReadsClock, text
 ghost use Rattle.pgbackup_cli.specs.Inner.{TellsIn};
 
 use crate::answer::{Answer, exit_status, text_of};
+use crate::combining::combine;
 use crate::init::init;
 use crate::replay::replay;
 use crate::restore::restore;
@@ -43,8 +44,11 @@ fn work<S: Site, I: Source, C: Clock>(
         Some(Command::Run) => Answer::Run(run(alloc, site, input, clock)),
         Some(Command::Replay(upto, name)) => Answer::Replay(replay(alloc, upto, name, site)),
         Some(Command::Verify(name)) => Answer::Verify(verify(alloc, name, site)),
-        Some(Command::Restore(upto, out, name)) => {
-            Answer::Restore(restore(alloc, upto, out, name, site))
+        Some(Command::Restore(upto, out, members)) => {
+            Answer::Restore(restore(alloc, upto, out, &members, site))
+        }
+        Some(Command::Combine(out, members)) => {
+            Answer::Combine(combine(alloc, out, &members, site, clock))
         }
         Some(Command::Walsummary(from, to)) => {
             Answer::Walsummary(walsummary(alloc, from, to, site))
@@ -92,7 +96,8 @@ pub fn answered<S: Site, I: Source, O: Sink, C: Clock>(
 
 /// All that the program does: it takes the words of the command line, does what they ask over the
 /// areas of the site, prints its lines and answers the exit status. Every area is given back. Only
-/// `run` reads the input, and only it and `init` the clock, this where no system identifier is given.
+/// `run` reads the input, and only it, `combine` and `init` the clock, the last where no system
+/// identifier is given.
 pub fn pgbackup<S: Site, I: Source, O: Sink, C: Clock>(
     alloc: Global,
     words: &[Text],

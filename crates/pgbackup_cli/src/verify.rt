@@ -131,12 +131,11 @@ fn kind_text(incremental: bool) -> &'static [u8]
 }
 
 /// The range of a backup in the WAL, and how many files it has.
-fn range_text(alloc: Global, report: &VerifyReport) -> Result<Text, NoMemory>
-    ensures { IfOk result (λ text. text ≡ range_text report.now) }
+pub fn range_text(alloc: Global, start: Lsn, end: Lsn, rows: u64) -> Result<Text, NoMemory>
+    ensures { IfOk result (λ text. text ≡ range_text start end rows) }
 {
-    let start = lsn_text(alloc, report.start)?;
-    let end = lsn_text(alloc, report.end)?;
-    let rows = report.rows;
+    let start = lsn_text(alloc, start)?;
+    let end = lsn_text(alloc, end)?;
     let rows = format!(in alloc; "{rows}")?;
     joined(
         alloc,
@@ -160,7 +159,7 @@ fn kind_line(alloc: Global, name: &[u8], kind: &[u8], range: &[u8]) -> Result<Te
 fn verified_line(alloc: Global, name: &[u8], report: &VerifyReport) -> Result<Text, NoMemory>
     ensures { IfOk result (λ text. text ≡ verified_line name.now report.now) }
 {
-    let range = range_text(alloc, report)?;
+    let range = range_text(alloc, report.start, report.end, report.rows)?;
     kind_line(alloc, name, kind_text(report.incremental), range.as_bytes())
 }
 
