@@ -1,5 +1,5 @@
 -- A WAL that later runs wrote on has the records that it had, and more behind them.
-use Rattle.std.proofs.Common.{◌≡◌, ℕ, List, [], ◌∷◌, ◌++◌, append_assoc, Option, Some, refl, sym, ap, subst, ◌∙◌, arith}
+use Rattle.std.proofs.Common.{◌≡◌, ℕ, List, [], ◌∷◌, ◌++◌, append_assoc, Option, Some, refl, sym, ap, subst, ◌∙◌}
 use Rattle.lsn_core.specs.Files.{Files}
 use Rattle.lsn_core.specs.Segment.{StoreSettings}
 use Rattle.lsn_core.specs.Tip.{Tip}
@@ -27,7 +27,7 @@ cons_same : (r q : Record) (rs qs : List Record) → r ≡ q → rs ≡ qs → �
 cons_same r q rs qs a b = rw (a, b) refl
 
 -- the records of a WAL, behind which no entry stands, are read in one way
-read_once : (s : StoreSettings) (files : Files) (tip : Tip) (rs qs : List Record) (last end : Tip) → ReadsOn s files tip rs last → Stops (stands_behind s files last) → ReadsOn s files tip qs end → Stops (stands_behind s files end) → rs ≡ qs
+pub read_once : (s : StoreSettings) (files : Files) (tip : Tip) (rs qs : List Record) (last end : Tip) → ReadsOn s files tip rs last → Stops (stands_behind s files last) → ReadsOn s files tip qs end → Stops (stands_behind s files end) → rs ≡ qs
 read_once s files tip [] [] last end p stop q halt = refl
 read_once s files tip [] (q ∷ qs) last end p stop walk halt = absurd (stop q (subst (λ (t : Tip). stands_behind s files t ≡ Gives q) (sym p) walk.0))
 read_once s files tip (r ∷ rs) [] last end walk stop q halt = absurd (halt r (subst (λ (t : Tip). stands_behind s files t ≡ Gives r) (sym q) walk.0))
@@ -36,7 +36,7 @@ read_once s files tip (r ∷ rs) (q ∷ qs) last end p stop walk halt =
     cons_same r q rs qs same (read_once s files (tip_after tip r) rs qs last end p.1 stop (subst (λ (x : Record). ReadsOn s files (tip_after tip x) qs end) (sym same) walk.1) halt)
 
 -- one more run
-ran_on : (when : ℕ) (s : StoreSettings) (records : List Record) (wal : Option Files) (top end : Lsn) (before left : Outside) (run : RunReport) → RunDone when before.areas left.areas run → HasGrown s records wal top → (before.areas wal_name).files ≡ wal → HasRun before left run end → HasGrown s records (left.areas wal_name).files end
+pub ran_on : (when : ℕ) (s : StoreSettings) (records : List Record) (wal : Option Files) (top end : Lsn) (before left : Outside) (run : RunReport) → RunDone when before.areas left.areas run → HasGrown s records wal top → (before.areas wal_name).files ≡ wal → HasRun before left run end → HasGrown s records (left.areas wal_name).files end
 ran_on when s records wal top end before left run done grown same ran =
     let was : Files = grown.files in
     let told : (before.areas wal_name).files ≡ Some was = same ∙ grown.told in
@@ -72,4 +72,4 @@ module _ (known : Known) where
       let records : List Record = all_records s done.found done.history in
       let grown = run_grown when before left run end done ran in
       let backed : IsSoundBackup s when records name start stop (last.areas (backup_name name)).files = subst (λ (o : Option Files). IsSoundBackup s when records name start stop o) (sym same) (run_backed when before left run end start stop name done taken ran is_last) in
-      restored_over known s when records last old new top start stop name out upto report (omega (arith, done.given.blocks.least)) grown.1 (all_ran s records left last end top runs grown.0 later) backed restored
+      restored_over known s when records last old new top start stop name out upto report done.given.blocks grown.1 (all_ran s records left last end top runs grown.0 later) backed restored

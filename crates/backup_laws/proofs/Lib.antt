@@ -1,9 +1,17 @@
 pub mod Lines
+pub mod Moments
 pub mod SoundRuns
+pub mod ChainRuns
 pub mod Settled
 pub mod Reading
 pub mod Members
+pub mod ChainMembers
 pub mod RestoredRuns
 pub mod ListedFiles
 pub mod Replays
 pub mod LaterRuns
+pub mod ChainRestored
+pub mod SummaryNames
+pub mod KeptFiles
+pub mod Gaps
+pub mod GapsOfRuns

@@ -28,15 +28,18 @@ use Rattle.vault.specs.Area.{bytes_of}
 use Rattle.backup_label.specs.Label.{IsLabel}
 use Rattle.manifest.specs.Text.{manifest_text}
 use Rattle.manifest.specs.declared.listing.FileRow.{FileRow}
-use Rattle.base_backup.specs.Directory.{label_name, manifest_name, row_of, listed_files, full_label, full_manifest, directory_of, IsFullBackup}
-use Rattle.base_backup.proofs.Digests.{spelled}
+use Rattle.backup_files.specs.Directory.{label_name, manifest_name, row_of, listing_with}
+use Rattle.backup_files.proofs.Digests.{spelled}
+use Rattle.base_backup.specs.Directory.{listed_files, full_label, directory_of, IsFullBackup}
 use Rattle.base_backup.proofs.Labels.{label_apart}
-use Rattle.base_backup.proofs.Segments.{absent, named_at}
+use Rattle.backup_files.proofs.Appended.{absent}
+use Rattle.base_backup.proofs.Segments.{named_at}
 use Rattle.chain_check.specs.Directory.{IsRowAsListed, is_listed, HasNoOther, HasForm, IsAsListed}
 use Rattle.chain_check.proofs.ForkFiles.{no_fork, whole_pages}
-use Rattle.pgbackup_cli.proofs.NewWal.{get_other}
+use Rattle.chain_laws.proofs.Files.{get_other}
 use Rattle.backup_laws.specs.Finished.{FinishedBackupsAreListed, full_member}
-use Rattle.backup_laws.proofs.Members.{fork_file, put_there, manifest_there}
+use Rattle.chain_laws.proofs.Full.{at_fork}
+use Rattle.backup_laws.proofs.Members.{put_there, manifest_there}
 
 -- ---- the files of the pages
 
@@ -76,7 +79,7 @@ kept_at relseg copy label manifest fork seg some named whole in_store lt =
       seg = seg;
       named = here;
       path = refl;
-      there = fork_file relseg copy label manifest fork seg
+      there = at_fork relseg copy label manifest fork seg false
           ∙ (held relseg copy fork seg some named here
           ∙ (ap (segment_in relseg seg) is
           ∙ ap (λ (b : Bool). cond b (Some (segment_content relseg pages seg)) None) (lt-ltb seg (segment_count relseg (length pages)) lt)));
@@ -183,9 +186,9 @@ label_listed relseg copy label modified =
 -- ---- the law
 
 in_directory : (s : StoreSettings) (name : List ℕ) (when : ℕ) (copy : Store) (start checkpoint end : Lsn) (count : ℕ) (files : Files) (is : IsFullBackup s name when copy start checkpoint end count (Some files)) → 0 < s.relseg → IsLabel is.label (full_label start checkpoint is.begun name)
-    → files ≡ directory_of s.relseg copy is.label (manifest_text (full_manifest s.system is.rows start end)) → IsAsListed files (full_member s name start checkpoint end is.begun is.rows)
+    → files ≡ directory_of s.relseg copy is.label (manifest_text (listing_with s.system is.rows start end)) → IsAsListed files (full_member s name start checkpoint end is.begun is.rows)
 in_directory s name when copy start checkpoint end count files is some read same =
-    let text : List ℕ = manifest_text (full_manifest s.system is.rows start end) in
+    let text : List ℕ = manifest_text (listing_with s.system is.rows start end) in
     let dir : Files = directory_of s.relseg copy is.label text in
     let good : AllByRecursion (IsGoodRow files) is.rows = subst (λ (m : Files). AllByRecursion (IsGoodRow m) is.rows) (sym same)
     (recursion_from_All (IsGoodRow dir) is.rows (All-permutation (IsGoodRow dir) (map (row_of is.modified) (listed_files s.relseg copy is.label)) is.rows is.listed.same

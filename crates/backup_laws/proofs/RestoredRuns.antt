@@ -1,16 +1,18 @@
 -- What `restore` makes of a backup that `run` took is what all records of the WAL make.
-use Rattle.std.proofs.Common.{◌≡◌, ℕ, ◌<◌, ◌≤◌, List, [], ◌∷◌, ◌++◌, map, length, Option, Some, None, Result, Ok, IsSome, refl, sym, subst, ◌∙◌, arith, inl}
+use Rattle.std.proofs.Common.{◌≡◌, ℕ, ◌<◌, ◌≤◌, List, [], ◌∷◌, ◌++◌, map, length, Option, Some, None, Result, Ok, IsSome, refl, sym, ap, subst, ◌∙◌, arith, inl, inr}
 use Rattle.std.specs.Prelude.{codes}
 use Rattle.std.specs.FinMap.{get}
 use Rattle.std.proofs.lemmas.List.{append-nil, map-append}
 use Rattle.lsn_core.specs.Files.{Files}
-use Rattle.lsn_core.specs.Segment.{IsSegmentMib, StoreSettings}
+use Rattle.lsn_core.specs.Segment.{IsRelseg, IsSegmentMib, StoreSettings}
 use Rattle.lsn_core.specs.Store.{Store}
 use Rattle.lsn_core.specs.Tip.{Tip}
 use Rattle.lsn_core.specs.declared.fault.StoreFault.{StoreFault}
 use Rattle.lsn_core.specs.declared.lsn.Lsn.{Lsn}
 use Rattle.vault.specs.Area.{Related}
 use Rattle.vault.specs.Frame.{AgreeBut}
+use Rattle.vault.specs.Lending.{Names, IsOneOf}
+use Rattle.vault.specs.Site.{AreaState}
 use Rattle.wal_record.specs.Tips.{first_tip}
 use Rattle.wal_record.specs.declared.record.Record.{Record}
 use Rattle.wal_archive.specs.Rules.{End, Gives}
@@ -31,10 +33,14 @@ use Rattle.recovery.specs.declared.reading.Beginning.TheVariants.{AtPlace}
 use Rattle.recovery.specs.declared.replaying.Replayed.{Replayed}
 use Rattle.shared_store.specs.Close.{HoldsRecords}
 use Rattle.base_backup.specs.Directory.{IsFullBackup}
-use Rattle.backup_restore.specs.Copy.{IsStoreIn}
 use Rattle.backup_restore.specs.Restored.{MakesOf, IsRestored}
 use Rattle.backup_restore.specs.Directories.{FilesHoldOneStore}
 use Rattle.chain_check.specs.Directory.{IsAsListed}
+use Rattle.chain_check.specs.declared.member.Member.{Member}
+use Rattle.chain_files.specs.Held.{IsStoreOfChain}
+use Rattle.chain_files.specs.Segments.{AllHaveForms, chain_segments}
+use Rattle.chain_files.specs.Told.{all_told}
+use Rattle.chain_laws.specs.Chain.{IsSoundChain}
 use Rattle.command_base.specs.Areas.{wal_name, output_name, backup_name}
 use Rattle.command_base.specs.Outside.{Outside}
 use Rattle.command_base.proofs.Told.{some_told, at_told}
@@ -42,10 +48,12 @@ use Rattle.run_command.specs.declared.command.RunReport.{RunReport}
 use Rattle.run_command.specs.Run.{RunDone, HoldsRun, IsClosing, all_records, found_tip}
 use Rattle.pgbackup_cli.specs.declared.replay.ReplayReport.{ReplayReport}
 use Rattle.pgbackup_cli.specs.Replay.{end_by}
-use Rattle.pgbackup_cli.specs.Restore.{RestoresMember, IsOfMember, restore_areas}
+use Rattle.pgbackup_cli.specs.Chain.{AreMembersIn, IsChainTo, IsOfChain, backup_areas, files_told}
+use Rattle.pgbackup_cli.specs.Restore.{RestoreSeen, RestoresChain, restore_seen, restored_areas}
 use Rattle.backup_laws.specs.Runs.{IsBackedUp, IsLastOfName, IsSoundBackup}
 use Rattle.backup_laws.specs.Restores.{HasRun, HasRestored, replay_end, IsWholeReplay, RunsAndRestoresAreReplays}
-use Rattle.backup_laws.proofs.Members.{Known, copy_held, places_told}
+use Rattle.backup_laws.proofs.ChainMembers.{members_listed, all_forms}
+use Rattle.backup_laws.proofs.Members.{Known, places_told}
 use Rattle.backup_laws.proofs.Reading.{none_behind, records_rise, IsCompleted, completed}
 use Rattle.backup_laws.proofs.Settled.{segment_size, settings_stay}
 use Rattle.backup_laws.proofs.SoundRuns.{runs_sound}
@@ -75,14 +83,14 @@ pub record Tells (s : StoreSettings) (start : Lsn) (upto : Option Lsn) (entries 
   pub forks : report.forks ≡ replayed.forks
   pub pages : report.pages ≡ replayed.pages
 
--- over a directory that holds a sound copy it makes what all records of the WAL make
-pub made_whole : FilesHoldOneStore → (s : StoreSettings) (wal : Option Files) (files backup : Files) (records entries : List Record) (copy : Store) (start stop end : Lsn) (upto : Option Lsn) (replayed : Replayed) (report : ReplayReport) (out : Option Files)
-    → wal ≡ Some files → HasSettings wal s → IsSegmentMib s.segment → HoldsRecords s records end.0 files → IsSoundCopy copy (map entry_of records) start.0 stop.0 → IsStoreIn s.relseg backup copy
-    → IsReadFrom s files (AtPlace start) upto entries replayed.tip End → MakesOf s.relseg backup entries (replayed_to upto replayed.tip) replayed out → stop.0 ≤ replayed_to upto replayed.tip → Tells s start upto entries replayed report → IsWholeReplay wal end (replay_end upto end) report out
-made_whole one s wal files backup records entries copy start stop end upto replayed report out told given size held sound there read made far tells =
+-- over a chain that holds a sound copy it makes what all records of the WAL make
+pub made_whole : FilesHoldOneStore → (s : StoreSettings) (wal : Option Files) (files : Files) (chain : List Files) (records entries : List Record) (copy : Store) (start stop end : Lsn) (upto : Option Lsn) (replayed : Replayed) (report : ReplayReport) (out : Option Files)
+    → wal ≡ Some files → HasSettings wal s → IsSegmentMib s.segment → HoldsRecords s records end.0 files → IsSoundCopy copy (map entry_of records) start.0 stop.0 → IsStoreOfChain s.relseg chain copy
+    → IsReadFrom s files (AtPlace start) upto entries replayed.tip End → MakesOf s.relseg chain entries (replayed_to upto replayed.tip) replayed out → stop.0 ≤ replayed_to upto replayed.tip → Tells s start upto entries replayed report → IsWholeReplay wal end (replay_end upto end) report out
+made_whole one s wal files chain records entries copy start stop end upto replayed report out told given size held sound there read made far tells =
     let tip : Tip = replayed.tip in
     let is : IsCompleted s records entries held.tip tip copy start upto = completed s files records entries held.tip tip copy start stop.0 upto size held.read (none_behind s records end.0 files held) sound read far in
-    let same : made.copy ≡ copy = one s.relseg backup made.copy copy made.held there in
+    let same : made.copy ≡ copy = one s.relseg (chain_segments chain) made.copy copy made.held there in
     let place : replayed_to upto tip ≡ replay_end upto end = place_is upto tip end (λ none. is.reached none ∙ held.at) in
     record {
       files = files;
@@ -129,33 +137,69 @@ run_left when before left run end done was ran told =
 
 -- ---- a restore over such a WAL
 
+-- a member tells these places
+abbrev TellsPlaces : Member → Lsn → Lsn → Type 0
+TellsPlaces member start stop = (member.label.start ≡ start) × (member.manifest.end ≡ stop.0)
+
+-- the areas of the members tell what they told before
+pub same_told : (names : Names) (old last : Outside) → ((name : List ℕ) → IsOneOf name names → (old.areas (backup_name name)).files ≡ (last.areas (backup_name name)).files) → files_told (backup_areas names old.areas) ≡ files_told (backup_areas names last.areas)
+same_told names old last same = ap all_told (each names same)
+  where
+    each : (ns : Names) → ((name : List ℕ) → IsOneOf name ns → (old.areas (backup_name name)).files ≡ (last.areas (backup_name name)).files) → map (λ area. area.files) (backup_areas ns old.areas) ≡ map (λ area. area.files) (backup_areas ns last.areas)
+    each [] same = refl
+    each (n ∷ ns) same =
+        ap (λ (o : Option Files). o ∷ map (λ area. area.files) (backup_areas ns old.areas)) (same n (inl refl))
+        ∙ ap (λ (os : List (Option Files)). (last.areas (backup_name n)).files ∷ os) (each ns (λ name one. same name (inr one)))
+
 module _ (known : Known) where
-  pub restored_over : (s : StoreSettings) (when : ℕ) (records : List Record) (last old new : Outside) (end start stop : Lsn) (name out : List ℕ) (upto : Option Lsn) (report : ReplayReport) → 0 < s.relseg → IsSegmentMib s.segment → HasGrown s records (last.areas wal_name).files end
-      → IsSoundBackup s when records name start stop (last.areas (backup_name name)).files → HasRestored last upto out name old new report → IsWholeReplay (last.areas wal_name).files end (replay_end upto end) report (new.areas (output_name out)).files
-  restored_over s when records last old new end start stop name out upto report some size grown is restored =
-      let backup : List ℕ = backup_name name in
+  pub chain_restored : (s : StoreSettings) (records : List Record) (last old new : Outside) (end start stop : Lsn) (names : Names) (out : List ℕ) (upto : Option Lsn) (report : ReplayReport) (chain : List Files) → IsSegmentMib s.segment → HasGrown s records (last.areas wal_name).files end
+      → files_told (backup_areas names last.areas) ≡ Some chain → IsSoundChain s.relseg (map entry_of records) chain start.0 stop.0 → (restored : HasRestored last upto out names old new report) → (restored.does.1.newest.label.start ≡ start) × (restored.does.1.newest.manifest.end ≡ stop.0) → IsWholeReplay (last.areas wal_name).files end (replay_end upto end) report (new.areas (output_name out)).files
+  chain_restored s records last old new end start stop names out upto report chain size grown chain_is is restored places =
       let output : List ℕ = output_name out in
       let all : List Record = records ++ grown.more in
-      let kept = some_told (old.areas backup).files restored.backup_told in
-      let directory : IsFullBackup s name when is.copy start is.checkpoint stop is.count (Some kept.0) = subst (λ (o : Option Files). IsFullBackup s name when is.copy start is.checkpoint stop is.count o) (sym restored.backup ∙ kept.1) is.directory in
-      let of : IsOfMember name (old.areas backup) (RestoresMember upto (restore_areas backup output old) (restore_areas backup output new) report) = restored.does.1 in
-      let listed : (of.member.name ≡ name) × IsAsListed kept.0 of.member = at_told (old.areas backup).files kept.0 (λ m. (of.member.name ≡ name) × IsAsListed m of.member) kept.1 of.listed in
-      let places = places_told known.texts s name when is.copy start is.checkpoint stop is.count kept.0 of.member directory listed.1 in
-      let r : RestoresMember upto (restore_areas backup output old) (restore_areas backup output new) report of.member = of.holds in
+      let was : RestoreSeen = restore_seen names output old in
+      let now : RestoreSeen = restore_seen names output new in
+      let chain_told : files_told was.members ≡ Some chain = same_told names old last restored.backups ∙ chain_is in
+      let of : IsOfChain names was.members (RestoresChain upto was now report) = restored.does.1 in
+      let forms : AllHaveForms chain = all_forms known.forms chain (of.chain.older ++ (of.newest ∷ [])) (members_listed names was.members (of.chain.older ++ (of.newest ∷ [])) chain of.chain.are chain_told) in
+      let r : RestoresChain upto was now report of.newest = of.holds in
       let told : (old.areas wal_name).files ≡ Some grown.files = restored.wal ∙ grown.told in
       let same : r.settings ≡ s = grown.settings r.settings (settings_in r.settings (old.areas wal_name).files grown.files told r.given) in
-      let came : IsRestored s start upto (restore_areas backup output old) (restore_areas backup output new) r.replayed =
-      subst (λ (t : StoreSettings). IsRestored t start upto (restore_areas backup output old) (restore_areas backup output new) r.replayed) same
-      (subst (λ (l : Lsn). IsRestored r.settings l upto (restore_areas backup output old) (restore_areas backup output new) r.replayed) places.0 r.restored) in
+      let came : IsRestored s start upto (restored_areas was) (restored_areas now) r.replayed =
+      subst (λ (t : StoreSettings). IsRestored t start upto (restored_areas was) (restored_areas now) r.replayed) same
+      (subst (λ (l : Lsn). IsRestored r.settings l upto (restored_areas was) (restored_areas now) r.replayed) places.0 r.restored) in
       let read : IsReadFrom s grown.files (AtPlace start) upto came.entries r.replayed.tip End = at_told (old.areas wal_name).files grown.files (λ m. IsReadFrom s m (AtPlace start) upto came.entries r.replayed.tip End) told came.read.archive in
-      let made : MakesOf s.relseg kept.0 came.entries (replayed_to upto r.replayed.tip) r.replayed (new.areas output).files = at_told (old.areas backup).files kept.0 (λ m. MakesOf s.relseg m came.entries (replayed_to upto r.replayed.tip) r.replayed (new.areas output).files) kept.1 (came.made restored.output_told) in
+      let made : MakesOf s.relseg chain came.entries (replayed_to upto r.replayed.tip) r.replayed (new.areas output).files =
+      at_told (files_told was.members) chain (λ c. AllHaveForms c → MakesOf s.relseg c came.entries (replayed_to upto r.replayed.tip) r.replayed (new.areas output).files) chain_told (came.made restored.output_told) forms in
       let far : stop.0 ≤ replayed_to upto r.replayed.tip = subst (λ (n : ℕ). n ≤ replayed_to upto r.replayed.tip) places.1 (r.reached (subst (λ (o : Option Files). IsSome o) (sym told) refl)) in
       let orderly : IsOrderly 0 (map entry_of records ++ map entry_of grown.more) = subst (IsOrderly 0) (map-append entry_of records grown.more) (entries_rise 0 all (records_rise s grown.files all grown.held.tip size grown.held.read)) in
       let sound : IsSoundCopy is.copy (map entry_of all) start.0 stop.0 = subst (λ (es : List Entry). IsSoundCopy is.copy es start.0 stop.0) (sym (map-append entry_of records grown.more)) (sound_later is.copy (map entry_of records) (map entry_of grown.more) start.0 stop.0 orderly is.sound) in
-      made_whole known.one s (last.areas wal_name).files grown.files kept.0 all came.entries is.copy start stop end upto r.replayed report (new.areas output).files grown.told
-      (subst (λ (t : StoreSettings). HasSettings (last.areas wal_name).files t) same (subst (λ (o : Option Files). HasSettings o r.settings) restored.wal r.given)) size grown.held sound
-      (copy_held known.held s name when is.copy start is.checkpoint stop is.count kept.0 some directory) read made far
+      made_whole known.one s (last.areas wal_name).files grown.files chain all came.entries is.copy start stop end upto r.replayed report (new.areas output).files grown.told
+      (subst (λ (t : StoreSettings). HasSettings (last.areas wal_name).files t) same (subst (λ (o : Option Files). HasSettings o r.settings) restored.wal r.given)) size grown.held sound is.held read made far
       (record { last = r.end ∙ came.end; forks = r.forks; pages = r.pages })
+
+  -- ---- of a full backup alone
+
+  alone_tells : (s : StoreSettings) (when : ℕ) (area : AreaState) (copy : Store) (start checkpoint stop : Lsn) (count : ℕ) (name : List ℕ) (backup : Files) (newest : Member) → area.files ≡ Some backup → IsFullBackup s name when copy start checkpoint stop count (Some backup)
+      → IsChainTo (name ∷ []) (area ∷ []) newest → TellsPlaces newest start stop
+  alone_tells s when area copy start checkpoint stop count name backup newest told directory chain = by chain.older chain.are
+    where
+      by : (older : List Member) → AreMembersIn (name ∷ []) (area ∷ []) (older ++ (newest ∷ [])) → TellsPlaces newest start stop
+      by [] are = places_told known.texts s name when copy start checkpoint stop count backup newest directory (at_told area.files backup (λ m. (newest.name ≡ name) × IsAsListed m newest) told are.0).1
+      by (m ∷ []) are = absurd are.1
+      by (m ∷ (n ∷ older)) are = absurd are.1
+
+  pub restored_over : (s : StoreSettings) (when : ℕ) (records : List Record) (last old new : Outside) (end start stop : Lsn) (name out : List ℕ) (upto : Option Lsn) (report : ReplayReport) → IsRelseg s.relseg → IsSegmentMib s.segment → HasGrown s records (last.areas wal_name).files end
+      → IsSoundBackup s when records name start stop (last.areas (backup_name name)).files → HasRestored last upto out (name ∷ []) old new report → IsWholeReplay (last.areas wal_name).files end (replay_end upto end) report (new.areas (output_name out)).files
+  restored_over s when records last old new end start stop name out upto report range size grown is restored =
+      let backup : List ℕ = backup_name name in
+      let kept = some_told (old.areas backup).files (restored.backups_told name (inl refl)) in
+      let same : (old.areas backup).files ≡ (last.areas backup).files = restored.backups name (inl refl) in
+      let there : (last.areas backup).files ≡ Some kept.0 = sym same ∙ kept.1 in
+      let directory : IsFullBackup s name when is.copy start is.checkpoint stop is.count (Some kept.0) = subst (λ (o : Option Files). IsFullBackup s name when is.copy start is.checkpoint stop is.count o) there is.directory in
+      chain_restored s records last old new end start stop (name ∷ []) out upto report (kept.0 ∷ []) size grown (ap (λ (o : Option Files). all_told (o ∷ [])) there)
+      (record { copy = is.copy; held = known.copies s name when is.copy start is.checkpoint stop is.count kept.0 range directory; sound = is.sound })
+      restored (alone_tells s when (old.areas backup) is.copy start is.checkpoint stop is.count name kept.0 restored.does.1.newest kept.1 directory restored.does.1.chain)
 
 -- ---- what a run left
 
@@ -192,5 +236,5 @@ module _ (known : Known) where
       let when : ℕ = ran.does.0 in
       let done : RunDone when before.areas left.areas run = ran.does.6.2 in
       let grown = run_grown when before left run end done ran in
-      restored_over known done.settings when (all_records done.settings done.found done.history) left old new end start stop name out upto report (omega (arith, done.given.blocks.least)) grown.1 grown.0
+      restored_over known done.settings when (all_records done.settings done.found done.history) left old new end start stop name out upto report done.given.blocks grown.1 grown.0
       (run_backed when before left run end start stop name done taken ran last) restored

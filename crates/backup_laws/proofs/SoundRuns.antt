@@ -1,11 +1,10 @@
 -- The backups that a run answered are sound for the records of its WAL.
-use Rattle.std.proofs.Common.{◌≡◌, ℕ, zero, suc, ◌&&◌, true, List, [], ◌∷◌, ◌++◌, map, length, take, drop, append_assoc, Option, Some, is_some, sym, ap, subst, ◌∙◌, arith, inr}
+use Rattle.std.proofs.Common.{◌≡◌, ℕ, zero, suc, ◌&&◌, true, List, [], ◌∷◌, ◌++◌, map, length, take, drop, Option, Some, is_some, sym, ap, subst, ◌∙◌, arith, inr}
 use Rattle.std.specs.Prelude.{◌==◌}
 use Rattle.std.specs.List.{All, list_any, slice_get}
 use Rattle.std.specs.FinMap.{empty}
 use Rattle.std.proofs.lemmas.Bool.{and_from, or_left, or_right, eq-eqb}
 use Rattle.std.proofs.lemmas.List.{map-append, length-map, take-append-drop}
-use Rattle.std.proofs.lemmas.List.Folds.{list_any-append}
 use Rattle.std.proofs.Math.Seq.{take-append_seam}
 use mathlib.Core.List.{IsPrefix}
 use Rattle.lsn_core.specs.Segment.{StoreSettings}
@@ -18,13 +17,14 @@ use Rattle.history.specs.Written.{is_redo, wal_of}
 use Rattle.fuzzy_copies.specs.Logged.{history_of, log_of}
 use Rattle.fuzzy_copies.specs.Orderly.{IsOrderly}
 use Rattle.fuzzy_copies.specs.Sound.{IsSoundCopy}
-use Rattle.fuzzy_copies.specs.Taken.{IsSeen, IsTaken}
+use Rattle.fuzzy_copies.specs.Taken.{IsTaken}
 use Rattle.fuzzy_copies.proofs.Restored.{logged_sound}
 use Rattle.fuzzy_copies.proofs.Taken.{taken_sound}
 use Rattle.journal.specs.Lawful.{IsLawful}
 use Rattle.journal.proofs.Stands.{lawful_orderly}
 use Rattle.shared_store.specs.Copied.{is_redo_at, HasRedoPoint}
 use Rattle.shared_store.proofs.RedoPoints.{redo_runs}
+use Rattle.chain_laws.proofs.Taken.{seen_on}
 use Rattle.crew.specs.declared.answer.Answer.TheVariants.{Backup}
 use Rattle.crew.specs.Run.{HasBackupAt, HoldsBackup, basis_of}
 use Rattle.crew.proofs.Lists.{prefix_get}
@@ -43,8 +43,8 @@ redo_there place (x ∷ es) zero e there is =
 redo_there place (x ∷ es) (suc n) e there is = or_right (is_redo_at place x) (list_any (is_redo_at place) es) (redo_there place es n e there is)
 
 -- the start of a backup's checkpoint is a redo point
-begins_at : (worker : ℕ) (now history : List Entry) (start checkpoint end : ℕ) → IsPrefix now history → HasBackupAt worker 0 now start checkpoint end → HasRedoPoint history start
-begins_at worker now history start checkpoint end p h =
+pub begins_at : (worker before : ℕ) (now history : List Entry) (start checkpoint end : ℕ) → IsPrefix now history → HasBackupAt worker before now start checkpoint end → HasRedoPoint history start
+begins_at worker before now history start checkpoint end p h =
     let at : (h.first.start == start) ≡ true = eq-eqb h.first.start start (sym h.start_is) in
     let marks : is_redo h.first.act ≡ true = ap is_redo h.entries.starts.0 in
     let own : is_of_run h.first ≡ true = ap (λ (o : Option ℕ). is_some o) h.entries.starts.1 in
@@ -52,14 +52,6 @@ begins_at worker now history start checkpoint end p h =
     (and_from ((h.first.start == start) && is_redo h.first.act) (is_of_run h.first) (and_from (h.first.start == start) (is_redo h.first.act) at marks) own)
 
 -- ---- a history that goes on
-
-seen_on : (seen history more : List Entry) (from to : ℕ) → IsSeen seen history from to → IsSeen seen (history ++ more) from to
-seen_on seen history more from to s = record {
-  behind = s.behind ++ more;
-  all = ap (λ (es : List Entry). es ++ more) s.all ∙ append_assoc seen s.behind more;
-  holds = s.holds;
-  ends = list_any-append (λ (e : Entry). e.end == to) s.behind more ∙ or_left (list_any (λ (e : Entry). e.end == to) s.behind) (list_any (λ (e : Entry). e.end == to) more) s.ends;
-}
 
 taken_on : (copy : Store) (history more : List Entry) (from to : ℕ) → IsTaken copy history from to → IsTaken copy (history ++ more) from to
 taken_on copy history more from to t = record {
@@ -72,20 +64,20 @@ taken_on copy history more from to t = record {
 }
 
 -- a copy that was taken while a beginning of a history was written is sound for all of it
-taken_in : (mib : ℕ) (copy : Store) (now history : List Entry) (from to : ℕ) → IsLawful mib history → HasRedoPoint history from → IsPrefix now history → IsTaken copy now from to → IsSoundCopy copy history from to
+pub taken_in : (mib : ℕ) (copy : Store) (now history : List Entry) (from to : ℕ) → IsLawful mib history → HasRedoPoint history from → IsPrefix now history → IsTaken copy now from to → IsSoundCopy copy history from to
 taken_in mib copy now history from to law redo p taken =
     taken_sound copy history from to (redo_runs mib from history law redo) (subst (λ (es : List Entry). IsTaken copy es from to) p.1 (taken_on copy now p.0 from to taken))
 
 -- ---- the records of the WAL
 
-own_entries : (workers : ℕ) (es : List Entry) → All (IsOfRun workers) es → AreOwn es
+pub own_entries : (workers : ℕ) (es : List Entry) → All (IsOfRun workers) es → AreOwn es
 own_entries workers [] all = tt
 own_entries workers (e ∷ es) all =
     let by : IsOfRun workers e = all 0 e (omega arith) in
     (of_worker by.0 e by.2, own_entries workers es (λ k d within. all (suc k) d (omega arith)))
 
 -- entries that were found, before own ones, are the same however they are told
-found_alike : (rs qs : List Record) (es os : List Entry) → AreOwn es → AreOwn os → map entry_of rs ++ es ≡ map entry_of qs ++ os → map entry_of rs ≡ map entry_of qs
+pub found_alike : (rs qs : List Record) (es os : List Entry) → AreOwn es → AreOwn os → map entry_of rs ++ es ≡ map entry_of qs ++ os → map entry_of rs ≡ map entry_of qs
 found_alike rs qs es os own other same =
     let part = parted rs qs es os own other same in
     let many : length (map entry_of rs) ≡ length (map entry_of qs) = length-map rs entry_of ∙ (part.0 ∙ sym (length-map qs entry_of)) in
@@ -102,7 +94,7 @@ log_alike mib found own history law grown owns =
     ∙ (ap (λ (es : List Entry). map entry_of found ++ map entry_of (wal_of mib es)) (sym law.grown)
     ∙ sym (map-append entry_of found (wal_of mib history))))
 
-sound_logged : (mib : ℕ) (copy : Store) (found : List Record) (own history : List Entry) (from to : ℕ) → IsLawful mib history → history ≡ map entry_of found ++ own → AreOwn own → IsSoundCopy copy history from to → IsSoundCopy copy (map entry_of (found ++ wal_of mib history)) from to
+pub sound_logged : (mib : ℕ) (copy : Store) (found : List Record) (own history : List Entry) (from to : ℕ) → IsLawful mib history → history ≡ map entry_of found ++ own → AreOwn own → IsSoundCopy copy history from to → IsSoundCopy copy (map entry_of (found ++ wal_of mib history)) from to
 sound_logged mib copy found own history from to law grown owns sound =
     subst (λ (es : List Entry). IsSoundCopy copy es from to) (log_alike mib found own history law grown owns)
     (logged_sound mib law.found law.own law.store copy from to
@@ -120,7 +112,7 @@ runs_sound when old new report run name start end taken told =
     let now : List Entry = take stands.0 run.history in
     let holds : HoldsBackup (AreTold old) (basis_of s when) taken.worker 0 now name start end stands.1 = stands.3 in
     let front : IsPrefix now run.history = (drop stands.0 run.history, take-append-drop stands.0 run.history) in
-    let redo : HasRedoPoint run.history start.0 = begins_at taken.worker now run.history start.0 holds.checkpoint end.0 front holds.entries in
+    let redo : HasRedoPoint run.history start.0 = begins_at taken.worker 0 now run.history start.0 holds.checkpoint end.0 front holds.entries in
     let sound : IsSoundCopy holds.copy run.history start.0 end.0 = taken_in s.segment holds.copy now run.history start.0 end.0 law redo front (holds.taken told) in (
       stands.1,
       record {

@@ -5,7 +5,8 @@ use Rattle.lsn_core.specs.Segment.{StoreSettings}
 use Rattle.lsn_core.specs.Store.{Store}
 use Rattle.lsn_core.specs.declared.lsn.Lsn.{Lsn}
 use Rattle.backup_label.specs.Label.{HasNoLineEnd}
-use Rattle.base_backup.specs.Directory.{IsFullBackup, full_label, full_manifest}
+use Rattle.backup_files.specs.Directory.{listing_with}
+use Rattle.base_backup.specs.Directory.{IsFullBackup, full_label}
 use Rattle.chain_check.specs.Directory.{IsAsListed}
 use Rattle.chain_check.specs.declared.member.Member.{Member}
 use Rattle.manifest.specs.declared.listing.FileRow.{FileRow}
@@ -17,7 +18,7 @@ abbrev pub full_member :
 full_member settings name start checkpoint end begun rows = record {
   name = name;
   label = full_label start checkpoint begun name;
-  manifest = full_manifest settings.system rows start end;
+  manifest = listing_with settings.system rows start end;
 }
 
 -- the files of a full backup under a name that ends no line are those of such a member, as its

@@ -5,6 +5,7 @@ use Rattle.lsn_core.specs.Files.{Files}
 use Rattle.lsn_core.specs.Segment.{StoreSettings}
 use Rattle.lsn_core.specs.Store.{Store, files_of}
 use Rattle.lsn_core.specs.declared.lsn.Lsn.{Lsn}
+use Rattle.vault.specs.Lending.{Names, IsOneOf}
 use Rattle.wal_record.specs.declared.record.Record.{Record}
 use Rattle.history.specs.Pages.{page_count}
 use Rattle.history.specs.Whole.{whole}
@@ -25,16 +26,18 @@ pub record HasRun (before left : Outside) (report : RunReport) (end : Lsn) : Typ
   pub does : RunDoes before left (Ok report)
   pub closed : report.closed ≡ Ok end
 
--- `restore` ended well, of the backup of a name and to an output, which tell their files; those of the
--- WAL and of the backup are as they were left before
+-- `restore` ended well, of the chain of backups of some names and to an output, which tell their files;
+-- those of the WAL and of the backups are as they were left before
 pub record HasRestored
-    (left : Outside) (upto : Option Lsn) (out name : List ℕ) (old new : Outside)
+    (left : Outside) (upto : Option Lsn) (out : List ℕ) (names : Names) (old new : Outside)
     (report : ReplayReport)
     : Type 0 where
-  pub does : RestoreDoes upto out name old new (Ok report)
+  pub does : RestoreDoes upto out names old new (Ok report)
   pub wal : (old.areas wal_name).files ≡ (left.areas wal_name).files
-  pub backup : (old.areas (backup_name name)).files ≡ (left.areas (backup_name name)).files
-  pub backup_told : IsSome (old.areas (backup_name name)).files
+  pub backups : (name : List ℕ) → IsOneOf name names
+      → (old.areas (backup_name name)).files ≡ (left.areas (backup_name name)).files
+  pub backups_told : (name : List ℕ) → IsOneOf name names
+      → IsSome (old.areas (backup_name name)).files
   pub output_told : IsSome (old.areas (output_name out)).files
 
 -- up to where is replayed of a WAL that ends at a place: to the target, where one is given
@@ -72,7 +75,7 @@ RunsAndRestoresAreReplays =
     (name out : List ℕ) (upto : Option Lsn) (report : ReplayReport)
     (taken : IsBackedUp run.told name start stop)
     → HasRun before left run end → IsLastOfName run.told name start stop taken
-    → HasRestored left upto out name old new report
+    → HasRestored left upto out (name ∷ []) old new report
     → IsWholeReplay (left.areas wal_name).files end (replay_end upto end) report
     (new.areas (output_name out)).files
 
@@ -101,7 +104,7 @@ RestoresAreAsReplays =
     (name out other : List ℕ) (upto : Option Lsn) (report told : ReplayReport)
     (taken : IsBackedUp run.told name start stop)
     → HasRun before left run end → IsLastOfName run.told name start stop taken
-    → HasRestored left upto out name old new report
+    → HasRestored left upto out (name ∷ []) old new report
     → HasReplayed left upto other was is told
     → AreAlike (new.areas (output_name out)).files (is.areas (output_name other)).files report told
 
@@ -132,6 +135,6 @@ LaterRestoresAreReplays =
     → HasRun before left run end → IsLastOfName run.told name start stop taken
     → HaveRun left end runs last top
     → (last.areas (backup_name name)).files ≡ (left.areas (backup_name name)).files
-    → HasRestored last upto out name old new report
+    → HasRestored last upto out (name ∷ []) old new report
     → IsWholeReplay (last.areas wal_name).files top (replay_end upto top) report
     (new.areas (output_name out)).files

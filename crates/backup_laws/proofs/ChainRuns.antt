@@ -1,0 +1,393 @@
+-- The backups of chains that a run answered make sound chains.
+use Rattle.std.proofs.Common.{◌≡◌, ◌≢◌, ℕ, zero, suc, ◌<◌, ◌≤◌, Bool, true, false, List, [], ◌∷◌, ◌++◌, map, append_assoc, length, take, drop, Option, Some, None, Ok, refl, sym, ap, subst, ◌∙◌, arith, inl, inr}
+use Rattle.std.specs.Prelude.{IsSome, slice_get, ◌==◌}
+use Rattle.std.specs.List.{list_any}
+use Rattle.std.specs.FinMap.{get, insert, empty, get-empty}
+use Rattle.std.specs.Ordering.{nat_cmp}
+use Rattle.std.specs.Cmp.Lexicographic.{slice_cmp}
+use Rattle.std.proofs.lemmas.Bool.{and_from, eq-eqb, or_left, or_right}
+use Rattle.std.proofs.lemmas.List.{take-take, take-append-drop, length-take, length-map}
+use Rattle.std.proofs.lemmas.Option.{slice_get_within}
+use Rattle.std.proofs.Math.Seq.{take-append_seam, drop-append_seam}
+use mathlib.Core.List.{IsPrefix}
+use Rattle.byte_words.specs.Numbers.{◌>>=◌}
+use Rattle.lsn_core.specs.Files.{Files}
+use Rattle.lsn_core.specs.Segment.{IsRelseg, StoreSettings}
+use Rattle.lsn_core.specs.Store.{Store}
+use Rattle.lsn_core.specs.declared.lsn.Lsn.{Lsn}
+use Rattle.vault.specs.Site.{Areas, AreaState}
+use Rattle.vault.specs.Lending.{Names, IsOneOf}
+use Rattle.history.specs.Apply.{apply_all}
+use Rattle.history.specs.Entry.{Entry}
+use Rattle.history.specs.Whole.{entry_of}
+use Rattle.history.specs.Written.{is_redo}
+use Rattle.fuzzy_copies.specs.Covers.{AreTidy}
+use Rattle.fuzzy_copies.specs.Orderly.{IsOrderly}
+use Rattle.fuzzy_copies.specs.Sound.{IsSoundCopy}
+use Rattle.fuzzy_copies.specs.Taken.{IsRunning}
+use Rattle.journal.specs.Lawful.{IsLawful}
+use Rattle.journal.proofs.Stands.{lawful_orderly}
+use Rattle.summary_store.specs.Honest.{IsHonest, is_redo_start}
+use Rattle.summary_publish.specs.Laws.{AdvancesSumUp}
+use Rattle.summary_publish.specs.Published.{AdvanceAnswers}
+use Rattle.manifest.specs.Listing.{Listing}
+use Rattle.manifest.specs.Text.{manifest_text}
+use Rattle.shared_store.specs.Copied.{HasRedoPoint}
+use Rattle.shared_store.specs.Seen.{accepted_by}
+use Rattle.shared_store.proofs.RedoPoints.{redo_runs}
+use Rattle.backup_files.specs.Directory.{manifest_name, listing_with}
+use Rattle.base_backup.specs.Directory.{IsDirectory, IsFullBackup, incr_label}
+use Rattle.base_backup.specs.Prior.{HasListing}
+use Rattle.base_backup.specs.Sent.{file_of}
+use Rattle.chain_laws.specs.Chain.{IsSoundChain}
+use Rattle.chain_laws.specs.Increment.{IsIncrementOf}
+use Rattle.chain_laws.specs.Laws.{IncrementsExtendSoundChains, FullBackupsAreSoundChains, SoundChainsStaySound}
+use Rattle.chain_laws.proofs.Taken.{IsSumOf, sum_of, increment_of}
+use Rattle.command_base.specs.Areas.{backup_name, sums_name}
+use Rattle.command_base.proofs.Told.{some_told, at_told}
+use Rattle.crew.specs.declared.script.Command.{Command}
+use Rattle.crew.specs.declared.script.Command.TheVariants as command
+use Rattle.crew.specs.declared.script.Line.{Line}
+use Rattle.crew.specs.declared.answer.Answer.{Answer}
+use Rattle.crew.specs.declared.answer.Answer.TheVariants.{Backup}
+use Rattle.crew.specs.Backups.{area_asked, areas_asked}
+use Rattle.crew.specs.Run.{Basis, HoldsBackup, HoldsIncr, IsAnswered, IsHonestFor, TakesFull, TakesIncr, basis_of, incr_areas, states}
+use Rattle.crew.proofs.Kept.{never_empty, never_sums}
+use Rattle.run_command.specs.declared.told.Told.{Told}
+use Rattle.run_command.specs.declared.command.RunReport.{RunReport}
+use Rattle.run_command.specs.Run.{RunDone, AreTold, backups_asked, tasks_told}
+use Rattle.run_command.proofs.OwnEntries.{written_own}
+use Rattle.run_command.proofs.ToldLess.{one_front, one_back}
+use Rattle.backup_laws.specs.Chains.{TellsThroughout, FindsOwn, IsSoundFull, IsSoundIncrement, FullBackupsOfRunsAreSound, IncrementsOfRunsExtendChains, RunsKeepChainsSound}
+use Rattle.backup_laws.proofs.Moments.{IsMoment, moment_of, asked_of_line}
+use Rattle.backup_laws.proofs.SoundRuns.{begins_at, taken_in, own_entries, found_alike, sound_logged}
+
+-- ---- histories
+
+-- what passes a test in a list behind a place
+any_behind : (t : Entry → Bool) (es : List Entry) (from number : ℕ) (e : Entry) → from ≤ number → slice_get es number ≡ Some e → t e ≡ true → list_any t (drop from es) ≡ true
+any_behind t [] from number e le there is = absurd cc
+any_behind t (x ∷ es) zero zero e le there is =
+    let same : x ≡ e = cc in
+    or_left (t x) (list_any t es) (ap t same ∙ is)
+any_behind t (x ∷ es) zero (suc n) e le there is = or_right (t x) (list_any t es) (any_behind t es zero n e (omega arith) there is)
+any_behind t (x ∷ es) (suc from) zero e le there is = absurd (omega (arith, le))
+any_behind t (x ∷ es) (suc from) (suc n) e le there is = any_behind t es from n e (omega (arith, le)) there is
+
+tidy_both : (store : Store) (xs ys : List Entry) → AreTidy store xs → ((next : Store) → apply_all store xs ≡ Some next → AreTidy next ys) → AreTidy store (xs ++ ys)
+tidy_both store [] ys first then = then store refl
+tidy_both store (e ∷ xs) ys first then = (first.0, λ next made. tidy_both next xs ys (first.1 next made) (λ last all. then last (ap (λ (o : Option Store). o >>= λ s. apply_all s xs) made ∙ all)))
+
+-- two parts behind the same front are the same
+own_alike : (a b es os : List Entry) → a ≡ b → a ++ es ≡ b ++ os → es ≡ os
+own_alike a b es os same all = sym (drop-append_seam a es) ∙ (ap (drop (length a)) all ∙ (ap (λ (l : List Entry). drop (length l) (b ++ os)) same ∙ drop-append_seam b os))
+
+-- ---- what is known
+
+pub record KnownOfChains : Type 0 where
+  pub extend : IncrementsExtendSoundChains
+  pub full : FullBackupsAreSoundChains
+  pub later : SoundChainsStaySound
+  pub sums : AdvancesSumUp
+
+-- a directory with a manifest holds a file
+listed_some : (files : Files) (m : Listing) → HasListing files m → files ≢ empty
+listed_some files m has = λ none.
+    let gone : get files manifest_name ≡ None = ap (λ (f : Files). get f manifest_name) none ∙ get-empty (slice_cmp nat_cmp) manifest_name in
+    absurd (let e : Some has.0 ≡ None = sym has.1 ∙ gone in cc)
+
+put_some : (dir : Files) (text : List ℕ) (m : Files) → m ≡ insert dir manifest_name text → m ≢ empty
+put_some dir text m is = λ none. never_empty dir manifest_name text (sym is ∙ none)
+
+-- the areas that a worker asks for are among those of its script
+asked_among : (told : List Told) (worker : ℕ) (t : Told) (n : List ℕ) → slice_get told worker ≡ Some t → IsOneOf n (areas_asked t.task.lines) → IsOneOf n (backups_asked (tasks_told told))
+asked_among [] worker t n there one = absurd cc
+asked_among (u ∷ told) zero t n there one =
+    let same : u ≡ t = cc in
+    one_front n (areas_asked u.task.lines) (backups_asked (tasks_told told)) (subst (λ (v : Told). IsOneOf n (areas_asked v.task.lines)) (sym same) one)
+asked_among (u ∷ told) (suc worker) t n there one = one_back n (areas_asked u.task.lines) (backups_asked (tasks_told told)) (asked_among told worker t n there one)
+
+-- ---- one run
+
+module _ (known : KnownOfChains) (when : ℕ) (old new : Areas) (report : RunReport) (run : RunDone when old new report) (tell : TellsThroughout when old new report run) where
+  abbrev s : StoreSettings
+  s = run.settings
+
+  abbrev h : List Entry
+  h = run.history
+
+  abbrev basis : Basis
+  basis = basis_of run.settings when
+
+  law : IsLawful s.segment h
+  law = run.happened.lawful tell.store
+
+  orderly : IsOrderly 0 h
+  orderly = lawful_orderly s.segment h law
+
+  abbrev found : ℕ
+  found = length run.found
+
+  found_front : take found h ≡ map entry_of run.found
+  found_front =
+      ap (take found) run.happened.grown
+      ∙ (ap (λ (n : ℕ). take n (map entry_of run.found ++ run.happened.own)) (sym (length-map run.found entry_of)) ∙ take-append_seam (map entry_of run.found) run.happened.own)
+
+  -- ---- one line of a worker
+
+  module _ (worker : ℕ) (by : Told) (there : slice_get report.told worker ≡ Some by) (number : ℕ) (line : Line) (behind : List Line) (lines : drop number by.task.lines ≡ line ∷ behind) (start end : Lsn) (later : List Answer) (answers : drop number by.answers ≡ Backup start end ∷ later) where
+    abbrev names : Names
+    names = areas_asked by.task.lines
+
+    asked : (n : List ℕ) → IsOneOf n (area_asked line.command) → IsOneOf n names
+    asked n one = asked_of_line n by.task.lines number line behind lines one
+
+    among : (n : List ℕ) → IsOneOf n names → IsOneOf n (backups_asked (tasks_told report.told))
+    among n one = asked_among report.told worker by n there one
+
+    abbrev given : IsAnswered (AreTold old) basis worker h found by.task.lines by.answers run.held run.kept
+    given = run.happened.answered worker by there
+
+    moment : IsMoment names (AreTold old) basis worker h found (run.held sums_name) line (Backup start end) run.kept
+    moment =
+        moment_of names (AreTold old) basis worker h found (run.held sums_name) found by.task.lines by.answers (accepted_by worker h) given.to run.held run.kept false given.answered (tell.behind worker by there)
+        (λ n one. subst (λ (a : AreaState). IsSome a.files) (sym (run.were n (among n one))) (tell.before n (among n one)))
+        (omega arith) given.order (λ e t order honest. honest) number line behind (Backup start end) later lines answers refl
+
+    -- what the area of a backup held then it holds when the run ends
+    stays : (n : List ℕ) (m : Files) → IsOneOf n (area_asked line.command) → n ≢ sums_name → (moment.after n).files ≡ Some m → m ≢ empty → (new n).files ≡ Some m
+    stays n m one apart is some =
+        sym (ap (λ (a : AreaState). a.files) (run.are n (among n (asked n one)))) ∙ (moment.keeps n m apart is some ∙ is)
+
+    front : IsPrefix (take moment.next h) h
+    front = (drop moment.next h, take-append-drop moment.next h)
+
+    -- ---- a full backup
+
+    module _ (name : List ℕ) (takes : line.command ≡ command.Full name) where
+      abbrev Full : Type 0
+      Full = HoldsBackup (AreTold old) basis worker moment.from (take moment.next h) name start end (moment.after (backup_name name)).files
+
+      full_of : TakesFull (AreTold old) basis worker moment.from (take moment.next h) line.command start end moment.before moment.after → Full
+      full_of t =
+          let same : t.0 ≡ name = same_full t.0 name (sym t.1 ∙ takes) in
+          subst (λ (n : List ℕ). HoldsBackup (AreTold old) basis worker moment.from (take moment.next h) n start end (moment.after (backup_name n)).files) same t.4
+        where
+          same_full : (a b : List ℕ) → command.Full a ≡ command.Full b → a ≡ b
+          same_full a b e = cc
+
+      full_there : Full
+      full_there = elim moment.answered.1 [
+        | inl t ↦ full_of t
+        | inr t ↦ absurd (let e : command.Incr t.0 t.1 ≡ command.Full name = sym t.2 ∙ takes in cc)
+      ]
+
+      one_full : IsOneOf (backup_name name) (area_asked line.command)
+      one_full = subst (λ (c : Command). IsOneOf (backup_name name) (area_asked c)) (sym takes) (inl refl)
+
+      pub full_stands : (files : Files) × ((new (backup_name name)).files ≡ Some files) × IsSoundFull s when h name start end files
+      full_stands =
+          let told = some_told (moment.after (backup_name name)).files (moment.told_after (backup_name name) (asked (backup_name name) one_full)) in
+          let files : Files = told.0 in
+          let holds : Full = full_there in
+          let directory : IsFullBackup s name when holds.copy start (record { 0 = holds.checkpoint }) end holds.count (Some files) =
+          subst (λ (o : Option Files). IsFullBackup s name when holds.copy start (record { 0 = holds.checkpoint }) end holds.count o) told.1 holds.directory in
+          let redo : HasRedoPoint h start.0 = begins_at worker moment.from (take moment.next h) h start.0 holds.checkpoint end.0 front holds.entries in
+          let sound : IsSoundCopy holds.copy h start.0 end.0 = taken_in s.segment holds.copy (take moment.next h) h start.0 end.0 law redo front (holds.taken tell.store) in (
+            files,
+            stays (backup_name name) files one_full (never_sums name) told.1
+                (put_some _ (manifest_text (listing_with s.system directory.rows start end)) files directory.files_are),
+            record {
+              copy = holds.copy;
+              checkpoint = record { 0 = holds.checkpoint };
+              count = holds.count;
+              directory = directory;
+              sound = known.full s name when holds.copy start (record { 0 = holds.checkpoint }) end holds.count files h run.given.blocks directory sound;
+            },
+          )
+
+    -- ---- an incremental one
+
+    module _ (name prior : List ℕ) (takes : line.command ≡ command.Incr name prior) (finds : FindsOwn when old new report run) where
+      abbrev Taken : Type 0
+      Taken = HoldsIncr (AreTold old) basis worker moment.from (take moment.next h) name start end (incr_areas moment.before name prior) (incr_areas moment.after name prior)
+
+      abbrev SamePrior : Type 0
+      SamePrior = (moment.after (backup_name prior)).files ≡ (moment.before (backup_name prior)).files
+
+      incr_of : TakesIncr (AreTold old) basis worker moment.from (take moment.next h) line.command start end moment.before moment.after → Taken × SamePrior
+      incr_of t =
+          let both = same_incr t.0 t.1 name prior (sym t.2 ∙ takes) in (
+            subst (λ (n : List ℕ). HoldsIncr (AreTold old) basis worker moment.from (take moment.next h) n start end (incr_areas moment.before n prior) (incr_areas moment.after n prior)) both.0
+                (subst (λ (p : List ℕ). HoldsIncr (AreTold old) basis worker moment.from (take moment.next h) t.0 start end (incr_areas moment.before t.0 p) (incr_areas moment.after t.0 p)) both.1 t.6),
+            subst (λ (p : List ℕ). (moment.after (backup_name p)).files ≡ (moment.before (backup_name p)).files) both.1 t.5,
+          )
+        where
+          same_incr : (a p b q : List ℕ) → command.Incr a p ≡ command.Incr b q → (a ≡ b) × (p ≡ q)
+          same_incr a p b q e = (cc, cc)
+
+      incr_there : Taken × SamePrior
+      incr_there = elim moment.answered.1 [
+        | inl t ↦ absurd (let e : command.Full t.0 ≡ command.Incr name prior = sym t.1 ∙ takes in cc)
+        | inr t ↦ incr_of t
+      ]
+
+      holds : Taken
+      holds = incr_there.0
+
+      one_asked : (n : List ℕ) → IsOneOf n (area_asked (command.Incr name prior)) → IsOneOf n (area_asked line.command)
+      one_asked n one = subst (λ (c : Command). IsOneOf n (area_asked c)) (sym takes) one
+
+      one_out : IsOneOf (backup_name name) (area_asked line.command)
+      one_out = one_asked (backup_name name) (inl refl)
+
+      one_prior : IsOneOf (backup_name prior) (area_asked line.command)
+      one_prior = one_asked (backup_name prior) (inr (inl refl))
+
+      one_sums : IsOneOf sums_name (area_asked line.command)
+      one_sums = one_asked sums_name (inr (inr (inl refl)))
+
+      -- the history up to the end of the backup, and what was seen of it when it was summed up
+      abbrev now : List Entry
+      now = take moment.next h
+
+      abbrev seen : List Entry
+      seen = take holds.summed.seen now
+
+      abbrev older : List Entry
+      older = take moment.from h
+
+      abbrev more : List Entry
+      more = drop moment.from seen
+
+      seen_past : moment.from ≤ holds.summed.seen
+      seen_past =
+          let c = holds.summed.checkpoint in
+          omega (arith, c.later, slice_get_within seen c.number c.first c.there, length-take holds.summed.seen now)
+
+      next_past : holds.summed.seen ≤ moment.next
+      next_past = omega (arith, holds.summed.within, length-take moment.next h)
+
+      older_front : take moment.from seen ≡ older
+      older_front = take-take moment.from holds.summed.seen now seen_past ∙ take-take moment.from moment.next h (omega (arith, seen_past, next_past))
+
+      parts : older ++ more ≡ seen
+      parts = ap (λ (es : List Entry). es ++ more) (sym older_front) ∙ take-append-drop moment.from seen
+
+      abbrev rest : List Entry
+      rest = drop holds.summed.seen now ++ drop moment.next h
+
+      whole : (older ++ more) ++ rest ≡ h
+      whole =
+          ap (λ (es : List Entry). es ++ rest) parts
+          ∙ (sym (append_assoc seen (drop holds.summed.seen now) (drop moment.next h))
+          ∙ (ap (λ (es : List Entry). es ++ drop moment.next h) (take-append-drop holds.summed.seen now) ∙ take-append-drop moment.next h))
+
+      redo_in : list_any (is_redo_start start.0) more ≡ true
+      redo_in =
+          let c = holds.summed.checkpoint in
+          any_behind (is_redo_start start.0) seen moment.from c.number c.first c.later c.there
+          (and_from (is_redo c.first.act) (c.first.start == start.0) (ap is_redo c.starts.0) (eq-eqb c.first.start start.0 c.redo_is))
+
+      -- the area of summaries was honest then
+      sums_told : (m : Files) × ((moment.before sums_name).files ≡ Some m)
+      sums_told = some_told (moment.before sums_name).files (moment.told_before sums_name (asked sums_name one_sums))
+
+      sums_honest : IsHonest older sums_told.0
+      sums_honest =
+          let base : IsHonestFor (take found h) (run.held sums_name) =
+          subst (λ (a : AreaState). IsHonestFor (take found h) a) (sym (run.were sums_name (among sums_name (asked sums_name one_sums))))
+          (subst (λ (es : List Entry). IsHonestFor es (old sums_name)) (sym found_front) finds.honest) in
+          at_told (moment.before sums_name).files sums_told.0 (IsHonest older) sums_told.1 (moment.honest tell.store orderly base)
+
+      abbrev from_prior : ℕ
+      from_prior = holds.plan.prior.start
+
+      summed_up : from_prior < start.0 → IsSumOf h from_prior start.0 holds.plan.summary
+      summed_up less =
+          subst (λ (es : List Entry). IsSumOf es from_prior start.0 holds.plan.summary) whole
+          (sum_of known.sums states (AreTold old) tell.store older more rest when from_prior start.0 (moment.before sums_name) (moment.after sums_name) sums_told.0 holds.plan.summary
+          (subst (IsOrderly 0) (sym whole) orderly) redo_in sums_told.1 sums_honest
+          (subst (λ (es : List Entry). AdvanceAnswers states (AreTold old) es when from_prior start.0 (moment.before sums_name) (moment.after sums_name) (Ok holds.plan.summary)) (sym parts) holds.summed.covers) less)
+
+      tidy : AreTidy empty h
+      tidy =
+          subst (AreTidy empty) (sym run.happened.grown)
+          (tidy_both empty (map entry_of run.found) run.happened.own finds.tidy (λ base made. own_tidy base made))
+        where
+          own_tidy : (base : Store) → apply_all empty (map entry_of run.found) ≡ Some base → AreTidy base run.happened.own
+          own_tidy base made =
+              let alike = found_alike law.found run.found law.own run.happened.own (written_own s.segment _ law.own law.logged.written) (own_entries _ run.happened.own run.happened.of_run) (sym law.grown ∙ run.happened.grown) in
+              let same : law.own ≡ run.happened.own = own_alike (map entry_of law.found) (map entry_of run.found) law.own run.happened.own alike (sym law.grown ∙ run.happened.grown) in
+              subst (AreTidy base) same (law.tidy base (ap (apply_all empty) alike ∙ made))
+
+      running : IsRunning h start.0
+      running = redo_runs s.segment start.0 h law (begins_at worker moment.from now h start.0 holds.checkpoint end.0 front holds.entries)
+
+      abbrev out_told : (files : Files) × ((moment.after (backup_name name)).files ≡ Some files)
+      out_told = some_told (moment.after (backup_name name)).files (moment.told_after (backup_name name) (asked (backup_name name) one_out))
+
+      abbrev Directory : Option Files → Type 0
+      Directory o = IsDirectory s (λ begun. incr_label start (record { 0 = holds.checkpoint }) (record { 0 = from_prior }) begun name) when (map file_of holds.files) start end holds.count o
+
+      directory : Directory (Some out_told.0)
+      directory = subst Directory out_told.1 holds.directory
+
+      extends : (chain : List Files) (to : ℕ) → IsSoundChain s.relseg h chain from_prior to → to ≤ start.0 → IsSoundChain s.relseg h (chain ++ (out_told.0 ∷ [])) start.0 end.0
+      extends chain to sound le =
+          let less : from_prior < start.0 = omega (arith, sound.sound.above, le) in
+          let sum = summed_up less in
+          let relseg : holds.plan.relseg ≡ s.relseg = holds.relseg in
+          let ahead : now ++ drop moment.next h ≡ h = take-append-drop moment.next h in
+          subst (λ (n : ℕ). IsSoundChain n h (chain ++ (out_told.0 ∷ [])) start.0 end.0) relseg
+          (known.extend h chain from_prior to holds.plan.summary.start.0 start.0 end.0 holds.plan out_told.0 (subst IsRelseg (sym relseg) run.given.blocks) running tidy (subst (λ (n : ℕ). IsSoundChain n h chain from_prior to) (sym relseg) sound) sum.begins le
+          (subst (λ (es : List Entry). IsIncrementOf es holds.plan.summary.start.0 start.0 end.0 holds.plan out_told.0) ahead
+          (increment_of (AreTold old) tell.store now (drop moment.next h) from_prior start.0 end.0 holds.plan holds.list holds.files directory.label (manifest_text (listing_with s.system directory.rows start end)) out_told.0
+          (subst (λ (es : List Entry). IsSumOf es from_prior start.0 holds.plan.summary) (sym ahead) sum) holds.listed holds.sent directory.files_are)))
+
+      prior_told : (files : Files) × ((moment.before (backup_name prior)).files ≡ Some files)
+      prior_told = some_told (moment.before (backup_name prior)).files (moment.told_before (backup_name prior) (asked (backup_name prior) one_prior))
+
+      prior_listed : HasListing prior_told.0 holds.plan.prior
+      prior_listed = at_told (moment.before (backup_name prior)).files prior_told.0 (λ m. HasListing m holds.plan.prior) prior_told.1 holds.prior.told
+
+      pub incr_stands : (before : Files) × ((new (backup_name prior)).files ≡ Some before) × (files : Files) × ((new (backup_name name)).files ≡ Some files) × IsSoundIncrement s when h name start end before files
+      incr_stands = (
+        prior_told.0,
+        stays (backup_name prior) prior_told.0 one_prior (never_sums prior) (incr_there.1 ∙ prior_told.1) (listed_some prior_told.0 holds.plan.prior prior_listed),
+        out_told.0,
+        stays (backup_name name) out_told.0 one_out (never_sums name) out_told.1 (put_some _ (manifest_text (listing_with s.system directory.rows start end)) out_told.0 directory.files_are),
+        record {
+          manifest = holds.plan.prior;
+          listing = prior_listed;
+          behind = holds.prior.behind;
+          checkpoint = record { 0 = holds.checkpoint };
+          put = map file_of holds.files;
+          count = holds.count;
+          directory = directory;
+          extends = extends;
+        },
+      )
+
+-- ---- the laws
+
+pub fulls_sound : KnownOfChains → FullBackupsOfRunsAreSound
+fulls_sound known when old new report run name start end taken tell =
+    full_stands known when old new report run tell taken.worker taken.by taken.there taken.number taken.line taken.behind taken.lines start end taken.later taken.answers name taken.takes
+
+pub incrs_extend : KnownOfChains → IncrementsOfRunsExtendChains
+incrs_extend known when old new report run name start end taken tell finds =
+    incr_stands known when old new report run tell taken.worker taken.by taken.there taken.number taken.line taken.behind taken.lines start end taken.later taken.answers name taken.prior taken.takes finds
+
+pub runs_keep : KnownOfChains → RunsKeepChainsSound
+runs_keep known when old new report run chain from to told =
+    let s : StoreSettings = run.settings in
+    let law : IsLawful s.segment run.history = run.happened.lawful told in (
+      λ sound. subst (λ (es : List Entry). IsSoundChain s.relseg es chain from to) (sym run.happened.grown)
+          (known.later s.relseg (map entry_of run.found) run.happened.own chain from to (subst (IsOrderly 0) run.happened.grown (lawful_orderly s.segment run.history law)) sound),
+      λ sound. record {
+        copy = sound.copy;
+        held = sound.held;
+        sound = sound_logged s.segment sound.copy run.found run.happened.own run.history from to law run.happened.grown (own_entries _ run.happened.own run.happened.of_run) sound.sound;
+      },
+    )
