@@ -1,7 +1,7 @@
-//! Chains of backups, and members alone, by what their labels and manifests tell.
+//! Chains of backups, by what the labels and manifests of their members tell.
 
 use backup_label::Label;
-use chain_check::{ChainRefusal, LinkFault, Member, check_alone, check_chain};
+use chain_check::{ChainRefusal, LinkFault, Member, check_chain};
 use lsn_core::{Lsn, NoMemory, Text, lsn_text};
 use manifest::{FileRow, Manifest, SumKind};
 use std::alloc::Global;
@@ -87,7 +87,7 @@ static BACKUPS: [Backup; 11] = [
 ];
 
 /// The members of a chain, as places among the backups, and what its check tells.
-static CHAINS: [(&str, &[usize], &str); 18] = [
+static CHAINS: [(&str, &[usize], &str); 19] = [
     ("a full backup", &[0], "accepted"),
     ("an incremental one over it", &[0, 1], "accepted"),
     ("and one over that", &[0, 1, 2], "accepted"),
@@ -129,17 +129,12 @@ static CHAINS: [(&str, &[usize], &str); 18] = [
         &[6],
         "TimelineDiffers 0 2",
     ),
+    (
+        "a full one on another timeline",
+        &[10],
+        "TimelineDiffers 0 2",
+    ),
     ("an incremental file in the first one", &[8, 1], "accepted"),
-];
-
-/// A member that is to be restored alone, and what is told.
-static ALONE: [(usize, &str); 6] = [
-    (0, "accepted"),
-    (10, "TimelineDiffers 0 2"),
-    (1, "FirstIncremental 0"),
-    (7, "TimelineDiffers 0 3"),
-    (6, "TimelineDiffers 0 2"),
-    (8, "FileIncremental 0 base/5/INCREMENTAL.16384"),
 ];
 
 fn text(alloc: Global, text: &str) -> Result<Text, NoMemory> {
@@ -236,9 +231,6 @@ fn why_line(alloc: Global, member: u32, why: &LinkFault) -> Result<Text, NoMemor
             return places_line(alloc, "Overlap", member, *start, *end);
         }
         LinkFault::NoPriorFile(path) => return path_line(alloc, "NoPriorFile", member, path),
-        LinkFault::FileIncremental(path) => {
-            return path_line(alloc, "FileIncremental", member, path);
-        }
         LinkFault::NoMemory => return Err(NoMemory),
     };
     Ok(Text::from_vec(line.into_bytes()))
@@ -276,22 +268,5 @@ fn chains_have_at_most_64_members(rt: HostRuntime) -> Result<(), Fail> {
     assert!(rt; is_judged(rt.alloc(), &places, "LaterFull 1")?);
     places.push(0)?;
     assert!(rt; is_judged(rt.alloc(), &places, "TooManyMembers 64")?);
-    Ok(())
-}
-
-/// The check of a backup that is to be restored alone tells this line.
-fn is_alone(alloc: Global, place: usize, line: &str) -> Result<bool, NoMemory> {
-    let told = match check_alone(alloc, &member(alloc, place)?) {
-        Ok(()) => text(alloc, "accepted")?,
-        Err(why) => why_line(alloc, 0, &why)?,
-    };
-    Ok(told.as_bytes() == line.as_bytes())
-}
-
-#[test]
-fn one_member_is_judged_by_its_label(rt: HostRuntime) -> Result<(), Fail> {
-    for (place, line) in ALONE {
-        assert!(rt; is_alone(rt.alloc(), place, line)?, "{line}");
-    }
     Ok(())
 }

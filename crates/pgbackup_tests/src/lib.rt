@@ -16,6 +16,8 @@ mod change_tests;
 #[cfg(test)]
 mod checkpoint_tests;
 #[cfg(test)]
+mod combine_tests;
+#[cfg(test)]
 mod crew_tests;
 #[cfg(test)]
 mod full_tests;

@@ -1,11 +1,13 @@
 //! What an operator is told on standard error: printed texts, which no clause speaks of.
 
 use crate::calls::words_in;
-use chain_check::{ChainFault, LinkFault, ManifestWhy, Refusal};
+use chain_check::{ChainFault, ChainRefusal, LinkFault, ManifestWhy, Refusal};
 use crew::Why;
 use lsn_core::{Lsn, NoMemory, SegSize, StoreArea, StoreFault, Text};
 use operator_notes::note_of;
-use pgbackup_cli::{Answer, InitFault, ReplayFault, RestoreFault, VerifyFault, WalsummaryFault};
+use pgbackup_cli::{
+    Answer, InitFault, MembersFault, ReplayFault, RestoreFault, VerifyFault, WalsummaryFault,
+};
 use recovery::RecoveryFault;
 use run_command::RunFault;
 use shared_store::BeginWhy;
@@ -118,7 +120,7 @@ pgbackup: hint: give a target at or past the backup's end, or bring the later se
         "restore --target 0/100430 r f1",
         Refused::Prior,
         "pgbackup: error: backup b/f1 is incremental: its label names a prior
-pgbackup: hint: restore a full backup; chains of several backups are not restored yet
+pgbackup: hint: name the backups of one chain in their order, a full one first
 ",
     ),
     (
@@ -140,6 +142,11 @@ pgbackup: hint: give a range that the summaries in sums cover; a line summarise 
 /// A check of a directory that isn't taken, behind so many files.
 fn refused_behind(fault: ChainFault, checked: u64) -> Answer {
     Answer::Verify(Err(VerifyFault::Directory(Refusal { fault, checked })))
+}
+
+/// A restore whose member of this place isn't taken.
+fn unlinked(member: u32, why: LinkFault) -> RestoreFault {
+    RestoreFault::Members(MembersFault::Link(ChainRefusal { member, why }))
 }
 
 /// A replay of a WAL that isn't taken.
@@ -171,7 +178,7 @@ fn answer_of(alloc: Global, refusal: &Refused) -> Result<Answer, NoMemory> {
         Refused::Early(target, end) => {
             Answer::Restore(Err(RestoreFault::Early(Lsn(target), Lsn(end))))
         }
-        Refused::Prior => Answer::Restore(Err(RestoreFault::Chain(LinkFault::FirstIncremental))),
+        Refused::Prior => Answer::Restore(Err(unlinked(0, LinkFault::FirstIncremental))),
         Refused::Gap(at) => Answer::Walsummary(Err(WalsummaryFault::Gap(Lsn(at)))),
         Refused::Copy => Answer::Restore(Err(RestoreFault::NotEmpty)),
     })

@@ -37,7 +37,7 @@ wal 0/100430
 );
 
 /// Whether two outputs have the same bytes in the file of the fork, and some.
-fn are_same<S: Site>(
+pub(crate) fn are_same<S: Site>(
     alloc: Global,
     site: &mut S,
     one: &[u8],
@@ -95,12 +95,17 @@ fn a_backup_is_restored(rt: HostRuntime) -> Result<(), Wrong> {
     take_site_steps(rt.alloc(), &mut site, &LEFT)
 }
 
-/// Words that aren't taken, more backups than one, a backup that isn't there, and one that isn't
-/// covered by the WAL.
+/// Words that aren't taken, two backups that aren't there, one that isn't, and one that isn't covered
+/// by the WAL.
 static REFUSED: [Call; 9] = [
     ("restore", "", Status::Usage, "refused 1 Usage\n"),
     ("restore r", "", Status::Usage, "refused 1 Usage\n"),
-    ("restore r f1 f2", "", Status::Usage, "refused 1 Usage\n"),
+    (
+        "restore r f1 f2",
+        "",
+        Status::Refused,
+        "refused 20 NoManifest f1\n",
+    ),
     ("restore R f1", "", Status::Usage, "refused 1 Usage\n"),
     ("restore r F1", "", Status::Usage, "refused 1 Usage\n"),
     (

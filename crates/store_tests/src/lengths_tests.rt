@@ -61,7 +61,7 @@ static STEPS: [(Does, Answer); 34] = [
 ];
 
 /// Appends the entries before the backup's start.
-fn append_pages(alloc: Global, wal: &mut WalState<MemVault>) -> Result<(), Wrong> {
+pub fn append_pages(alloc: Global, wal: &mut WalState<MemVault>) -> Result<(), Wrong> {
     append(alloc, wal, creation_kind(block_of(0)?.fork))?;
     for block in 0..10u32 {
         let page = page_of(alloc, 65)?.ok_or(Wrong::Step(0))?;
@@ -96,10 +96,10 @@ fn copied(alloc: Global, copy: &PageMap) -> Result<PageMap, Wrong> {
     Ok(store)
 }
 
-/// Redoes the WAL from the backup's start on over a store, and answers where it ends.
-fn redone(alloc: Global, wal: &mut MemVault, store: &mut PageMap) -> Option<Lsn> {
+/// Redoes the WAL from a backup's start on over a store, and answers where it ends.
+pub fn redone(alloc: Global, wal: &mut MemVault, start: Lsn, store: &mut PageMap) -> Option<Lsn> {
     let settings = settings()?;
-    let begin = Beginning::AtPlace(START);
+    let begin = Beginning::AtPlace(start);
     match recover(alloc, wal, &settings, begin, None, store, Tally::none()) {
         Ok(replayed) => Some(replayed.end),
         Err(_) => None,
@@ -152,7 +152,7 @@ fn a_cut_behind_the_listing_is_redone(rt: HostRuntime) -> Result<(), Fail> {
     let mut store = backed_up(alloc)?;
     assert!(rt; store.blocks(&fork) == Some(10) && has_first(&store)? && has_zeros(&store)?);
     let mut wal = written(alloc)?;
-    assert!(rt; redone(alloc, &mut wal, &mut store) == Some(END));
+    assert!(rt; redone(alloc, &mut wal, START, &mut store) == Some(END));
     assert!(rt; store.blocks(&fork) == Some(3) && has_first(&store)?);
     Ok(())
 }

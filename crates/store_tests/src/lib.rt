@@ -9,6 +9,8 @@
 #[cfg(test)]
 mod flushed;
 #[cfg(test)]
+mod incremental_tests;
+#[cfg(test)]
 mod lengths_tests;
 #[cfg(test)]
 mod machine_tests;

@@ -25,6 +25,9 @@ pub enum Does {
     Cleans(u32),
     Starts,
     Begins,
+    /// An incremental backup over the finished one of this number.
+    BeginsOver(u32),
+    Publishes,
     Lists(u32),
     Copies(u32),
     Ends,
@@ -44,6 +47,7 @@ pub enum Answer {
     Cleaned(Lsn),
     Started(Lsn),
     Completed(Lsn),
+    Published(Lsn),
     /// The first fork has so many blocks.
     Listed(Option<u32>),
     Copied(bool),
@@ -81,6 +85,8 @@ fn step_of(alloc: Global, does: Does) -> Result<Step, Wrong> {
         Does::Cleans(part) => Step::Clean(part),
         Does::Starts => Step::Redo(1),
         Does::Begins => Step::Begin(1, Asked::Full),
+        Does::BeginsOver(number) => Step::Begin(1, Asked::Incr(number)),
+        Does::Publishes => Step::Publish,
         Does::Lists(part) => Step::ListForks(1, part),
         Does::Copies(block) => Step::CopyBlock(1, block_of(block)?),
         Does::Ends => Step::End(1),
@@ -99,6 +105,7 @@ fn answer_of(reply: &Reply) -> Answer {
         Reply::Cleaned(redo) => Answer::Cleaned(*redo),
         Reply::Started(place) => Answer::Started(*place),
         Reply::Completed(place) => Answer::Completed(*place),
+        Reply::Published(place) => Answer::Published(*place),
         Reply::Listed(list) => Answer::Listed(match list.as_slice().first() {
             Some(first) => Some(first.blocks),
             None => None,
