@@ -30,6 +30,7 @@ conformance: build
 	python3 conformance/summaries.py bin/pgbackup 100
 	python3 conformance/targets.py bin/pgbackup 4
 	python3 conformance/chains.py bin/pgbackup 60
+	python3 conformance/combines.py bin/pgbackup 60
 	python3 conformance/manifests.py bin/pgbackup 1
 	cd crates/lsn_core_c && rt lib > /dev/null
 	python3 conformance/paths.py crates/lsn_core_c/out/liblsn_core_c.a

@@ -67,16 +67,16 @@ def damage(rnd, names):
             f.write(content)
 
 
-def restored(path, rnd, name, target):
-    """What differs of one restore and of the replay to the same target."""
+def restored(path, rnd, members, target, sound=True):
+    """What differs of one restore of a chain, and, where it is sound, of the replay to the same target."""
     option = [] if target is None else ["--target", lsn(target)]
-    words = [["restore"] + option + ["r", name], ["restore", "r", name] + option][rnd.randrange(2)]
+    words = [["restore"] + option + ["r"] + members, ["restore", "r"] + members + option][rnd.randrange(2)]
     differences = both(path, words)
     if rnd.random() < 0.1:
         differences += both(path, words)
     made = files("ours/o/r")
     status, _ = program(path, ["replay"] + option + ["p"], folder="ours")
-    if made and status == 0 and made != files("ours/o/p"):
+    if sound and made and status == 0 and made != files("ours/o/p"):
         differences.append("%s: replay writes other files" % " ".join(words))
     for top in ("ours", "theirs"):
         shutil.rmtree(top + "/o", ignore_errors=True)
@@ -105,7 +105,7 @@ def one_run(path, rnd):
         damage(rnd, names)
     for name in names + (["none"] if rnd.random() < 0.1 else []):
         for _ in range(5):
-            differences += restored(path, rnd, name, a_target(rnd, ends or [last], last))
+            differences += restored(path, rnd, [name], a_target(rnd, ends or [last], last))
     return differences
 
 

@@ -18,6 +18,7 @@ Not part of the gate. Skipped where the independent implementation (PGBACKUP_ORA
 import calendar
 import copy
 import os
+import re
 import time
 
 from common import ROOM, compare, files, oracle, program
@@ -465,21 +466,33 @@ def moment_of(label):
     return calendar.timegm(time.strptime(text, "%Y-%m-%d %H:%M:%S UTC"))
 
 
+def manifest_moments():
+    """When the manifests of our backups were written, in seconds, by their files, where they tell it."""
+    found = {}
+    for name, data in files("ours/b").items():
+        told = re.search(rb'"Last-Modified": "(\d+-\d+-\d+ \d+:\d+:\d+) GMT"', data)
+        if told and name.endswith("/backup_manifest"):
+            found[name] = calendar.timegm(time.strptime(told[1].decode(), "%Y-%m-%d %H:%M:%S"))
+    return found
+
+
 def moments():
     """The moments of our backups and summaries, by their files."""
     found = {name: moment_of(data) for name, data in labels().items()}
+    found.update(manifest_moments())
     summaries = {name: data for name, data in files("ours/sums").items() if len(data) >= 28}
     found.update({name: int.from_bytes(data[20:28], "little") for name, data in summaries.items()})
     return found
 
 
 def both(path, words, script=b""):
-    """Calls both, and gives what differs as texts."""
+    """Calls both, and gives what differs as texts. The files that a call writes are of one moment, but the label of
+    what is combined, which is of an earlier one."""
     before = moments()
     got = program(path, words, script, "ours")
     new = {moment for name, moment in moments().items() if before.get(name) != moment}
     os.chdir("theirs")
-    wanted = oracle(words, script, min(new, default=1700000000))
+    wanted = oracle(words, script, max(new, default=1700000000))
     os.chdir("..")
     differences = [] if wanted == got else ["%s, not %s" % (got, wanted)]
     for folder in ("wal", "sums", "o", "b") + DATA:
