@@ -166,8 +166,11 @@ def change_label(rnd, backup):
 
 
 def head_of(content):
-    """The truncation length and the blocks that the head of an incremental file names."""
-    _, count, length = struct.unpack_from("<III", content)
+    """The truncation length and the blocks that the head of an incremental file names; none where it was damaged
+    before and isn't whole."""
+    _, count, length = struct.unpack("<III", content[:12].ljust(12, b"\0"))
+    if 12 + 4 * count > len(content):
+        return length, []
     return length, list(struct.unpack_from("<%dI" % count, content, 12))
 
 
