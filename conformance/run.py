@@ -461,9 +461,9 @@ def labels():
 
 
 def moment_of(label):
-    """When a backup was taken, in seconds."""
-    text = label.split(b"START TIME: ")[1].split(b"\n")[0].decode()
-    return calendar.timegm(time.strptime(text, "%Y-%m-%d %H:%M:%S UTC"))
+    """When a backup was taken, in seconds; 0 where a damaged label doesn't tell it."""
+    told = re.search(rb"START TIME: (\d+-\d+-\d+ \d+:\d+:\d+) UTC\n", label)
+    return calendar.timegm(time.strptime(told[1].decode(), "%Y-%m-%d %H:%M:%S")) if told else 0
 
 
 def manifest_moments():
