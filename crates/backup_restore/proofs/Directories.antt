@@ -22,6 +22,10 @@ use Rattle.backup_restore.specs.Directories.{FilesHoldOneStore, AlikeFilesHoldOn
 
 -- ---- a fork
 
+pub long_taken : (relseg : ℕ) (found : Option ForkPages) → length (pages_taken relseg found) ≤ relseg
+long_taken relseg None = omega arith
+long_taken relseg (Some pages) = (let long = length-take relseg pages in omega (arith, long))
+
 module _ (relseg : ℕ) (segments : ℕ → Option ForkPages) where
   -- the pages of more files begin with those of fewer
   pub up_to_longer : (count more : ℕ) → pages_up_to relseg segments (count + more) ≡ pages_up_to relseg segments count ++ flat_map (λ seg. pages_taken relseg (segments seg)) (range_with_len count more)
@@ -53,11 +57,11 @@ module _ (relseg : ℕ) (segments : ℕ → Option ForkPages) where
   one_fork one other a b (inr (inr less)) = sym (stops_first other one b a less)
 
   -- full files have as many pages as they may
-  full_long : (found : Option ForkPages) → is_full relseg found ≡ true → length (pages_taken relseg found) ≡ relseg
+  pub full_long : (found : Option ForkPages) → is_full relseg found ≡ true → length (pages_taken relseg found) ≡ relseg
   full_long None full = absurd (true≢false (sym full))
   full_long (Some pages) full = (let long = length-take relseg pages in let le : relseg ≤ length pages = leb-true relseg (length pages) full in omega (arith, long, le))
 
-  all_full : (count : ℕ) → ((seg : ℕ) → seg < count → is_full relseg (segments seg) ≡ true) → length (pages_up_to relseg segments count) ≡ count * relseg
+  pub all_full : (count : ℕ) → ((seg : ℕ) → seg < count → is_full relseg (segments seg) ≡ true) → length (pages_up_to relseg segments count) ≡ count * relseg
   all_full zero full = omega arith
   all_full (suc count) full =
       let more : suc count ≡ count + 1 = omega arith in

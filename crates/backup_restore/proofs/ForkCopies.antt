@@ -13,8 +13,7 @@ use Rattle.chain_files.specs.Segments.{chain_segments}
 use Rattle.chain_files.specs.Sources.{OfChain}
 use Rattle.backup_restore.specs.Inside.{MakesFork, Puts, PutsPages, PutsSegment, IsForkPut, PutsFork, taken}
 use Rattle.backup_restore.proofs.Chains.{when_chain, when_both}
-use Rattle.backup_restore.proofs.Directories.{up_to_more}
-use Rattle.backup_restore.proofs.Segments.{long_taken}
+use Rattle.backup_restore.proofs.Directories.{long_taken, up_to_more}
 
 take_over : (xs ys : ForkPages) (n k : ℕ) → n ≡ length xs + k → take n (xs ++ ys) ≡ xs ++ take k ys
 take_over [] ys n k is = ap (λ (j : ℕ). take j ys) (let e : n ≡ k = omega (arith, is) in e)

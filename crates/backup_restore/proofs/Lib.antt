@@ -1,5 +1,4 @@
 mod Chains
-mod WholeChains
 mod Behind
 mod Pieces
 mod Made
@@ -9,7 +8,7 @@ mod StoreCopies
 pub mod Outputs
 pub mod Rising
 mod Completed
-mod Directories
+pub mod Directories
 mod WrittenStores
 pub mod OneReading
 mod OneAnswer

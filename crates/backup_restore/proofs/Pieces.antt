@@ -18,9 +18,10 @@ use Rattle.rel_files.proofs.Pages.{flat}
 use Rattle.rel_files.proofs.SegmentChanges.{block_is_put, written_here, written_there, same_files}
 use Rattle.rel_files.proofs.SegmentFiles.{renamed}
 use Rattle.rel_files.proofs.WholePages.{AreWhole, whole_all, put_whole}
+use Rattle.chain_files.proofs.Pages.{HaveSize, bytes_length}
 use Rattle.backup_restore.specs.Inside.{IsShownIn}
 use Rattle.backup_restore.proofs.Behind.{put_behind}
-use Rattle.backup_restore.proofs.WrittenStores.{HaveSize, flat_length, part, part_length, part_whole, content_or_none}
+use Rattle.backup_restore.proofs.WrittenStores.{part, part_length, part_whole, content_or_none}
 
 -- ---- a write behind the end of a file
 
@@ -75,7 +76,7 @@ module _ (relseg : ℕ) (fork : ForkId) (seg : ℕ) (some : 0 < relseg) (named :
       let bytes : bytes_of m path ≡ segment_content relseg pages seg =
       ap (λ (o : Option (List ℕ)). unwrap_or o []) (held.holds.segments fork seg named ∙ ap (segment_in relseg seg) there) ∙ content_or_none relseg pages seg some in
       let count = part_length relseg pages seg in
-      let size = flat_length 8192 (part relseg pages seg) (recursion_from_All (λ page. length page ≡ 8192) (part relseg pages seg) (part_whole relseg pages seg all)) in
+      let size : length (flat (part relseg pages seg)) ≡ length (part relseg pages seg) * 8192 = bytes_length 8192 (part relseg pages seg) (recursion_from_All (λ page. length page ≡ 8192) (part relseg pages seg) (part_whole relseg pages seg all)) in
       let long : n * 8192 ≡ length (segment_content relseg pages seg) = omega (arith, size, count, held.place, few) in
       long ∙ ap length (sym bytes)
 

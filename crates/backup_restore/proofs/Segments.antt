@@ -17,11 +17,11 @@ use Rattle.chain_files.specs.Held.{most_pages, pages_taken}
 use Rattle.chain_files.specs.Segments.{chain_segments}
 use Rattle.chain_files.specs.Sources.{OfChain, AreRead, IsSourceOf}
 use Rattle.chain_files.specs.declared.source.SegmentSource.{SegmentSource}
+use Rattle.chain_files.proofs.Pages.{HaveSize, chain_sized}
 use Rattle.backup_restore.specs.Inside.{area_shows, taken, PutsPages, PutsSegment}
 use Rattle.backup_restore.proofs.Chains.{when_chain, when_both}
+use Rattle.backup_restore.proofs.Directories.{long_taken}
 use Rattle.backup_restore.proofs.Pieces.{piece_shown}
-use Rattle.backup_restore.proofs.WholeChains.{chain_sized}
-use Rattle.backup_restore.proofs.WrittenStores.{HaveSize}
 
 -- ---- pages that were read, as those that are taken
 
@@ -61,10 +61,6 @@ more_sized : (pages : ForkPages) (n count : ℕ) → HaveSize 8192 pages → Hav
 more_sized pages n count sized =
     recursion_from_All (λ page. length page ≡ 8192) (take count (drop n pages))
     (All-take (λ page. length page ≡ 8192) count (drop n pages) (All-drop (λ page. length page ≡ 8192) n pages (All-from_recursion (λ page. length page ≡ 8192) pages sized)))
-
-pub long_taken : (relseg : ℕ) (found : Option ForkPages) → length (pages_taken relseg found) ≤ relseg
-long_taken relseg None = omega arith
-long_taken relseg (Some pages) = (let long = length-take relseg pages in omega (arith, long))
 
 -- so many pages of the file were put
 pub record KeepsSegment {P : Type 0} (shows : P → Store → Type 0) (relseg : ℕ) (told : Option (List Files)) (fork : ForkId) (seg first most : ℕ) (before behind : P) (count : ℕ) : Type 0 where

@@ -1,11 +1,10 @@
 -- Files that have the segment files of a store hold that store.
-use Rattle.std.proofs.Common.{◌≡◌, ℕ, zero, suc, ◌+◌, ◌-◌, ◌*◌, ◌/◌, ◌^◌, ◌<◌, ◌≤◌, min, inl, inr, Bool, true, false, cond, List, [], ◌∷◌, ◌++◌, length, take, drop, map, Option, Some, None, is_some, unwrap_or, option_map, refl, sym, ap, ◌∙◌, arith}
-use Rattle.std.specs.List.{AllByRecursion, range_with_len}
+use Rattle.std.proofs.Common.{◌≡◌, ℕ, zero, suc, ◌+◌, ◌-◌, ◌*◌, ◌/◌, ◌^◌, ◌<◌, ◌≤◌, min, inl, inr, Bool, true, false, cond, List, [], ◌++◌, length, take, drop, Option, Some, None, is_some, unwrap_or, option_map, refl, sym, ap, ◌∙◌, arith}
 use Rattle.std.specs.FinMap.{get}
 use Rattle.std.proofs.Math.Nat.{mul-le-mul_right, lt-div-mul-add, div-mul-le_self, div-le_self}
-use Rattle.std.proofs.Math.Seq.{take-add, drop-append_seam}
+use Rattle.std.proofs.Math.Seq.{take-add}
 use Rattle.std.proofs.lemmas.Bool.{le-leb, lt-leb, lt-ltb, le-ltb, cases_lt}
-use Rattle.std.proofs.lemmas.List.{append_assoc, length-append, length-take, length-drop, take_all, take_at, drop_all}
+use Rattle.std.proofs.lemmas.List.{length-take, length-drop, take_all, drop_all}
 use Rattle.std.proofs.lemmas.List.Elements.{All-take, All-drop, recursion_from_All}
 use Rattle.lsn_core.specs.Files.{Files}
 use Rattle.lsn_core.specs.Names.{fork_path_bytes, IsNamed}
@@ -17,38 +16,9 @@ use Rattle.rel_files.proofs.WholePages.{AreWhole}
 use Rattle.incr_file.specs.Form.{whole_pages}
 use Rattle.chain_files.specs.Held.{most_pages, pages_taken, pages_up_to, is_full, IsForkOf}
 use Rattle.chain_files.specs.Segments.{plain_segments}
+use Rattle.chain_files.proofs.Pages.{pages_again}
 use Rattle.backup_restore.specs.Directories.{IsWritable, StoresAreHeld}
 use Rattle.backup_restore.proofs.Directories.{up_to_more}
-
--- ---- the bytes of whole pages, cut into pages again
-
-abbrev pub HaveSize : ℕ → ForkPages → Type 0
-HaveSize size pages = AllByRecursion (λ page. length page ≡ size) pages
-
-cut_again : (size first : ℕ) (before : List ℕ) (pages : ForkPages) → length before ≡ first * size → HaveSize size pages → map (λ n. take size (drop (n * size) (before ++ flat pages))) (range_with_len first (length pages)) ≡ pages
-cut_again size first before [] long all = refl
-cut_again size first before (page ∷ pages) long all =
-    let here : take size (drop (first * size) (before ++ (page ++ flat pages))) ≡ page =
-    ap (λ (n : ℕ). take size (drop n (before ++ (page ++ flat pages)))) (sym long) ∙ ap (take size) (drop-append_seam before (page ++ flat pages)) ∙ take_at page (flat pages) size all.0 in
-    let longer : length (before ++ page) ≡ (first + 1) * size = length-append before page ∙ omega (arith, long, all.0) in
-    let rest : map (λ n. take size (drop (n * size) (before ++ (page ++ flat pages)))) (range_with_len (first + 1) (length pages)) ≡ pages =
-    ap (λ (bytes : List ℕ). map (λ n. take size (drop (n * size) bytes)) (range_with_len (first + 1) (length pages))) (sym (append_assoc before page (flat pages)))
-    ∙ cut_again size (first + 1) (before ++ page) pages longer all.1 in
-    ap (λ (p : List ℕ). p ∷ map (λ n. take size (drop (n * size) (before ++ (page ++ flat pages)))) (range_with_len (first + 1) (length pages))) here
-    ∙ ap (λ (ps : ForkPages). page ∷ ps) rest
-
-pub flat_length : (size : ℕ) (pages : ForkPages) → HaveSize size pages → length (flat pages) ≡ length pages * size
-flat_length size [] all = omega arith
-flat_length size (page ∷ pages) all = length-append page (flat pages) ∙ omega (arith, all.0, flat_length size pages all.1)
-
-count_again : (pages : ForkPages) → AreWhole pages → length (flat pages) / 8192 ≡ length pages
-count_again pages whole = omega (arith, flat_length 8192 pages (recursion_from_All (λ page. length page ≡ 8192) pages whole))
-
-pages_again : (pages : ForkPages) → AreWhole pages → whole_pages (flat pages) ≡ pages
-unfolding whole_pages
-pages_again pages whole =
-    ap (λ (n : ℕ). map (λ k. take 8192 (drop (k * 8192) (flat pages))) (range_with_len 0 n)) (count_again pages whole)
-    ∙ cut_again 8192 0 [] pages (omega arith) (recursion_from_All (λ page. length page ≡ 8192) pages whole)
 
 -- ---- the pages of a segment
 
@@ -96,7 +66,7 @@ pages_or_none : (relseg : ℕ) (pages : ForkPages) (seg : ℕ) → 0 < relseg �
 pages_or_none relseg pages seg some whole = elim (cases_lt seg (segment_count relseg (length pages))) [
   | inl less ↦
       ap (λ (b : Bool). unwrap_or (option_map whole_pages (cond b (Some (segment_content relseg pages seg)) None)) []) (lt-ltb seg (segment_count relseg (length pages)) less)
-      ∙ pages_again (part relseg pages seg) (part_whole relseg pages seg whole)
+      ∙ pages_again (part relseg pages seg) (recursion_from_All (λ page. length page ≡ 8192) (part relseg pages seg) (part_whole relseg pages seg whole))
   | inr past ↦
       ap (λ (b : Bool). unwrap_or (option_map whole_pages (cond b (Some (segment_content relseg pages seg)) None)) []) (le-ltb seg (segment_count relseg (length pages)) past)
       ∙ sym (ap (take relseg) (drop_all (seg * relseg) pages (past_pages relseg (length pages) seg some past)) ∙ take_all relseg [] (omega arith))

@@ -19,8 +19,8 @@ use Rattle.chain_files.specs.Inside.{ArePathsOf, forms_by, HasPart, ArePagesOf}
 use Rattle.chain_files.specs.declared.paths.FilePaths.{FilePaths}
 use Rattle.chain_files.specs.declared.slot.Slot.{Slot}
 use Rattle.chain_files.proofs.Blocks.{length-pieces, length-whole}
-use Rattle.chain_files.specs.declared.source.SourcePages.{SourcePages}
-use Rattle.chain_files.specs.declared.source.SourcePages.TheVariants.{Plain, Mapped}
+use Rattle.chain_files.specs.declared.mapping.SourcePages.{SourcePages}
+use Rattle.chain_files.specs.declared.mapping.SourcePages.TheVariants.{Plain, Mapped}
 use Rattle.chain_files.proofs.Members.{some_is}
 use Rattle.chain_files.specs.declared.source.SegmentSource.{SegmentSource}
 

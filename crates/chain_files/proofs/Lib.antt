@@ -1,4 +1,5 @@
 pub mod Told
+pub mod Pages
 mod Overs
 mod Members
 mod Shown

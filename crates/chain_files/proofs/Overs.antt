@@ -6,6 +6,7 @@ use Rattle.byte_words.specs.Pieces.{zero_page}
 use Rattle.chain_files.specs.Inside.{read_over}
 use Rattle.lsn_core.specs.Files.{Files}
 use Rattle.chain_files.specs.Sources.{member_bytes, bytes_at, slot_page}
+use Rattle.chain_files.proofs.Pages.{length-zeros}
 use Rattle.chain_files.specs.declared.paths.FilePaths.{FilePaths}
 use Rattle.chain_files.specs.declared.slot.Slot.{Slot}
 use Rattle.chain_files.specs.declared.slot.Slot.TheVariants.{Open, Zeros, Plain, Part}
@@ -59,10 +60,6 @@ length-part file at size =
     let taken = length-take size (drop at file) in
     length-append (take size (drop at file)) (replicate (size - length (take size (drop at file))) 0)
     ∙ omega (arith, taken, length-replicate {A = ℕ} (size - length (take size (drop at file))) 0)
-
-length-zeros : length zero_page ≡ 8192
-unfolding zero_page
-length-zeros = length-replicate {A = ℕ} 8192 0
 
 pub length-slot_page : (chain : List Files) (paths : FilePaths) (slot : Slot) → length (slot_page chain paths slot) ≡ 8192
 length-slot_page chain paths Open = length-zeros

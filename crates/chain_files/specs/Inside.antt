@@ -18,7 +18,7 @@ use Rattle.chain_files.specs.declared.form.FileForm.TheVariants.{Absent, Plain, 
 use Rattle.chain_files.specs.declared.paths.FilePaths.{FilePaths}
 use Rattle.chain_files.specs.declared.slot.Slot.{Slot}
 use Rattle.chain_files.specs.declared.slot.Slot.TheVariants.{Open, Zeros, Plain as InPlain, Part as InPart}
-use Rattle.chain_files.specs.declared.source.SourcePages.{SourcePages}
+use Rattle.chain_files.specs.declared.mapping.SourcePages.{SourcePages}
 
 -- ---- reading a member's file
 

@@ -12,8 +12,8 @@ use Rattle.chain_files.specs.Segments.{chain_segments, AllHaveForms}
 use Rattle.chain_files.specs.declared.paths.FilePaths.{FilePaths}
 use Rattle.chain_files.specs.declared.slot.Slot.{Slot}
 use Rattle.chain_files.specs.declared.slot.Slot.TheVariants.{Open, Zeros, Plain as InPlain, Part as InPart}
-use Rattle.chain_files.specs.declared.source.SourcePages.{SourcePages}
-use Rattle.chain_files.specs.declared.source.SourcePages.TheVariants.{Plain, Mapped}
+use Rattle.chain_files.specs.declared.mapping.SourcePages.{SourcePages}
+use Rattle.chain_files.specs.declared.mapping.SourcePages.TheVariants.{Plain, Mapped}
 use Rattle.chain_files.specs.declared.source.SegmentSource.{SegmentSource}
 
 -- pages were read into a piece, from one on, counted from 0: as many as there are, but at most so many

@@ -15,8 +15,10 @@
 mod fault;
 mod form;
 mod head;
+mod mapping;
 mod member;
 mod paths;
+mod reading;
 mod slot;
 mod source;
 

@@ -4,7 +4,7 @@ use Rattle.std.specs.List.{AllByRecursion}
 use Rattle.byte_words.specs.Told.{when_told}
 use Rattle.chain_files.specs.Told.{chain_told}
 use Rattle.chain_files.specs.Inside.{HasPart, ArePagesOf}
-use Rattle.chain_files.specs.declared.source.SourcePages.{SourcePages}
+use Rattle.chain_files.specs.declared.mapping.SourcePages.{SourcePages}
 use Rattle.chain_files.proofs.Told.{reads_refl}
 use Rattle.chain_files.proofs.Files.{source_of, source_none, have_parts}
 use Rattle.chain_files.proofs.source.open_segment.Goals as goal

@@ -10,7 +10,7 @@ use Rattle.chain_files.proofs.Told.{reads_refl, reads_trans, reads_told, places_
 use Rattle.chain_files.proofs.Members.{told_all, handed_on}
 use Rattle.chain_files.proofs.Overs.{length-slot_page}
 use Rattle.chain_files.proofs.Files.{pages_more}
-use Rattle.chain_files.proofs.source.read_slots.Goals as goal
+use Rattle.chain_files.proofs.reading.read_slots.Goals as goal
 
 pub loop-i-init : goal.loop-i-init
 loop-i-init g c = record {

@@ -6,7 +6,7 @@ use Rattle.chain_files.specs.Told.{chain_told}
 use Rattle.chain_files.specs.Inside.{HasPart, AreSaid, IsFormSeen}
 use Rattle.chain_files.proofs.Members.{when_all, member_seen}
 use Rattle.chain_files.proofs.Blocks.{said_more}
-use Rattle.chain_files.proofs.source.settle_by.Goals as goal
+use Rattle.chain_files.proofs.mapping.settle_by.Goals as goal
 
 pub returns-clause-said : goal.returns-clause-said
 returns-clause-said g c =

@@ -5,7 +5,7 @@ use Rattle.chain_files.specs.Told.{chain_told}
 use Rattle.chain_files.specs.Inside.{read_over}
 use Rattle.chain_files.specs.Sources.{member_bytes}
 use Rattle.chain_files.proofs.Overs.{over_page}
-use Rattle.chain_files.proofs.source.page_in.Goals as goal
+use Rattle.chain_files.proofs.reading.page_in.Goals as goal
 
 pub returns-clause-page : goal.returns-clause-page
 returns-clause-page g c =

@@ -2,7 +2,7 @@ use Rattle.std.proofs.Common.{◌≡◌, ◌*◌, map, take, drop, length, IfSom
 use Rattle.incr_file.specs.Form.{pages_bytes}
 use Rattle.chain_files.specs.Told.{chain_told, AllOnlyRead}
 use Rattle.chain_files.specs.Sources.{slot_page}
-use Rattle.chain_files.proofs.source.read_slots.Given as goal
+use Rattle.chain_files.proofs.reading.read_slots.Given as goal
 
 -- the pages so far were read
 abbrev pub invariant-loop-i : goal.invariant-loop-i

@@ -8,12 +8,12 @@ use Rattle.chain_files.specs.Told.{told_at, chain_told, FailsAt}
 use Rattle.chain_files.specs.Sources.{slot_page}
 use Rattle.chain_files.specs.declared.form.FileForm.{FileForm}
 use Rattle.chain_files.specs.declared.form.FileForm.TheVariants.{Absent, Plain, Part}
-use Rattle.chain_files.specs.declared.source.SourcePages.TheVariants.{Plain as InPlain, Mapped}
+use Rattle.chain_files.specs.declared.mapping.SourcePages.TheVariants.{Plain as InPlain, Mapped}
 use Rattle.chain_files.specs.Inside.{HasPart, IsFormSeen, AreAllSaid, IsFormIn, ArePagesOf}
 use Rattle.chain_files.proofs.Told.{reads_refl, reads_trans, fails_later, members_told, reads_told}
 use Rattle.chain_files.proofs.Members.{when_all, some_of, some_is, member_seen, handed_on}
 use Rattle.chain_files.proofs.Blocks.{part_pages, plain_pages, absent_pages}
-use Rattle.chain_files.proofs.source.pages_of.Goals as goal
+use Rattle.chain_files.proofs.mapping.pages_of.Goals as goal
 
 pub returns-in_default-clause-reads : goal.returns-in_default-clause-reads
 returns-in_default-clause-reads g c = reads_refl g.V.Vault c.args.areas.now

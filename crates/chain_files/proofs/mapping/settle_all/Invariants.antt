@@ -2,7 +2,7 @@ use Rattle.std.proofs.Common.{◌≡◌, ◌≤◌, length, IfSome}
 use Rattle.std.specs.List.{AllByRecursion}
 use Rattle.chain_files.specs.Told.{chain_told, AllOnlyRead}
 use Rattle.chain_files.specs.Inside.{HasPart, AreSaid}
-use Rattle.chain_files.proofs.source.settle_all.Given as goal
+use Rattle.chain_files.proofs.mapping.settle_all.Given as goal
 
 -- the members from here on were asked
 abbrev pub invariant-loop-left : goal.invariant-loop-left

@@ -6,7 +6,7 @@ use Rattle.chain_files.specs.Inside.{read_over}
 use Rattle.chain_files.specs.Sources.{member_bytes}
 use Rattle.chain_files.proofs.Members.{told_ok}
 use Rattle.chain_files.proofs.Overs.{over_sized}
-use Rattle.chain_files.proofs.source.read_plain.Goals as goal
+use Rattle.chain_files.proofs.reading.read_plain.Goals as goal
 
 pub returns-clause-read : goal.returns-clause-read
 returns-clause-read g c =

@@ -1,24 +1,32 @@
--- The pages of what a chain is combined to are whole.
-use Rattle.std.proofs.Common.{◌≡◌, ℕ, ◌+◌, ◌*◌, ◌/◌, ◌<◌, ◌≤◌, zero, suc, Bool, true, false, List, [], ◌∷◌, length, map, take, drop, reverse, slice_get, Option, Some, None, IfSome, unwrap_or, arith}
+-- The pages of files and of what a chain is combined to are whole, and their bytes are cut into them
+-- again.
+use Rattle.std.proofs.Common.{◌≡◌, ℕ, ◌+◌, ◌*◌, ◌/◌, ◌<◌, ◌≤◌, zero, suc, Bool, true, false, List, [], ◌∷◌, ◌++◌, length, map, take, drop, reverse, slice_get, Option, Some, None, IfSome, unwrap_or, refl, sym, ap, ◌∙◌, arith}
 use Rattle.std.specs.Prelude.{◌==◌, nat_lt, if◌then◌else◌}
-use Rattle.std.specs.List.{AllByRecursion}
+use Rattle.std.specs.List.{AllByRecursion, range_with_len}
 use Rattle.std.specs.Option.{option_or}
 use Rattle.std.specs.FinMap.{get}
-use Rattle.std.proofs.Math.Nat.{div-mul-le_self, mul-le-mul_right}
-use Rattle.std.proofs.lemmas.List.{length-take-le, length-drop}
+use Rattle.std.proofs.Math.Nat.{div-mul-le_self, mul-le-mul_right, mul-div_cancel}
+use Rattle.std.proofs.Math.Seq.{drop-append_seam}
+use Rattle.std.proofs.lemmas.List.{append_assoc, length-append, length-take-le, length-drop, length-replicate, take_at}
 use Rattle.byte_words.specs.Pieces.{zero_page}
 use Rattle.lsn_core.specs.Files.{Files}
 use Rattle.lsn_core.specs.Names.{fork_path_bytes}
 use Rattle.lsn_core.specs.Store.{ForkPages}
 use Rattle.lsn_core.specs.declared.ids.ForkId.{ForkId}
 use Rattle.lsn_core.proofs.AnyAll.{all_range}
-use Rattle.rel_files.proofs.ZeroPages.{zero_size}
 use Rattle.incr_file.specs.declared.head.IncrHead.{IncrHead}
-use Rattle.incr_file.specs.Form.{Form, Absent, Plain, Part, form_in, pieces_in, whole_pages, sent_page, block_in_chain, rebuilt_length, rebuilt_pages, pages_in_chain}
+use Rattle.incr_file.specs.Form.{Form, Absent, Plain, Part, form_in, pieces_in, whole_pages, pages_bytes, sent_page, block_in_chain, rebuilt_length, rebuilt_pages, pages_in_chain}
 use Rattle.chain_files.specs.Segments.{form_of, chain_segments}
-use Rattle.backup_restore.proofs.WrittenStores.{HaveSize}
 
 -- ---- pages
+
+pub length-zeros : length zero_page ≡ 8192
+unfolding zero_page
+length-zeros = length-replicate {A = ℕ} 8192 0
+
+-- each page has so many bytes
+abbrev pub HaveSize : ℕ → ForkPages → Type 0
+HaveSize size pages = AllByRecursion (λ page. length page ≡ size) pages
 
 pieces_sized : (size : ℕ) (bytes : List ℕ) → HaveSize size (pieces_in size bytes)
 pieces_sized size bytes =
@@ -86,7 +94,7 @@ block_sized (Part head pages ∷ older) block all =
     (sent_sized head.blocks pages block all.0) (by_test (nat_lt block head.truncation) (block_in_chain older block) None (block_sized older block all.1) tt)
 
 or_zeros : (o : Option (List ℕ)) → MaySize o → length (unwrap_or o zero_page) ≡ 8192
-or_zeros None sized = zero_size
+or_zeros None sized = length-zeros
 or_zeros (Some page) sized = sized
 
 rebuilt_sized : (forms : List Form) (head : IncrHead) → AllByRecursion IsSized forms → HaveSize 8192 (rebuilt_pages forms head)
@@ -102,3 +110,31 @@ pages_sized (Part head pages ∷ older) all = rebuilt_sized (Part head pages ∷
 
 pub chain_sized : (chain : List Files) (fork : ForkId) (seg : ℕ) → IfSome (chain_segments chain fork seg) (HaveSize 8192)
 chain_sized chain fork seg = pages_sized (map (form_of fork seg) (reverse chain)) (forms_sized fork seg (reverse chain))
+
+-- ---- their bytes
+
+cut_again : (size first : ℕ) (before : List ℕ) (pages : ForkPages) → length before ≡ first * size → HaveSize size pages → map (λ n. take size (drop (n * size) (before ++ pages_bytes pages))) (range_with_len first (length pages)) ≡ pages
+cut_again size first before [] long all = refl
+cut_again size first before (page ∷ pages) long all =
+    let here : take size (drop (first * size) (before ++ (page ++ pages_bytes pages))) ≡ page =
+    ap (λ (n : ℕ). take size (drop n (before ++ (page ++ pages_bytes pages)))) (sym long) ∙ ap (take size) (drop-append_seam before (page ++ pages_bytes pages)) ∙ take_at page (pages_bytes pages) size all.0 in
+    let longer : length (before ++ page) ≡ (first + 1) * size = length-append before page ∙ omega (arith, long, all.0) in
+    let rest : map (λ n. take size (drop (n * size) (before ++ (page ++ pages_bytes pages)))) (range_with_len (first + 1) (length pages)) ≡ pages =
+    ap (λ (bytes : List ℕ). map (λ n. take size (drop (n * size) bytes)) (range_with_len (first + 1) (length pages))) (sym (append_assoc before page (pages_bytes pages)))
+    ∙ cut_again size (first + 1) (before ++ page) pages longer all.1 in
+    ap (λ (p : List ℕ). p ∷ map (λ n. take size (drop (n * size) (before ++ (page ++ pages_bytes pages)))) (range_with_len (first + 1) (length pages))) here
+    ∙ ap (λ (ps : ForkPages). page ∷ ps) rest
+
+pub bytes_length : (size : ℕ) (pages : ForkPages) → HaveSize size pages → length (pages_bytes pages) ≡ length pages * size
+bytes_length size [] all = omega arith
+bytes_length size (page ∷ pages) all = length-append page (pages_bytes pages) ∙ omega (arith, all.0, bytes_length size pages all.1)
+
+parts_again : (size : ℕ) (pages : ForkPages) → 0 < size → HaveSize size pages → pieces_in size (pages_bytes pages) ≡ pages
+parts_again size pages some all =
+    let long : length (pages_bytes pages) / size ≡ length pages = ap (λ (n : ℕ). n / size) (bytes_length size pages all) ∙ mul-div_cancel (length pages) some in
+    ap (λ (n : ℕ). map (λ k. take size (drop (k * size) (pages_bytes pages))) (range_with_len 0 n)) long
+    ∙ cut_again size 0 [] pages (omega arith) all
+
+pub pages_again : (pages : ForkPages) → HaveSize 8192 pages → whole_pages (pages_bytes pages) ≡ pages
+unfolding whole_pages
+pages_again pages all = parts_again 8192 pages (omega arith) all

@@ -12,7 +12,7 @@ use Rattle.chain_files.specs.declared.form.FileForm.TheVariants.{Part}
 use Rattle.chain_files.proofs.Told.{reads_refl, members_told}
 use Rattle.chain_files.proofs.Members.{written_back, when_all, there_is, some_of}
 use Rattle.chain_files.proofs.Blocks.{said_first, said_more}
-use Rattle.chain_files.proofs.source.map_of.Goals as goal
+use Rattle.chain_files.proofs.mapping.map_of.Goals as goal
 
 pub returns-in_err-slots-clause-reads : goal.returns-in_err-slots-clause-reads
 returns-in_err-slots-clause-reads g c = reads_refl g.V.Vault c.args.areas.now

@@ -8,7 +8,7 @@ use Rattle.chain_files.specs.Inside.{HasPart, AreSaid}
 use Rattle.chain_files.proofs.Told.{reads_refl, reads_trans, reads_told, places_kept, fails_later}
 use Rattle.chain_files.proofs.Members.{told_all, handed_on}
 use Rattle.chain_files.proofs.Blocks.{all_said}
-use Rattle.chain_files.proofs.source.settle_all.Goals as goal
+use Rattle.chain_files.proofs.mapping.settle_all.Goals as goal
 
 pub loop-left-init : goal.loop-left-init
 loop-left-init g c = record {
