@@ -13,3 +13,4 @@ mod Links
 mod HeldForms
 mod Judged
 mod ListedForms
+mod Collisions

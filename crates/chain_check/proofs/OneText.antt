@@ -34,7 +34,7 @@ length-line lines digits = length-append lines (line_front ++ (digits ++ line_ba
 same_digits : (a b : List ℕ) → line_front ++ (a ++ line_back) ≡ line_front ++ (b ++ line_back) → a ≡ b
 same_digits a b e = append_cancel_right a b line_back (append_cancel_left line_front _ _ e)
 
-lined_once : (bytes lines other sum more : List ℕ) → IsLined bytes lines sum → IsLined bytes other more → (lines ≡ other) × (sum ≡ more)
+pub lined_once : (bytes lines other sum more : List ℕ) → IsLined bytes lines sum → IsLined bytes other more → (lines ≡ other) × (sum ≡ more)
 lined_once bytes lines other sum more is was =
     let one : length bytes ≡ length lines + length is.digits + 25 = ap (λ (l : List ℕ). length l) is.spelled ∙ length-line lines is.digits in
     let two : length bytes ≡ length other + length was.digits + 25 = ap (λ (l : List ℕ). length l) was.spelled ∙ length-line other was.digits in

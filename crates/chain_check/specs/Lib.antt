@@ -4,3 +4,4 @@ pub mod Refusals
 pub mod Inside
 pub mod Laws
 pub mod Chain
+pub mod Collisions

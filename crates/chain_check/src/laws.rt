@@ -3,6 +3,7 @@
 ghost use Rattle.chain_check.specs.Laws.{DirectoriesAreOneMember, ListedIsNotRefused};
 ghost use Rattle.chain_check.specs.Laws.{RefusalsAreOne, ListedHaveForms};
 ghost use Rattle.chain_check.specs.Laws.{AcceptedIsNotRefused, ChainRefusalsAreOne};
+ghost use Rattle.chain_check.specs.Collisions.{OneSumIsOneDirectory};
 
 use incr_file::heads_are_read_as_written;
 use manifest::manifests_are_read_again;
@@ -27,3 +28,15 @@ pub fn chains_have_one_answer()
     ensures apart { AcceptedIsNotRefused }
     ensures first { ChainRefusalsAreOne }
 {}
+
+/// Two directories that are as listed, and whose manifests end in the same digits of a sum, hold
+/// the same: what the manifest and the label say, and each file but those in the folder of the WAL
+/// that aren't listed. Or sums match by chance: the lines of the two manifests differ and have one
+/// sum, or the two files of one row. So a directory that was changed since it was taken is refused,
+/// unless its manifest ends in other digits than it did, or sums match by chance.
+pub fn one_sum_is_one_directory()
+    ensures { OneSumIsOneDirectory }
+{
+    // known: a text is read as one manifest
+    manifests_are_read_again();
+}

@@ -6,8 +6,9 @@
 //! `specs/Refusals.antt`, and how many files were found as listed before it. Each listed file is
 //! read whole, in pieces, and of an incremental file the head once more. `check_chain` judges
 //! members by their labels and manifests (`specs/Chain.antt`). `laws` say that a directory and a
-//! chain have one answer, and that in a directory that is as listed the incremental files of forks
-//! have their form. `Member` stands here, since `manifest` knows no label.
+//! chain have one answer, that in a directory that is as listed the incremental files of forks have
+//! their form, and that such a directory is told by the sum in which its manifest ends
+//! (`specs/Collisions.antt`). `Member` stands here, since `manifest` knows no label.
 //!
 //! Left to others: what manifest, label and the head of an incremental file say (`manifest`,
 //! `backup_label`, `incr_file`), how a head is read (`chain_files`), what the pages of the files
@@ -32,7 +33,7 @@ mod sums;
 pub use chain::{ChainRefusal, MOST_MEMBERS, check_chain};
 pub use dir::check_dir;
 pub use fault::{ChainFault, FileWhy, ManifestWhy};
-pub use laws::{chains_have_one_answer, directories_have_one_answer};
+pub use laws::{chains_have_one_answer, directories_have_one_answer, one_sum_is_one_directory};
 pub use link::LinkFault;
 pub use member::Member;
 pub use refusal::Refusal;

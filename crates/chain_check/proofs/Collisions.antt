@@ -1,0 +1,147 @@
+-- Directories whose manifests end in one sum.
+use Rattle.std.proofs.Common.{◌≡◌, ◌⊎◌, ℕ, Bool, true, false, ◌||◌, List, [], ◌∷◌, ◌++◌, Option, Some, Ok, bytes_eq, refl, sym, ap, subst, ◌∙◌, inl, inr, codes, nat_eq}
+use Rattle.std.specs.List.{AllByRecursion, starts_with}
+use Rattle.std.specs.FinMap.{get}
+use Rattle.std.specs.Option.{unwrap_or}
+use Rattle.std.proofs.lemmas.Slice.Eq.{bytes_eq-Decides}
+use Rattle.hex.specs.Hex.{decode_of}
+use Rattle.hex.proofs.HexLemmas.{decode_of-same}
+use Rattle.sha2.specs.Sha256.{sha256}
+use Rattle.lsn_core.specs.Files.{Files}
+use Rattle.vault.specs.Area.{bytes_of}
+use Rattle.backup_label.specs.declared.label.Label.{Label}
+use Rattle.backup_label.proofs.OneReading.{one_label}
+use Rattle.manifest.specs.Laws.{TextsHaveOneManifest}
+use Rattle.manifest.specs.Lines.{line_front, line_back, IsLined}
+use Rattle.manifest.specs.Listing.{Listing}
+use Rattle.manifest.specs.declared.kinds.SumKind.{SumKind}
+use Rattle.manifest.specs.declared.kinds.SumKind.TheVariants.{Sha256}
+use Rattle.manifest.specs.declared.listing.FileRow.{FileRow}
+use Rattle.backup_files.specs.Directory.{manifest_name, label_name}
+use Rattle.chain_check.specs.Directory.{HasManifest, IsRowAsListed, is_listed, may_stand, HasNoOther, IsLabelFrom}
+use Rattle.chain_check.specs.Collisions.{Collision, EndsInSum, RowCollides, RowsCollide, OneSumIsOneDirectory}
+use Rattle.chain_check.specs.Sums.{sum_of}
+use Rattle.chain_check.proofs.Once.{manifest_once}
+use Rattle.chain_check.proofs.OneText.{one_value, lined_once}
+
+-- texts of one sum are the same, or a collision
+same_or_collision : (kind : SumKind) (a b : List ℕ) → sum_of kind a ≡ sum_of kind b → (a ≡ b) ⊎ Collision kind a b
+same_or_collision kind a b same =
+    elim (bytes_eq a b) as (λ x. bytes_eq a b ≡ x → (a ≡ b) ⊎ Collision kind a b) [
+      | true ↦ λ e. inl ((bytes_eq-Decides a b).0 e)
+      | false ↦ λ e. inr (record {
+        differ = λ is. let never : true ≡ false = sym ((bytes_eq-Decides a b).1 is) ∙ e in cc;
+        same = same;
+      })
+    ] refl
+
+-- ---- manifests
+
+-- the last line of a manifest that is as listed says the sum of the lines before it
+says_sum : (files : Files) (m : Listing) (digits : List ℕ) → HasManifest files m → (is : EndsInSum files digits) → decode_of digits ≡ Ok (sha256 is.lines)
+says_sum files m digits has is =
+    let same : has.0 ≡ is.text = one_value (get files manifest_name) has.0 is.text has.1 is.there in
+    let whole : IsLined is.text has.2.0.0 (sha256 has.2.0.0) = subst (λ (t : List ℕ). IsLined t has.2.0.0 (sha256 has.2.0.0)) same has.2.0.1 in
+    let once = lined_once is.text is.lines has.2.0.0 is.sum (sha256 has.2.0.0) is.lined whole in
+    subst (λ (d : List ℕ). decode_of d ≡ Ok (sha256 is.lines)) is.spelled (is.lined.said ∙ ap (λ (s : List ℕ). Ok s) (once.1 ∙ ap sha256 (sym once.0)))
+
+-- the text by its lines and digits
+text_is : (files : Files) (digits : List ℕ) (is : EndsInSum files digits) → is.text ≡ is.lines ++ (line_front ++ (digits ++ line_back))
+text_is files digits is = subst (λ (d : List ℕ). is.text ≡ is.lines ++ (line_front ++ (d ++ line_back))) is.spelled is.lined.spelled
+
+manifests_same : (files other : Files) (m n : Listing) (digits : List ℕ) → HasManifest files m → HasManifest other n → (a : EndsInSum files digits) (b : EndsInSum other digits) → (get files manifest_name ≡ get other manifest_name) ⊎ Collision Sha256 a.lines b.lines
+manifests_same files other m n digits has too a b =
+    elim (same_or_collision Sha256 a.lines b.lines (decode_of-same digits (sha256 a.lines) (sha256 b.lines) (says_sum files m digits has a) (says_sum other n digits too b))) [
+      | inl same ↦ inl (a.there ∙ ap (λ (t : List ℕ). Some t) (text_is files digits a ∙ ap (λ (l : List ℕ). l ++ (line_front ++ (digits ++ line_back))) same ∙ sym (text_is other digits b)) ∙ sym b.there)
+      | inr hit ↦ inr hit
+    ]
+
+-- ---- listed files
+
+abbrev SameRow : Files → Files → FileRow → Type 0
+SameRow files other row = get files row.path ≡ get other row.path
+
+row_same : (files other : Files) (row : FileRow) → IsRowAsListed files row → IsRowAsListed other row → SameRow files other row ⊎ RowCollides files other row
+row_same files other row a b =
+    elim (same_or_collision row.kind a.bytes b.bytes (decode_of-same row.sum (sum_of row.kind a.bytes) (sum_of row.kind b.bytes) a.summed b.summed)) [
+      | inl same ↦ inl (a.there ∙ ap (λ (t : List ℕ). Some t) same ∙ sym b.there)
+      | inr hit ↦ inr (a.bytes, b.bytes, a.there, b.there, hit)
+    ]
+
+rows_same : (files other : Files) (rows : List FileRow) → AllByRecursion (IsRowAsListed files) rows → AllByRecursion (IsRowAsListed other) rows → AllByRecursion (SameRow files other) rows ⊎ RowsCollide files other rows
+rows_same files other [] a b = inl tt
+rows_same files other (row ∷ rows) a b =
+    elim (row_same files other row a.0 b.0) [
+      | inr hit ↦ inr (inl hit)
+      | inl first ↦ elim (rows_same files other rows a.1 b.1) [
+        | inr hit ↦ inr (inr hit)
+        | inl more ↦ inl (first, more)
+      ]
+    ]
+
+listed_same : (files other : Files) (rows : List FileRow) (name : List ℕ) → AllByRecursion (SameRow files other) rows → is_listed rows name ≡ true → get files name ≡ get other name
+listed_same files other [] name all e = absurd cc
+listed_same files other (row ∷ rows) name all e =
+    elim (bytes_eq row.path name) as (λ b. bytes_eq row.path name ≡ b → (b || is_listed rows name) ≡ true → get files name ≡ get other name) [
+      | true ↦ λ is found. subst (λ (p : List ℕ). get files p ≡ get other p) ((bytes_eq-Decides row.path name).0 is) all.0
+      | false ↦ λ is found. listed_same files other rows name all.1 found
+    ] refl e
+
+-- ---- any file
+
+abbrev in_wal : List ℕ → Bool
+in_wal name = starts_with nat_eq name (codes "pg_wal/")
+
+module _ (files other : Files) (rows : List FileRow) (manifest : get files manifest_name ≡ get other manifest_name) (all : AllByRecursion (SameRow files other) rows) (none : HasNoOther files rows) (none_there : HasNoOther other rows) where
+  unlisted : (name : List ℕ) → bytes_eq name manifest_name ≡ false → in_wal name ≡ false → is_listed rows name ≡ false → get files name ≡ get other name
+  unlisted name a b c =
+      let no : may_stand rows name ≡ false = rw (a, b, c) refl in
+      none name no ∙ sym (none_there name no)
+
+  beside : (name : List ℕ) → bytes_eq name manifest_name ≡ false → in_wal name ≡ false → get files name ≡ get other name
+  beside name a b =
+      elim (is_listed rows name) as (λ x. is_listed rows name ≡ x → get files name ≡ get other name) [
+        | true ↦ λ e. listed_same files other rows name all e
+        | false ↦ λ e. unlisted name a b e
+      ] refl
+
+  not_manifest : (name : List ℕ) → bytes_eq name manifest_name ≡ false → (in_wal name ≡ true → is_listed rows name ≡ true) → get files name ≡ get other name
+  not_manifest name a listed =
+      elim (in_wal name) as (λ x. in_wal name ≡ x → get files name ≡ get other name) [
+        | true ↦ λ e. listed_same files other rows name all (listed e)
+        | false ↦ λ e. beside name a e
+      ] refl
+
+  any_name : (name : List ℕ) → (in_wal name ≡ true → is_listed rows name ≡ true) → get files name ≡ get other name
+  any_name name listed =
+      elim (bytes_eq name manifest_name) as (λ x. bytes_eq name manifest_name ≡ x → get files name ≡ get other name) [
+        | true ↦ λ e. subst (λ (n : List ℕ). get files n ≡ get other n) (sym ((bytes_eq-Decides name manifest_name).0 e)) manifest
+        | false ↦ λ e. not_manifest name e listed
+      ] refl
+
+-- ---- the whole
+
+label_same : (files other : Files) (one start : ℕ) (a b : Label) → get files label_name ≡ get other label_name → IsLabelFrom one (bytes_of files label_name) a → IsLabelFrom start (bytes_of other label_name) b → a ≡ b
+label_same files other one start a b same is was =
+    let held : bytes_of files label_name ≡ bytes_of other label_name = ap (λ (o : Option (List ℕ)). unwrap_or o []) same in
+    one_label (bytes_of other label_name) a b (subst (λ (t : List ℕ). IsLabelFrom one t a) held is).0 was.0
+
+pub one_directory : TextsHaveOneManifest → OneSumIsOneDirectory
+one_directory law files other member also digits ended too is was =
+    let m : Listing = member.manifest in
+    elim (manifests_same files other m also.manifest digits is.manifest was.manifest ended too) [
+      | inr hit ↦ inr (inl hit)
+      | inl texts ↦
+          let told : HasManifest files also.manifest = (was.manifest.0, texts ∙ was.manifest.1, was.manifest.2) in
+          let one : also.manifest ≡ m = manifest_once law files also.manifest m told is.manifest in
+          let rows : AllByRecursion (IsRowAsListed other) m.files = subst (λ (l : Listing). AllByRecursion (IsRowAsListed other) l.files) one was.rows in
+          let others : HasNoOther other m.files = subst (λ (l : Listing). HasNoOther other l.files) one was.others in
+          elim (rows_same files other m.files is.rows rows) [
+            | inr hit ↦ inr (inr hit)
+            | inl all ↦ inl (record {
+              manifest = sym one;
+              label = label_same files other m.start also.manifest.start member.label also.label (listed_same files other m.files label_name all is.label_row) is.label was.label;
+              same = any_name files other m.files texts all is.others others;
+            })
+          ]
+    ]
