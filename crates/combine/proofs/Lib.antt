@@ -6,7 +6,6 @@ pub mod PathsFor
 pub mod Puts
 pub mod Contents
 mod Among
-mod Sized
 mod Standing
 mod SameSegments
 mod FullLabels

@@ -24,7 +24,7 @@ use Rattle.combine.specs.Laws.{CombinedIsAsListed, FullMembersAreChains, full_la
 use Rattle.combine.proofs.Among.{Among, of_all, all_among, all_of_map, File, name_of}
 use Rattle.combine.proofs.FullLabels.{full_text}
 use Rattle.combine.proofs.SameSegments.{kept_whole}
-use Rattle.combine.proofs.Sized.{HaveSize, chain_sized, bytes_length}
+use Rattle.chain_files.proofs.Pages.{HaveSize, chain_sized, bytes_length}
 use Rattle.combine.proofs.Standing.{fork_unlike, label_apart, same_path, neither, none_if, row_at, none_listed, other_row, is_other, file_for, put_in, stands_in, no_part, found_in, all_listed, all_made}
 
 -- a remainder that can't be other than none is none

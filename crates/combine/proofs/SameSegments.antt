@@ -18,7 +18,7 @@ use Rattle.chain_check.proofs.ForkFiles.{fork_file, one_form}
 use Rattle.combine.specs.Combined.{EndsWith, IsCombined, first_lines, kept_bytes, other_rows}
 use Rattle.combine.specs.Laws.{CombinedHoldsTheSame}
 use Rattle.combine.proofs.Among.{of_all, File, name_of}
-use Rattle.combine.proofs.Sized.{HaveSize, chain_sized, pages_again}
+use Rattle.chain_files.proofs.Pages.{HaveSize, chain_sized, pages_again}
 use Rattle.combine.proofs.Standing.{HasFile, fork_apart, fork_unlike, other_path, none_if, never_both, other_row, is_other, file_for, stands_in, put_in, found_in, no_part_in, fork_row}
 
 -- what another file than the label keeps

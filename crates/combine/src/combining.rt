@@ -56,11 +56,13 @@ fn put_all<V: Vault>(
     requires when { when ≤ 253402207199 }
     requires can { CanPut m.now (V.files out.old) targets.now }
     ensures counted { IfOk result (λ count. count ≡ length targets.now) }
-    ensures put { IfOk result (λ count. PutsAll V.Vault places.now m.now when areas.old out.new count) }
+    ensures put { IfOk result (λ count.
+        PutsAll V.Vault places.now m.now when areas.old out.new count) }
     ensures synced { OnOk result (EndsSynced V.Vault out.new) }
     ensures reads { AllOnlyRead V.Vault areas.old areas.new }
     ensures left { IfErr result (LeavesManifest V.Vault
-        ((count : ℕ) × PutsAll V.Vault places.now m.now when areas.old out.new count) out.old out.new) }
+        ((count : ℕ) × PutsAll V.Vault places.now m.now when areas.old out.new count)
+        out.old out.new) }
     ensures later { V.faults out.old ≤ V.faults out.new }
     ensures cause { IfErr result (WorkCause V.Vault areas.old out.old areas.new out.new) }
 {

@@ -93,7 +93,8 @@ pub(crate) fn copy_label<V: Vault>(
     requires other { path.now ≢ manifest_name }
     requires missing { Lacks (V.files out.old) path.now }
     ensures made { IfOk result (IsMade (λ bytes. IfSome (told_at V.Vault areas.old place) (λ m.
-        bytes ≡ first_lines 7 (bytes_of m path.now))) path.now (V.files out.old) (V.files out.new)) }
+        bytes ≡ first_lines 7 (bytes_of m path.now)))
+        path.now (V.files out.old) (V.files out.new)) }
     ensures reads { AllOnlyRead V.Vault areas.old areas.new }
     ensures spares { SparesManifest V.Vault out.old out.new }
     ensures cause { IfErr result (WorkCause V.Vault areas.old out.old areas.new out.new) }

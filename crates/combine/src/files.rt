@@ -62,7 +62,8 @@ fn combine_file<V: Vault>(
     requires last { IsLast places.now place }
     requires target { IsTarget target.now.from target.now }
     requires missing { Lacks (V.files out.old) target.now.to }
-    ensures made { IfOk result (IsMade (IsContent (chain_told V.Vault areas.old places.now) target.now)
+    ensures made { IfOk result (IsMade
+        (IsContent (chain_told V.Vault areas.old places.now) target.now)
         target.now.to (V.files out.old) (V.files out.new)) }
     ensures reads { AllOnlyRead V.Vault areas.old areas.new }
     ensures spares { SparesManifest V.Vault out.old out.new }
@@ -125,7 +126,8 @@ pub(crate) fn put_files<V: Vault>(
     requires targets { AllByRecursion (λ t. IsTarget t.from t) targets.now }
     requires distinct { IsDistinct (eq_by_cmp (slice_cmp nat_cmp)) (map to_of targets.now) }
     requires empty { HoldsNothing (V.files out.old) }
-    ensures put { IfOk result (λ rows. PutsFiles (chain_told V.Vault areas.old places.now) targets.now
+    ensures put { IfOk result (λ rows.
+        PutsFiles (chain_told V.Vault areas.old places.now) targets.now
         modified.now (V.files out.new) rows.items) }
     ensures reads { AllOnlyRead V.Vault areas.old areas.new }
     ensures spares { SparesManifest V.Vault out.old out.new }

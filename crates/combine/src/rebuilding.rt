@@ -35,8 +35,9 @@ fn add_pages<V: Vault>(
     requires most { most ≤ 8 }
     requires other { path.now ≢ manifest_name }
     requires fits { file.old.size + most * 8192 < 2 ^ 64 }
-    ensures added { IfOk result (λ done. AddsPages (chain_told V.Vault areas.old places.now) source.now
-        number most path.now (V.files out.old) (V.files out.new) file.old file.new) }
+    ensures added { IfOk result (λ done.
+        AddsPages (chain_told V.Vault areas.old places.now) source.now number most
+        path.now (V.files out.old) (V.files out.new) file.old file.new) }
     ensures reads { AllOnlyRead V.Vault areas.old areas.new }
     ensures spares { SparesManifest V.Vault out.old out.new }
     ensures cause { IfErr result (WorkCause V.Vault areas.old out.old areas.new out.new) }
