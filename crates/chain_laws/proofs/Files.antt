@@ -2,10 +2,7 @@
 use Rattle.std.proofs.Common.{◌≡◌, ◌≢◌, ℕ, zero, suc, ◌+◌, ◌<◌, ◌≤◌, inl, inr, Bool, true, false, cond, ◌||◌, List, [], ◌∷◌, ◌++◌, map, length, Option, Some, None, refl, sym, ap, subst, ◌∙◌, arith}
 use Rattle.std.specs.Prelude.{◌⊎◌, ◌==◌, slice_get}
 use Rattle.std.specs.List.{AllByRecursion, find, list_any, range_with_len}
-use Rattle.std.specs.List.Sorted.{IsStrictlySortedBy}
-use Rattle.std.specs.Option.{option_map}
 use Rattle.std.specs.Ordering.{nat_cmp}
-use Rattle.std.specs.declared.cmp.Ordering.TheVariants.{Less}
 use Rattle.std.specs.Cmp.Lexicographic.{slice_cmp, nat_list_cmp_total}
 use Rattle.std.specs.FinMap.{get, insert, empty, get-insert, get-empty}
 use Rattle.std.proofs.lemmas.Bool.{true≢false, eqb-true, false_from_ne_true}
@@ -14,17 +11,16 @@ use Rattle.std.proofs.lemmas.List.FromFn.{length-range_with_len}
 use Rattle.lsn_core.specs.Files.{Files}
 use Rattle.lsn_core.specs.Names.{fork_path_bytes, IsNamed}
 use Rattle.lsn_core.specs.Segment.{IsRelseg}
-use Rattle.lsn_core.specs.Store.{ForkPages, fork_cmp, segment_count, with_files}
+use Rattle.lsn_core.specs.Store.{ForkPages, segment_count, with_files}
 use Rattle.lsn_core.specs.declared.ids.ForkId.{ForkId}
 use Rattle.lsn_core.specs.declared.ids.ForkLen.{ForkLen}
-use Rattle.lsn_core.proofs.AnyAll.{all_pieces, all_range, any_range}
+use Rattle.lsn_core.proofs.AnyAll.{any_range}
 use Rattle.lsn_core.proofs.ForkPaths.{one_place}
 use Rattle.lsn_core.proofs.StoreFiles.{same_name, names_tie, name_itself}
 use Rattle.history.specs.Apply.{is_same_fork}
 use Rattle.history.specs.Entry.{Entry}
-use Rattle.history.proofs.Stores.{fork_is, fork_self}
+use Rattle.history.proofs.Stores.{fork_is}
 use Rattle.fuzzy_copies.specs.Taken.{Copying}
-use Rattle.wal_summary.proofs.Sums.{apart}
 use Rattle.incr_file.specs.Form.{Absent, Plain, form_in, part_in, pages_bytes, sent_page, whole_pages}
 use Rattle.incr_file.specs.Head.{head_bytes}
 use Rattle.incr_file.specs.Laws.{WrittenFilesAreRead}
@@ -42,7 +38,8 @@ use Rattle.base_backup.proofs.Listings.{count_fits}
 use Rattle.backup_files.proofs.Appended.{absent}
 use Rattle.base_backup.proofs.Segments.{named_at}
 use Rattle.base_backup.proofs.Texts.{never_named}
-use Rattle.chain_laws.proofs.Pages.{pages_again}
+use Rattle.chain_files.proofs.Pages.{pages_again}
+use Rattle.chain_laws.proofs.Plans.{IsOfList, all_plans, length_in}
 use Rattle.chain_laws.proofs.Sending.{IsSentIn}
 
 -- ---- pages for blocks
@@ -77,38 +74,6 @@ each_sized : (pages : ForkPages) (i : ℕ) (page : List ℕ) → AllByRecursion 
 each_sized [] i page all e = absurd cc
 each_sized (p ∷ pages) zero page all e = let is : p ≡ page = cc in ap length (sym is) ∙ all.0
 each_sized (p ∷ pages) (suc i) page all e = each_sized pages i page all.1 e
-
--- ---- the forks of a list
-
-abbrev fork_of : ForkLen → ForkId
-fork_of l = l.fork
-
-abbrev IsFoundIn : List ForkLen → ForkLen → Type 0
-IsFoundIn list l = listed_length list l.fork ≡ Some l.blocks
-
-abbrev length_in : Option ForkLen → Option ℕ
-length_in o = option_map (λ l. l.blocks) o
-
--- each fork of a list in order is found there
-all_found : (list : List ForkLen) → IsStrictlySortedBy fork_cmp (map (λ l. l.fork) list) → AllByRecursion (IsFoundIn list) list
-unfolding IsStrictlySortedBy
-all_found [] order = tt
-all_found (l ∷ ls) order =
-    (ap (λ b. length_in (cond b (Some l) (find (λ k. is_same_fork l.fork k.fork) ls))) (fork_self l.fork), behind ls order.0 (all_found ls order.1))
-  where
-    other : (k : ForkLen) → fork_cmp l.fork k.fork ≡ Less → is_same_fork k.fork l.fork ≡ false
-    other k less = false_from_ne_true (is_same_fork k.fork l.fork) (λ e.
-        let same : k.fork ≡ l.fork = fork_is k.fork l.fork e in
-        true≢false (sym (fork_self l.fork) ∙ apart l.fork l.fork (subst (λ (f : ForkId). fork_cmp l.fork f ≡ Less) same less)))
-
-    behind : (ks : List ForkLen) → AllByRecursion (λ f. fork_cmp l.fork f ≡ Less) (map (λ k. k.fork) ks) → AllByRecursion (IsFoundIn ls) ks → AllByRecursion (IsFoundIn (l ∷ ls)) ks
-    behind [] below found = tt
-    behind (k ∷ ks) below found =
-        (ap (λ b. length_in (cond b (Some l) (find (λ x. is_same_fork k.fork x.fork) ls))) (other k below.0) ∙ found.0, behind ks below.1 found.1)
-
-all_both : {X : Type 0} (A B : X → Type 0) (xs : List X) → AllByRecursion A xs → AllByRecursion B xs → AllByRecursion (λ x. A x × B x) xs
-all_both A B [] a b = tt
-all_both A B (x ∷ xs) a b = ((a.0, b.0), all_both A B xs a.1 b.1)
 
 -- ---- files put into a directory
 
@@ -166,29 +131,14 @@ module _ (history : List Entry) (from to : ℕ) (basis : Basis) (list : List For
   abbrev len : ForkId → ℕ → ForkLen
   len fork blocks = record { fork = fork; blocks = blocks }
 
-  -- a plan is that of a segment file of a listed fork
-  record IsOfList (p : SegmentPlan) : Type 0 where
-    of : ForkLen
-    seg : ℕ
-    is : p ≡ segment_plan basis of seg
-    there : seg < segment_count basis.relseg of.blocks
-    named : IsNamed of.fork of.blocks
-    found : IsFoundIn list of
-
   -- a file was sent of a listed fork
   record IsSentFile (g : List ℕ × List ℕ) : Type 0 where
     file : SentFile
     is : g ≡ file_of file
-    of : IsOfList file.what
+    of : IsOfList basis list file.what
     sent : IsSentAs (Unit {0}) history from to file
 
-  all_plans : AreListed (Unit {0}) history from to list → AllByRecursion IsOfList (list_plans basis list)
-  all_plans listed =
-      all_pieces (λ l. IsNamed l.fork l.blocks × IsFoundIn list l) IsOfList (fork_plans basis) list
-      (λ l is. all_range IsOfList (segment_plan basis l) 0 (segment_count basis.relseg l.blocks) (λ s least most. record { of = l; seg = s; is = refl; there = omega (arith, most); named = is.0; found = is.1 }))
-      (all_both (λ l. IsNamed l.fork l.blocks) (IsFoundIn list) list listed.named (all_found list listed.order))
-
-  all_sent : (files : List SentFile) → AllByRecursion IsOfList (map what_of files) → AllByRecursion (IsSentAs (Unit {0}) history from to) files → AllByRecursion IsSentFile (map file_of files)
+  all_sent : (files : List SentFile) → AllByRecursion (IsOfList basis list) (map what_of files) → AllByRecursion (IsSentAs (Unit {0}) history from to) files → AllByRecursion IsSentFile (map file_of files)
   all_sent [] plans sent = tt
   all_sent (f ∷ files) plans sent = (record { file = f; is = refl; of = plans.0; sent = sent.0 }, all_sent files plans.1 sent.1)
 
@@ -217,7 +167,7 @@ module _ (history : List Entry) (from to : ℕ) (basis : Basis) (list : List For
     dir = directory_with (map file_of files) label manifest
 
     all_files : AllByRecursion IsSentFile (map file_of files)
-    all_files = all_sent files (subst (AllByRecursion IsOfList) (sym are_sent.planned_are) (all_plans listed)) are_sent.sent
+    all_files = all_sent files (subst (AllByRecursion (IsOfList basis list)) (sym are_sent.planned_are) (all_plans basis list listed.named listed.order)) are_sent.sent
 
     -- what stands at a fork's path is the file of that segment
     record IsAt (fork : ForkId) (seg : ℕ) (incr : Bool) (o : Option (List ℕ)) : Type 0 where

@@ -3,13 +3,12 @@ use Rattle.std.proofs.Common.{◌≡◌, ℕ, zero, suc, ◌+◌, ◌-◌, ◌*�
 use Rattle.std.specs.Prelude.{slice_get}
 use Rattle.std.specs.List.{flat_map, range_with_len}
 use Rattle.std.proofs.Math.Nat.{mul-le-mul_right}
-use Rattle.std.proofs.lemmas.Bool.{true≢false, leb-true, cases_lt, cases_order}
+use Rattle.std.proofs.lemmas.Bool.{true≢false, cases_lt, cases_order}
 use Rattle.std.proofs.lemmas.Option.{slice_get_within}
-use Rattle.std.proofs.lemmas.List.{append-nil, length-append, length-take}
-use Rattle.std.proofs.lemmas.List.Concat.{flat_map-append}
+use Rattle.std.proofs.lemmas.List.{length-append, length-take}
 use Rattle.lsn_core.specs.Store.{ForkPages}
-use Rattle.wal_pages.proofs.Pieces.{range_add}
 use Rattle.chain_files.specs.Held.{most_pages, pages_taken, is_full, pages_up_to, IsForkOf}
+use Rattle.backup_restore.proofs.Directories.{long_taken, up_to_longer, up_to_more, full_long, all_full}
 
 -- ---- places in lists
 
@@ -38,14 +37,6 @@ taken_found (suc n) (y ∷ xs) (suc i) x e = taken_found n xs i x e
 
 -- ---- the pages of files
 
-taken_few : (relseg : ℕ) (o : Option ForkPages) → length (pages_taken relseg o) ≤ relseg
-taken_few relseg None = omega arith
-taken_few relseg (Some pages) = omega (arith, length-take relseg pages)
-
-taken_full : (relseg : ℕ) (o : Option ForkPages) → is_full relseg o ≡ true → length (pages_taken relseg o) ≡ relseg
-taken_full relseg None e = absurd cc
-taken_full relseg (Some pages) e = omega (arith, length-take relseg pages, leb-true relseg (length pages) e)
-
 -- a file has a page at a place
 pub record IsFoundAt (o : Option ForkPages) (i : ℕ) (page : List ℕ) : Type 0 where
   pub pages : ForkPages
@@ -59,37 +50,21 @@ module _ (relseg : ℕ) (segments : ℕ → Option ForkPages) where
   abbrev from_on : ℕ → ℕ → ForkPages
   from_on seg count = flat_map (λ s. pages_taken relseg (segments s)) (range_with_len seg count)
 
-  -- the pages of more files begin with those of fewer
-  up_to_longer : (count more : ℕ) → pages_up_to relseg segments (count + more) ≡ pages_up_to relseg segments count ++ from_on count more
-  up_to_longer count more =
-      ap (flat_map (λ s. pages_taken relseg (segments s))) (sym (range_add 0 count more count (omega arith)))
-      ∙ flat_map-append (λ s. pages_taken relseg (segments s)) (range_with_len 0 count) (range_with_len count more)
-
-  up_to_next : (count : ℕ) → pages_up_to relseg segments (count + 1) ≡ pages_up_to relseg segments count ++ taken count
-  up_to_next count = up_to_longer count 1 ∙ ap (λ (l : ForkPages). pages_up_to relseg segments count ++ l) (append-nil (taken count))
-
   up_to_few : (count : ℕ) → length (pages_up_to relseg segments count) ≤ count * relseg
   up_to_few zero = omega arith
   up_to_few (suc count) =
-      let next : pages_up_to relseg segments (suc count) ≡ pages_up_to relseg segments count ++ taken count = ap (pages_up_to relseg segments) (let z : suc count ≡ count + 1 = omega arith in z) ∙ up_to_next count in
+      let next : pages_up_to relseg segments (suc count) ≡ pages_up_to relseg segments count ++ taken count = ap (pages_up_to relseg segments) (let z : suc count ≡ count + 1 = omega arith in z) ∙ up_to_more relseg segments count in
       let long : length (pages_up_to relseg segments (suc count)) ≡ length (pages_up_to relseg segments count) + length (taken count) = ap length next ∙ length-append (pages_up_to relseg segments count) (taken count) in
-      omega (arith, long, up_to_few count, taken_few relseg (segments count))
+      omega (arith, long, up_to_few count, long_taken relseg (segments count))
 
   abbrev pub AreFullBelow : ℕ → Type 0
   AreFullBelow count = (seg : ℕ) → seg < count → is_full relseg (segments seg) ≡ true
 
-  up_to_full : (count : ℕ) → AreFullBelow count → length (pages_up_to relseg segments count) ≡ count * relseg
-  up_to_full zero full = omega arith
-  up_to_full (suc count) full =
-      let next : pages_up_to relseg segments (suc count) ≡ pages_up_to relseg segments count ++ taken count = ap (pages_up_to relseg segments) (let z : suc count ≡ count + 1 = omega arith in z) ∙ up_to_next count in
-      let long : length (pages_up_to relseg segments (suc count)) ≡ length (pages_up_to relseg segments count) + length (taken count) = ap length next ∙ length-append (pages_up_to relseg segments count) (taken count) in
-      omega (arith, long, up_to_full count (λ seg less. full seg (omega (arith, less))), taken_full relseg (segments count) (full count (omega arith)))
-
   -- behind full files stands what the next ones have
   up_to_at : (seg more i : ℕ) → AreFullBelow seg → slice_get (pages_up_to relseg segments (seg + suc more)) (seg * relseg + i) ≡ slice_get (taken seg ++ from_on (seg + 1) more) i
   up_to_at seg more i full =
-      ap (λ (l : ForkPages). slice_get l (seg * relseg + i)) (up_to_longer seg (suc more))
-      ∙ behind (pages_up_to relseg segments seg) (taken seg ++ from_on (seg + 1) more) (seg * relseg) i (up_to_full seg full)
+      ap (λ (l : ForkPages). slice_get l (seg * relseg + i)) (up_to_longer relseg segments seg (suc more))
+      ∙ behind (pages_up_to relseg segments seg) (taken seg ++ from_on (seg + 1) more) (seg * relseg) i (all_full relseg segments seg full)
 
   -- ---- a block by its file
 
@@ -126,14 +101,14 @@ module _ (relseg : ℕ) (segments : ℕ → Option ForkPages) where
         let room : seg * relseg + i < length (pages_up_to relseg segments (fork.full + 1)) = slice_get_within (pages_up_to relseg segments (fork.full + 1)) (seg * relseg + i) page all in
         elim (cases_order seg fork.full) [
           | inl same ↦ taken_is (segments seg) i page (
-              sym (behind (pages_up_to relseg segments seg) (taken seg) (seg * relseg) i (up_to_full seg (λ s less. fork.before s (omega (arith, less, same)))))
-              ∙ sym (ap (λ (l : ForkPages). slice_get l (seg * relseg + i)) (up_to_next seg))
+              sym (behind (pages_up_to relseg segments seg) (taken seg) (seg * relseg) i (all_full relseg segments seg (λ s less. fork.before s (omega (arith, less, same)))))
+              ∙ sym (ap (λ (l : ForkPages). slice_get l (seg * relseg + i)) (up_to_more relseg segments seg))
               ∙ ap (λ (n : ℕ). slice_get (pages_up_to relseg segments (n + 1)) (seg * relseg + i)) same ∙ all)
           | inr (inl less) ↦
               let more : ℕ = fork.full - seg in
               let sum : seg + suc more ≡ fork.full + 1 = omega (arith, less) in
               let here : slice_get (taken seg ++ from_on (seg + 1) more) i ≡ Some page = sym (up_to_at seg more i (λ s lt. fork.before s (omega (arith, lt, less)))) ∙ ap (λ (n : ℕ). slice_get (pages_up_to relseg segments n) (seg * relseg + i)) sum ∙ all in
-              taken_is (segments seg) i page (sym (front (taken seg) (from_on (seg + 1) more) i (omega (arith, within, taken_full relseg (segments seg) (fork.before seg less)))) ∙ here)
+              taken_is (segments seg) i page (sym (front (taken seg) (from_on (seg + 1) more) i (omega (arith, within, full_long relseg segments (segments seg) (fork.before seg less)))) ∙ here)
           | inr (inr past) ↦ absurd (let most : (fork.full + 1) * relseg ≤ seg * relseg = mul-le-mul_right relseg (let le : fork.full + 1 ≤ seg = omega (arith, past) in le) in omega (arith, room, most, up_to_few (fork.full + 1)))
         ]
 

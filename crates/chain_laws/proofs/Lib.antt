@@ -1,6 +1,6 @@
 pub mod Forks
 pub mod Sending
-pub mod Pages
+pub mod Plans
 pub mod Files
 pub mod Stores
 pub mod Chains

@@ -1,6 +1,8 @@
 //! Laws of chains: each is the contract of a function that does nothing.
 
-ghost use Rattle.chain_laws.specs.Laws.{IncrementsExtendSoundChains, FullBackupsHoldTheirCopies, FullBackupsAreSoundChains, SoundChainsStaySound, ChainsCombinedAlikeAreSoundAlike};
+ghost use Rattle.chain_laws.specs.Laws.{IncrementsExtendSoundChains, FullBackupsHoldTheirCopies};
+ghost use Rattle.chain_laws.specs.Laws.{FullBackupsAreSoundChains, SoundChainsStaySound};
+ghost use Rattle.chain_laws.specs.Laws.{ChainsCombinedAlikeAreSoundAlike};
 
 use backup_restore::{directories_hold_one_store, stores_are_held_by_their_files};
 use incr_file::{heads_are_read_as_written, plans_may_be_written};
@@ -16,8 +18,8 @@ pub fn increments_extend_sound_chains()
     plans_may_be_written();
 }
 
-/// The directory of a full backup is a chain of one that holds the backup's copy, and is sound where
-/// that copy is.
+/// The directory of a full backup is a chain of one that holds the backup's copy, and is sound
+/// where that copy is.
 pub fn full_backups_are_sound_chains()
     ensures held { FullBackupsHoldTheirCopies }
     ensures sound { FullBackupsAreSoundChains }
