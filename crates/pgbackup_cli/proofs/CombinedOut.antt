@@ -15,7 +15,7 @@ use Rattle.chain_files.specs.Sources.{OfChain}
 use Rattle.chain_files.specs.Told.{chain_told, AllOnlyRead}
 use Rattle.chain_files.proofs.Told.{reads_told}
 use Rattle.combine.specs.Combined.{EndsWith, IsCombined, other_rows}
-use Rattle.combine.specs.Calls.{Combines, CombineCause, KeepsOut, LeavesManifest}
+use Rattle.combine.specs.Calls.{CannotList, Combines, CombineCause, KeepsOut, LeavesManifest}
 use Rattle.combine.specs.declared.fault.CombineFault.{CombineFault as Uncombined}
 use Rattle.combine.specs.declared.fault.CombineFault.TheVariants as uncombined
 use Rattle.pgbackup_cli.specs.declared.combining.CombineReport.{CombineReport}
@@ -50,11 +50,11 @@ module _ {V : Type 0} (g : Ghosts V) where
     holds count is =
         subst (λ (o : Option (List Files)). OfChain o (λ chain. (last : Files) → EndsWith chain last → IsAsListed last newest → IfSome (g.files out_now) (IsCombined chain last newest.manifest when count))) told is
 
-    pub combined : (report : CombineReport) (rows : ℕ) → report ≡ combine_report newest rows → Combines g places newest when w.areas_read out_now rows → HoldsNothing (g.files out) → rows ≡ length (other_rows newest.manifest.files) → AnswersCombine g when names places areas out areas_now out_now (Ok report)
-    combined report rows told is clear counted = record {
+    pub combined : (report : CombineReport) (rows : ℕ) → report ≡ combine_report newest rows → Combines g places newest when w.areas_read out_now rows → HoldsNothing (g.files out) → rows ≡ length (other_rows newest.manifest.files) → (CannotList newest.manifest → ⊥) → AnswersCombine g when names places areas out areas_now out_now (Ok report)
+    combined report rows told is clear counted listable = record {
       newest = newest;
       chain = w.found;
-      holds = record { clear = clear; rows = rows; told = told; counted = counted; combined = holds rows is };
+      holds = record { clear = clear; listable = listable; rows = rows; told = told; counted = counted; combined = holds rows is };
     }
 
     pub uncombined_by : (why : Uncombined) → CombineCause g newest.manifest w.areas_read out areas_now out_now why → KeepsOut g out out_now why → IfSome (g.files out) (λ m. m ≢ empty → g.files out_now ≡ g.files out)

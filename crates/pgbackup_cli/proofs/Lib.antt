@@ -16,5 +16,6 @@ pub mod CombinedOut
 pub mod CombineLent
 pub mod OneChain
 pub mod OneRestore
+pub mod OneCombine
 pub mod OneWalsummary
 pub mod Covered

@@ -56,11 +56,12 @@ combine_report newest rows = record {
   rows = rows;
 }
 
--- the chain to this member was combined into an output that was clear
+-- the chain to this member was combined into an output that was clear, and a manifest can list it
 pub record CombinesChain
     (when : ℕ) (old new : CombineSeen) (report : CombineReport) (newest : Member)
     : Type 0 where
   pub clear : IsClear old.out
+  pub listable : CannotList newest.manifest → ⊥
   pub rows : ℕ
   pub told : report ≡ combine_report newest rows
   pub counted : rows ≡ length (other_rows newest.manifest.files)

@@ -13,6 +13,7 @@ use Rattle.run_command.specs.declared.command.RunFault.TheVariants as run
 use Rattle.run_command.specs.Run.{RunResult, RunDoes, tasks_told}
 use Rattle.pgbackup_cli.specs.Replay.{ReplayDoes, replay_status}
 use Rattle.pgbackup_cli.specs.Verify.{VerifyDoes, verify_status}
+use Rattle.pgbackup_cli.specs.Combine.{CombineDoes, combine_status}
 use Rattle.pgbackup_cli.specs.Restore.{RestoreDoes, restore_status}
 use Rattle.pgbackup_cli.specs.Walsummary.{WalsummaryDoes, walsummary_status}
 use Rattle.command_line.specs.declared.options.InitOptions.{InitOptions}
@@ -63,6 +64,10 @@ HasOneReplay =
 
 abbrev pub HasOneVerify : Type 0
 HasOneVerify = (name : List ℕ) → HasOne (VerifyDoes name) verify_status
+
+-- to a backup of a name, of the members of these names
+abbrev pub HasOneCombine : Type 0
+HasOneCombine = (out : List ℕ) (names : Names) → HasOne (CombineDoes out names) combine_status
 
 -- up to a target, where one is given, to an output of a name, of the members of these names
 abbrev pub HasOneRestore : Type 0

@@ -264,7 +264,8 @@ fn combine_fault_text(
     out: &[u8],
     fault: &CombineFault,
 ) -> Result<Text, NoMemory>
-    ensures { IfOk result (λ text. text ≡ combine_fault_text (names_in names.now) out.now fault.now) }
+    ensures { IfOk result (λ text.
+        text ≡ combine_fault_text (names_in names.now) out.now fault.now) }
 {
     match fault {
         CombineFault::Site(fault) => take_text(alloc, fault),

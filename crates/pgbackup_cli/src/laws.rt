@@ -1,7 +1,7 @@
 //! What holds of every run of a command.
 
 ghost use Rattle.pgbackup_cli.specs.Laws.{HasOneInit, RunsBeginAlike, HasOneReplay, HasOneVerify};
-ghost use Rattle.pgbackup_cli.specs.Laws.{HasOneRestore, HasOneWalsummary};
+ghost use Rattle.pgbackup_cli.specs.Laws.{HasOneCombine, HasOneRestore, HasOneWalsummary};
 
 use backup_restore::restores_end_alike;
 use chain_check::{chains_have_one_answer, directories_have_one_answer};
@@ -32,6 +32,14 @@ pub fn verify_has_one_answer()
     ensures { HasOneVerify }
 {
     directories_have_one_answer();
+}
+
+/// `combine` of one chain to one output comes to one answer, too.
+pub fn combine_has_one_answer()
+    ensures { HasOneCombine }
+{
+    directories_have_one_answer();
+    chains_have_one_answer();
 }
 
 /// `restore` of one chain to one output, up to the same target, comes to one answer, too.

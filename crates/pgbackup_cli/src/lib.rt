@@ -3,8 +3,9 @@
 //! status.
 //!
 //! Its clause (`specs/Top.antt`) says of each command what it changes, why it comes to its answer,
-//! what it prints and how it ends; each command's part stands in a file of its own (`specs/Init.antt`,
-//! `Replay.antt`, `Verify.antt`, `Restore.antt`, `Walsummary.antt`). Laws say that a command comes to one answer.
+//! what it prints and how it ends; each command's part stands in a file of its own
+//! (`specs/Init.antt`, `Replay.antt`, `Verify.antt`, `Combine.antt`, `Restore.antt`,
+//! `Walsummary.antt`). Laws say that a command comes to one answer.
 //!
 //! Left to others: the words (`command_line`), the command `run` (`run_command`), what a replay, a
 //! restore, a WAL and a backup's directory are (`recovery`, `backup_restore`, `wal_archive`,
@@ -33,8 +34,8 @@ pub use combining::{CombineFault, CombineReport};
 pub use command_base::Status;
 pub use init::InitFault;
 pub use laws::{
-    init_has_one_answer, replay_has_one_answer, restore_has_one_answer, runs_begin_alike,
-    verify_has_one_answer, walsummary_has_one_answer,
+    combine_has_one_answer, init_has_one_answer, replay_has_one_answer, restore_has_one_answer,
+    runs_begin_alike, verify_has_one_answer, walsummary_has_one_answer,
 };
 pub use replay::ReplayFault;
 pub use restore::RestoreFault;

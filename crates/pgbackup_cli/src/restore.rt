@@ -323,7 +323,8 @@ fn restore_fault_text(
     out: &[u8],
     fault: &RestoreFault,
 ) -> Result<Text, NoMemory>
-    ensures { IfOk result (λ text. text ≡ restore_fault_text (names_in names.now) out.now fault.now) }
+    ensures { IfOk result (λ text.
+        text ≡ restore_fault_text (names_in names.now) out.now fault.now) }
 {
     match fault {
         RestoreFault::Site(fault) => take_text(alloc, fault),
