@@ -24,7 +24,7 @@ use Rattle.chain_files.specs.Told.{all_told}
 use Rattle.chain_laws.proofs.Files.{get_other}
 use Rattle.command_base.proofs.Told.{at_told}
 use Rattle.pgbackup_cli.specs.Chain.{AreMembersIn, files_told}
-use Rattle.backup_laws.proofs.Members.{Known, manifest_once, put_there}
+use Rattle.backup_laws.proofs.Members.{Known, manifest_once, put_there, some_is}
 
 -- ---- the directories of a chain
 
@@ -35,18 +35,21 @@ AllListed [] (member ∷ members) = ⊥
 AllListed (files ∷ chain) [] = ⊥
 AllListed (files ∷ chain) (member ∷ members) = IsAsListed files member × AllListed chain members
 
+-- where there is a newest one there is a first
+pub first_listed : (older : List Member) (newest : Member) (chain : List Files) → AllListed chain (older ++ (newest ∷ [])) → (f : Files) × (fs : List Files) × (chain ≡ f ∷ fs)
+first_listed [] newest [] listed = absurd listed
+first_listed (m ∷ older) newest [] listed = absurd listed
+first_listed older newest (f ∷ fs) listed = (f, fs, refl)
+
 -- the first of those that are told, and the others
-pub record IsSplit (first : Option Files) (rest : List (Option Files)) (chain : List Files) : Type 0 where
-  pub file : Files
-  pub files : List Files
-  pub is : first ≡ Some file
-  pub told : all_told rest ≡ Some files
-  pub all : chain ≡ file ∷ files
+record IsSplit (first : Option Files) (rest : List (Option Files)) (chain : List Files) : Type 0 where
+  file : Files
+  files : List Files
+  is : first ≡ Some file
+  told : all_told rest ≡ Some files
+  all : chain ≡ file ∷ files
 
-some_is : {A : Type 0} (x y : A) → ◌≡◌ {A = Option A} (Some x) (Some y) → x ≡ y
-some_is x y e = cc
-
-pub split_told : (first : Option Files) (rest : List (Option Files)) (chain : List Files) → all_told (first ∷ rest) ≡ Some chain → IsSplit first rest chain
+split_told : (first : Option Files) (rest : List (Option Files)) (chain : List Files) → all_told (first ∷ rest) ≡ Some chain → IsSplit first rest chain
 split_told None rest chain e = absurd cc
 split_told (Some f) rest chain e = by (all_told rest) refl e
   where
@@ -71,19 +74,6 @@ all_forms law [] [] listed = tt
 all_forms law [] (m ∷ members) listed = absurd listed
 all_forms law (f ∷ chain) [] listed = absurd listed
 all_forms law (f ∷ chain) (m ∷ members) listed = (law f m listed.0, all_forms law chain members listed.1)
-
--- ---- the newest one
-
-abbrev pub newest_of : Member → List Member → Member
-newest_of m [] = m
-newest_of m (n ∷ members) = newest_of n members
-
-pub newest_is : (m : Member) (members older : List Member) (newest : Member) → older ++ (newest ∷ []) ≡ m ∷ members → newest_of m members ≡ newest
-newest_is m [] [] newest e = let same : ◌≡◌ {A = List Member} (newest ∷ []) (m ∷ []) = e in cc
-newest_is m (n ∷ members) [] newest e = absurd cc
-newest_is m [] (o ∷ []) newest e = absurd cc
-newest_is m [] (o ∷ (p ∷ older)) newest e = absurd cc
-newest_is m (n ∷ members) (o ∷ older) newest e = newest_is n members older newest (let same : ◌≡◌ {A = List Member} (o ∷ (older ++ (newest ∷ []))) (m ∷ (n ∷ members)) = e in cc)
 
 -- ---- what an incremental directory's member tells
 

@@ -1,5 +1,5 @@
 -- The backups of chains that a run answered make sound chains.
-use Rattle.std.proofs.Common.{◌≡◌, ◌≢◌, ℕ, zero, suc, ◌<◌, ◌≤◌, Bool, true, false, List, [], ◌∷◌, ◌++◌, map, append_assoc, length, take, drop, Option, Some, None, Ok, refl, sym, ap, subst, ◌∙◌, arith, inl, inr}
+use Rattle.std.proofs.Common.{◌≡◌, ◌≢◌, ℕ, zero, suc, ◌<◌, ◌≤◌, Bool, true, false, List, [], ◌∷◌, ◌++◌, map, append_assoc, length, take, drop, Option, Some, None, Ok, refl, sym, ap, subst, ◌∙◌, arith, ◌⊎◌, inl, inr}
 use Rattle.std.specs.Prelude.{IsSome, slice_get, ◌==◌}
 use Rattle.std.specs.List.{list_any}
 use Rattle.std.specs.FinMap.{get, insert, empty, get-empty}
@@ -17,6 +17,7 @@ use Rattle.lsn_core.specs.Store.{Store}
 use Rattle.lsn_core.specs.declared.lsn.Lsn.{Lsn}
 use Rattle.vault.specs.Site.{Areas, AreaState}
 use Rattle.vault.specs.Lending.{Names, IsOneOf}
+use Rattle.wal_record.specs.declared.record.Record.{Record}
 use Rattle.history.specs.Apply.{apply_all}
 use Rattle.history.specs.Entry.{Entry}
 use Rattle.history.specs.Whole.{entry_of}
@@ -56,9 +57,11 @@ use Rattle.crew.proofs.Kept.{never_empty, never_sums}
 use Rattle.run_command.specs.declared.told.Told.{Told}
 use Rattle.run_command.specs.declared.command.RunReport.{RunReport}
 use Rattle.run_command.specs.Run.{RunDone, AreTold, backups_asked, tasks_told}
-use Rattle.run_command.proofs.OwnEntries.{written_own}
+use Rattle.run_command.proofs.OwnEntries.{AreOwn, written_own}
 use Rattle.run_command.proofs.ToldLess.{one_front, one_back}
-use Rattle.backup_laws.specs.Chains.{TellsThroughout, FindsOwn, IsSoundFull, IsSoundIncrement, FullBackupsOfRunsAreSound, IncrementsOfRunsExtendChains, RunsKeepChainsSound}
+use Rattle.backup_laws.specs.Finished.{IsIncrBackup}
+use Rattle.backup_laws.specs.Runs.{IsBackedUp}
+use Rattle.backup_laws.specs.Chains.{IsIncremented, TellsThroughout, FindsOwn, IsSoundFull, IsSoundIncrement, FullBackupsOfRunsAreSound, IncrementsOfRunsExtendChains, RunsKeepChainsSound}
 use Rattle.backup_laws.proofs.Moments.{IsMoment, moment_of, asked_of_line}
 use Rattle.backup_laws.proofs.SoundRuns.{begins_at, taken_in, own_entries, found_alike, sound_logged}
 
@@ -81,6 +84,16 @@ tidy_both store (e ∷ xs) ys first then = (first.0, λ next made. tidy_both nex
 -- two parts behind the same front are the same
 own_alike : (a b es os : List Entry) → a ≡ b → a ++ es ≡ b ++ os → es ≡ os
 own_alike a b es os same all = sym (drop-append_seam a es) ∙ (ap (drop (length a)) all ∙ (ap (λ (l : List Entry). drop (length l) (b ++ os)) same ∙ drop-append_seam b os))
+
+-- the own entries of a history are tidy, so all of it is where the found ones are
+pub tidy_history : (mib : ℕ) (found : List Record) (own history : List Entry) → IsLawful mib history → history ≡ map entry_of found ++ own → AreOwn own → AreTidy empty (map entry_of found) → AreTidy empty history
+tidy_history mib found own history law grown owns tidy = subst (AreTidy empty) (sym grown) (tidy_both empty (map entry_of found) own tidy own_tidy)
+  where
+    own_tidy : (base : Store) → apply_all empty (map entry_of found) ≡ Some base → AreTidy base own
+    own_tidy base made =
+        let alike = found_alike law.found found law.own own (written_own mib _ law.own law.logged.written) owns (sym law.grown ∙ grown) in
+        let same : law.own ≡ own = own_alike (map entry_of law.found) (map entry_of found) law.own own alike (sym law.grown ∙ grown) in
+        subst (AreTidy base) same (law.tidy base (ap (apply_all empty) alike ∙ made))
 
 -- ---- what is known
 
@@ -107,9 +120,30 @@ asked_among (u ∷ told) zero t n there one =
     one_front n (areas_asked u.task.lines) (backups_asked (tasks_told told)) (subst (λ (v : Told). IsOneOf n (areas_asked v.task.lines)) (sym same) one)
 asked_among (u ∷ told) (suc worker) t n there one = one_back n (areas_asked u.task.lines) (backups_asked (tasks_told told)) (asked_among told worker t n there one)
 
+-- ---- what is left of a backup
+
+-- an area's files are the directory of a full backup
+pub record FullLeft (s : StoreSettings) (when : ℕ) (name : List ℕ) (start end : Lsn) (o : Option Files) : Type 0 where
+  pub files : Files
+  pub copy : Store
+  pub checkpoint : Lsn
+  pub count : ℕ
+  pub told : o ≡ Some files
+  pub backup : IsFullBackup s name when copy start checkpoint end count (Some files)
+
+-- and of an incremental one
+pub record IncrLeft (tells : Type 0) (s : StoreSettings) (when : ℕ) (name : List ℕ) (start end : Lsn) (o : Option Files) : Type 0 where
+  pub files : Files
+  pub history : List Entry
+  pub checkpoint : Lsn
+  pub prior : Lsn
+  pub count : ℕ
+  pub told : o ≡ Some files
+  pub backup : IsIncrBackup tells s name when history start checkpoint prior end count (Some files)
+
 -- ---- one run
 
-module _ (known : KnownOfChains) (when : ℕ) (old new : Areas) (report : RunReport) (run : RunDone when old new report) (tell : TellsThroughout when old new report run) where
+module _ (when : ℕ) (old new : Areas) (report : RunReport) (run : RunDone when old new report) (tell : TellsThroughout when old new report run) where
   abbrev s : StoreSettings
   s = run.settings
 
@@ -185,30 +219,50 @@ module _ (known : KnownOfChains) (when : ℕ) (old new : Areas) (report : RunRep
       one_full : IsOneOf (backup_name name) (area_asked line.command)
       one_full = subst (λ (c : Command). IsOneOf (backup_name name) (area_asked c)) (sym takes) (inl refl)
 
-      pub full_stands : (files : Files) × ((new (backup_name name)).files ≡ Some files) × IsSoundFull s when h name start end files
-      full_stands =
-          let told = some_told (moment.after (backup_name name)).files (moment.told_after (backup_name name) (asked (backup_name name) one_full)) in
-          let files : Files = told.0 in
+      pub full_begins : HasRedoPoint h start.0
+      full_begins =
           let holds : Full = full_there in
-          let directory : IsFullBackup s name when holds.copy start (record { 0 = holds.checkpoint }) end holds.count (Some files) =
-          subst (λ (o : Option Files). IsFullBackup s name when holds.copy start (record { 0 = holds.checkpoint }) end holds.count o) told.1 holds.directory in
-          let redo : HasRedoPoint h start.0 = begins_at worker moment.from (take moment.next h) h start.0 holds.checkpoint end.0 front holds.entries in
-          let sound : IsSoundCopy holds.copy h start.0 end.0 = taken_in s.segment holds.copy (take moment.next h) h start.0 end.0 law redo front (holds.taken tell.store) in (
-            files,
-            stays (backup_name name) files one_full (never_sums name) told.1
-                (put_some _ (manifest_text (listing_with s.system directory.rows start end)) files directory.files_are),
+          begins_at worker moment.from (take moment.next h) h start.0 holds.checkpoint end.0 front holds.entries
+
+      full_told : (files : Files) × ((moment.after (backup_name name)).files ≡ Some files)
+      full_told = some_told (moment.after (backup_name name)).files (moment.told_after (backup_name name) (asked (backup_name name) one_full))
+
+      full_directory : IsFullBackup s name when full_there.copy start (record { 0 = full_there.checkpoint }) end full_there.count (Some full_told.0)
+      full_directory = subst (λ (o : Option Files). IsFullBackup s name when full_there.copy start (record { 0 = full_there.checkpoint }) end full_there.count o) full_told.1 full_there.directory
+
+      full_stays : (new (backup_name name)).files ≡ Some full_told.0
+      full_stays =
+          stays (backup_name name) full_told.0 one_full (never_sums name) full_told.1
+          (put_some _ (manifest_text (listing_with s.system full_directory.rows start end)) full_told.0 full_directory.files_are)
+
+      -- what is left of it when the run ends
+      pub full_left : FullLeft s when name start end (new (backup_name name)).files
+      full_left = record {
+        files = full_told.0;
+        copy = full_there.copy;
+        checkpoint = record { 0 = full_there.checkpoint };
+        count = full_there.count;
+        told = full_stays;
+        backup = full_directory;
+      }
+
+      pub full_stands : KnownOfChains → (files : Files) × ((new (backup_name name)).files ≡ Some files) × IsSoundFull s when h name start end files
+      full_stands known =
+          let sound : IsSoundCopy full_there.copy h start.0 end.0 = taken_in s.segment full_there.copy (take moment.next h) h start.0 end.0 law full_begins front (full_there.taken tell.store) in (
+            full_told.0,
+            full_stays,
             record {
-              copy = holds.copy;
-              checkpoint = record { 0 = holds.checkpoint };
-              count = holds.count;
-              directory = directory;
-              sound = known.full s name when holds.copy start (record { 0 = holds.checkpoint }) end holds.count files h run.given.blocks directory sound;
+              copy = full_there.copy;
+              checkpoint = record { 0 = full_there.checkpoint };
+              count = full_there.count;
+              directory = full_directory;
+              sound = known.full s name when full_there.copy start (record { 0 = full_there.checkpoint }) end full_there.count full_told.0 h run.given.blocks full_directory sound;
             },
           )
 
     -- ---- an incremental one
 
-    module _ (name prior : List ℕ) (takes : line.command ≡ command.Incr name prior) (finds : FindsOwn when old new report run) where
+    module _ (name prior : List ℕ) (takes : line.command ≡ command.Incr name prior) where
       abbrev Taken : Type 0
       Taken = HoldsIncr (AreTold old) basis worker moment.from (take moment.next h) name start end (incr_areas moment.before name prior) (incr_areas moment.after name prior)
 
@@ -247,82 +301,15 @@ module _ (known : KnownOfChains) (when : ℕ) (old new : Areas) (report : RunRep
       one_sums : IsOneOf sums_name (area_asked line.command)
       one_sums = one_asked sums_name (inr (inr (inl refl)))
 
-      -- the history up to the end of the backup, and what was seen of it when it was summed up
+      -- the history up to the end of the backup
       abbrev now : List Entry
       now = take moment.next h
 
-      abbrev seen : List Entry
-      seen = take holds.summed.seen now
-
-      abbrev older : List Entry
-      older = take moment.from h
-
-      abbrev more : List Entry
-      more = drop moment.from seen
-
-      seen_past : moment.from ≤ holds.summed.seen
-      seen_past =
-          let c = holds.summed.checkpoint in
-          omega (arith, c.later, slice_get_within seen c.number c.first c.there, length-take holds.summed.seen now)
-
-      next_past : holds.summed.seen ≤ moment.next
-      next_past = omega (arith, holds.summed.within, length-take moment.next h)
-
-      older_front : take moment.from seen ≡ older
-      older_front = take-take moment.from holds.summed.seen now seen_past ∙ take-take moment.from moment.next h (omega (arith, seen_past, next_past))
-
-      parts : older ++ more ≡ seen
-      parts = ap (λ (es : List Entry). es ++ more) (sym older_front) ∙ take-append-drop moment.from seen
-
-      abbrev rest : List Entry
-      rest = drop holds.summed.seen now ++ drop moment.next h
-
-      whole : (older ++ more) ++ rest ≡ h
-      whole =
-          ap (λ (es : List Entry). es ++ rest) parts
-          ∙ (sym (append_assoc seen (drop holds.summed.seen now) (drop moment.next h))
-          ∙ (ap (λ (es : List Entry). es ++ drop moment.next h) (take-append-drop holds.summed.seen now) ∙ take-append-drop moment.next h))
-
-      redo_in : list_any (is_redo_start start.0) more ≡ true
-      redo_in =
-          let c = holds.summed.checkpoint in
-          any_behind (is_redo_start start.0) seen moment.from c.number c.first c.later c.there
-          (and_from (is_redo c.first.act) (c.first.start == start.0) (ap is_redo c.starts.0) (eq-eqb c.first.start start.0 c.redo_is))
-
-      -- the area of summaries was honest then
-      sums_told : (m : Files) × ((moment.before sums_name).files ≡ Some m)
-      sums_told = some_told (moment.before sums_name).files (moment.told_before sums_name (asked sums_name one_sums))
-
-      sums_honest : IsHonest older sums_told.0
-      sums_honest =
-          let base : IsHonestFor (take found h) (run.held sums_name) =
-          subst (λ (a : AreaState). IsHonestFor (take found h) a) (sym (run.were sums_name (among sums_name (asked sums_name one_sums))))
-          (subst (λ (es : List Entry). IsHonestFor es (old sums_name)) (sym found_front) finds.honest) in
-          at_told (moment.before sums_name).files sums_told.0 (IsHonest older) sums_told.1 (moment.honest tell.store orderly base)
+      pub incr_begins : HasRedoPoint h start.0
+      incr_begins = begins_at worker moment.from now h start.0 holds.checkpoint end.0 front holds.entries
 
       abbrev from_prior : ℕ
       from_prior = holds.plan.prior.start
-
-      summed_up : from_prior < start.0 → IsSumOf h from_prior start.0 holds.plan.summary
-      summed_up less =
-          subst (λ (es : List Entry). IsSumOf es from_prior start.0 holds.plan.summary) whole
-          (sum_of known.sums states (AreTold old) tell.store older more rest when from_prior start.0 (moment.before sums_name) (moment.after sums_name) sums_told.0 holds.plan.summary
-          (subst (IsOrderly 0) (sym whole) orderly) redo_in sums_told.1 sums_honest
-          (subst (λ (es : List Entry). AdvanceAnswers states (AreTold old) es when from_prior start.0 (moment.before sums_name) (moment.after sums_name) (Ok holds.plan.summary)) (sym parts) holds.summed.covers) less)
-
-      tidy : AreTidy empty h
-      tidy =
-          subst (AreTidy empty) (sym run.happened.grown)
-          (tidy_both empty (map entry_of run.found) run.happened.own finds.tidy (λ base made. own_tidy base made))
-        where
-          own_tidy : (base : Store) → apply_all empty (map entry_of run.found) ≡ Some base → AreTidy base run.happened.own
-          own_tidy base made =
-              let alike = found_alike law.found run.found law.own run.happened.own (written_own s.segment _ law.own law.logged.written) (own_entries _ run.happened.own run.happened.of_run) (sym law.grown ∙ run.happened.grown) in
-              let same : law.own ≡ run.happened.own = own_alike (map entry_of law.found) (map entry_of run.found) law.own run.happened.own alike (sym law.grown ∙ run.happened.grown) in
-              subst (AreTidy base) same (law.tidy base (ap (apply_all empty) alike ∙ made))
-
-      running : IsRunning h start.0
-      running = redo_runs s.segment start.0 h law (begins_at worker moment.from now h start.0 holds.checkpoint end.0 front holds.entries)
 
       abbrev out_told : (files : Files) × ((moment.after (backup_name name)).files ≡ Some files)
       out_told = some_told (moment.after (backup_name name)).files (moment.told_after (backup_name name) (asked (backup_name name) one_out))
@@ -333,51 +320,158 @@ module _ (known : KnownOfChains) (when : ℕ) (old new : Areas) (report : RunRep
       directory : Directory (Some out_told.0)
       directory = subst Directory out_told.1 holds.directory
 
-      extends : (chain : List Files) (to : ℕ) → IsSoundChain s.relseg h chain from_prior to → to ≤ start.0 → IsSoundChain s.relseg h (chain ++ (out_told.0 ∷ [])) start.0 end.0
-      extends chain to sound le =
-          let less : from_prior < start.0 = omega (arith, sound.sound.above, le) in
-          let sum = summed_up less in
-          let relseg : holds.plan.relseg ≡ s.relseg = holds.relseg in
-          let ahead : now ++ drop moment.next h ≡ h = take-append-drop moment.next h in
-          subst (λ (n : ℕ). IsSoundChain n h (chain ++ (out_told.0 ∷ [])) start.0 end.0) relseg
-          (known.extend h chain from_prior to holds.plan.summary.start.0 start.0 end.0 holds.plan out_told.0 (subst IsRelseg (sym relseg) run.given.blocks) running tidy (subst (λ (n : ℕ). IsSoundChain n h chain from_prior to) (sym relseg) sound) sum.begins le
-          (subst (λ (es : List Entry). IsIncrementOf es holds.plan.summary.start.0 start.0 end.0 holds.plan out_told.0) ahead
-          (increment_of (AreTold old) tell.store now (drop moment.next h) from_prior start.0 end.0 holds.plan holds.list holds.files directory.label (manifest_text (listing_with s.system directory.rows start end)) out_told.0
-          (subst (λ (es : List Entry). IsSumOf es from_prior start.0 holds.plan.summary) (sym ahead) sum) holds.listed holds.sent directory.files_are)))
+      incr_stays : (new (backup_name name)).files ≡ Some out_told.0
+      incr_stays = stays (backup_name name) out_told.0 one_out (never_sums name) out_told.1 (put_some _ (manifest_text (listing_with s.system directory.rows start end)) out_told.0 directory.files_are)
 
-      prior_told : (files : Files) × ((moment.before (backup_name prior)).files ≡ Some files)
-      prior_told = some_told (moment.before (backup_name prior)).files (moment.told_before (backup_name prior) (asked (backup_name prior) one_prior))
-
-      prior_listed : HasListing prior_told.0 holds.plan.prior
-      prior_listed = at_told (moment.before (backup_name prior)).files prior_told.0 (λ m. HasListing m holds.plan.prior) prior_told.1 holds.prior.told
-
-      pub incr_stands : (before : Files) × ((new (backup_name prior)).files ≡ Some before) × (files : Files) × ((new (backup_name name)).files ≡ Some files) × IsSoundIncrement s when h name start end before files
-      incr_stands = (
-        prior_told.0,
-        stays (backup_name prior) prior_told.0 one_prior (never_sums prior) (incr_there.1 ∙ prior_told.1) (listed_some prior_told.0 holds.plan.prior prior_listed),
-        out_told.0,
-        stays (backup_name name) out_told.0 one_out (never_sums name) out_told.1 (put_some _ (manifest_text (listing_with s.system directory.rows start end)) out_told.0 directory.files_are),
-        record {
-          manifest = holds.plan.prior;
-          listing = prior_listed;
-          behind = holds.prior.behind;
-          checkpoint = record { 0 = holds.checkpoint };
-          put = map file_of holds.files;
-          count = holds.count;
+      -- what is left of it when the run ends
+      pub incr_left : IncrLeft (AreTold old) s when name start end (new (backup_name name)).files
+      incr_left = record {
+        files = out_told.0;
+        history = now;
+        checkpoint = record { 0 = holds.checkpoint };
+        prior = record { 0 = from_prior };
+        count = holds.count;
+        told = incr_stays;
+        backup = record {
+          basis = holds.plan;
+          relseg = holds.relseg;
+          sorted = holds.summed.covers.so.forks.sorted;
+          list = holds.list;
+          listed = holds.listed;
+          sent = holds.files;
+          are_sent = holds.sent;
           directory = directory;
-          extends = extends;
-        },
-      )
+        };
+      }
+
+      module _ (known : KnownOfChains) (finds : FindsOwn when old new report run) where
+        -- what was seen of the history when it was summed up
+        abbrev seen : List Entry
+        seen = take holds.summed.seen now
+
+        abbrev older : List Entry
+        older = take moment.from h
+
+        abbrev more : List Entry
+        more = drop moment.from seen
+
+        seen_past : moment.from ≤ holds.summed.seen
+        seen_past =
+            let c = holds.summed.checkpoint in
+            omega (arith, c.later, slice_get_within seen c.number c.first c.there, length-take holds.summed.seen now)
+
+        next_past : holds.summed.seen ≤ moment.next
+        next_past = omega (arith, holds.summed.within, length-take moment.next h)
+
+        older_front : take moment.from seen ≡ older
+        older_front = take-take moment.from holds.summed.seen now seen_past ∙ take-take moment.from moment.next h (omega (arith, seen_past, next_past))
+
+        parts : older ++ more ≡ seen
+        parts = ap (λ (es : List Entry). es ++ more) (sym older_front) ∙ take-append-drop moment.from seen
+
+        abbrev rest : List Entry
+        rest = drop holds.summed.seen now ++ drop moment.next h
+
+        whole : (older ++ more) ++ rest ≡ h
+        whole =
+            ap (λ (es : List Entry). es ++ rest) parts
+            ∙ (sym (append_assoc seen (drop holds.summed.seen now) (drop moment.next h))
+            ∙ (ap (λ (es : List Entry). es ++ drop moment.next h) (take-append-drop holds.summed.seen now) ∙ take-append-drop moment.next h))
+
+        redo_in : list_any (is_redo_start start.0) more ≡ true
+        redo_in =
+            let c = holds.summed.checkpoint in
+            any_behind (is_redo_start start.0) seen moment.from c.number c.first c.later c.there
+            (and_from (is_redo c.first.act) (c.first.start == start.0) (ap is_redo c.starts.0) (eq-eqb c.first.start start.0 c.redo_is))
+
+        -- the area of summaries was honest then
+        sums_told : (m : Files) × ((moment.before sums_name).files ≡ Some m)
+        sums_told = some_told (moment.before sums_name).files (moment.told_before sums_name (asked sums_name one_sums))
+
+        sums_honest : IsHonest older sums_told.0
+        sums_honest =
+            let base : IsHonestFor (take found h) (run.held sums_name) =
+            subst (λ (a : AreaState). IsHonestFor (take found h) a) (sym (run.were sums_name (among sums_name (asked sums_name one_sums))))
+            (subst (λ (es : List Entry). IsHonestFor es (old sums_name)) (sym found_front) finds.honest) in
+            at_told (moment.before sums_name).files sums_told.0 (IsHonest older) sums_told.1 (moment.honest tell.store orderly base)
+
+        summed_up : from_prior < start.0 → IsSumOf h from_prior start.0 holds.plan.summary
+        summed_up less =
+            subst (λ (es : List Entry). IsSumOf es from_prior start.0 holds.plan.summary) whole
+            (sum_of known.sums states (AreTold old) tell.store older more rest when from_prior start.0 (moment.before sums_name) (moment.after sums_name) sums_told.0 holds.plan.summary
+            (subst (IsOrderly 0) (sym whole) orderly) redo_in sums_told.1 sums_honest
+            (subst (λ (es : List Entry). AdvanceAnswers states (AreTold old) es when from_prior start.0 (moment.before sums_name) (moment.after sums_name) (Ok holds.plan.summary)) (sym parts) holds.summed.covers) less)
+
+        tidy : AreTidy empty h
+        tidy = tidy_history s.segment run.found run.happened.own h law run.happened.grown (own_entries _ run.happened.own run.happened.of_run) finds.tidy
+
+        running : IsRunning h start.0
+        running = redo_runs s.segment start.0 h law incr_begins
+
+        extends : (chain : List Files) (to : ℕ) → IsSoundChain s.relseg h chain from_prior to → to ≤ start.0 → IsSoundChain s.relseg h (chain ++ (out_told.0 ∷ [])) start.0 end.0
+        extends chain to sound le =
+            let less : from_prior < start.0 = omega (arith, sound.sound.above, le) in
+            let sum = summed_up less in
+            let relseg : holds.plan.relseg ≡ s.relseg = holds.relseg in
+            let ahead : now ++ drop moment.next h ≡ h = take-append-drop moment.next h in
+            subst (λ (n : ℕ). IsSoundChain n h (chain ++ (out_told.0 ∷ [])) start.0 end.0) relseg
+            (known.extend h chain from_prior to holds.plan.summary.start.0 start.0 end.0 holds.plan out_told.0 (subst IsRelseg (sym relseg) run.given.blocks) running tidy (subst (λ (n : ℕ). IsSoundChain n h chain from_prior to) (sym relseg) sound) sum.begins le
+            (subst (λ (es : List Entry). IsIncrementOf es holds.plan.summary.start.0 start.0 end.0 holds.plan out_told.0) ahead
+            (increment_of (AreTold old) tell.store now (drop moment.next h) from_prior start.0 end.0 holds.plan holds.list holds.files directory.label (manifest_text (listing_with s.system directory.rows start end)) out_told.0
+            (subst (λ (es : List Entry). IsSumOf es from_prior start.0 holds.plan.summary) (sym ahead) sum) holds.listed holds.sent directory.files_are)))
+
+        prior_told : (files : Files) × ((moment.before (backup_name prior)).files ≡ Some files)
+        prior_told = some_told (moment.before (backup_name prior)).files (moment.told_before (backup_name prior) (asked (backup_name prior) one_prior))
+
+        prior_listed : HasListing prior_told.0 holds.plan.prior
+        prior_listed = at_told (moment.before (backup_name prior)).files prior_told.0 (λ m. HasListing m holds.plan.prior) prior_told.1 holds.prior.told
+
+        pub incr_stands : (before : Files) × ((new (backup_name prior)).files ≡ Some before) × (files : Files) × ((new (backup_name name)).files ≡ Some files) × IsSoundIncrement s when h name start end before files
+        incr_stands = (
+          prior_told.0,
+          stays (backup_name prior) prior_told.0 one_prior (never_sums prior) (incr_there.1 ∙ prior_told.1) (listed_some prior_told.0 holds.plan.prior prior_listed),
+          out_told.0,
+          incr_stays,
+          record {
+            manifest = holds.plan.prior;
+            listing = prior_listed;
+            behind = holds.prior.behind;
+            checkpoint = record { 0 = holds.checkpoint };
+            put = map file_of holds.files;
+            count = holds.count;
+            directory = directory;
+            extends = extends;
+          },
+        )
+
+-- ---- where backups begin
+
+-- the start of each is a redo point of the run's own
+pub backups_begin : (when : ℕ) (old new : Areas) (report : RunReport) (run : RunDone when old new report) (name : List ℕ) (start end : Lsn) → IsBackedUp report.told name start end ⊎ IsIncremented report.told name start end → TellsThroughout when old new report run → HasRedoPoint run.history start.0
+backups_begin when old new report run name start end (inl taken) tell =
+    full_begins when old new report run tell taken.worker taken.by taken.there taken.number taken.line taken.behind taken.lines start end taken.later taken.answers name taken.takes
+backups_begin when old new report run name start end (inr taken) tell =
+    incr_begins when old new report run tell taken.worker taken.by taken.there taken.number taken.line taken.behind taken.lines start end taken.later taken.answers name taken.prior taken.takes
+
+-- ---- what is left of them
+
+pub full_of_run : (when : ℕ) (old new : Areas) (report : RunReport) (run : RunDone when old new report) (name : List ℕ) (start end : Lsn) → IsBackedUp report.told name start end → TellsThroughout when old new report run → FullLeft run.settings when name start end (new (backup_name name)).files
+full_of_run when old new report run name start end taken tell =
+    full_left when old new report run tell taken.worker taken.by taken.there taken.number taken.line taken.behind taken.lines start end taken.later taken.answers name taken.takes
+
+pub incr_of_run : (when : ℕ) (old new : Areas) (report : RunReport) (run : RunDone when old new report) (name : List ℕ) (start end : Lsn) → IsIncremented report.told name start end → TellsThroughout when old new report run → IncrLeft (AreTold old) run.settings when name start end (new (backup_name name)).files
+incr_of_run when old new report run name start end taken tell =
+    incr_left when old new report run tell taken.worker taken.by taken.there taken.number taken.line taken.behind taken.lines start end taken.later taken.answers name taken.prior taken.takes
 
 -- ---- the laws
 
 pub fulls_sound : KnownOfChains → FullBackupsOfRunsAreSound
 fulls_sound known when old new report run name start end taken tell =
-    full_stands known when old new report run tell taken.worker taken.by taken.there taken.number taken.line taken.behind taken.lines start end taken.later taken.answers name taken.takes
+    full_stands when old new report run tell taken.worker taken.by taken.there taken.number taken.line taken.behind taken.lines start end taken.later taken.answers name taken.takes known
 
 pub incrs_extend : KnownOfChains → IncrementsOfRunsExtendChains
 incrs_extend known when old new report run name start end taken tell finds =
-    incr_stands known when old new report run tell taken.worker taken.by taken.there taken.number taken.line taken.behind taken.lines start end taken.later taken.answers name taken.prior taken.takes finds
+    incr_stands when old new report run tell taken.worker taken.by taken.there taken.number taken.line taken.behind taken.lines start end taken.later taken.answers name taken.prior taken.takes known finds
 
 pub runs_keep : KnownOfChains → RunsKeepChainsSound
 runs_keep known when old new report run chain from to told =

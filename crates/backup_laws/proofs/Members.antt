@@ -33,7 +33,7 @@ pub record Known : Type 0 where
 
 -- ---- the manifest
 
-some_is : {A : Type 0} (x y : A) → ◌≡◌ {A = Option A} (Some x) (Some y) → x ≡ y
+pub some_is : {A : Type 0} (x y : A) → ◌≡◌ {A = Option A} (Some x) (Some y) → x ≡ y
 some_is x y e = cc
 
 pub put_there : (m : Files) (name bytes : List ℕ) → get (insert m name bytes) name ≡ Some bytes

@@ -64,12 +64,12 @@ records_rise s files rs last size walk =
 
 -- ---- from an entry on
 
-record IsSplit (s : StoreSettings) (files : Files) (tip : Tip) (older rest : List Record) (last : Tip) : Type 0 where
-  mid : Tip
-  up : ReadsOn s files tip older mid
-  on : ReadsOn s files mid rest last
+pub record IsSplit (s : StoreSettings) (files : Files) (tip : Tip) (older rest : List Record) (last : Tip) : Type 0 where
+  pub mid : Tip
+  pub up : ReadsOn s files tip older mid
+  pub on : ReadsOn s files mid rest last
 
-split : (s : StoreSettings) (files : Files) (tip : Tip) (older rest : List Record) (last : Tip) → ReadsOn s files tip (older ++ rest) last → IsSplit s files tip older rest last
+pub split : (s : StoreSettings) (files : Files) (tip : Tip) (older rest : List Record) (last : Tip) → ReadsOn s files tip (older ++ rest) last → IsSplit s files tip older rest last
 split s files tip [] rest last walk = record { mid = tip; up = refl; on = walk }
 split s files tip (q ∷ older) rest last walk =
     let more = split s files (tip_after tip q) older rest last walk.1 in
@@ -235,3 +235,26 @@ completed s files records entries last tip copy start to upto size walk none sou
           ∙ ap (end_from s.segment FirstEntry) (sym all)));
       reached = alike.whole;
     }
+
+-- ---- the records of a WAL, read twice
+
+cons_same : (r q : Record) (rs qs : List Record) → r ≡ q → rs ≡ qs → ◌≡◌ {A = List Record} (r ∷ rs) (q ∷ qs)
+cons_same r q rs qs a b = rw (a, b) refl
+
+-- the records of a WAL, behind which no entry stands, are read in one way
+pub read_once : (s : StoreSettings) (files : Files) (tip : Tip) (rs qs : List Record) (last end : Tip) → ReadsOn s files tip rs last → Stops (stands_behind s files last) → ReadsOn s files tip qs end → Stops (stands_behind s files end) → rs ≡ qs
+read_once s files tip [] [] last end p stop q halt = refl
+read_once s files tip [] (q ∷ qs) last end p stop walk halt = absurd (stop q (subst (λ (t : Tip). stands_behind s files t ≡ Gives q) (sym p) walk.0))
+read_once s files tip (r ∷ rs) [] last end walk stop q halt = absurd (halt r (subst (λ (t : Tip). stands_behind s files t ≡ Gives r) (sym q) walk.0))
+read_once s files tip (r ∷ rs) (q ∷ qs) last end p stop walk halt =
+    let same : r ≡ q = same_gives (stands_behind s files tip) r q p.0 walk.0 in
+    cons_same r q rs qs same (read_once s files (tip_after tip r) rs qs last end p.1 stop (subst (λ (x : Record). ReadsOn s files (tip_after tip x) qs end) (sym same) walk.1) halt)
+
+-- those that are read of it are its first ones
+pub read_front : (s : StoreSettings) (files : Files) (tip : Tip) (rs qs : List Record) (last end : Tip) → ReadsOn s files tip rs last → ReadsOn s files tip qs end → Stops (stands_behind s files end) → (more : List Record) × (qs ≡ rs ++ more)
+read_front s files tip [] qs last end p walk halt = (qs, refl)
+read_front s files tip (r ∷ rs) [] last end walk q halt = absurd (halt r (subst (λ (t : Tip). stands_behind s files t ≡ Gives r) (sym q) walk.0))
+read_front s files tip (r ∷ rs) (q ∷ qs) last end p walk halt =
+    let same : r ≡ q = same_gives (stands_behind s files tip) r q p.0 walk.0 in
+    let rest = read_front s files (tip_after tip r) rs qs last end p.1 (subst (λ (x : Record). ReadsOn s files (tip_after tip x) qs end) (sym same) walk.1) halt in
+    (rest.0, cons_same q r qs (rs ++ rest.0) (sym same) rest.1)

@@ -28,15 +28,12 @@ use Rattle.pgbackup_cli.specs.declared.replay.ReplayReport.{ReplayReport}
 use Rattle.pgbackup_cli.specs.Replay.{ReplayDone, replay_areas, end_by}
 use Rattle.backup_laws.specs.Restores.{replay_end, IsWholeReplay, AreAlike, RestoresAreAsReplays}
 use Rattle.backup_restore.proofs.Rising.{reads_rise}
-use Rattle.backup_laws.proofs.Members.{Known}
+use Rattle.backup_laws.proofs.Members.{Known, some_is}
 use Rattle.backup_laws.proofs.Reading.{none_behind, ReadsAlike, reads_alike}
 use Rattle.backup_laws.proofs.RestoredRuns.{place_is, settings_in, runs_restored}
 use Rattle.backup_laws.proofs.Settled.{segment_size}
 
 -- ---- values by their parts
-
-some_is : {A : Type 0} (x y : A) → ◌≡◌ {A = Option A} (Some x) (Some y) → x ≡ y
-some_is x y e = cc
 
 report_with : Lsn → ℕ → ℕ → ReplayReport
 report_with end forks pages = record { end = end; forks = forks; pages = pages }

@@ -60,10 +60,15 @@ use Rattle.backup_laws.proofs.SoundRuns.{runs_sound}
 
 -- ---- the settings
 
-related_told : (R : Files → Files → Type 0) (old new : Option Files) (m n : Files) → old ≡ Some m → new ≡ Some n → Related R old new → R m n
+pub related_told : (R : Files → Files → Type 0) (old new : Option Files) (m n : Files) → old ≡ Some m → new ≡ Some n → Related R old new → R m n
 related_told R old new m n was is both = subst (λ (o : Option Files). Related R (Some m) o) is (subst (λ (o : Option Files). Related R o new) was both)
 
-some_first : (s : StoreSettings) (files : Files) (found more : List Record) (last : Tip) → 0 < length found → ReadsOn s files (first_tip s.segment) (found ++ more) last → (r : Record) × (stands_behind s files (first_tip s.segment) ≡ Gives r)
+-- where the one tells, so does the other
+pub related_some : (R : Files → Files → Type 0) (old new : Option Files) (m : Files) → old ≡ Some m → Related R old new → (n : Files) × (new ≡ Some n)
+related_some R old None m was both = absurd (subst (λ (o : Option Files). Related R o None) was both)
+related_some R old (Some n) m was both = (n, refl)
+
+pub some_first : (s : StoreSettings) (files : Files) (found more : List Record) (last : Tip) → 0 < length found → ReadsOn s files (first_tip s.segment) (found ++ more) last → (r : Record) × (stands_behind s files (first_tip s.segment) ≡ Gives r)
 some_first s files [] more last some walk = absurd (omega (arith, some))
 some_first s files (r ∷ found) more last some walk = (r, walk.0)
 

@@ -86,7 +86,7 @@ found_alike rs qs es os own other same =
     ∙ (ap (λ (n : ℕ). take n (map entry_of qs ++ os)) many ∙ take-append_seam (map entry_of qs) os))
 
 -- so the WAL's records are read as the entries of a lawful history's log
-log_alike : (mib : ℕ) (found : List Record) (own history : List Entry) (law : IsLawful mib history) → history ≡ map entry_of found ++ own → AreOwn own → map entry_of (log_of mib law.found law.own) ≡ map entry_of (found ++ wal_of mib history)
+pub log_alike : (mib : ℕ) (found : List Record) (own history : List Entry) (law : IsLawful mib history) → history ≡ map entry_of found ++ own → AreOwn own → map entry_of (log_of mib law.found law.own) ≡ map entry_of (found ++ wal_of mib history)
 log_alike mib found own history law grown owns =
     let alike : map entry_of law.found ≡ map entry_of found = found_alike law.found found law.own own (written_own mib _ law.own law.logged.written) owns (sym law.grown ∙ grown) in
     map-append entry_of law.found (wal_of mib (history_of law.found law.own))

@@ -1,77 +1,163 @@
--- What `restore` makes of a chain of backups that runs took, one behind the other, is what a replay of
--- the whole WAL makes.
-use Rattle.std.specs.Prelude.{◌≡◌, ℕ, List, [], ◌∷◌, map, Option}
-use Rattle.std.specs.List.{AllByRecursion, flat_map}
+-- What `restore` makes of a chain of completed backups is what a replay of the whole WAL makes. A
+-- backup is completed that a run answered, or that `combine` made of completed ones.
+use Rattle.std.specs.Prelude.{◌≡◌, ◌⊎◌, ℕ, List, [], ◌∷◌, Option, Some, IfSome, Ok}
+use Rattle.std.specs.List.{AllByRecursion}
+use Rattle.lsn_core.specs.Files.{Files}
 use Rattle.lsn_core.specs.declared.lsn.Lsn.{Lsn}
+use Rattle.vault.specs.Area.{Related}
 use Rattle.vault.specs.Lending.{Names}
-use Rattle.backup_label.specs.Label.{HasNoLineEnd}
-use Rattle.command_base.specs.Areas.{wal_name, output_name, backup_name}
+use Rattle.command_base.specs.Areas.{wal_name, sums_name, output_name, backup_name}
 use Rattle.command_base.specs.Outside.{Outside}
-use Rattle.run_command.specs.declared.told.Told.{Told}
+use Rattle.command_base.specs.declared.status.Status.TheVariants.{Done}
+use Rattle.run_command.specs.Run.{RunResult, AreTold, RunDoes, run_status}
+use Rattle.command_line.specs.declared.options.InitOptions.{InitOptions}
+use Rattle.pgbackup_cli.specs.Init.{InitDoes}
+use Rattle.pgbackup_cli.specs.declared.combining.CombineReport.{CombineReport}
 use Rattle.pgbackup_cli.specs.declared.replay.ReplayReport.{ReplayReport}
+use Rattle.pgbackup_cli.specs.Chain.{backup_areas, files_told}
 use Rattle.backup_laws.specs.Runs.{IsBackedUp}
 use Rattle.backup_laws.specs.Chains.{IsIncremented, TellsThroughout, FindsOwn}
-use Rattle.backup_laws.specs.Restores.{HasRun, HasRestored, LaterRun, HaveRun, replay_end, IsWholeReplay}
+use Rattle.backup_laws.specs.CombinedChains.{HasCombined}
+use Rattle.backup_laws.specs.Restores.{HasRun, HasRestored, PastRun, GoesOnFrom, IsWholeTo, replay_end, IsWholeReplay}
 
--- a member of a chain: the backup of a name, which is one line, and its places
-pub record Step : Type 0 where
+-- ---- runs
+
+-- what a run found is what this program's own runs leave
+abbrev pub FoundOwn :
+    (run : PastRun) → HasRun run.before run.left run.report run.end → Type 0
+FoundOwn run ran =
+    FindsOwn ran.does.0 run.before.areas run.left.areas run.report ran.does.6.2
+
+-- a run was done over areas that tell their files all the while, on what this program's own runs
+-- leave
+pub record RanOn (run : PastRun) : Type 0 where
+  pub ran : HasRun run.before run.left run.report run.end
+  pub tells : TellsThroughout ran.does.0 run.before.areas run.left.areas run.report ran.does.6.2
+  pub finds : FoundOwn run ran
+
+-- so were a run and the earlier ones, the latest first, each over a WAL that goes on from what the
+-- one before it left: others may have run in between, and been refused, stopped or failed
+abbrev pub RanInTurn : PastRun → List PastRun → Type 0
+RanInTurn run [] = RanOn run
+RanInTurn run (prior ∷ earlier) =
+    RanOn run
+    × Related GoesOnFrom (prior.left.areas wal_name).files (run.before.areas wal_name).files
+    × RanInTurn prior earlier
+
+-- ---- completed backups
+
+-- files are the directory of a backup that a run answered, full or incremental, as the run left it
+pub record IsTakenBy (run : PastRun) (files : Files) : Type 0 where
   pub name : List ℕ
   pub start : Lsn
   pub end : Lsn
+  pub answered : IsBackedUp run.report.told name start end
+      ⊎ IsIncremented run.report.told name start end
+  pub left : (run.left.areas (backup_name name)).files ≡ Some files
 
--- a run, and the members that it took of a chain, in order
-pub record ChainRun : Type 0 where
-  pub run : LaterRun
-  pub steps : List Step
+-- one of these runs answered it
+abbrev pub IsTakenByOne : List PastRun → Files → Type 0
+IsTakenByOne [] files = ⊥
+IsTakenByOne (run ∷ runs) files = IsTakenBy run files ⊎ IsTakenByOne runs files
 
--- the run answered incremental backups of these members
-abbrev pub TookMore : List Told → List Step → Type 0
-TookMore told steps = AllByRecursion (λ step. IsIncremented told step.name step.start step.end) steps
+-- a combining that ended well
+pub record Combining : Type 0 where
+  pub members : Names
+  pub chain : List Files
+  pub name : List ℕ
+  pub made : Files
+  pub old : Outside
+  pub new : Outside
+  pub report : CombineReport
+  pub done : HasCombined members chain name made old new report
 
--- it answered a full backup of the first of them, and incremental ones of the others
-abbrev pub TookFirst : List Told → List Step → Type 0
-TookFirst told [] = ⊥
-TookFirst told (step ∷ steps) =
-    IsBackedUp told step.name step.start step.end × TookMore told steps
+-- files are the directory of a completed backup: one of these runs answered it, or one of these
+-- combinings, the latest first, made it of completed ones
+abbrev pub IsCompletedBackup : List PastRun → List Combining → Files → Type 0
+IsCompletedBackup runs [] files = IsTakenByOne runs files
+IsCompletedBackup runs (c ∷ earlier) files =
+    IsCompletedBackup runs earlier files
+    ⊎ ((files ≡ c.made) × AllByRecursion (IsCompletedBackup runs earlier) c.chain)
 
--- it was done over areas that tell their files all the while, on what this program's own runs leave
-pub record RanOn (run : LaterRun) : Type 0 where
+-- ---- the law
+
+-- completed backups that stand under some names, and that `restore` accepts as a chain, are
+-- restored to exactly what a replay of the whole WAL gives, to the same target: of a WAL that is
+-- whole, and goes on from what the latest of the runs left
+abbrev pub CompletedChainsAreReplays : Type 0
+CompletedChainsAreReplays =
+    (latest : PastRun) (earlier : List PastRun) (combinings : List Combining)
+    (names : Names) (chain : List Files) (last old new : Outside) (end : Lsn)
+    (out : List ℕ) (upto : Option Lsn) (report : ReplayReport)
+    → RanInTurn latest earlier
+    → Related GoesOnFrom (latest.left.areas wal_name).files (last.areas wal_name).files
+    → IfSome (last.areas wal_name).files (IsWholeTo end)
+    → files_told (backup_areas names last.areas) ≡ Some chain
+    → AllByRecursion (IsCompletedBackup (latest ∷ earlier) combinings) chain
+    → HasRestored last upto out names old new report
+    → IsWholeReplay (last.areas wal_name).files end (replay_end upto end) report
+    (new.areas (output_name out)).files
+
+-- ---- what runs leave to later ones
+
+-- a WAL is whole as a run left it that closed its store
+abbrev pub RunsLeaveWholeWals : Type 0
+RunsLeaveWholeWals =
+    (run : PastRun) → HasRun run.before run.left run.report run.end
+    → IfSome (run.left.areas wal_name).files (IsWholeTo run.end)
+
+-- whatever a run came to, stopped, failed or refused, its WAL goes on from what it found, where the
+-- store's areas told their files
+abbrev pub RunsGoOn : Type 0
+RunsGoOn =
+    (before left : Outside) (came : RunResult)
+    → AreTold before.areas → RunDoes before left came
+    → Related GoesOnFrom (before.areas wal_name).files (left.areas wal_name).files
+
+-- what a run finds is this program's own, where the one before it found so and ended with status 0,
+-- and where the WAL and the summaries are as it left them
+abbrev pub RunsLeaveTheirOwn : Type 0
+RunsLeaveTheirOwn =
+    (run next : PastRun) (ran : HasRun run.before run.left run.report run.end)
+    (on : HasRun next.before next.left next.report next.end)
+    → run_status (Ok run.report) ≡ Done
+    → (next.before.areas wal_name).files ≡ (run.left.areas wal_name).files
+    → (next.before.areas sums_name).files ≡ (run.left.areas sums_name).files
+    → FoundOwn run ran → FoundOwn next on
+
+-- and so it is over a store that `init` made, where the WAL and the summaries are as it left them
+abbrev pub NewStoresAreOwn : Type 0
+NewStoresAreOwn =
+    (options : InitOptions) (old new : Outside) (end : Lsn) (next : PastRun)
+    (on : HasRun next.before next.left next.report next.end)
+    → InitDoes options old new (Ok end)
+    → (next.before.areas wal_name).files ≡ (new.areas wal_name).files
+    → (next.before.areas sums_name).files ≡ (new.areas sums_name).files
+    → FoundOwn next on
+
+-- a run was done over areas that tell their files all the while, and ended with status 0
+pub record EndedWell (run : PastRun) : Type 0 where
   pub ran : HasRun run.before run.left run.report run.end
   pub tells : TellsThroughout ran.does.0 run.before.areas run.left.areas run.report ran.does.6.2
-  pub finds : FindsOwn ran.does.0 run.before.areas run.left.areas run.report ran.does.6.2
+  pub ended : run_status (Ok run.report) ≡ Done
 
--- a member's directory is at the last as its run left it
-abbrev pub IsKept : Outside → Outside → Step → Type 0
-IsKept last left step =
-    HasNoLineEnd step.name
-    × ((last.areas (backup_name step.name)).files ≡ (left.areas (backup_name step.name)).files)
+-- the WAL and the summaries are as they were left
+pub record AreAsLeft (left now : Outside) : Type 0 where
+  pub wal : (now.areas wal_name).files ≡ (left.areas wal_name).files
+  pub sums : (now.areas sums_name).files ≡ (left.areas sums_name).files
 
--- a chain begins in a run, and goes on in later ones
-pub record BeginsIn (last : Outside) (r : ChainRun) : Type 0 where
-  pub ran : RanOn r.run
-  pub took : TookFirst r.run.report.told r.steps
-  pub kept : AllByRecursion (IsKept last r.run.left) r.steps
+-- a run and the earlier ones ended well, each over what the one before it left, and the first over
+-- what was made
+abbrev pub RanSince : Outside → PastRun → List PastRun → Type 0
+RanSince made run [] = EndedWell run × AreAsLeft made run.before
+RanSince made run (prior ∷ earlier) =
+    EndedWell run × AreAsLeft prior.left run.before × RanSince made prior earlier
 
-pub record GoesOnIn (last : Outside) (r : ChainRun) : Type 0 where
-  pub ran : RanOn r.run
-  pub took : TookMore r.run.report.told r.steps
-  pub kept : AllByRecursion (IsKept last r.run.left) r.steps
-
--- the names of the members that runs took
-abbrev pub steps_names : List Step → Names
-steps_names steps = map (λ step. step.name) steps
-
-abbrev pub names_taken : List ChainRun → Names
-names_taken runs = flat_map (λ r. steps_names r.steps) runs
-
--- a chain of backups that runs answered, each behind the one before, is restored to exactly what a
--- replay of the whole WAL that the last run left gives, to the same target
-abbrev pub ChainsOfRunsAreReplays : Type 0
-ChainsOfRunsAreReplays =
-    (first : ChainRun) (rest : List ChainRun) (last old new : Outside) (top : Lsn)
-    (out : List ℕ) (upto : Option Lsn) (report : ReplayReport)
-    → BeginsIn last first → AllByRecursion (GoesOnIn last) rest
-    → HaveRun first.run.left first.run.end (map (λ r. r.run) rest) last top
-    → HasRestored last upto out (names_taken (first ∷ rest)) old new report
-    → IsWholeReplay (last.areas wal_name).files top (replay_end upto top) report
-    (new.areas (output_name out)).files
+-- so the runs since `init` made the store are in turn, where each of them ended with status 0 and
+-- nothing else wrote the WAL and the summaries
+abbrev pub RunsSinceInitAreInTurn : Type 0
+RunsSinceInitAreInTurn =
+    (options : InitOptions) (old made : Outside) (end : Lsn)
+    (latest : PastRun) (earlier : List PastRun)
+    → InitDoes options old made (Ok end) → RanSince made latest earlier
+    → RanInTurn latest earlier

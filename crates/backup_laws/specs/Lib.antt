@@ -2,5 +2,6 @@ pub mod Finished
 pub mod Runs
 pub mod Chains
 pub mod Restores
+pub mod CombinedChains
 pub mod ChainRestores
 pub mod Gaps

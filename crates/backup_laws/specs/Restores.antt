@@ -1,12 +1,17 @@
 -- What `restore` makes of a backup that `run` took is what a replay of the whole WAL makes.
-use Rattle.std.specs.Prelude.{◌≡◌, ℕ, List, [], ◌∷◌, Option, Some, None, Ok, IsSome}
+use Rattle.std.specs.Prelude.{◌≡◌, ℕ, List, [], ◌∷◌, Option, Some, None, Ok, IsSome, IfSome}
 use Rattle.std.specs.FinMap.{len}
 use Rattle.lsn_core.specs.Files.{Files}
 use Rattle.lsn_core.specs.Segment.{StoreSettings}
 use Rattle.lsn_core.specs.Store.{Store, files_of}
+use Rattle.lsn_core.specs.Tip.{Tip}
 use Rattle.lsn_core.specs.declared.lsn.Lsn.{Lsn}
+use Rattle.vault.specs.Area.{Related}
 use Rattle.vault.specs.Lending.{Names, IsOneOf}
+use Rattle.wal_record.specs.Tips.{first_tip}
 use Rattle.wal_record.specs.declared.record.Record.{Record}
+use Rattle.wal_reader.specs.Settings.{IsSettingsOf}
+use Rattle.wal_reader.specs.Wal.{ReadsOn}
 use Rattle.history.specs.Pages.{page_count}
 use Rattle.history.specs.Whole.{whole}
 use Rattle.recovery.specs.Causes.{HasSettings}
@@ -25,6 +30,13 @@ pub record HasRun (before left : Outside) (report : RunReport) (end : Lsn) : Typ
   pub told : AreTold before.areas
   pub does : RunDoes before left (Ok report)
   pub closed : report.closed ≡ Ok end
+
+-- a run that was done so
+pub record PastRun : Type 0 where
+  pub before : Outside
+  pub left : Outside
+  pub report : RunReport
+  pub end : Lsn
 
 -- `restore` ended well, of the chain of backups of some names and to an output, which tell their files;
 -- those of the WAL and of the backups are as they were left before
@@ -108,32 +120,33 @@ RestoresAreAsReplays =
     → HasReplayed left upto other was is told
     → AreAlike (new.areas (output_name out)).files (is.areas (output_name other)).files report told
 
--- ---- a WAL that later runs wrote on
+-- ---- a WAL that goes on
 
--- a later run
-pub record LaterRun : Type 0 where
-  pub before : Outside
-  pub left : Outside
-  pub report : RunReport
-  pub end : Lsn
+-- a WAL goes on from what it was: it had the settings that it has, and by them all entries that
+-- were read of it are read still, whatever stands behind them
+abbrev pub GoesOnFrom : Files → Files → Type 0
+GoesOnFrom was now =
+    (s : StoreSettings) → IsSettingsOf now s
+    → IsSettingsOf was s
+    × ((records : List Record) (last : Tip) → ReadsOn s was (first_tip s.segment) records last
+    → ReadsOn s now (first_tip s.segment) records last)
 
--- runs one behind the other, each of which finds the files of the WAL that the one before left, from
--- what a first one left to what the last one did
-abbrev pub HaveRun : Outside → Lsn → List LaterRun → Outside → Lsn → Type 0
-HaveRun left end [] last stop = (last ≡ left) × (stop ≡ end)
-HaveRun left end (run ∷ runs) last stop =
-    ((run.before.areas wal_name).files ≡ (left.areas wal_name).files)
-    × HasRun run.before run.left run.report run.end
-    × HaveRun run.left run.end runs last stop
+-- a WAL is whole up to a place: by its settings it is read as some entries, and ends there
+abbrev pub IsWholeTo : Lsn → Files → Type 0
+IsWholeTo end files =
+    (s : StoreSettings) → IsSettingsOf files s
+    → (records : List Record) × HoldsRecords s records end.0 files
 
--- a backup is restored so over the WAL of later runs too, where they left its area as it was
+-- a backup is restored so over every WAL that goes on from what its run left and is whole, where its
+-- area is as it was left
 abbrev pub LaterRestoresAreReplays : Type 0
 LaterRestoresAreReplays =
-    (before left last old new : Outside) (run : RunReport) (runs : List LaterRun)
-    (end top start stop : Lsn) (name out : List ℕ) (upto : Option Lsn) (report : ReplayReport)
+    (before left last old new : Outside) (run : RunReport) (end top start stop : Lsn)
+    (name out : List ℕ) (upto : Option Lsn) (report : ReplayReport)
     (taken : IsBackedUp run.told name start stop)
     → HasRun before left run end → IsLastOfName run.told name start stop taken
-    → HaveRun left end runs last top
+    → Related GoesOnFrom (left.areas wal_name).files (last.areas wal_name).files
+    → IfSome (last.areas wal_name).files (IsWholeTo top)
     → (last.areas (backup_name name)).files ≡ (left.areas (backup_name name)).files
     → HasRestored last upto out (name ∷ []) old new report
     → IsWholeReplay (last.areas wal_name).files top (replay_end upto top) report

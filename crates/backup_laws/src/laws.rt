@@ -1,39 +1,60 @@
 //! Laws of backups and of their restore: each is the contract of a function that does nothing.
 
-ghost use Rattle.backup_laws.specs.Finished.{FinishedBackupsAreListed};
-ghost use Rattle.backup_laws.specs.Gaps.{FilesKeepOneList, PublishedAreKept, GapsAreOld, AnswersAreCovered, RefusedGapsAreOld, GapsOfRunsAreOld};
+ghost use Rattle.backup_laws.specs.Finished.{FinishedBackupsAreListed, FinishedIncrementsAreListed};
+ghost use Rattle.backup_laws.specs.Finished.{AnsweredBackupsAreListed, AnsweredBackupsAreVerified};
+ghost use Rattle.backup_laws.specs.Gaps.{FilesKeepOneList, PublishedAreKept, GapsAreOld};
+ghost use Rattle.backup_laws.specs.Gaps.{AnswersAreCovered, RefusedGapsAreOld, GapsOfRunsAreOld};
 ghost use Rattle.backup_laws.specs.Runs.{BackupsOfRunsAreSound};
-ghost use Rattle.backup_laws.specs.Chains.{FullBackupsOfRunsAreSound, IncrementsOfRunsExtendChains, RunsKeepChainsSound};
-ghost use Rattle.backup_laws.specs.Restores.{RunsAndRestoresAreReplays, RestoresAreAsReplays, LaterRestoresAreReplays};
-ghost use Rattle.backup_laws.specs.ChainRestores.{ChainsOfRunsAreReplays};
+ghost use Rattle.backup_laws.specs.Chains.{FullBackupsOfRunsAreSound, IncrementsOfRunsExtendChains};
+ghost use Rattle.backup_laws.specs.Chains.{RunsKeepChainsSound};
+ghost use Rattle.backup_laws.specs.Restores.{RunsAndRestoresAreReplays, RestoresAreAsReplays};
+ghost use Rattle.backup_laws.specs.Restores.{LaterRestoresAreReplays};
+ghost use Rattle.backup_laws.specs.ChainRestores.{CompletedChainsAreReplays, RunsLeaveWholeWals};
+ghost use Rattle.backup_laws.specs.ChainRestores.{RunsGoOn, RunsLeaveTheirOwn, NewStoresAreOwn};
+ghost use Rattle.backup_laws.specs.ChainRestores.{RunsSinceInitAreInTurn};
+ghost use Rattle.backup_laws.specs.CombinedChains.{CombinedChainsStaySound};
 
 use backup_label::labels_are_read_in_one_way;
 use backup_restore::directories_hold_one_store;
 use chain_check::directories_have_one_answer;
 use chain_laws::{
-    full_backups_are_sound_chains, increments_extend_sound_chains, sound_chains_stay_sound,
+    chains_are_sound_alike, full_backups_are_sound_chains, increments_extend_sound_chains,
+    sound_chains_stay_sound,
 };
+use combine::{combined_directories_are_chains, combined_directories_hold_the_same};
+use incr_file::{heads_are_read_as_written, plans_may_be_written};
 use manifest::manifests_are_read_again;
 use summary_publish::honest_areas_stay_honest;
 use vault::Vault;
 
-/// What a finished full backup left is a directory as its manifest lists it: `verify` takes it, and
-/// so does the check before a restore.
+/// What a finished backup left, full or incremental, is a directory as its manifest lists it:
+/// `verify` takes it, and so does the check before a restore. So it is of each backup that a run
+/// answered, where its areas tell their files all the while: `verify` of what the run left takes
+/// it, unless its area isn't handed out, its device fails or memory runs out.
 pub fn finished_backups_are_listed()
-    ensures { FinishedBackupsAreListed }
-{}
+    ensures full { FinishedBackupsAreListed }
+    ensures incremental { FinishedIncrementsAreListed }
+    ensures answered { AnsweredBackupsAreListed }
+    ensures verified { AnsweredBackupsAreVerified }
+{
+    // known: the heads of plans may be written, and are read as they were; and a directory has one
+    // answer
+    heads_are_read_as_written();
+    plans_may_be_written();
+    directories_have_one_answer();
+}
 
-/// Each backup that a run answered with `backup START END` is the directory of a copy that replay of
-/// the WAL from START on completes, for each place from END on, over the WAL that the run left.
+/// Each backup that a run answered with `backup START END` is the directory of a copy that replay
+/// of the WAL from START on completes, for each place from END on, over the WAL that the run left.
 pub fn backups_of_runs_are_sound()
     ensures { BackupsOfRunsAreSound }
 {}
 
-/// Each full backup that a run answered is a sound chain of one for the history that the run came to,
-/// where its areas tell their files all the while. Each incremental one names the start of its prior
-/// backup as its prior LSN, and extends each sound chain of that history that ends there, where the area
-/// of summaries was honest and what the run found was tidy. What was a sound chain before the run is
-/// one of its history, and all are sound for the WAL that the run left.
+/// Each full backup that a run answered is a sound chain of one for the history that the run came
+/// to, where its areas tell their files all the while. Each incremental one names the start of its
+/// prior backup as its prior LSN, and extends each sound chain of that history that ends there,
+/// where the area of summaries was honest and what the run found was tidy. What was a sound chain
+/// before the run is one of its history, and all are sound for the WAL that the run left.
 pub fn backups_of_runs_make_sound_chains()
     ensures full { FullBackupsOfRunsAreSound }
     ensures incremental { IncrementsOfRunsExtendChains }
@@ -46,10 +67,24 @@ pub fn backups_of_runs_make_sound_chains()
     honest_areas_stay_honest();
 }
 
-/// A backup that a run answered is restored to exactly what a replay of the whole WAL gives: `restore`
-/// leaves just the files of what the WAL makes from nothing up to the same place, and tells its numbers
-/// of forks and pages. So the command `replay` to the same target leaves the same files, and prints the
-/// same behind its first word. And so it is over a WAL that later runs wrote on.
+/// What `combine` made of a sound chain of backups is a sound chain of one, which is accepted: the
+/// full backup of its name, as its manifest lists it, from the newest member's start to its end.
+pub fn combined_chains_stay_sound()
+    ensures { CombinedChainsStaySound }
+{
+    // known: listed files have their forms, the combined ones stand for the same segment files and
+    // are listed, and chains are sound by their segment files alone
+    directories_have_one_answer();
+    combined_directories_hold_the_same();
+    combined_directories_are_chains();
+    chains_are_sound_alike();
+}
+
+/// A backup that a run answered is restored to exactly what a replay of the whole WAL gives:
+/// `restore` leaves just the files of what the WAL makes from nothing up to the same place, and
+/// tells its numbers of forks and pages. So the command `replay` to the same target leaves the same
+/// files, and prints the same behind its first word. And so it is over every WAL that goes on from
+/// what the run left.
 pub fn runs_and_restores_are_replays()
     ensures whole { RunsAndRestoresAreReplays }
     ensures alike { RestoresAreAsReplays }
@@ -64,13 +99,17 @@ pub fn runs_and_restores_are_replays()
     full_backups_are_sound_chains();
 }
 
-/// So it is of a chain of backups that runs answered, the first one full and the others incremental:
-/// `restore` of it leaves just the files of what the whole WAL that the last run left makes up to the
-/// same place.
-pub fn chains_of_runs_are_replays()
-    ensures { ChainsOfRunsAreReplays }
+/// So it is of every chain of completed backups that `restore` restores with status 0. A backup is
+/// completed that a run answered, or that `combine` made, with status 0, of completed ones:
+/// `restore` leaves just the files of what the whole WAL makes up to the same place. It doesn't
+/// matter in which order they were taken and combined, under which names they stand, what became of
+/// those that were combined, and which runs came between and behind them, as long as the WAL goes
+/// on: what `restore` accepts stands in the right order. What these runs found has to be this
+/// program's own, which it is where nothing else writes `wal` and `sums` (`runs_leave_their_own`).
+pub fn completed_chains_are_replays()
+    ensures { CompletedChainsAreReplays }
 {
-    // known: the same, and what makes chains sound
+    // known: the same as of one backup and of a combined chain, and what makes chains sound
     manifests_are_read_again();
     labels_are_read_in_one_way();
     directories_have_one_answer();
@@ -79,13 +118,29 @@ pub fn chains_of_runs_are_replays()
     full_backups_are_sound_chains();
     sound_chains_stay_sound();
     honest_areas_stay_honest();
+    combined_directories_hold_the_same();
+    combined_directories_are_chains();
+    chains_are_sound_alike();
 }
 
-/// Of an area of summaries all are kept that were kept before, and behind them all that are published.
-/// So a place that `advance_covering` finds uncovered below a redo point of the history is one that no
-/// summary kept before covers, below their greatest end or the first entry's start; and what it answers
-/// covers the range up to its end. An incremental backup is refused for such a place alone, at or past
-/// the prior backup's start and below its own.
+/// What such chains ask of a run, earlier ones leave to it, where nothing else wrote `wal` and
+/// `sums`. The WAL is whole as a run left it that closed its store. Whatever a run came to, stopped
+/// or failed, the WAL goes on from what it found. And what a run finds is this program's own where
+/// the WAL and `sums` are as `init` left them, or as a run did that found so itself and ended with
+/// status 0. So of all runs since `init`, where each ended with status 0, nothing more is asked.
+pub fn runs_leave_their_own()
+    ensures whole { RunsLeaveWholeWals }
+    ensures on { RunsGoOn }
+    ensures own { RunsLeaveTheirOwn }
+    ensures first { NewStoresAreOwn }
+    ensures all { RunsSinceInitAreInTurn }
+{}
+
+/// Of an area of summaries all are kept that were kept before, and behind them all that are
+/// published. So a place that `advance_covering` finds uncovered below a redo point of the history
+/// is one that no summary kept before covers, below their greatest end or the first entry's start;
+/// and what it answers covers the range up to its end. An incremental backup is refused for such a
+/// place alone, at or past the prior backup's start and below its own.
 pub fn gaps_are_old<V: Vault>()
     ensures one_list { FilesKeepOneList }
     ensures kept { PublishedAreKept }
@@ -94,8 +149,8 @@ pub fn gaps_are_old<V: Vault>()
     ensures refused { RefusedGapsAreOld V.Vault }
 {}
 
-/// So is the place for which a run refuses a line's incremental backup: no summary covers it that the
-/// area kept when the run began.
+/// So is the place for which a run refuses a line's incremental backup: no summary covers it that
+/// the area kept when the run began.
 pub fn gaps_of_runs_are_old()
     ensures { GapsOfRunsAreOld }
 {}

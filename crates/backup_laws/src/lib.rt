@@ -1,12 +1,14 @@
 //! Laws of backups and of their restore, on what the commands do.
 //!
-//! What `run`, `restore` and `replay` do stands in their own crates, each for itself. These laws join
-//! them: what a backup leaves is a directory that `verify` takes (`specs/Finished.antt`); what `run`
-//! answered to be a backup is one that replay completes, over the WAL that the run left
-//! (`Runs.antt`), alone or as a member of a chain (`Chains.antt`); and `restore` makes of it, and of a
-//! chain, just what a replay of the whole WAL makes (`Restores.antt`, `ChainRestores.antt`). And
-//! where nothing covers a part of the WAL that an incremental backup needs, that part is older than
-//! what the summaries' area kept (`Gaps.antt`).
+//! What `run`, `combine`, `restore` and `replay` do stands in their own crates, each for itself.
+//! These laws join them: what a backup leaves is a directory that `verify` takes
+//! (`specs/Finished.antt`); what `run` answered to be a backup is one that replay completes, over
+//! the WAL that the run left (`Runs.antt`), alone or as a member of a chain (`Chains.antt`); what
+//! `combine` makes of such a chain is one too (`CombinedChains.antt`); and `restore` makes of it,
+//! and of every chain of such backups, just what a replay of the whole WAL makes (`Restores.antt`,
+//! `ChainRestores.antt`, which also has what runs leave to later ones). And where nothing covers a
+//! part of the WAL that an incremental backup needs, that part is older than what the summaries'
+//! area kept (`Gaps.antt`).
 //!
 //! Left to others: what each command does, and the laws of copies (`fuzzy_copies`), of chains
 //! (`chain_laws`) and of restores (`backup_restore`) on which these stand.
@@ -15,6 +17,7 @@
 mod laws;
 
 pub use laws::{
-    backups_of_runs_are_sound, backups_of_runs_make_sound_chains, chains_of_runs_are_replays,
-    finished_backups_are_listed, gaps_are_old, gaps_of_runs_are_old, runs_and_restores_are_replays,
+    backups_of_runs_are_sound, backups_of_runs_make_sound_chains, combined_chains_stay_sound,
+    completed_chains_are_replays, finished_backups_are_listed, gaps_are_old, gaps_of_runs_are_old,
+    runs_and_restores_are_replays, runs_leave_their_own,
 };

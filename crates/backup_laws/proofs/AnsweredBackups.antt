@@ -1,0 +1,84 @@
+-- The backups that a run answered are as their manifests list them.
+use Rattle.std.proofs.Common.{◌≡◌, ◌⊎◌, inl, inr, ℕ, List, Some, refl, sym, ap, ◌∙◌}
+use Rattle.lsn_core.specs.Files.{Files}
+use Rattle.std.specs.Prelude.{Ok, Err}
+use Rattle.lsn_core.specs.declared.lsn.Lsn.{Lsn}
+use Rattle.command_base.specs.Outside.{Outside}
+use Rattle.backup_label.specs.Label.{HasNoLineEnd}
+use Rattle.command_base.specs.Areas.{backup_name}
+use Rattle.run_command.specs.Run.{AreTold, RunDone}
+use Rattle.chain_check.specs.Laws.{DirectoriesAreOneMember, ListedIsNotRefused}
+use Rattle.chain_check.specs.Refusals.{HasRefusal}
+use Rattle.command_base.proofs.Told.{at_told}
+use Rattle.recovery.proofs.OneWal.{same_lsn}
+use Rattle.pgbackup_cli.specs.Verify.{VerifyResult, VerifyDoes, VerifyDone, report_of}
+use Rattle.pgbackup_cli.specs.declared.verify.VerifyReport.{VerifyReport}
+use Rattle.pgbackup_cli.specs.declared.verify.VerifyFault.TheVariants as verify
+use Rattle.backup_laws.specs.Runs.{IsBackedUp}
+use Rattle.backup_laws.specs.Chains.{IsIncremented}
+use Rattle.backup_laws.specs.Finished.{AnsweredBackupsAreListed, AnsweredBackupsAreVerified, IsListedBackup, IsVerified, full_member, incr_member}
+use Rattle.backup_laws.proofs.ChainRuns.{full_of_run, incr_of_run}
+use Rattle.backup_laws.proofs.ListedFiles.{finished_listed}
+use Rattle.backup_laws.proofs.ListedIncrements.{KnownOfHeads, increment_listed}
+use Rattle.backup_laws.proofs.ScriptNames.{answered_name}
+
+pub answered_listed : KnownOfHeads → AnsweredBackupsAreListed
+answered_listed known before left report does name start end tells answered = by answered
+  where
+    done : RunDone does.0 before.areas left.areas report
+    done = does.6.2
+
+    line : HasNoLineEnd name
+    line = answered_name before.left left.left report.told does.1 name start end does.6.0 does.6.1 answered
+
+    by : IsBackedUp report.told name start end ⊎ IsIncremented report.told name start end → (files : Files) × ((left.areas (backup_name name)).files ≡ Some files) × IsListedBackup name start end files
+    by (inl taken) =
+        let is = full_of_run does.0 before.areas left.areas report done name start end taken tells in
+        let b = is.backup in (
+          is.files,
+          is.told,
+          record {
+            member = full_member done.settings name start is.checkpoint end b.begun b.rows;
+            named = refl;
+            starts = refl;
+            ends = refl;
+            listed = finished_listed done.settings name does.0 is.copy start is.checkpoint end is.count is.files b done.given.blocks.least line;
+          },
+        )
+    by (inr taken) =
+        let is = incr_of_run does.0 before.areas left.areas report done name start end taken tells in
+        let b = is.backup in (
+          is.files,
+          is.told,
+          record {
+            member = incr_member done.settings name start is.checkpoint is.prior end b.directory.begun b.directory.rows;
+            named = refl;
+            starts = refl;
+            ends = refl;
+            listed = increment_listed known (AreTold before.areas) done.settings name does.0 is.history start is.checkpoint is.prior end is.count is.files b done.given.blocks line;
+          },
+        )
+
+-- ---- what `verify` says of them
+
+-- what is known of directories
+pub record KnownOfDirectories : Type 0 where
+  pub member : DirectoriesAreOneMember
+  pub listed : ListedIsNotRefused
+
+verified : KnownOfDirectories → (name : List ℕ) (start end : Lsn) (files : Files) (old new : Outside) (r : VerifyResult) → IsListedBackup name start end files → (old.areas (backup_name name)).files ≡ Some files → VerifyDoes name old new r → IsVerified start end r
+verified known name start end files old new (Ok report) is told does =
+    let done = at_told (old.areas (backup_name name)).files files (VerifyDone name report) told does.1 in
+    let same : done.member ≡ is.member = known.member files done.member is.member (done.named ∙ sym is.named) done.listed is.listed in
+    let tells : report ≡ report_of is.member = done.told ∙ ap report_of same in (
+      ap (λ (t : VerifyReport). t.start) tells ∙ same_lsn (record { 0 = is.member.manifest.start }) start (sym is.listed.label.1 ∙ ap (λ (at : Lsn). at.0) is.starts),
+      ap (λ (t : VerifyReport). t.end) tells ∙ same_lsn (record { 0 = is.member.manifest.end }) end is.ends,
+    )
+verified known name start end files old new (Err (verify.Site fault)) is told does = tt
+verified known name start end files old new (Err (verify.Directory refusal)) is told does = λ of_files.
+    known.listed files is.member refusal.fault of_files is.listed (at_told (old.areas (backup_name name)).files files (λ m. HasRefusal m refusal) told does.1.refused).0
+
+pub answered_verified : KnownOfHeads → KnownOfDirectories → AnsweredBackupsAreVerified
+answered_verified heads known before left old new report does name start end r tells answered same does_verify =
+    let is = answered_listed heads before left report does name start end tells answered in
+    verified known name start end is.0 old new r is.2 (same ∙ is.1) does_verify

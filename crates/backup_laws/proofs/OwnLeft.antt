@@ -1,0 +1,213 @@
+-- What a run leaves is what the next one finds of this program's own: tidy entries, and summaries that
+-- are honest for them.
+use Rattle.std.proofs.Common.{◌≡◌, ℕ, ◌<◌, Bool, true, false, cond, ◌&&◌, ◌||◌, List, [], ◌∷◌, ◌++◌, map, length, get_or, Option, Some, None, Result, IfSome, refl, sym, ap, subst, ◌∙◌, arith, inl, Ok}
+use Rattle.std.specs.Prelude.{◌==◌, ◌*◌, ◌/◌}
+use Rattle.std.specs.List.{list_any}
+use Rattle.std.specs.FinMap.{empty, get, get-empty}
+use Rattle.std.proofs.lemmas.List.{map-append}
+use Rattle.std.specs.Ordering.{nat_cmp}
+use Rattle.std.specs.Cmp.Lexicographic.{slice_cmp}
+use Rattle.byte_words.specs.Told.{when_told}
+use Rattle.lsn_core.specs.Files.{Files}
+use Rattle.lsn_core.specs.Segment.{StoreSettings}
+use Rattle.lsn_core.specs.Store.{Store}
+use Rattle.lsn_core.specs.declared.fault.StoreFault.{StoreFault}
+use Rattle.lsn_core.specs.declared.fault.StoreFault.TheVariants as store
+use Rattle.lsn_core.specs.declared.lsn.Lsn.{Lsn}
+use Rattle.wal_record.specs.Tips.{first_tip}
+use Rattle.wal_record.specs.declared.record.Record.{Record}
+use Rattle.wal_reader.specs.Settings.{IsSettingsOf}
+use Rattle.wal_reader.specs.Wal.{stands_behind}
+use Rattle.wal_reader.proofs.OneSettings.{one_settings}
+use Rattle.history.specs.Apply.{apply_all}
+use Rattle.history.specs.Entry.{Act, Create, Truncate, Change, Mark, Shutdown, Online, RedoMark, NoOp, BackupEnd, IdleCut, Entry}
+use Rattle.history.specs.Laws.{AreWrittenInPlace}
+use Rattle.history.specs.Whole.{act_of, entry_of, cuts_main}
+use Rattle.history.specs.Written.{Before, behind, is_redo, kind_of, next_record, written}
+use Rattle.fuzzy_copies.specs.Covers.{AreTidy}
+use Rattle.fuzzy_copies.specs.Logged.{history_of, found_before, log_of, StartInPlace, AreLogged}
+use Rattle.fuzzy_copies.specs.Summary.{summary_of}
+use Rattle.fuzzy_copies.proofs.ReadBack.{log_is_written}
+use Rattle.fuzzy_copies.proofs.SummedAlike.{summed_alike}
+use Rattle.fuzzy_copies.proofs.TidyLogs.{logs_tidy}
+use Rattle.wal_summary.proofs.Tables.{same_table}
+use Rattle.summary_store.specs.Honest.{is_redo_start, is_redo_point, IsHonest}
+use Rattle.journal.specs.Lawful.{IsLawful}
+use Rattle.command_base.specs.Areas.{wal_name, sums_name}
+use Rattle.command_base.specs.declared.status.Status.TheVariants as status
+use Rattle.command_base.specs.Faults.{store_status}
+use Rattle.command_base.proofs.Told.{at_told, some_told}
+use Rattle.command_base.specs.Outside.{Outside}
+use Rattle.crew.specs.declared.answer.Stop.{Stop}
+use Rattle.crew.specs.declared.answer.Stop.TheVariants as stop
+use Rattle.crew.specs.declared.script.Line.{Line}
+use Rattle.crew.specs.Run.{IsHonestFor}
+use Rattle.run_command.specs.Report.{first_told}
+use Rattle.run_command.specs.Run.{RunDone, HasFound, all_records, found_tip, stop_status, ending_status}
+use Rattle.run_command.proofs.OwnEntries.{AreOwn}
+use Rattle.command_line.specs.declared.options.InitOptions.{InitOptions}
+use Rattle.pgbackup_cli.specs.Init.{InitDoes, InitDone, HasFirstAlone, new_settings, init_areas, first_entry, new_tip}
+use Rattle.backup_laws.specs.Restores.{PastRun}
+use Rattle.backup_laws.specs.ChainRestores.{FoundOwn, RanOn, RanInTurn, RunsLeaveTheirOwn, NewStoresAreOwn, EndedWell, RanSince, RunsSinceInitAreInTurn}
+use Rattle.backup_laws.proofs.ChainRuns.{tidy_history}
+use Rattle.backup_laws.proofs.Reading.{read_once, none_behind, end_stops}
+use Rattle.backup_laws.proofs.RestoredRuns.{settings_in}
+use Rattle.backup_laws.proofs.SoundRuns.{own_entries, log_alike}
+use Rattle.backup_laws.proofs.WalsLeft.{IsWalOf, first_leaves, stayed}
+
+-- ---- redo points of what is read back
+
+redo_back : (store : Store) (redo : ℕ) (act : Act) → is_redo (act_of (kind_of store redo act)) ≡ is_redo act
+redo_back store redo (Create fork) = refl
+redo_back store redo (Truncate rel count) = refl
+redo_back store redo (Change items) = refl
+redo_back store redo (Mark (Shutdown at)) = refl
+redo_back store redo (Mark (Online at)) = refl
+redo_back store redo (Mark (RedoMark n)) = refl
+redo_back store redo (Mark NoOp) = refl
+redo_back store redo (Mark (BackupEnd start)) = refl
+redo_back store redo (Mark (IdleCut rel count others)) = elim (cuts_main (2 * others)) as (λ b. is_redo (cond b (Truncate rel count) (Mark (IdleCut rel count (2 * others / 2)))) ≡ false) [ true ↦ refl | false ↦ refl ]
+
+own_points : (mib : ℕ) (b : Before) (own : List Entry) (place : ℕ) → StartInPlace mib b own → AreWrittenInPlace mib b own → list_any (is_redo_start place) (map entry_of (written mib b own)) ≡ list_any (is_redo_start place) own
+own_points mib b [] place starts placed = refl
+own_points mib b (e ∷ es) place starts placed =
+    let r : Record = next_record mib b e.act in
+    let more : List Record = written mib (behind b e) es in
+    let first : is_redo_start place (entry_of r) ≡ is_redo_start place e =
+    ap (λ (t : Bool). t && (r.start.0 == place)) (redo_back b.store b.tip.redo e.act) ∙ ap (λ (n : ℕ). is_redo e.act && (n == place)) (sym starts.0) in
+    subst (λ c. list_any (is_redo_start place) (map entry_of (cond c (r ∷ more) more)) ≡ list_any (is_redo_start place) (e ∷ es)) (sym placed.0)
+    (ap (λ (t : Bool). t || list_any (is_redo_start place) (map entry_of more)) first
+    ∙ ap (λ (t : Bool). is_redo_start place e || t) (own_points mib (behind b e) es place starts.1 placed.1.1.1.1))
+
+any_alike : (t : Entry → Bool) (front es ls : List Entry) → list_any t ls ≡ list_any t es → list_any t (front ++ ls) ≡ list_any t (front ++ es)
+any_alike t [] es ls same = same
+any_alike t (x ∷ front) es ls same = ap (λ (b : Bool). t x || b) (any_alike t front es ls same)
+
+-- a log has the redo points of its history
+log_points : (mib : ℕ) (found : List Record) (own : List Entry) (place : ℕ) → 0 < length found → AreLogged mib found own → is_redo_point (map entry_of (log_of mib found own)) place ≡ is_redo_point (history_of found own) place
+log_points mib [] own place some logged = absurd (omega (arith, some))
+log_points mib (r ∷ rs) own place some logged =
+    let found : List Record = r ∷ rs in
+    let b : Before = found_before mib found in
+    let ls : List Entry = map entry_of (written mib b own) in
+    let parts : map entry_of (log_of mib found own) ≡ map entry_of found ++ ls = ap (map entry_of) (log_is_written mib found own) ∙ map-append entry_of found (written mib b own) in
+    ap (λ (es : List Entry). is_redo_point es place) parts
+    ∙ ap (λ (t : Bool). (r.start.0 == place) || t) (any_alike (is_redo_start place) (map entry_of found) own ls (own_points mib b own place logged.starts logged.written))
+
+-- ---- summaries
+
+-- an area that is honest for a history is so for the entries that its log is read back as
+honest_read : (mib : ℕ) (found : List Record) (own : List Entry) (files : Files) → 0 < length found → AreLogged mib found own → IsHonest (history_of found own) files → IsHonest (map entry_of (log_of mib found own)) files
+honest_read mib found own files some logged honest = λ name bytes sum there named is.
+    let one = honest name bytes sum there named is in
+    let from : ℕ = sum.start.0 in
+    let to : ℕ = sum.end.0 in
+    record {
+      starts = log_points mib found own from some logged ∙ one.starts;
+      ends = log_points mib found own to some logged ∙ one.ends;
+      says = record {
+        sorted = one.says.sorted;
+        says = one.says.says ∙ sym (same_table (summary_of (map entry_of (log_of mib found own)) from to) (summary_of (history_of found own) from to) (summed_alike mib found own from to logged));
+      };
+    }
+
+-- ---- a run that ended with status 0
+
+store_fails : (why : StoreFault) → store_status why ≡ status.Done → ⊥
+store_fails (store.Failed area) e = absurd cc
+store_fails store.NoMemory e = absurd cc
+
+stop_fails : (what : Stop) → stop_status what ≡ status.Done → ⊥
+stop_fails (stop.Store why) e = store_fails why e
+stop_fails stop.Backup e = absurd cc
+stop_fails stop.Prior e = absurd cc
+
+none_stopped : (first : Option (Line × Stop)) (closed : Result Lsn StoreFault) → ending_status first closed ≡ status.Done → first ≡ None
+none_stopped None closed e = refl
+none_stopped (Some what) closed e = absurd (stop_fails what.1 e)
+
+-- ---- the law
+
+pub own_left : RunsLeaveTheirOwn
+own_left run next ran on ended wal sums finds =
+    let d : RunDone ran.does.0 run.before.areas run.left.areas run.report = ran.does.6.2 in
+    let n : RunDone on.does.0 next.before.areas next.left.areas next.report = on.does.6.2 in
+    let s : StoreSettings = d.settings in
+    let all : List Record = all_records s d.found d.history in
+    let w : IsWalOf s all (run.left.areas wal_name).files run.end = (first_leaves ran.does.0 run.before run.left run.report run.end d ran).0 in
+    let told : (next.before.areas wal_name).files ≡ Some w.files = wal ∙ w.told in
+    let given : IsSettingsOf w.files n.settings = settings_in n.settings (next.before.areas wal_name).files w.files told n.given in
+    let one : n.settings ≡ s = w.settings n.settings given in
+    let found : HasFound s n.found w.files = subst (λ (x : StoreSettings). HasFound x n.found w.files) one (at_told (next.before.areas wal_name).files w.files (λ m. HasFound n.settings n.found m) told n.archive) in
+    let is : n.found ≡ all = read_once s w.files (first_tip s.segment) n.found all (found_tip s n.found) w.held.tip found.walk (end_stops (stands_behind s w.files (found_tip s n.found)) found.ended) w.held.read (none_behind s all run.end.0 w.files w.held) in
+    let law : IsLawful s.segment d.history = d.happened.lawful ran.told in
+    let owns : AreOwn d.happened.own = own_entries _ d.happened.own d.happened.of_run in
+    let log : List Entry = map entry_of (log_of s.segment law.found law.own) in
+    let entries : map entry_of n.found ≡ log = ap (map entry_of) is ∙ sym (log_alike s.segment d.found d.happened.own d.history law d.happened.grown owns) in
+    let tidy : AreTidy empty d.history = tidy_history s.segment d.found d.happened.own d.history law d.happened.grown owns finds.tidy in
+    let honest : IsHonestFor d.history (run.left.areas sums_name) = d.honest ran.told (none_stopped (first_told run.report.told) run.report.closed ended) finds.honest in
+    record {
+      tidy = subst (AreTidy empty) (sym entries)
+          (logs_tidy s.segment law.found law.own law.store law.logged (subst (λ (es : List Entry). apply_all empty es ≡ Some law.store) law.grown law.made) (subst (AreTidy empty) law.grown tidy));
+      honest = subst (λ (o : Option Files). IfSome o (IsHonest (map entry_of n.found))) (sym sums)
+          (when_told (run.left.areas sums_name).files (IsHonest d.history) (IsHonest (map entry_of n.found))
+          (λ m h. subst (λ (es : List Entry). IsHonest es m) (sym entries) (honest_read s.segment law.found law.own m law.some law.logged (subst (λ (es : List Entry). IsHonest es m) law.grown h))) honest);
+    }
+
+-- ---- a new store
+
+apart : sums_name ≡ wal_name → ⊥
+apart e = (let first : 115 ≡ 119 = ap (λ (x : List ℕ). get_or x 0 0) e in omega (arith, first))
+
+-- no file is there, so each is honest
+none_honest : (entries : List Entry) (files : Files) → files ≡ empty → IsHonest entries files
+none_honest entries files none = λ name bytes sum there named is.
+    absurd (let e : Some bytes ≡ None = sym there ∙ (ap (λ (m : Files). get m name) none ∙ get-empty (slice_cmp nat_cmp) name) in cc)
+
+pub new_own : NewStoresAreOwn
+new_own options old new end next on did wal sums =
+    let n : RunDone on.does.0 next.before.areas next.left.areas next.report = on.does.6.2 in
+    let s : StoreSettings = new_settings options did.1.0 in
+    let made : InitDone s (init_areas old) (init_areas new) end = did.1.2 in
+    let there = some_told (next.before.areas wal_name).files (on.told wal_name (inl refl)) in
+    let files : Files = there.0 in
+    let told : (new.areas wal_name).files ≡ Some files = sym wal ∙ there.1 in
+    let given : IsSettingsOf files n.settings = settings_in n.settings (next.before.areas wal_name).files files there.1 n.given in
+    let one : n.settings ≡ s = one_settings files n.settings s given (at_told (new.areas wal_name).files files (λ m. IsSettingsOf m s) told made.reads.settings) in
+    let found : HasFound s n.found files = subst (λ (x : StoreSettings). HasFound x n.found files) one (at_told (next.before.areas wal_name).files files (λ m. HasFound n.settings n.found m) there.1 n.archive) in
+    let alone : HasFirstAlone s files = at_told (new.areas wal_name).files files (HasFirstAlone s) told made.reads.archive in
+    let is : n.found ≡ first_entry s.segment ∷ [] = read_once s files (first_tip s.segment) n.found (first_entry s.segment ∷ []) (found_tip s n.found) (new_tip s.segment) found.walk (end_stops (stands_behind s files (found_tip s n.found)) found.ended) alone.walk (end_stops (stands_behind s files (new_tip s.segment)) alone.ended) in
+    record {
+      tidy = subst (λ (rs : List Record). AreTidy empty (map entry_of rs)) (sym is) (tt, λ store made. tt);
+      honest = subst (λ (o : Option Files). IfSome o (IsHonest (map entry_of n.found))) (sym (sums ∙ kept))
+          (when_told (old.areas sums_name).files (λ m. m ≡ empty) (IsHonest (map entry_of n.found)) (none_honest (map entry_of n.found)) made.sums_clear);
+    }
+  where
+    kept : (new.areas sums_name).files ≡ (old.areas sums_name).files
+    kept = did.0.0.others sums_name (apart, tt)
+
+-- ---- all runs since then
+
+module _ (options : InitOptions) (old made : Outside) (end : Lsn) (did : InitDoes options old made (Ok end)) where
+  abbrev ended_of : (run : PastRun) (earlier : List PastRun) → RanSince made run earlier → EndedWell run
+  ended_of run [] since = since.0
+  ended_of run (prior ∷ earlier) since = since.0
+
+  own_since : (run : PastRun) (earlier : List PastRun) (since : RanSince made run earlier) → FoundOwn run (ended_of run earlier since).ran
+  own_since run [] since = new_own options old made end run since.0.ran did since.1.wal since.1.sums
+  own_since run (prior ∷ earlier) since =
+      let was : EndedWell prior = ended_of prior earlier since.2 in
+      own_left prior run was.ran since.0.ran was.ended since.1.wal since.1.sums (own_since prior earlier since.2)
+
+  ran_on : (run : PastRun) (earlier : List PastRun) → RanSince made run earlier → RanOn run
+  ran_on run earlier since =
+      let well : EndedWell run = ended_of run earlier since in
+      record { ran = well.ran; tells = well.tells; finds = own_since run earlier since }
+
+  in_turn : (run : PastRun) (earlier : List PastRun) → RanSince made run earlier → RanInTurn run earlier
+  in_turn run [] since = ran_on run [] since
+  in_turn run (prior ∷ earlier) since =
+      (ran_on run (prior ∷ earlier) since, stayed (prior.left.areas wal_name).files (run.before.areas wal_name).files since.1.wal, in_turn prior earlier since.2)
+
+pub since_init : RunsSinceInitAreInTurn
+since_init options old made end latest earlier did since = in_turn options old made end did latest earlier since
