@@ -6,7 +6,7 @@ use lsn_core::{NoMemory, Text};
 use pgbackup_cli::{Status, pgbackup};
 use std::alloc::Global;
 use test_areas::Wrong;
-use vault::{MemSink, MemSource, SetClock, Site};
+use vault::{MemSink, MemSite, MemSource, MemVault, SetClock, Site};
 
 /// A moment of 2023, in seconds.
 const MOMENT: u64 = 1_700_000_000;
@@ -52,6 +52,14 @@ pub(crate) fn run<S: Site>(
 /// A call of the program: its words, its input, its status, and all that it prints.
 pub(crate) type Call<'a> = (&'a str, &'a str, Status, &'a str);
 
+/// A new store with segments of 1 MiB.
+pub(crate) const INIT: Call<'static> = (
+    "init --segment-mib 1 --system-id 7",
+    "",
+    Status::Done,
+    "initialised 0/100060\n",
+);
+
 /// Makes a call of the program, and says whether it ends and prints so.
 pub(crate) fn is_answered<S: Site>(
     alloc: Global,
@@ -78,4 +86,11 @@ pub(crate) fn make_calls<S: Site>(alloc: Global, site: &mut S, calls: &[Call]) -
         }
     }
     Ok(())
+}
+
+/// Makes calls of the program in turn, over a new site, and takes an area from it.
+pub(crate) fn take_behind(alloc: Global, calls: &[Call], area: &[u8]) -> Result<MemVault, Wrong> {
+    let mut site = MemSite::new(alloc, &[])?;
+    make_calls(alloc, &mut site, calls)?;
+    Ok(site.take(area)?)
 }

@@ -2,7 +2,7 @@
 //! directory, what a restore writes beside `replay`, and which chains are refused. Lines, places and
 //! sums are those of an independent implementation of the formats.
 
-use crate::calls::{Call, make_calls};
+use crate::calls::{Call, INIT, make_calls};
 use crate::restore_tests::are_same;
 use pgbackup_cli::Status;
 use test_areas::{SiteStep, Wrong, take_site_steps};
@@ -15,13 +15,8 @@ const LABEL: &[u8] = b"backup_label";
 const MANIFEST: &[u8] = b"backup_manifest";
 
 /// A full backup and two incremental ones on it, the second where nothing changed.
-static CHAIN: [Call; 2] = [
-    (
-        "init --segment-mib 1 --system-id 7",
-        "",
-        Status::Done,
-        "initialised 0/100060\n",
-    ),
+pub(crate) static CHAIN: [Call; 2] = [
+    INIT,
     (
         "run",
         "worker w

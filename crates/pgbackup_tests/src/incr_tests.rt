@@ -1,17 +1,10 @@
 //! Incremental backups of a run, over a site in memory: what their lines are answered, and what stands
 //! in their areas. Lines, places and files are those of an independent implementation.
 
-use crate::calls::{Call, make_calls};
+use crate::calls::{Call, INIT, make_calls};
 use pgbackup_cli::Status;
 use test_areas::{SiteStep, Wrong, take_site_steps};
 use vault::MemSite;
-
-const INIT: Call = (
-    "init --segment-mib 1 --system-id 7",
-    "",
-    Status::Done,
-    "initialised 0/100060\n",
-);
 
 /// A full backup and two incremental ones on it, the second where nothing changed; and what
 /// `walsummary` says of the WAL between the first two.
@@ -210,7 +203,7 @@ fn priors_are_refused(rt: HostRuntime) -> Result<(), Wrong> {
 }
 
 /// 9 of 10 blocks are patched.
-static NINE: [Call; 2] = [
+pub(crate) static NINE: [Call; 2] = [
     INIT,
     (
         "run",
@@ -270,7 +263,7 @@ fn nine_blocks_of_ten_are_sent(rt: HostRuntime) -> Result<(), Wrong> {
 }
 
 /// All 10 blocks are patched, and another fork is created.
-static ALL: [Call; 2] = [
+pub(crate) static ALL: [Call; 2] = [
     INIT,
     (
         "run",
@@ -330,7 +323,7 @@ fn whole_files_are_sent(rt: HostRuntime) -> Result<(), Wrong> {
 }
 
 /// With segment files of 4 blocks a fork grows past its first one.
-static SEGMENTS: [Call; 2] = [
+pub(crate) static SEGMENTS: [Call; 2] = [
     (
         "init --segment-mib 1 --relseg 4 --system-id 7",
         "",

@@ -12,21 +12,37 @@ mod archive_tests;
 #[cfg(test)]
 mod calls;
 #[cfg(test)]
+mod chain_reads_tests;
+#[cfg(test)]
+mod chain_restores_tests;
+#[cfg(test)]
+mod chain_tests;
+#[cfg(test)]
 mod change_tests;
 #[cfg(test)]
+mod changes;
+#[cfg(test)]
 mod checkpoint_tests;
+#[cfg(test)]
+mod combine_faults_tests;
 #[cfg(test)]
 mod combine_tests;
 #[cfg(test)]
 mod crew_tests;
 #[cfg(test)]
+mod faulty_sites;
+#[cfg(test)]
 mod full_tests;
+#[cfg(test)]
+mod incr_faults_tests;
 #[cfg(test)]
 mod incr_tests;
 #[cfg(test)]
 mod kinds_tests;
 #[cfg(test)]
 mod limit_tests;
+#[cfg(test)]
+mod long_chain_tests;
 #[cfg(test)]
 mod notes_tests;
 #[cfg(test)]

@@ -3,7 +3,7 @@
 
 ghost use Rattle.vault.specs.Site.{AllHome};
 
-use crate::calls::{Call, make_calls};
+use crate::calls::{Call, INIT, make_calls};
 use crate::verify_tests::F1_LABEL;
 use lsn_core::AreaFault;
 use pgbackup_cli::Status;
@@ -12,13 +12,6 @@ use test_areas::{SiteStep, Wrong, holds_in, take_site_steps};
 use vault::{MemSite, Site, read_in};
 
 const FORK: &[u8] = b"base/5/16384";
-
-const INIT: Call<'static> = (
-    "init --segment-mib 1 --system-id 7",
-    "",
-    Status::Done,
-    "initialised 0/100060\n",
-);
 
 const BACKUP: Call<'static> = (
     "run",
@@ -36,6 +29,22 @@ wal 0/100430
 ",
 );
 
+/// Whether two outputs have the same bytes in a file, and some.
+pub(crate) fn have_same<S: Site>(
+    alloc: Global,
+    site: &mut S,
+    one: &[u8],
+    other: &[u8],
+    file: &[u8],
+) -> Result<bool, AreaFault>
+    requires { AllHome (S.areas site.old) }
+    ensures { AllHome (S.areas site.new) }
+{
+    let bytes = read_in(alloc, site, one, file)?;
+    let same = holds_in(alloc, site, other, file, &bytes)?;
+    Ok(same && !bytes.is_empty())
+}
+
 /// Whether two outputs have the same bytes in the file of the fork, and some.
 pub(crate) fn are_same<S: Site>(
     alloc: Global,
@@ -46,9 +55,7 @@ pub(crate) fn are_same<S: Site>(
     requires { AllHome (S.areas site.old) }
     ensures { AllHome (S.areas site.new) }
 {
-    let bytes = read_in(alloc, site, one, FORK)?;
-    let same = holds_in(alloc, site, other, FORK, &bytes)?;
-    Ok(same && !bytes.is_empty())
+    have_same(alloc, site, one, other, FORK)
 }
 
 /// A backup, restored to its end and refused before it, and the WAL replayed to the same place.
