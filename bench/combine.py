@@ -1,11 +1,12 @@
 """Measures the combining of chains of backups of 256 MiB beside copies and sums of the same files.
 
-    python3 bench/combine.py PROGRAM [ROUNDS]
+    python3 bench/combine.py PROGRAM [ROUNDS [MEMBERS..]]
 
-A store of 256 MiB gets a full backup and 63 incremental ones, before each of which another tenth of its blocks is
-changed, by four bytes each. `combine` of the first 3, 10 and 64 of them is measured, in turn with `sha256sum` of all
-files that it reads and writes, and with `cp` of what it wrote. Prints the best time of each over rounds, the ratio of the
-combining to the sums and two copies, and its memory; and the last two chains' times and ratios to those of 3 members.
+A store of 256 MiB gets a full backup and incremental ones on it, before each of which another tenth of its blocks is
+changed, by four bytes each. `combine` of the first 3, 10 and 64 of them, or of so many as MEMBERS says, is measured, in
+turn with `sha256sum` of all files that it reads and writes, and with `cp` of what it wrote. Prints the best times of each
+over rounds, of the processor and by the clock, the ratio of the combining to the sums and two copies, and its memory; and
+the times and ratios of the further chains to those of the first.
 """
 import os
 import shutil
@@ -13,9 +14,9 @@ import sys
 import tempfile
 
 from full import FORKS, PAGES, new_store, run, write
-from wal import Best
+from wal import MIB, Best
 
-MEMBERS = [3, 10, 64]
+MEMBERS = ["3", "10", "64"]
 # So many backups are taken by one script.
 TAKEN = 9
 
@@ -49,35 +50,44 @@ def files(folders):
     return [os.path.join(top, name) for folder in folders for top, _, names in os.walk(folder) for name in names]
 
 
+def mib(folders):
+    return sum(os.path.getsize(name) for name in files(folders)) / MIB
+
+
 def measured(program, count, rounds):
-    """The seconds of a combining of so many members, its ratio to sums and copies, and the line that says so."""
-    members, best = [name_of(member) for member in range(count)], Best()
+    """The times of a combining of so many members and their ratios to sums and copies, of the processor and by the
+    clock. Prints them."""
+    members, best, found = [name_of(member) for member in range(count)], Best(), []
+    read = ["b/" + member for member in members]
     for _ in range(rounds):
         for folder in ("b/c", "copy"):
             shutil.rmtree(folder, ignore_errors=True)
         best.take("combine", [program, "combine", "c"] + members)
-        best.take("sums", ["sha256sum"] + files(["b/c"] + ["b/" + member for member in members]))
+        best.take("sums", ["sha256sum"] + files(["b/c"] + read))
         best.take("cp", ["cp", "-r", "b/c", "copy"])
-    took = best.seconds
-    ratio = took["combine"] / (took["sums"] + 2 * took["cp"])
-    read = sum(os.path.getsize(name) for name in files(["b/" + member for member in members]))
-    print("combining %d members of %.0f MiB: %.2f s, %.2f of sha256sum and two cp (%.2f s and %.2f s each), %.0f MiB" %
-          (count, read / 1048576, took["combine"], ratio, took["sums"], took["cp"], best.memory["combine"]))
-    return took["combine"], ratio
+    print("combining %d members: %.0f MiB read and %.0f MiB written, %.1f MiB of memory" %
+          (count, mib(read), mib(["b/c"]), best.memory["combine"]))
+    for way, took in (("of the processor", best.processor), ("by the clock", best.seconds)):
+        ratio = took["combine"] / (took["sums"] + 2 * took["cp"])
+        print("    %s %.2f s, %.2f of sha256sum and two cp (%.2f s and %.2f s each)" %
+              (way, took["combine"], ratio, took["sums"], took["cp"]))
+        found += [took["combine"], ratio]
+    return found
 
 
 def main():
     program, rounds = os.path.abspath(sys.argv[1]), int((sys.argv[2:] + ["3"])[0])
-    folder, home = tempfile.mkdtemp(dir=os.getcwd()), os.getcwd()
-    os.chdir(folder)
-    new_store(program)
-    take_backups(program, max(MEMBERS))
-    found = {count: measured(program, count, rounds) for count in MEMBERS}
-    for count in MEMBERS[1:]:
-        took, ratio = (mine / first for mine, first in zip(found[count], found[MEMBERS[0]]))
-        print("%d members beside %d: %.2f of the time, %.2f of the ratio" % (count, MEMBERS[0], took, ratio))
-    os.chdir(home)
-    shutil.rmtree(folder)
+    counts, home = [int(count) for count in sys.argv[3:] or MEMBERS], os.getcwd()
+    with tempfile.TemporaryDirectory(dir=home) as folder:
+        os.chdir(folder)
+        new_store(program)
+        take_backups(program, max(counts))
+        found = {count: measured(program, count, rounds) for count in counts}
+        os.chdir(home)
+    for count in counts[1:]:
+        ratios = tuple(mine / first for mine, first in zip(found[count], found[counts[0]]))
+        print("%d members beside %d: of the processor %.2f of the time and %.2f of the ratio, by the clock %.2f and %.2f" %
+              ((count, counts[0]) + ratios))
 
 
 if __name__ == "__main__":

@@ -5,7 +5,8 @@
 A store of 256 MiB gets a full backup `f1`, and then 1, 10 and 50 of each hundred blocks are changed, by four bytes each,
 in a store of its own each time. A `run` whose script has the lines `summarise` and `incr i1 f1` is measured, and one with
 the line `summarise` alone, so that the WAL up to there is summed up in both; the same of `full f2`. Prints what each
-backup takes more, by the best times over rounds, in turn, its ratio to the full one, and the size of its files.
+backup takes more, by the best times over rounds, in turn, of the processor and by the clock, its ratio to the full one,
+and the size of its files.
 """
 import os
 import shutil
@@ -49,8 +50,8 @@ def mib(folder):
     return sum(os.path.getsize(name) for name in found) / 1048576
 
 
-def measured(program, share, rounds):
-    """What an incremental backup of so many changed blocks takes, and the full one, in seconds, and its size."""
+def measure(program, share, rounds):
+    """Measures an incremental backup of so many changed blocks, and the full one, and prints what they take."""
     begin_again("grown")
     write("changes", changes(share))
     run(Best(), "changes", program, "changes")
@@ -61,8 +62,10 @@ def measured(program, share, rounds):
             begin_again("changed")
             run(best, name, program, name)
             size = mib("b/i1") if name == "incr" else size
-    took = best.seconds
-    return took["incr"] - took["summed"], took["full"] - took["summed"], size
+    print("an incremental backup of 256 MiB, %d %% changed: %.0f MiB" % (share, size))
+    for way, took in (("of the processor", best.processor), ("by the clock", best.seconds)):
+        incr, full = took["incr"] - took["summed"], took["full"] - took["summed"]
+        print("    %s %.2f s, %.3f of the full one (%.2f s)" % (way, incr, incr / full, full))
 
 
 def main():
@@ -77,9 +80,7 @@ def main():
     run(Best(), "first", program, "first")
     set_aside("grown")
     for share in (1, 10, 50):
-        incr, full, size = measured(program, share, rounds)
-        print("an incremental backup of 256 MiB, %d %% changed: %.2f s, %.3f of the full one (%.2f s), %.0f MiB" %
-              (share, incr, incr / full, full, size))
+        measure(program, share, rounds)
     os.chdir(home)
     shutil.rmtree(folder)
 

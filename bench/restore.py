@@ -4,8 +4,9 @@
 
 A store of 256 MiB gets a full backup, and then a tenth of its blocks is changed. `restore` checks the backup, as `verify`
 does, copies its files and redoes the WAL from its start on. Beside it stand `cp` of the backup and what `replay` takes
-more to the WAL's end than to the backup's end. Prints the best time of each way over rounds, in turn, the ratio of the
-restore to the two together, with its check and without what `verify` takes, and its memory.
+more to the WAL's end than to the backup's end. Prints the best times of each way over rounds, in turn, of the processor
+and by the clock, the ratio of the restore to the two together, with its check and without what `verify` takes, and its
+memory.
 """
 import os
 import shutil
@@ -48,12 +49,13 @@ def main():
         best.take("before", [program, "replay", "--target", end, "p"])
         best.take("whole", [program, "replay", "q"])
         best.take("cp", ["cp", "-r", "b/f1", "copy"])
-    took = best.seconds
-    both = took["cp"] + max(0.0, took["whole"] - took["before"])
-    print("a restore of 256 MiB: %.2f s, of which verify takes %.2f s; %.2f of cp and the replay of the window, and "
-          "%.2f without the check (%.2f s and %.2f s), %.0f MiB" %
-          (took["restore"], took["verify"], took["restore"] / both, (took["restore"] - took["verify"]) / both, took["cp"],
-           both - took["cp"], best.memory["restore"]))
+    print("a restore of 256 MiB: %.1f MiB of memory" % best.memory["restore"])
+    for way, took in (("of the processor", best.processor), ("by the clock", best.seconds)):
+        both = took["cp"] + max(0.0, took["whole"] - took["before"])
+        print("    %s %.2f s, of which verify takes %.2f s; %.2f of cp and the replay of the window, and %.2f without "
+              "the check (%.2f s and %.2f s)" %
+              (way, took["restore"], took["verify"], took["restore"] / both, (took["restore"] - took["verify"]) / both,
+               took["cp"], both - took["cp"]))
     os.chdir(home)
     shutil.rmtree(folder)
 

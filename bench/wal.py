@@ -12,24 +12,33 @@ import subprocess
 import sys
 import tempfile
 import time
+from collections import namedtuple
 
 MIB = 1 << 20
 PAGES = 32449
+# What the program takes is told by GNU time, where it is there: of a process that a script starts, the system tells no
+# less memory than the script's own.
+TIME = shutil.which("time")
+
+Taken = namedtuple("Taken", "seconds processor memory text")
 
 
 def timed(words, stdin=None):
-    """(seconds, MiB of peak memory, standard output) of a program that has to end well."""
-    with tempfile.TemporaryFile() as out:
+    """What a program that has to end well takes: seconds by the clock and of the processor, MiB of peak memory; and
+    its standard output."""
+    with tempfile.TemporaryFile() as out, tempfile.NamedTemporaryFile() as told:
+        told_by = [TIME, "-f", "%M", "-o", told.name] if TIME else []
         begin = time.monotonic()
-        process = subprocess.Popen(words, stdin=stdin, stdout=out)
+        process = subprocess.Popen(told_by + words, stdin=stdin, stdout=out)
         _, status, used = os.wait4(process.pid, 0)
         took = time.monotonic() - begin
         process.returncode = os.waitstatus_to_exitcode(status)
         out.seek(0)
         text = out.read().decode()
-    if process.returncode:
-        sys.exit("%s: status %d: %s" % (words, process.returncode, text[-200:]))
-    return took, used.ru_maxrss / 1024, text
+        if process.returncode:
+            sys.exit("%s: status %d: %s" % (words, process.returncode, text[-200:]))
+        memory = int(told.read()) if TIME else used.ru_maxrss
+    return Taken(took, used.ru_utime + used.ru_stime, memory / 1024, text)
 
 
 def size(folder):
@@ -41,16 +50,17 @@ def segments():
 
 
 class Best:
-    """The best time of each way, and the greatest memory."""
+    """The best times of each way, by the clock and of the processor, and the greatest memory."""
 
     def __init__(self):
-        self.seconds, self.memory = {}, {}
+        self.seconds, self.processor, self.memory = {}, {}, {}
 
     def take(self, way, words, stdin=None):
-        took, memory, text = timed(words, stdin)
-        self.seconds[way] = min(took, self.seconds.get(way, took))
-        self.memory[way] = max(memory, self.memory.get(way, 0))
-        return text
+        taken = timed(words, stdin)
+        self.seconds[way] = min(taken.seconds, self.seconds.get(way, taken.seconds))
+        self.processor[way] = min(taken.processor, self.processor.get(way, taken.processor))
+        self.memory[way] = max(taken.memory, self.memory.get(way, 0))
+        return taken.text
 
 
 def replays(best, way, program):
@@ -97,7 +107,7 @@ def short(program, archive, rounds):
     best = Best()
     shutil.rmtree("wal")
     os.mkdir("wal")
-    entries = int(timed([archive, "make", "wal", "64"])[2])
+    entries = int(timed([archive, "make", "wal", "64"]).text)
     for _ in range(rounds):
         replays(best, "replay", program)
     took = best.seconds["replay"]

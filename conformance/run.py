@@ -460,19 +460,26 @@ def labels():
     return {name: data for name, data in files("ours/b").items() if name.endswith("/backup_label")}
 
 
+def moment_in(told):
+    """The seconds of a time's text that was found in a file; 0 where damage left none, or none that there is."""
+    try:
+        return calendar.timegm(time.strptime(told[1].decode(), "%Y-%m-%d %H:%M:%S")) if told else 0
+    except ValueError:
+        return 0
+
+
 def moment_of(label):
     """When a backup was taken, in seconds; 0 where a damaged label doesn't tell it."""
-    told = re.search(rb"START TIME: (\d+-\d+-\d+ \d+:\d+:\d+) UTC\n", label)
-    return calendar.timegm(time.strptime(told[1].decode(), "%Y-%m-%d %H:%M:%S")) if told else 0
+    return moment_in(re.search(rb"START TIME: (\d+-\d+-\d+ \d+:\d+:\d+) UTC\n", label))
 
 
 def manifest_moments():
     """When the manifests of our backups were written, in seconds, by their files, where they tell it."""
     found = {}
     for name, data in files("ours/b").items():
-        told = re.search(rb'"Last-Modified": "(\d+-\d+-\d+ \d+:\d+:\d+) GMT"', data)
-        if told and name.endswith("/backup_manifest"):
-            found[name] = calendar.timegm(time.strptime(told[1].decode(), "%Y-%m-%d %H:%M:%S"))
+        moment = moment_in(re.search(rb'"Last-Modified": "(\d+-\d+-\d+ \d+:\d+:\d+) GMT"', data))
+        if moment and name.endswith("/backup_manifest"):
+            found[name] = moment
     return found
 
 
