@@ -113,7 +113,7 @@ put_some : (dir : Files) (text : List ℕ) (m : Files) → m ≡ insert dir mani
 put_some dir text m is = λ none. never_empty dir manifest_name text (sym is ∙ none)
 
 -- the areas that a worker asks for are among those of its script
-asked_among : (told : List Told) (worker : ℕ) (t : Told) (n : List ℕ) → slice_get told worker ≡ Some t → IsOneOf n (areas_asked t.task.lines) → IsOneOf n (backups_asked (tasks_told told))
+pub asked_among : (told : List Told) (worker : ℕ) (t : Told) (n : List ℕ) → slice_get told worker ≡ Some t → IsOneOf n (areas_asked t.task.lines) → IsOneOf n (backups_asked (tasks_told told))
 asked_among [] worker t n there one = absurd cc
 asked_among (u ∷ told) zero t n there one =
     let same : u ≡ t = cc in

@@ -16,6 +16,7 @@ pub mod Replays
 pub mod OwnPlaces
 pub mod WalsLeft
 pub mod LaterRuns
+pub mod Telling
 pub mod OwnLeft
 pub mod LongerChains
 pub mod CombinedChains

@@ -40,7 +40,7 @@ none_stopped true o e = absurd cc
 none_stopped false None e = (refl, refl)
 none_stopped false (Some what) e = absurd cc
 
-goes_on : (x : Answer) → stops_with x ≡ false → (is_not_run x ≡ false) × (stop_of x ≡ None)
+pub goes_on : (x : Answer) → stops_with x ≡ false → (is_not_run x ≡ false) × (stop_of x ≡ None)
 goes_on x e = none_stopped (is_not_run x) (stop_of x) e
 
 pub moment_of : (names : Names) (tells : Type 0) (b : Basis) (w : ℕ) (h : List Entry) (found : ℕ) (sums : AreaState) (from : ℕ) (lines : List Line) (answers : List Answer) (es : List Entry) (to : ℕ) (held new : Areas) (stopped : Bool) (a : Answered tells b w h from lines answers es to held new)

@@ -53,6 +53,7 @@ use Rattle.backup_laws.proofs.ChainRuns.{tidy_history}
 use Rattle.backup_laws.proofs.Reading.{read_once, none_behind, end_stops}
 use Rattle.backup_laws.proofs.RestoredRuns.{settings_in}
 use Rattle.backup_laws.proofs.SoundRuns.{own_entries, log_alike}
+use Rattle.backup_laws.proofs.Telling.{runs_tell}
 use Rattle.backup_laws.proofs.WalsLeft.{IsWalOf, first_leaves, stayed}
 
 -- ---- redo points of what is read back
@@ -202,7 +203,11 @@ module _ (options : InitOptions) (old made : Outside) (end : Lsn) (did : InitDoe
   ran_on : (run : PastRun) (earlier : List PastRun) → RanSince made run earlier → RanOn run
   ran_on run earlier since =
       let well : EndedWell run = ended_of run earlier since in
-      record { ran = well.ran; tells = well.tells; finds = own_since run earlier since }
+      record {
+        ran = well.ran;
+        tells = runs_tell well.ran.does.0 run.before.areas run.left.areas run.report well.ran.does.6.2 well.ran.told well.tells;
+        finds = own_since run earlier since;
+      }
 
   in_turn : (run : PastRun) (earlier : List PastRun) → RanSince made run earlier → RanInTurn run earlier
   in_turn run [] since = ran_on run [] since

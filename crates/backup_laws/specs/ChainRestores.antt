@@ -17,6 +17,7 @@ use Rattle.pgbackup_cli.specs.declared.replay.ReplayReport.{ReplayReport}
 use Rattle.pgbackup_cli.specs.Chain.{backup_areas, files_told}
 use Rattle.backup_laws.specs.Runs.{IsBackedUp}
 use Rattle.backup_laws.specs.Chains.{IsIncremented, TellsThroughout, FindsOwn}
+use Rattle.backup_laws.specs.Telling.{TellsAround}
 use Rattle.backup_laws.specs.CombinedChains.{HasCombined}
 use Rattle.backup_laws.specs.Restores.{HasRun, HasRestored, PastRun, GoesOnFrom, IsWholeTo, replay_end, IsWholeReplay}
 
@@ -135,10 +136,11 @@ NewStoresAreOwn =
     → (next.before.areas sums_name).files ≡ (new.areas sums_name).files
     → FoundOwn next on
 
--- a run was done over areas that tell their files all the while, and ended with status 0
+-- a run was done over areas that tell their files before it and behind it, took no backup's name
+-- twice, and ended with status 0
 pub record EndedWell (run : PastRun) : Type 0 where
   pub ran : HasRun run.before run.left run.report run.end
-  pub tells : TellsThroughout ran.does.0 run.before.areas run.left.areas run.report ran.does.6.2
+  pub tells : TellsAround run.before.areas run.left.areas run.report
   pub ended : run_status (Ok run.report) ≡ Done
 
 -- the WAL and the summaries are as they were left

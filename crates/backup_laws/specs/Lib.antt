@@ -1,6 +1,7 @@
 pub mod Finished
 pub mod Runs
 pub mod Chains
+pub mod Telling
 pub mod Restores
 pub mod CombinedChains
 pub mod ChainRestores

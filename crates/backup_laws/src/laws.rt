@@ -12,6 +12,7 @@ ghost use Rattle.backup_laws.specs.Restores.{LaterRestoresAreReplays};
 ghost use Rattle.backup_laws.specs.ChainRestores.{CompletedChainsAreReplays, RunsLeaveWholeWals};
 ghost use Rattle.backup_laws.specs.ChainRestores.{RunsGoOn, RunsLeaveTheirOwn, NewStoresAreOwn};
 ghost use Rattle.backup_laws.specs.ChainRestores.{RunsSinceInitAreInTurn};
+ghost use Rattle.backup_laws.specs.Telling.{RunsTellThroughout};
 ghost use Rattle.backup_laws.specs.CombinedChains.{CombinedChainsStaySound};
 
 use backup_label::labels_are_read_in_one_way;
@@ -127,13 +128,22 @@ pub fn completed_chains_are_replays()
 /// `sums`. The WAL is whole as a run left it that closed its store. Whatever a run came to, stopped
 /// or failed, the WAL goes on from what it found. And what a run finds is this program's own where
 /// the WAL and `sums` are as `init` left them, or as a run did that found so itself and ended with
-/// status 0. So of all runs since `init`, where each ended with status 0, nothing more is asked.
+/// status 0. So of all runs since `init`, where each ended with status 0, nothing more is asked
+/// than what an operator sees: that their areas tell before each and behind it, and that none of
+/// them took a backup's name twice.
 pub fn runs_leave_their_own()
     ensures whole { RunsLeaveWholeWals }
     ensures on { RunsGoOn }
     ensures own { RunsLeaveTheirOwn }
     ensures first { NewStoresAreOwn }
     ensures all { RunsSinceInitAreInTurn }
+{}
+
+/// The areas of a run tell their files behind each of its lines, as is asked above, where they tell
+/// them when it begins and when it ends, and where of no name a worker took two backups, or one
+/// before a try by which it was stopped.
+pub fn runs_tell_throughout()
+    ensures { RunsTellThroughout }
 {}
 
 /// Of an area of summaries all are kept that were kept before, and behind them all that are
