@@ -6,11 +6,11 @@ ghost use Rattle.std.specs.Prelude.{IfOk};
 ghost use Rattle.vault.specs.Site.{AllHome};
 ghost use Rattle.vault.specs.MemorySite.{areas_of};
 
-use crate::calls::{Call, NONE, make_calls, run};
 use lsn_core::{AreaFault, NoMemory};
 use pgbackup_cli::Status;
 use std::alloc::Global;
 use test_areas::{Change, SETTINGS, Wrong, make};
+use test_calls::{Call, NONE, make_calls, run};
 use vault::{MemSite, MemVault, Site, read_in};
 
 /// The names of the segments.

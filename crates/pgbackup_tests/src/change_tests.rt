@@ -3,10 +3,10 @@
 
 ghost use Rattle.vault.specs.Site.{AllHome};
 
-use crate::calls::{Call, make_calls};
 use pgbackup_cli::Status;
 use std::alloc::Global;
 use test_areas::Wrong;
+use test_calls::{Call, make_calls};
 use vault::{MemSite, Site, read_in};
 
 /// Makes a store of one entry, and runs a script on it.

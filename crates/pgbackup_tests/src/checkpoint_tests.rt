@@ -4,11 +4,11 @@
 
 ghost use Rattle.vault.specs.Site.{AllHome};
 
-use crate::calls::{Call, make_calls};
 use lsn_core::AreaFault;
 use pgbackup_cli::Status;
 use std::alloc::Global;
 use test_areas::{SiteStep, Wrong, take_site_steps};
+use test_calls::{Call, make_calls};
 use vault::{MemSite, Site, read_in};
 
 const INIT: &str = "init --segment-mib 1 --system-id 7";

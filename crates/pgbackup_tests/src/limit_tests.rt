@@ -1,10 +1,10 @@
 //! The limits of a fork and of a store, met by scripts over a site in memory. What is printed is what
 //! the formats say.
 
-use crate::calls::{NONE, run};
 use lsn_core::NoMemory;
 use pgbackup_cli::Status;
 use std::alloc::Global;
+use test_calls::{NONE, run};
 use vault::MemSite;
 
 /// Whether a script on a new store is answered by a line of these words.

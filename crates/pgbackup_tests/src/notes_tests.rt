@@ -1,6 +1,5 @@
 //! What an operator is told on standard error: printed texts, which no clause speaks of.
 
-use crate::calls::words_in;
 use chain_check::{ChainFault, ChainRefusal, LinkFault, ManifestWhy, Refusal};
 use crew::Why;
 use lsn_core::{Lsn, NoMemory, SegSize, StoreArea, StoreFault, Text};
@@ -13,6 +12,7 @@ use run_command::RunFault;
 use shared_store::BeginWhy;
 use std::alloc::Global;
 use test_areas::Wrong;
+use test_calls::words_in;
 use wal_archive::{Broken, Damage};
 
 /// What a command was refused for.

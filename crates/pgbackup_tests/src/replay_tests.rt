@@ -5,11 +5,11 @@ ghost use Rattle.std.specs.Prelude.{IfOk};
 ghost use Rattle.vault.specs.Site.{AllHome};
 ghost use Rattle.vault.specs.MemorySite.{areas_of};
 
-use crate::calls::{Call, Failing, NONE, make_calls, run};
 use lsn_core::{AreaFault, NoMemory};
 use pgbackup_cli::Status;
 use std::alloc::Global;
 use test_areas::{ARCHIVE, Change, SEGMENT, Wrong, archive_with, holds_in, make};
+use test_calls::{Call, Failing, NONE, make_calls, run};
 use vault::{MemSite, MemVault};
 
 /// Which call of the output's area, of the site and of the sink is to fail, counted from 1; 0 is none.

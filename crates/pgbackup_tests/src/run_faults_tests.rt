@@ -4,11 +4,11 @@ ghost use Rattle.std.specs.Prelude.{IfOk};
 ghost use Rattle.vault.specs.Site.{AllHome};
 ghost use Rattle.vault.specs.MemorySite.{areas_of};
 
-use crate::calls::{Failing, run};
 use lsn_core::AreaFault;
 use pgbackup_cli::Status;
 use std::alloc::Global;
 use test_areas::{Change, NEW_WAL, SEGMENT, SETTINGS, make_all};
+use test_calls::{Failing, run};
 use vault::{MemSite, MemVault};
 
 /// Forks of each partition, which are written by a flush, by a checkpoint, and at the end.

@@ -3,13 +3,13 @@
 
 ghost use Rattle.vault.specs.Site.{AllHome};
 
-use crate::calls::{Call, is_answered, make_calls};
 use lsn_core::{AreaFault, NoMemory};
 use pgbackup_cli::Status;
 use std::alloc::Global;
 use test_areas::{
     ADDED, NEW_WAL, SEGMENT, SETTINGS, SiteStep, Wrong, holds_in, put_in, take_site_steps,
 };
+use test_calls::{Call, is_answered, make_calls};
 use vault::{MemSite, MemVault, Site, read_in};
 
 const INIT: &str = "init --segment-mib 1 --system-id 7";

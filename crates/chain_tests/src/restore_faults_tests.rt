@@ -4,7 +4,6 @@
 ghost use Rattle.vault.specs.MemorySite.{areas_of};
 ghost use Rattle.vault.specs.Site.{AllHome};
 
-use crate::calls::Call;
 use crate::faulty_sites::{
     Area, CHAIN, Called, Command, Fails, MADE, areas_behind, failing_calls, is_done_or_told,
     site_with,
@@ -13,6 +12,7 @@ use lsn_core::AreaFault;
 use pgbackup_cli::Status;
 use std::alloc::Global;
 use test_areas::{Step, Wrong, take_steps};
+use test_calls::Call;
 use vault::{MemSite, Site};
 
 /// The output with no file, and with that of the fork.

@@ -1,9 +1,9 @@
 //! Incremental backups of a run, over a site in memory: what their lines are answered, and what stands
 //! in their areas. Lines, places and files are those of an independent implementation.
 
-use crate::calls::{Call, INIT, make_calls};
 use pgbackup_cli::Status;
 use test_areas::{SiteStep, Wrong, take_site_steps};
+use test_calls::{Call, INIT, make_calls};
 use vault::MemSite;
 
 /// A full backup and two incremental ones on it, the second where nothing changed; and what

@@ -3,7 +3,6 @@
 
 ghost use Rattle.vault.specs.Site.{AllHome};
 
-use crate::calls::{Call, NONE, make_calls, run};
 use crate::faulty_sites::{
     Area, Called, Command, FULL_IS_WHOLE, Fails, INCR, MADE, areas_behind, failing_calls,
     fault_line, site_with,
@@ -11,6 +10,7 @@ use crate::faulty_sites::{
 use pgbackup_cli::Status;
 use std::alloc::Global;
 use test_areas::Wrong;
+use test_calls::{Call, NONE, make_calls, run};
 use vault::Site;
 
 /// What a run prints before its line is refused, and before the last line where it was answered.

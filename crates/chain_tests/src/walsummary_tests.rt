@@ -2,9 +2,9 @@
 //! the summaries are made by hand from their format, and lines and places are those of an independent
 //! implementation.
 
-use crate::calls::{Call, make_calls};
 use pgbackup_cli::Status;
 use test_areas::{SiteStep, Wrong, take_site_steps};
+use test_calls::{Call, make_calls};
 use vault::MemSite;
 
 /// The range in which 5/16384 was created and grew to 10 blocks.

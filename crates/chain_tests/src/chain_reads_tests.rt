@@ -2,13 +2,13 @@
 
 ghost use Rattle.std.specs.Prelude.{◌≡◌, length, IfOk};
 
-use crate::calls::take_behind;
 use crate::combine_tests::CHAIN;
 use chain_check::{Member, check_dir};
 use combine::{CombineFault, combine};
 use lsn_core::{NoMemory, Text};
 use std::alloc::Global;
 use test_areas::Wrong;
+use test_calls::take_behind;
 use vault::{Held, MemVault};
 
 const FORK: &[u8] = b"base/5/16384";

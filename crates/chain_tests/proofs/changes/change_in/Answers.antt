@@ -1,6 +1,6 @@
 use Rattle.std.proofs.Common.{◌≤◌, arith}
 use Rattle.vault.proofs.LentAreas.{taken_one, lent_named}
-use Rattle.pgbackup_tests.proofs.changes.change_in.Goals as goal
+use Rattle.chain_tests.proofs.changes.change_in.Goals as goal
 
 pub give-requires : goal.give-requires
 give-requires g c =

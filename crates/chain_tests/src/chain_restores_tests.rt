@@ -3,7 +3,6 @@
 
 ghost use Rattle.vault.specs.Site.{AllHome};
 
-use crate::calls::{Call, make_calls};
 use crate::changes::change_in;
 use crate::combine_tests::CHAIN;
 use crate::incr_tests::{ALL, NINE, SEGMENTS};
@@ -11,6 +10,7 @@ use crate::restore_tests::{are_same, have_same};
 use pgbackup_cli::Status;
 use std::alloc::Global;
 use test_areas::{Change, SEGMENT, Wrong};
+use test_calls::{Call, make_calls};
 use vault::{MemSite, Site};
 
 /// The WAL's replay before it is damaged.

@@ -4,11 +4,11 @@ ghost use Rattle.std.specs.Prelude.{IfOk};
 ghost use Rattle.vault.specs.Site.{AllHome};
 ghost use Rattle.vault.specs.MemorySite.{areas_of};
 
-use crate::calls::{Call, INIT, NONE, run, take_behind};
 use lsn_core::{AreaFault, NoMemory, Text};
 use pgbackup_cli::Status;
 use std::alloc::Global;
 use test_areas::{Change, Wrong, make};
+use test_calls::{Call, INIT, NONE, run, take_behind};
 use vault::{MemSite, MemVault, Site, Vault, read_whole};
 
 const FULL: Call<'static> = (

@@ -5,12 +5,12 @@ ghost use Rattle.std.specs.Prelude.{IfOk};
 ghost use Rattle.vault.specs.Site.{AllHome};
 ghost use Rattle.vault.specs.MemorySite.{areas_of};
 
-use crate::calls::{Call, NONE, make_calls, run};
 use crate::verify_tests::{F1_LABEL, F1_MANIFEST};
 use lsn_core::AreaFault;
 use pgbackup_cli::Status;
 use std::alloc::Global;
 use test_areas::{Change, NEW_WAL, SEGMENT, SETTINGS, SiteStep, Wrong, make_all, take_site_steps};
+use test_calls::{Call, NONE, make_calls, run};
 use vault::{MemSite, MemVault, Site};
 
 const SCRIPT: &str = "worker w

@@ -12,7 +12,7 @@ use vault::{MemSink, MemSite, MemSource, MemVault, SetClock, Site};
 const MOMENT: u64 = 1_700_000_000;
 
 /// The words of a command line, which stand between spaces.
-pub(crate) fn words_in(alloc: Global, line: &str) -> Result<Vec<Text>, NoMemory> {
+pub fn words_in(alloc: Global, line: &str) -> Result<Vec<Text>, NoMemory> {
     let mut words = Vec::new(alloc);
     for word in line.split_whitespace() {
         words.push(Text::copied(alloc, word.as_bytes())?)?;
@@ -22,16 +22,18 @@ pub(crate) fn words_in(alloc: Global, line: &str) -> Result<Vec<Text>, NoMemory>
 
 /// Which call of the input and of the sink is to fail, counted from 1; 0 is none.
 #[derive(Clone, Copy)]
-pub(crate) struct Failing {
-    pub(crate) input: u64,
-    pub(crate) sink: u64,
+pub struct Failing {
+    /// The call of the input.
+    pub input: u64,
+    /// The call of the sink.
+    pub sink: u64,
 }
 
 /// No call fails.
-pub(crate) const NONE: Failing = Failing { input: 0, sink: 0 };
+pub const NONE: Failing = Failing { input: 0, sink: 0 };
 
 /// The status of a call of the program, and all that it prints.
-pub(crate) fn run<S: Site>(
+pub fn run<S: Site>(
     alloc: Global,
     site: &mut S,
     line: &str,
@@ -50,10 +52,10 @@ pub(crate) fn run<S: Site>(
 }
 
 /// A call of the program: its words, its input, its status, and all that it prints.
-pub(crate) type Call<'a> = (&'a str, &'a str, Status, &'a str);
+pub type Call<'a> = (&'a str, &'a str, Status, &'a str);
 
 /// A new store with segments of 1 MiB.
-pub(crate) const INIT: Call<'static> = (
+pub const INIT: Call<'static> = (
     "init --segment-mib 1 --system-id 7",
     "",
     Status::Done,
@@ -61,11 +63,7 @@ pub(crate) const INIT: Call<'static> = (
 );
 
 /// Makes a call of the program, and says whether it ends and prints so.
-pub(crate) fn is_answered<S: Site>(
-    alloc: Global,
-    site: &mut S,
-    call: &Call,
-) -> Result<bool, NoMemory>
+pub fn is_answered<S: Site>(alloc: Global, site: &mut S, call: &Call) -> Result<bool, NoMemory>
     requires { AllHome (S.areas site.old) }
     ensures { AllHome (S.areas site.new) }
 {
@@ -76,7 +74,7 @@ pub(crate) fn is_answered<S: Site>(
 
 /// Makes calls of the program in turn, over one site. The first one that isn't answered so is the
 /// error.
-pub(crate) fn make_calls<S: Site>(alloc: Global, site: &mut S, calls: &[Call]) -> Result<(), Wrong>
+pub fn make_calls<S: Site>(alloc: Global, site: &mut S, calls: &[Call]) -> Result<(), Wrong>
     requires { AllHome (S.areas site.old) }
     ensures { AllHome (S.areas site.new) }
 {
@@ -89,7 +87,7 @@ pub(crate) fn make_calls<S: Site>(alloc: Global, site: &mut S, calls: &[Call]) -
 }
 
 /// Makes calls of the program in turn, over a new site, and takes an area from it.
-pub(crate) fn take_behind(alloc: Global, calls: &[Call], area: &[u8]) -> Result<MemVault, Wrong> {
+pub fn take_behind(alloc: Global, calls: &[Call], area: &[u8]) -> Result<MemVault, Wrong> {
     let mut site = MemSite::new(alloc, &[])?;
     make_calls(alloc, &mut site, calls)?;
     Ok(site.take(area)?)

@@ -2,10 +2,10 @@
 //! directory, what a restore writes beside `replay`, and which chains are refused. Lines, places and
 //! sums are those of an independent implementation of the formats.
 
-use crate::calls::{Call, INIT, make_calls};
 use crate::restore_tests::are_same;
 use pgbackup_cli::Status;
 use test_areas::{SiteStep, Wrong, take_site_steps};
+use test_calls::{Call, INIT, make_calls};
 use vault::MemSite;
 
 const FORK: &[u8] = b"base/5/16384";

@@ -6,11 +6,11 @@ ghost use Rattle.std.specs.Prelude.{IfOk};
 ghost use Rattle.vault.specs.Site.{AllHome};
 ghost use Rattle.vault.specs.MemorySite.{areas_of};
 
-use crate::calls::{Call, is_answered, make_calls};
 use lsn_core::NoMemory;
 use pgbackup_cli::Status;
 use std::alloc::Global;
 use test_areas::{Change, Wrong, make_all};
+use test_calls::{Call, is_answered, make_calls};
 use vault::{MemSite, MemVault};
 
 const LABEL: &[u8] = b"backup_label";

@@ -6,13 +6,13 @@ ghost use Rattle.std.specs.Prelude.{IfOk};
 ghost use Rattle.vault.specs.Site.{AllHome};
 ghost use Rattle.vault.specs.MemorySite.{areas_of};
 
-use crate::calls::{Call, INIT, make_calls, take_behind};
 use crate::changes::change_all;
 use crate::combine_tests::CHAIN;
 use crate::restore_tests::are_same;
 use pgbackup_cli::Status;
 use std::alloc::Global;
 use test_areas::{Change, Wrong};
+use test_calls::{Call, INIT, make_calls, take_behind};
 use vault::{MemSite, MemVault};
 
 const FORK: &[u8] = b"base/5/16384";

@@ -1,10 +1,10 @@
 //! Scripts that publish summaries, and what `walsummary` tells of these, over a site in memory. Lines,
 //! places and files are those of an independent implementation.
 
-use crate::calls::{Call, make_calls};
 use crate::walsummary_tests::{CUT_FILE, CUT_NAME};
 use pgbackup_cli::Status;
 use test_areas::{SiteStep, Wrong, take_site_steps};
+use test_calls::{Call, make_calls};
 use vault::MemSite;
 
 const INIT: &str = "init --segment-mib 1 --system-id 7";

@@ -1,7 +1,6 @@
 //! Combining a chain of which each call of an area fails in turn: the fault is told, the output has
 //! no manifest, and the members keep their files.
 
-use crate::calls::{Call, NONE, make_calls, run};
 use crate::faulty_sites::{
     Area, CHAIN, Called, Command, FULL_IS_WHOLE, Fails, INCR_IS_WHOLE, areas_behind, failing_calls,
     is_done_or_told, site_with,
@@ -9,6 +8,7 @@ use crate::faulty_sites::{
 use pgbackup_cli::Status;
 use std::alloc::Global;
 use test_areas::Wrong;
+use test_calls::{Call, NONE, make_calls, run};
 
 static COMBINE: Call = (
     "combine c f1 i1",

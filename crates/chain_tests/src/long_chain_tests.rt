@@ -3,12 +3,12 @@
 
 ghost use Rattle.vault.specs.Site.{AllHome};
 
-use crate::calls::{Call, INIT, NONE, make_calls, run};
 use crate::restore_tests::are_same;
 use lsn_core::NoMemory;
 use pgbackup_cli::Status;
 use std::alloc::Global;
 use test_areas::Wrong;
+use test_calls::{Call, INIT, NONE, make_calls, run};
 use vault::{MemSite, Site};
 
 /// How many members a chain has at most.

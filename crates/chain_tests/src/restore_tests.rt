@@ -3,12 +3,12 @@
 
 ghost use Rattle.vault.specs.Site.{AllHome};
 
-use crate::calls::{Call, INIT, make_calls};
 use crate::verify_tests::F1_LABEL;
 use lsn_core::AreaFault;
 use pgbackup_cli::Status;
 use std::alloc::Global;
 use test_areas::{SiteStep, Wrong, holds_in, take_site_steps};
+use test_calls::{Call, INIT, make_calls};
 use vault::{MemSite, Site, read_in};
 
 const FORK: &[u8] = b"base/5/16384";

@@ -1,0 +1,8 @@
+//! What the tests of the program and those of its chains of backups share: calls of the program
+//! over a site in memory, and tables of calls, which are made in turn. It is no part of the
+//! program.
+#![tactic(auto)]
+
+mod calls;
+
+pub use calls::{Call, Failing, INIT, NONE, is_answered, make_calls, run, take_behind, words_in};
