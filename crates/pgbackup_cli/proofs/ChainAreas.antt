@@ -1,5 +1,5 @@
 -- The areas of a chain's members, and others beside them, that a command took from a site and gave back.
-use Rattle.std.proofs.Common.{◌≡◌, ◌≢◌, ℕ, zero, suc, ◌≤◌, ◌<◌, ◌⊎◌, inl, inr, true, false, true≢false, List, [], ◌∷◌, ◌++◌, length, length-append, get_or, map, take, drop, Some, refl, sym, ap, ap₂, subst, ◌∙◌, arith}
+use Rattle.std.proofs.Common.{◌≡◌, ◌≢◌, ℕ, zero, suc, ◌≤◌, ◌⊎◌, inl, inr, false, true≢false, List, [], ◌∷◌, ◌++◌, length, length-append, get_or, take, drop, Some, refl, sym, ap, ap₂, subst, ◌∙◌, arith}
 use Rattle.std.specs.Prelude.{nat_eq, slice_get}
 use Rattle.std.proofs.lemmas.Bool.{eq-eqb}
 use Rattle.std.proofs.lemmas.List.{append-nil, take_all, drop_all}
@@ -7,8 +7,8 @@ use Rattle.vault.specs.declared.area.Vault.{Ghosts as Vaults}
 use Rattle.vault.specs.declared.site.Site.{Ghosts as Sites}
 use Rattle.vault.specs.declared.lending.Held.{Held}
 use Rattle.vault.specs.declared.lending.TakeFault.{TakeFault}
-use Rattle.vault.specs.Site.{AreaState, Areas, AllHome, state_in}
-use Rattle.vault.specs.Lending.{Names, IsOneOf, IsNoneOf, AreDistinct, names_of, AreAreasOf, AreOut, AreLater, WritesAmong, TakeCause, AreTaken, NoneTaken, GivesBack}
+use Rattle.vault.specs.Site.{AreaState, Areas, AllHome}
+use Rattle.vault.specs.Lending.{Names, IsOneOf, IsNoneOf, AreDistinct, AreAreasOf, AreOut, AreLater, WritesAmong, TakeCause, AreTaken, NoneTaken, GivesBack}
 use Rattle.vault.proofs.LentAreas.{later_named, out_front, out_later, gives_more, lent, writes_fewer}
 use Rattle.command_base.specs.Areas.{wal_name, output_name, backup_name}
 use Rattle.chain_check.specs.Chain.{most_members}

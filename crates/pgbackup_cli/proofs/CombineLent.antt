@@ -1,5 +1,5 @@
 -- The areas of a combining, taken from a site and given back.
-use Rattle.std.proofs.Common.{◌≡◌, ◌≢◌, ℕ, zero, suc, ◌≤◌, List, [], ◌∷◌, ◌++◌, length, take, drop, Option, Some, None, IfSome, Result, Ok, Err, refl, sym, ap, subst, ◌∙◌, arith, inl, inr}
+use Rattle.std.proofs.Common.{◌≡◌, ◌≢◌, ℕ, zero, suc, ◌≤◌, List, [], ◌∷◌, ◌++◌, length, take, drop, Option, Some, None, IfSome, Ok, Err, refl, sym, ap, subst, ◌∙◌, inl, inr}
 use Rattle.std.specs.Prelude.{slice_get}
 use Rattle.std.specs.FinMap.{empty, get, get-empty}
 use Rattle.std.specs.Ordering.{nat_cmp}
@@ -10,7 +10,7 @@ use Rattle.vault.specs.declared.site.Site.{Ghosts as Sites}
 use Rattle.vault.specs.declared.lending.Held.{Held}
 use Rattle.vault.specs.declared.lending.TakeFault.{TakeFault}
 use Rattle.vault.specs.Site.{AreaState, Areas, AllHome, state_in}
-use Rattle.vault.specs.Lending.{Names, IsOneOf, AreOut, AreLater, WritesAmong, AreTaken, NoneTaken, GivesBack}
+use Rattle.vault.specs.Lending.{Names, IsOneOf, AreOut, WritesAmong, AreTaken, NoneTaken, GivesBack}
 use Rattle.vault.proofs.LentAreas.{later_named, lent, out_later, writes_fewer}
 use Rattle.backup_files.specs.Directory.{manifest_name}
 use Rattle.chain_check.specs.Directory.{IsAsListed}
@@ -26,7 +26,7 @@ use Rattle.pgbackup_cli.specs.declared.chain.MembersFault.{MembersFault}
 use Rattle.pgbackup_cli.specs.Chain.{backup_areas, IsMemberIn, AreMembersIn, IsChainTo, MembersRefused}
 use Rattle.pgbackup_cli.specs.Combine.{CombineSeen, CombineResult, CombineAnswer, CombineRan, combine_seen, combine_asks}
 use Rattle.pgbackup_cli.specs.Inner.{Never, AreMemberAreas, areas_at, combine_seen_in, RefusesMembers, AnswersCombine}
-use Rattle.pgbackup_cli.proofs.ChainAreas.{IsOfMember, of_member, one_front, one_asked, ChainBack, chain_back, chain_writes, chain_untaken, areas_site, areas_length, read_later, read_files, lent_back}
+use Rattle.pgbackup_cli.proofs.ChainAreas.{IsOfMember, of_member, one_front, one_asked, chain_back, chain_writes, chain_untaken, areas_site, areas_length, read_later, read_files, lent_back}
 
 abbrev seen_as : List AreaState → AreaState → CombineSeen
 seen_as members out = record { members = members; out = out }

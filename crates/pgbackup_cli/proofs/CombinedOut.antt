@@ -1,14 +1,12 @@
 -- What combining a chain comes to, by what each of its parts did.
-use Rattle.std.proofs.Common.{◌≡◌, ◌≢◌, ℕ, ◌+◌, ◌-◌, ◌≤◌, ◌⊎◌, inl, inr, List, length, Option, IfSome, IfOk, IfErr, Result, Ok, Err, refl, sym, ap, subst, ◌∙◌, arith}
+use Rattle.std.proofs.Common.{◌≡◌, ◌≢◌, ℕ, ◌≤◌, inl, inr, List, length, Option, IfSome, Ok, Err, sym, subst, ◌∙◌, arith}
 use Rattle.std.specs.FinMap.{empty}
-use Rattle.lsn_core.specs.Causes.{Rose}
 use Rattle.lsn_core.specs.Files.{Files}
-use Rattle.lsn_core.specs.declared.fault.AreaFault.TheVariants.{Failed, NoMemory}
+use Rattle.lsn_core.specs.declared.fault.AreaFault.TheVariants.{Failed}
 use Rattle.vault.specs.declared.area.Vault.{Ghosts}
 use Rattle.vault.specs.declared.lending.Held.{Held}
 use Rattle.vault.specs.Lending.{Names}
-use Rattle.vault.specs.Site.{state_in}
-use Rattle.backup_files.specs.Area.{HoldsNothing, KeepsManifest, RoseTwice}
+use Rattle.backup_files.specs.Area.{HoldsNothing}
 use Rattle.chain_check.specs.Directory.{IsAsListed}
 use Rattle.chain_check.specs.declared.member.Member.{Member}
 use Rattle.chain_files.specs.Sources.{OfChain}
@@ -19,9 +17,8 @@ use Rattle.combine.specs.Calls.{CannotList, Combines, CombineCause, KeepsOut, Le
 use Rattle.combine.specs.declared.fault.CombineFault.{CombineFault as Uncombined}
 use Rattle.combine.specs.declared.fault.CombineFault.TheVariants as uncombined
 use Rattle.pgbackup_cli.specs.declared.combining.CombineReport.{CombineReport}
-use Rattle.pgbackup_cli.specs.declared.combining.CombineFault.TheVariants as combine
-use Rattle.pgbackup_cli.specs.Chain.{files_told, IsChainTo, IsOfChain}
-use Rattle.pgbackup_cli.specs.Combine.{CombineSeen, combine_report, HoldsCombined, StandsWhole}
+use Rattle.pgbackup_cli.specs.Chain.{files_told, IsChainTo}
+use Rattle.pgbackup_cli.specs.Combine.{CombineSeen, combine_report, HoldsCombined}
 use Rattle.pgbackup_cli.specs.Inner.{AreOwnPlaces, areas_at, combine_seen_in, combine_fault, AnswersCombine}
 use Rattle.pgbackup_cli.proofs.RestoredOut.{chain_is, member_fails}
 

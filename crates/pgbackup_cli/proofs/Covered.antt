@@ -1,5 +1,5 @@
 -- What the summaries that are kept of an area cover.
-use Rattle.std.proofs.Common.{◌≡◌, ℕ, List, Option, Some, None, Result, Ok, Err, IfSome, refl, sym, subst}
+use Rattle.std.proofs.Common.{ℕ, List, Option, Some, None, Ok, Err, IfSome, sym, subst}
 use Rattle.lsn_core.specs.Files.{Files}
 use Rattle.lsn_core.specs.declared.lsn.Lsn.{Lsn}
 use Rattle.lsn_core.specs.declared.fault.AreaFault.{AreaFault}
@@ -8,7 +8,7 @@ use Rattle.vault.specs.declared.area.Vault.{Ghosts as Vaults}
 use Rattle.wal_summary.specs.declared.summary.Summary.{Summary}
 use Rattle.wal_summary.specs.Kept.{IsCovering, IsGap}
 use Rattle.summary_store.specs.Kept.{AreKept}
-use Rattle.command_base.specs.Areas.{AreaFails, AreaCause}
+use Rattle.command_base.specs.Areas.{AreaCause}
 use Rattle.pgbackup_cli.specs.declared.walsummary.WalsummaryFault.TheVariants as walsummary
 use Rattle.pgbackup_cli.specs.Walsummary.{WalsummaryResult, IsKeptCovering, IsKeptGap}
 use Rattle.pgbackup_cli.specs.Inner.{AnswersKept, AnswersWalsummary}

@@ -12,7 +12,6 @@ use Rattle.vault.specs.Lending.{Names, IsOneOf, IsNoneOf, AreDistinct}
 use Rattle.command_base.specs.Areas.{backup_name}
 use Rattle.chain_files.specs.Told.{ArePlaces}
 use Rattle.pgbackup_cli.specs.declared.chain.MemberAreas.{MemberAreas}
-use Rattle.pgbackup_cli.specs.Chain.{backup_names}
 use Rattle.pgbackup_cli.specs.Inner.{AreOwnPlaces, StandAt, AreMemberAreas, PlacesArea}
 
 -- ---- parts of lists

@@ -1,5 +1,5 @@
 -- The members of a chain, found one behind the other.
-use Rattle.std.proofs.Common.{◌≡◌, ◌≢◌, ℕ, zero, suc, ◌+◌, ◌<◌, ◌≤◌, ◌⊎◌, inl, inr, List, [], ◌∷◌, ◌++◌, length, get_or, set, map, take, Option, Some, None, IfSome, Result, Ok, Err, refl, sym, ap, subst, ◌∙◌, arith}
+use Rattle.std.proofs.Common.{◌≡◌, ℕ, zero, suc, ◌+◌, ◌<◌, ◌≤◌, List, [], ◌∷◌, ◌++◌, length, get_or, set, map, take, Option, Some, IfSome, Result, Ok, Err, refl, sym, ap, subst, arith}
 use Rattle.std.specs.Prelude.{slice_get}
 use Rattle.std.proofs.lemmas.List.{take_all, length-map}
 use Rattle.std.proofs.lemmas.Option.{slice_get-get_or}
@@ -7,23 +7,20 @@ use Rattle.lsn_core.specs.Files.{Files}
 use Rattle.lsn_core.specs.Causes.{Rose}
 use Rattle.vault.specs.declared.area.Vault.{Ghosts}
 use Rattle.vault.specs.declared.lending.Held.{Held}
-use Rattle.vault.specs.Frame.{OnlyReads}
 use Rattle.vault.specs.Lending.{Names}
 use Rattle.vault.specs.Site.{AreaState}
-use Rattle.chain_check.specs.Chain.{most_members, IsAccepted, IsChainRefused}
+use Rattle.chain_check.specs.Chain.{most_members, IsAccepted}
 use Rattle.chain_check.specs.Directory.{IsAsListed}
 use Rattle.chain_check.specs.Refusals.{HasRefusal, DirAnswer, RefusesRisen}
-use Rattle.chain_check.specs.declared.chain.ChainRefusal.{ChainRefusal}
-use Rattle.chain_check.specs.declared.link.LinkFault.TheVariants as link
 use Rattle.chain_check.specs.declared.fault.ChainFault.TheVariants.{Failed}
 use Rattle.chain_check.specs.declared.member.Member.{Member}
 use Rattle.chain_check.specs.declared.refusal.Refusal.{Refusal}
-use Rattle.chain_files.specs.Told.{told_at, faults_at, AllOnlyRead, ArePlaces}
+use Rattle.chain_files.specs.Told.{AllOnlyRead, ArePlaces}
 use Rattle.chain_files.proofs.Told.{reads_told_at, reads_faults, told_here, faults_here, faults_set}
-use Rattle.pgbackup_cli.specs.Chain.{IsMemberIn, AreMembersIn, IsChainTo, IsFirstRefused, IsNoChain}
+use Rattle.pgbackup_cli.specs.Chain.{IsMemberIn, AreMembersIn, IsChainTo, IsFirstRefused}
 use Rattle.pgbackup_cli.specs.Verify.{DirectoryRefused}
 use Rattle.pgbackup_cli.specs.Inner.{area_at, areas_at, AnswersMember}
-use Rattle.pgbackup_cli.proofs.MemberAreas.{get_some, get_within, take_one}
+use Rattle.pgbackup_cli.proofs.MemberAreas.{take_one}
 
 -- ---- one member more
 

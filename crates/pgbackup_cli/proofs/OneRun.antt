@@ -40,7 +40,7 @@ use Rattle.crew.proofs.OneAnswer.{one_answer}
 use Rattle.run_command.specs.declared.command.RunReport.{RunReport}
 use Rattle.run_command.specs.declared.command.RunFault.{RunFault}
 use Rattle.run_command.specs.declared.command.RunFault.TheVariants as run
-use Rattle.run_command.specs.Run.{RunResult, tasks_told, HasFound, found_tip, RunDone, HasScript, HasRefusedLine, RunAnswer}
+use Rattle.run_command.specs.Run.{RunResult, HasFound, found_tip, RunDone, HasScript, HasRefusedLine, RunAnswer}
 use Rattle.run_command.specs.Input.{IsInput}
 use Rattle.command_base.specs.Areas.{wal_name}
 use Rattle.command_base.specs.Outside.{Outside}

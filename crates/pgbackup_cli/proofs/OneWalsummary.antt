@@ -1,14 +1,14 @@
 -- What telling the kept summaries of a range comes to has one answer.
-use Rattle.std.proofs.Common.{◌≡◌, ℕ, ◌<◌, ◌≤◌, ◌⊎◌, List, [], ◌∷◌, true, false, map, Some, Result, Ok, Err, refl, sym, ap, subst, ◌∙◌, arith, inl, inr, ⊎_elim}
+use Rattle.std.proofs.Common.{◌≡◌, ℕ, ◌<◌, ◌≤◌, List, [], ◌∷◌, true, false, map, Some, Result, Ok, Err, refl, sym, ap, subst, ◌∙◌, arith, inl, inr, ⊎_elim}
 use Rattle.std.proofs.lemmas.Bool.Decides.{leb_tells}
 use Rattle.lsn_core.specs.Files.{Files}
 use Rattle.lsn_core.specs.declared.lsn.Lsn.{Lsn}
-use Rattle.fuzzy_copies.specs.Summary.{BlockRefTable, summed}
+use Rattle.fuzzy_copies.specs.Summary.{summed}
 use Rattle.vault.specs.declared.lending.TakeFault.{TakeFault}
 use Rattle.vault.specs.Site.{AreaState}
 use Rattle.wal_summary.specs.declared.summary.ForkSummary.{ForkSummary}
 use Rattle.wal_summary.specs.declared.summary.Summary.{Summary}
-use Rattle.wal_summary.specs.Summary.{IsSummary, table_of_summary}
+use Rattle.wal_summary.specs.Summary.{table_of_summary}
 use Rattle.wal_summary.specs.Kept.{IsCovering, IsGap, AreNeighbours, overlapping, is_covered}
 use Rattle.wal_summary.specs.Laws.{SummariesAreOne}
 use Rattle.summary_file.specs.Laws.{ReadSummariesAreWritten}

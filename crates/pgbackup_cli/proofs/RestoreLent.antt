@@ -1,5 +1,5 @@
 -- The areas of a restore, taken from a site and given back.
-use Rattle.std.proofs.Common.{◌≡◌, ℕ, ◌≤◌, List, [], ◌∷◌, ◌++◌, length, take, drop, Option, Result, Ok, Err, refl, sym, ap, subst, ◌∙◌, arith, inl, inr}
+use Rattle.std.proofs.Common.{◌≡◌, ℕ, ◌≤◌, List, [], ◌∷◌, ◌++◌, length, take, drop, Option, Ok, Err, refl, sym, ap, subst, ◌∙◌, inl, inr}
 use Rattle.std.proofs.lemmas.List.{append_assoc}
 use Rattle.lsn_core.specs.declared.lsn.Lsn.{Lsn}
 use Rattle.vault.specs.declared.area.Vault.{Ghosts as Vaults}
@@ -8,19 +8,19 @@ use Rattle.vault.specs.declared.lending.Held.{Held}
 use Rattle.vault.specs.declared.lending.TakeFault.{TakeFault}
 use Rattle.vault.specs.Frame.{OnlyReads}
 use Rattle.vault.specs.Site.{AreaState, Areas, AllHome, state_in}
-use Rattle.vault.specs.Lending.{Names, IsOneOf, IsNoneOf, AreLater, WritesAmong, AreOut, AreTaken, NoneTaken, GivesBack}
+use Rattle.vault.specs.Lending.{Names, AreLater, WritesAmong, AreOut, AreTaken, NoneTaken, GivesBack}
 use Rattle.chain_check.specs.Chain.{most_members}
 use Rattle.chain_files.specs.Told.{AllOnlyRead}
 use Rattle.chain_files.proofs.Told.{reads_length}
 use Rattle.command_base.specs.Areas.{wal_name, output_name}
-use Rattle.command_base.specs.Outside.{of_site, Works, Untakens, IsUntaken}
+use Rattle.command_base.specs.Outside.{of_site, Untakens, IsUntaken}
 use Rattle.command_base.proofs.Lent.{none_written}
 use Rattle.pgbackup_cli.specs.declared.chain.MemberAreas.{MemberAreas}
 use Rattle.pgbackup_cli.specs.declared.restore.RestoreFault.TheVariants as restore
 use Rattle.pgbackup_cli.specs.Chain.{backup_areas}
-use Rattle.pgbackup_cli.specs.Restore.{RestoreSeen, RestoreResult, RestoreAnswer, RestoreRan, RestoreDoes, restore_seen, restore_asks}
+use Rattle.pgbackup_cli.specs.Restore.{RestoreSeen, RestoreResult, RestoreAnswer, RestoreDoes, restore_seen, restore_asks}
 use Rattle.pgbackup_cli.specs.Inner.{Never, AreMemberAreas, areas_at, restore_seen_in, AnswersRestore}
-use Rattle.pgbackup_cli.proofs.ChainAreas.{ChainBack, chain_back, chain_writes, chain_untaken, areas_site, Lends, lends, counted, taken_as, rest_out, members_out_of, lent_back}
+use Rattle.pgbackup_cli.proofs.ChainAreas.{chain_back, chain_writes, chain_untaken, areas_site, Lends, lends, counted, taken_as, rest_out, members_out_of, lent_back}
 
 abbrev pub held_as : {A : Type 0} → List ℕ → A → Held A
 held_as name area = record { name = name; area = area }

@@ -1,6 +1,5 @@
 -- The areas of members, one behind the other.
-use Rattle.std.proofs.Common.{◌≡◌, ◌<◌, length, sym, subst, arith}
-use Rattle.command_base.specs.Areas.{backup_name}
+use Rattle.std.proofs.Common.{◌<◌, length, sym, subst, arith}
 use Rattle.command_line.specs.Members.{names_in}
 use Rattle.pgbackup_cli.specs.Inner.{PlacesArea}
 use Rattle.pgbackup_cli.proofs.MemberAreas.{get_within, past_by, standing_next, standing_all}

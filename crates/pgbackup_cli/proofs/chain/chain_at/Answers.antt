@@ -1,4 +1,4 @@
-use Rattle.std.proofs.Common.{◌≡◌, List, length, ap, arith}
+use Rattle.std.proofs.Common.{List, length, ap, arith}
 use Rattle.chain_check.specs.declared.member.Member.{Member}
 use Rattle.command_line.specs.Members.{names_in}
 use Rattle.pgbackup_cli.specs.Inner.{areas_at}

@@ -1,5 +1,5 @@
 -- The members of a chain, one behind the other.
-use Rattle.std.proofs.Common.{ℕ, ◌≡◌, ◌+◌, ◌<◌, ◌≤◌, length, refl, sym, ap, subst, ◌∙◌, arith}
+use Rattle.std.proofs.Common.{◌<◌, length, sym, arith}
 use Rattle.command_line.specs.Members.{names_in}
 use Rattle.chain_files.proofs.Told.{reads_refl, reads_trans, reads_length}
 use Rattle.pgbackup_cli.proofs.MemberAreas.{get_within, past_by}

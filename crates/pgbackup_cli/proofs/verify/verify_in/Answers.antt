@@ -1,5 +1,5 @@
 -- The area that comes back was only read.
-use Rattle.std.proofs.Common.{[], ◌∷◌, ap, ◌∙◌, sym}
+use Rattle.std.proofs.Common.{ap, ◌∙◌, sym}
 use Rattle.vault.specs.Site.{AreaState}
 use Rattle.command_base.proofs.Lent.{one_back, none_writes}
 use Rattle.pgbackup_cli.proofs.verify.verify_in.Goals as goal
