@@ -1,6 +1,6 @@
-//! The tests of what a backup leaves, and of summaries of the WAL, through the public calls of its crates alone. A crate with
-//! tests is proved twice, so they stand in a crate of their own, apart from those of the base, of
-//! the store and of the program, which are proved beside it.
+//! The tests of what a backup leaves, and of summaries of the WAL, through the public calls of its
+//! crates alone. A crate with tests is proved twice, so they stand in a crate of their own, apart
+//! from those of the base, of the store and of the program, which are proved beside it.
 //!
 //! A test shows what no clause says: that a call succeeds where memory is there, and texts that
 //! come from an independent implementation of the formats or from the formats alone.
