@@ -1,5 +1,5 @@
 -- A table's rows, each held against the row before it by computing.
-use Rattle.std.proofs.Common.{◌≡◌, ℕ, zero, suc, ◌+◌, ◌*◌, ◌<◌, List, [], ◌∷◌, map, get_or, refl, sym, ap, ◌∙◌, arith, zero-add}
+use Rattle.std.proofs.Common.{◌≡◌, ℕ, zero, suc, ◌+◌, ◌*◌, ◌^◌, ◌<◌, List, [], ◌∷◌, map, get_or, refl, sym, ap, ◌∙◌, arith, zero-add, zero-mul}
 use Rattle.wal_crc.specs.Crc.{bit_steps}
 use Rattle.wal_crc.proofs.Steps.{steps_add, steps_zero}
 
@@ -34,14 +34,29 @@ row_at (suc n) (suc k) row i h =
 
 -- the rows that the bytes leave behind
 unfoldable pub byte_rows : List (List ℕ)
-byte_rows = rows_from 8 (map (bit_steps 8) (numbers_from 0 256))
+byte_rows = rows_from 16 (map (bit_steps 8) (numbers_from 0 256))
 
-pub register_at : (rows : List (List ℕ)) → rows ≡ byte_rows → (k byte : ℕ) → k < 8 → byte < 256 → get_or (get_or rows k []) byte 0 ≡ bit_steps (8 * (k + 1)) byte
+pub register_at : (rows : List (List ℕ)) → rows ≡ byte_rows → (k byte : ℕ) → k < 16 → byte < 256 → get_or (get_or rows k []) byte 0 ≡ bit_steps (8 * (k + 1)) byte
 unfolding byte_rows
 register_at rows same k byte in_row in_byte =
     let later : 8 + 8 * k ≡ 8 * (k + 1) = omega arith in
     ap (λ (ys : List (List ℕ)). get_or (get_or ys k []) byte 0) same
-    ∙ row_at 8 k (map (bit_steps 8) (numbers_from 0 256)) byte in_row
+    ∙ row_at 16 k (map (bit_steps 8) (numbers_from 0 256)) byte in_row
     ∙ ap (bit_steps (8 * k)) (mapped 8 (numbers_from 0 256) byte ∙ ap (bit_steps 8) (number_at 0 256 byte in_byte ∙ zero-add byte))
     ∙ sym (steps_add 8 (8 * k) byte)
     ∙ ap (λ (m : ℕ). bit_steps m byte) later
+
+-- the bytes, each times a number
+unfoldable pub scaled : ℕ → List ℕ
+scaled s = map (λ b. b * s) (numbers_from 0 256)
+
+scaled_at : (s : ℕ) (row : List ℕ) (i : ℕ) → get_or (map (λ b. b * s) row) i 0 ≡ get_or row i 0 * s
+scaled_at s [] i = rw zero-mul refl
+scaled_at s (r ∷ rs) zero = refl
+scaled_at s (r ∷ rs) (suc i) = scaled_at s rs i
+
+pub block_at : (s byte : ℕ) → byte < 256 → get_or (map (bit_steps 1024) (scaled s)) byte 0 ≡ bit_steps 1024 (byte * s)
+unfolding scaled
+block_at s byte low =
+    mapped 1024 (scaled s) byte
+    ∙ ap (bit_steps 1024) (scaled_at s (numbers_from 0 256) byte ∙ ap (λ (b : ℕ). b * s) (number_at 0 256 byte low ∙ zero-add byte))

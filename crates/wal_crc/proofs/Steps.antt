@@ -56,7 +56,7 @@ low_byte_apart n r =
     ∙ ap (λ (x : ℕ). bit_xor x (bit_steps (8 + n) (r % 256))) (steps_add 8 n (r / 256 * 256) ∙ ap (bit_steps n) (zeros_leave 8 (r / 256)))
     ∙ xor_comm (bit_steps n (r / 256)) (bit_steps (8 + n) (r % 256))
 
-none_left : (r : ℕ) → bit_steps 0 r ≡ r
+pub none_left : (r : ℕ) → bit_steps 0 r ≡ r
 unfolding bit_steps
 none_left r = refl
 

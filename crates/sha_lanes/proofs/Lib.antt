@@ -1,0 +1,3 @@
+pub mod FourLanes
+mod MajShort
+mod Hashes
