@@ -4,4 +4,5 @@ pub mod ForkPaths
 pub mod LsnTexts
 pub mod Padding
 pub mod SegmentNames
+pub mod SegmentOrder
 pub mod StoreFiles

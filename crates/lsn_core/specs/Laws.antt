@@ -1,7 +1,8 @@
 -- What holds of names, and of a store's files by their names.
-use Rattle.std.specs.Prelude.{◌≡◌, ℕ, ◌^◌, ◌<◌, Bool, false, List, map, length, Some}
+use Rattle.std.specs.Prelude.{◌≡◌, ℕ, ◌^◌, ◌<◌, ◌≤◌, Bool, false, List, map, length, Some}
 use Rattle.std.specs.Ordering.{nat_cmp, eq_by_cmp}
 use Rattle.std.specs.Cmp.Lexicographic.{slice_cmp}
+use Rattle.std.specs.declared.cmp.Ordering.TheVariants.{Less}
 use Rattle.std.specs.FinMap.{get}
 use Rattle.std.specs.List.{IsDistinct}
 use Rattle.lsn_core.specs.declared.ids.ForkId.{ForkId}
@@ -25,6 +26,12 @@ WrittenNamesAreRead = (number mib : ℕ)
 abbrev pub NamesHaveOneSegment : Type 0
 NamesHaveOneSegment = (s t m n mib : ℕ) → HasSegmentName s m mib → HasSegmentName t n mib
     → segment_file_bytes s m mib ≡ segment_file_bytes t n mib → (s ≡ t) × (m ≡ n)
+
+-- and the names of segments stand in the order of their numbers
+abbrev pub NamesRise : Type 0
+NamesRise =
+    (mib s t : ℕ) → 1 ≤ mib → mib ≤ 1024 → s < t → t < 2 ^ 32
+    → slice_cmp nat_cmp (segment_name_bytes s mib) (segment_name_bytes t mib) ≡ Less
 
 -- a path is that of one segment of one fork, in one form
 abbrev pub PathsHaveOneFork : Type 0

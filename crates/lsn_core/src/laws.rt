@@ -1,6 +1,6 @@
 //! Laws of names: each is the contract of a function that does nothing.
 
-ghost use Rattle.lsn_core.specs.Laws.{PrintedLsnsAreRead, TextsHaveOneLsn, WrittenNamesAreRead, NamesHaveOneSegment, PathsHaveOneFork, FilesAreDistinct, FilesHoldSegments};
+ghost use Rattle.lsn_core.specs.Laws.{PrintedLsnsAreRead, TextsHaveOneLsn, WrittenNamesAreRead, NamesHaveOneSegment, NamesRise, PathsHaveOneFork, FilesAreDistinct, FilesHoldSegments};
 
 /// What `lsn_text` gives is read as the LSN that it was given, and a text is read as one LSN.
 pub fn lsns_are_read_again()
@@ -13,6 +13,11 @@ pub fn lsns_are_read_again()
 pub fn segments_are_read_again()
     ensures written { WrittenNamesAreRead }
     ensures one { NamesHaveOneSegment }
+{}
+
+/// The names of segments stand in the order of their numbers.
+pub fn segment_names_rise()
+    ensures { NamesRise }
 {}
 
 /// A path is that of one segment of one fork, incremental or plain.

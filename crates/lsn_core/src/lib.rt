@@ -26,7 +26,8 @@ mod text;
 pub use fault::{AreaFault, MarkFault, NoMemory, Side, StoreArea, StoreFault};
 pub use ids::{BlockId, ForkId, ForkKind, ForkLen, Rel};
 pub use laws::{
-    lsns_are_read_again, paths_have_one_fork, segments_are_read_again, store_files_are_distinct,
+    lsns_are_read_again, paths_have_one_fork, segment_names_rise, segments_are_read_again,
+    store_files_are_distinct,
 };
 pub use lsn::{Lsn, Place, WalTip, lsn_read, lsn_text};
 pub use names::{fork_path, segment_name, segment_of, segment_read};

@@ -3,7 +3,7 @@ use Rattle.std.proofs.Common.{◌≡◌, inl, inr, List, [], ◌∷◌, ◌++◌
 use Rattle.lsn_core.specs.Files.{Files}
 use Rattle.lsn_core.specs.declared.fault.AreaFault.{AreaFault}
 use Rattle.vault.specs.Stops.{Event, Made, MayLeave, MightHaveLeft, noted, MayNote, synced}
-use Rattle.vault.specs.Frame.{Each, Adds, LeavesNow, LeavesOnly}
+use Rattle.vault.specs.Frame.{IsDurable, Each, Adds, LeavesNow, LeavesOnly}
 
 unit_map : (o : Option (List Event)) → o ≡ option_map (λ earlier. [] ++ earlier) o
 unit_map None = refl
@@ -71,13 +71,13 @@ pub settled_by : (files : Files) (x y : Option (List Event)) → y ≡ noted (sy
 settled_by files None y e = subst (LeavesNow (λ c. c ≡ files)) (sym e) tt
 settled_by files (Some l) y e = subst (LeavesNow (λ c. c ≡ files)) (sym e) (λ c left. left.2.1)
 
-told_all : (files : Option Files) (x y : Option (List Event)) → y ≡ noted (synced files) x → IfSome files (λ m. LeavesNow (λ c. c ≡ m) y)
-told_all None x y e = tt
-told_all (Some m) x y e = settled_by m x y e
-
 -- after a sync a stop leaves what a read gives
-pub settled : {T E : Type 0} (result : Result T E) (files now : Option Files) (x y : Option (List Event)) → now ≡ files → OnOk result (y ≡ noted (synced files) x) → OnOk result (IfSome now (λ m. LeavesNow (λ c. c ≡ m) y))
-settled (Ok done) files now x y same e = told_all now x y (e ∙ ap (λ (f : Option Files). noted (synced f) x) (sym same))
+pub durable_behind : (files : Option Files) (x y : Option (List Event)) → y ≡ noted (synced files) x → IsDurable files y
+durable_behind None x y e = tt
+durable_behind (Some m) x y e = settled_by m x y e
+
+pub settled : {T E : Type 0} (result : Result T E) (files now : Option Files) (x y : Option (List Event)) → now ≡ files → OnOk result (y ≡ noted (synced files) x) → OnOk result (IsDurable now y)
+settled (Ok done) files now x y same e = durable_behind now x y (e ∙ ap (λ (f : Option Files). noted (synced f) x) (sym same))
 settled (Err fault) files now x y same e = tt
 
 -- a sync, whatever it answers
