@@ -1,5 +1,5 @@
 -- A read of a segment's file is a run of the archive.
-use Rattle.std.proofs.Common.{◌≡◌, ℕ, zero, suc, ◌+◌, ◌-◌, ◌*◌, ◌/◌, ◌%◌, ◌<◌, ◌≤◌, true, false, List, [], length, get_or, take, drop, Option, Some, None, refl, sym, ap, subst, ◌∙◌, arith}
+use Rattle.std.proofs.Common.{◌≡◌, ℕ, zero, suc, ◌+◌, ◌*◌, ◌/◌, ◌%◌, ◌<◌, ◌≤◌, true, false, List, [], length, get_or, take, drop, Option, Some, None, refl, sym, ap, subst, ◌∙◌, arith}
 use Rattle.std.proofs.lemmas.Bool.{cond-false}
 use Rattle.std.proofs.lemmas.Nat.{div-add-mod'}
 use Rattle.std.proofs.lemmas.List.{length-append, length-take, length-drop, get_or_append_left, get_or-take, get_or-drop}
@@ -23,7 +23,6 @@ use Rattle.wal_archive.specs.Reading.{Says}
 use Rattle.byte_words.specs.Told.{when_told, when_both_told}
 use Rattle.wal_archive.proofs.Files.{nth_held}
 use Rattle.wal_archive.proofs.Runs.{bytes_held}
-use Rattle.wal_pages.proofs.Splits.{split}
 use Rattle.wal_archive.proofs.Writes.{nth_past, nth_take, held_old, byte_at, at_split}
 
 pub run_read : (mib : ℕ) (m : Files) (x : ℕ) (before now : List ℕ) (count : ℕ) → 1 ≤ mib

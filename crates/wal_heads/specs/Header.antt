@@ -6,7 +6,7 @@ use Rattle.lsn_core.specs.declared.lsn.Lsn.{Lsn}
 use Rattle.wal_crc.specs.Crc.{crc32c}
 use Rattle.wal_heads.specs.declared.header.Header.{Header}
 use Rattle.wal_heads.specs.declared.header.Form.{Form}
-use Rattle.wal_heads.specs.declared.header.Form.TheVariants.{Shutdown, Online, RedoMark, NoOp, BackupEnd, Images, Generic, Create, Truncate}
+use Rattle.wal_heads.specs.declared.header.Form.TheVariants.{Shutdown, Online, RedoMark, NoOp, BackupEnd, Images, Generic, Create, Truncate, Commit, CommitMore}
 
 -- the least total length of an entry, which is its header's, and the greatest one (profile)
 abbrev pub least_total : ℕ
@@ -66,6 +66,10 @@ xlog_form kind =
     else (if kind == 14 then Some RedoMark
     else None)))))
 
+abbrev pub transaction_form : ℕ → Option Form
+transaction_form kind =
+    if kind == 0 then Some Commit else (if kind == 8 then Some CommitMore else None)
+
 abbrev pub storage_form : ℕ → Option Form
 storage_form kind =
     if kind == 1 then Some Create else (if kind == 2 then Some Truncate else None)
@@ -77,9 +81,10 @@ generic_form kind = if kind == 0 then Some Generic else None
 abbrev pub form_of : ℕ → ℕ → Option Form
 form_of manager info =
     if manager == 0 then xlog_form (info / 16)
+    else (if manager == 1 then transaction_form (info / 16)
     else (if manager == 2 then storage_form (info / 16)
     else (if manager == 20 then generic_form (info / 16)
-    else None))
+    else None)))
 
 -- the header of the entry at the front, and the entry's bytes behind it
 unfoldable pub parts_at : List ℕ → Option (Header × List ℕ)

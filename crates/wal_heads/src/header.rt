@@ -38,6 +38,10 @@ pub enum Form {
     Generic,
     Create,
     Truncate,
+    /// A commit that tells its time alone.
+    Commit,
+    /// A commit that tells more.
+    CommitMore,
 }
 
 /// The bytes of the entry at the front, as many as its total length tells. None exactly where that
@@ -123,6 +127,8 @@ pub fn form_of(manager: u8, info: u8) -> Option<Form>
         (0, 0x5) => Some(Form::BackupEnd),
         (0, 0xB) => Some(Form::Images),
         (0, 0xE) => Some(Form::RedoMark),
+        (1, 0x0) => Some(Form::Commit),
+        (1, 0x8) => Some(Form::CommitMore),
         (2, 0x1) => Some(Form::Create),
         (2, 0x2) => Some(Form::Truncate),
         (20, 0x0) => Some(Form::Generic),

@@ -1,6 +1,5 @@
 -- Entries read so far, for a loop over a cursor; and what is known of where a WAL ends.
-use Rattle.std.proofs.Common.{◌≡◌, ◌≤◌, ◌-◌, List, [], ◌∷◌, Some, refl, sym, subst, arith}
-use Rattle.std.proofs.lemmas.Bool.{le-leb}
+use Rattle.std.proofs.Common.{◌≡◌, ◌≤◌, List, [], ◌∷◌, Some, sym, subst}
 use Rattle.lsn_core.specs.Files.{Files}
 use Rattle.lsn_core.specs.Segment.{IsSegmentMib, StoreSettings}
 use Rattle.lsn_core.specs.Tip.{Tip}
@@ -9,9 +8,9 @@ use Rattle.wal_record.specs.Decoding.{record_at}
 use Rattle.wal_record.proofs.Sounding.{read_sound}
 use Rattle.wal_record.specs.Tips.{first_tip, tip_after, tip_behind}
 use Rattle.wal_archive.specs.Archive.{archive_of}
-use Rattle.wal_archive.specs.Rules.{lsn, Gives, next_bytes}
+use Rattle.wal_archive.specs.Rules.{lsn, Gives}
 use Rattle.wal_archive.proofs.Next.{next_stands}
-use Rattle.wal_archive.proofs.Chain.{given, ends}
+use Rattle.wal_archive.proofs.Chain.{given}
 use Rattle.wal_reader.specs.Wal.{stands_behind, ReadsOn, IsWal}
 use Rattle.wal_reader.specs.Cursor.{IsReached, IsGiven}
 use Rattle.wal_reader.proofs.Reached.{base, first_reached}

@@ -65,6 +65,19 @@ impl WalCursor {
         }
     }
 
+    /// A cursor that goes on behind entries that were read, where their tip is this one.
+    pub fn behind(settings: &Settings, tip: WalTip) -> WalCursor
+        requires { IsReached settings.now.segment tip }
+        ensures { result ≡ record (at_start settings.now) { tip = tip } }
+    {
+        WalCursor {
+            layout: Layout::new(settings),
+            set: false,
+            tip,
+            fault: None,
+        }
+    }
+
     /// The end of the WAL as far as the cursor gave its entries, and at the archive's end that of
     /// the WAL. Of a cursor that was set at a place it counts from there.
     pub fn tip(&self) -> WalTip

@@ -16,7 +16,7 @@ use Rattle.pg_page.proofs.ImageLaws.{length-image_of-Some, length-image_of-None,
 use Rattle.wal_heads.specs.declared.announce.ImageHead.{ImageHead}
 use Rattle.wal_heads.specs.declared.announce.MainHead.TheVariants.{Short, Long}
 use Rattle.wal_record.specs.declared.record.Kind.{Kind}
-use Rattle.wal_record.specs.declared.record.Kind.TheVariants.{Shutdown, Online, RedoMark, NoOp, BackupEnd, Images, Generic, Create, Truncate}
+use Rattle.wal_record.specs.declared.record.Kind.TheVariants.{Shutdown, Online, RedoMark, NoOp, BackupEnd, Images, Generic, Create, Truncate, Commit}
 use Rattle.wal_record.specs.declared.record.BlockRef.{BlockRef}
 use Rattle.wal_record.specs.declared.record.Body.{Body}
 use Rattle.wal_record.specs.declared.record.Body.TheVariants.{Image, Delta}
@@ -24,6 +24,7 @@ use Rattle.wal_heads.specs.Heads.{has_bit, image_good, image_may, block_good, im
 use Rattle.wal_record.specs.Spelling.{fork_number, main_of, blocks_of, image_head_of, frags_bytes, body_image, body_flag, body_bytes, body_data_len, is_same, same_flag, told_name, head_of, heads_of, main_head_of, bodies_bytes, IsRelation, IsWritableBody, IsWritableBlock, IsWritable}
 use Rattle.wal_record.proofs.Deltas.{frags_most}
 use Rattle.wal_record.proofs.Writing.{flags_fit}
+use Rattle.wal_record.proofs.Dropping.{length-commit}
 
 -- the flags of a block, by its fork, its body, and whether its relation is the one before
 abbrev pub flags_of : ForkKind → Body → Bool → ℕ
@@ -197,16 +198,17 @@ written_from id before last (b ∷ bs) main rest w few begins lt len =
           (omega (arith, len, sized b.body own.body, length-append (body_bytes b.body) (bodies_bytes bs))),
     )
 
-main_few : (kind : Kind) → length (main_of kind) ≤ 24
-main_few (Shutdown redo) = omega arith
-main_few (Online redo) = omega arith
-main_few (RedoMark n) = omega arith
-main_few NoOp = omega arith
-main_few (BackupEnd start) = omega arith
-main_few (Images blocks) = omega arith
-main_few (Generic blocks) = omega arith
-main_few (Create fork) = omega arith
-main_few (Truncate rel count flags) = omega arith
+main_few : (kind : Kind) → IsWritable kind → length (main_of kind) < 2 ^ 32
+main_few (Shutdown redo) w = omega arith
+main_few (Online redo) w = omega arith
+main_few (RedoMark n) w = omega arith
+main_few NoOp w = omega arith
+main_few (BackupEnd start) w = omega arith
+main_few (Images blocks) w = omega arith
+main_few (Generic blocks) w = omega arith
+main_few (Create fork) w = omega arith
+main_few (Truncate rel count flags) w = omega arith
+main_few (Commit time rels) w = omega (arith, length-commit time rels, w.1.1)
 
 -- the blocks of what can be written
 record BlocksStand (kind : Kind) : Type 0 where
@@ -223,9 +225,10 @@ blocks_stand (Images blocks) w = record { each = w.0.each; few = w.0.most }
 blocks_stand (Generic blocks) w = record { each = w.each; few = w.most }
 blocks_stand (Create fork) w = record { each = All-nil IsWritableBlock; few = omega arith }
 blocks_stand (Truncate rel count flags) w = record { each = All-nil IsWritableBlock; few = omega arith }
+blocks_stand (Commit time rels) w = record { each = All-nil IsWritableBlock; few = omega arith }
 
 pub heads_written : (kind : Kind) → IsWritable kind → AreHeads 0 0 (heads_of 0 None (blocks_of kind)) (main_head_of (main_of kind)) (bodies_bytes (blocks_of kind) ++ main_of kind)
 heads_written kind w =
     let s = blocks_stand kind w in
-    let lt : length (main_of kind) < 2 ^ 32 = omega (arith, main_few kind) in
+    let lt : length (main_of kind) < 2 ^ 32 = main_few kind w in
     written_from 0 0 None (blocks_of kind) (main_of kind) (bodies_bytes (blocks_of kind) ++ main_of kind) s.each (omega (arith, s.few)) (λ e. refl) lt (omega (arith, length-append (bodies_bytes (blocks_of kind)) (main_of kind)))

@@ -1,6 +1,10 @@
 -- How long what is written is.
-use Rattle.std.proofs.Common.{◌≡◌, ℕ, ◌+◌, ◌*◌, ◌≤◌, List, [], ◌∷◌, ◌++◌, length, Option, Some, None, refl, arith}
+use Rattle.std.proofs.Common.{◌≡◌, ℕ, ◌+◌, ◌*◌, ◌≤◌, Bool, true, false, cond, List, [], ◌∷◌, ◌++◌, length, Option, Some, None, refl, arith}
 use Rattle.std.specs.List.{All}
+use Rattle.std.specs.Prelude.{nat_le}
+use Rattle.wal_heads.specs.declared.announce.MainHead.TheVariants.{Short, Long}
+use Rattle.wal_heads.specs.Heads.{main_bytes}
+use Rattle.wal_record.proofs.Dropping.{length-commit}
 use Rattle.std.proofs.lemmas.List.{length-append}
 use Rattle.std.proofs.lemmas.List.Elements.{All-head, All-tail}
 use Rattle.lsn_core.specs.Relation.{Relation}
@@ -12,8 +16,8 @@ use Rattle.wal_record.specs.declared.record.BlockRef.{BlockRef}
 use Rattle.wal_record.specs.declared.record.Body.{Body}
 use Rattle.wal_record.specs.declared.record.Body.TheVariants.{Image, Delta}
 use Rattle.wal_record.specs.declared.record.Kind.{Kind}
-use Rattle.wal_record.specs.declared.record.Kind.TheVariants.{Shutdown, Online, RedoMark, NoOp, BackupEnd, Images, Generic, Create, Truncate}
-use Rattle.wal_record.specs.Spelling.{heads_of, bodies_bytes, body_bytes, body_of, IsWritableBody, IsWritableBlock, IsBlockList, IsWritable}
+use Rattle.wal_record.specs.declared.record.Kind.TheVariants.{Shutdown, Online, RedoMark, NoOp, BackupEnd, Images, Generic, Create, Truncate, Commit}
+use Rattle.wal_record.specs.Spelling.{heads_of, bodies_bytes, body_bytes, body_of, sized_head, main_head_of, commit_bytes, IsWritableBody, IsWritableBlock, IsBlockList, IsWritable}
 use Rattle.wal_record.proofs.Deltas.{frags_most}
 
 image_by : (page : List ℕ) (h : Option (ℕ × ℕ)) → hole_of page ≡ h → IsGood page → length (image_of page) ≤ 8192
@@ -41,6 +45,15 @@ blocks_most : (blocks : List BlockRef) → IsBlockList blocks → length (body_o
 blocks_most blocks w =
     omega (arith, heads_most (heads_of 0 None blocks) (bodies_bytes blocks ++ []), length-heads_of 0 None blocks, bodies_most blocks w.each, length-append (bodies_bytes blocks) [], w.most)
 
+-- main data takes 5 bytes more
+sized_most : (size : ℕ) (c : Bool) (rest : List ℕ) → length (main_bytes (cond c (Short size) (Long size)) rest) ≤ 5 + length rest
+sized_most size true rest = omega arith
+sized_most size false rest = omega arith
+
+main_most : (main rest : List ℕ) → length (main_bytes (main_head_of main) rest) ≤ 5 + length rest
+main_most [] rest = omega arith
+main_most (b ∷ bs) rest = sized_most (length (b ∷ bs)) (nat_le (length (b ∷ bs)) 255) rest
+
 -- what can be written has at most 4,194,304 bytes, header included
 pub body_most : (kind : Kind) → IsWritable kind → length (body_of kind) ≤ 4194280
 body_most (Shutdown redo) w = omega arith
@@ -52,3 +65,4 @@ body_most (Images blocks) w = blocks_most blocks w.0
 body_most (Generic blocks) w = blocks_most blocks w
 body_most (Create fork) w = omega arith
 body_most (Truncate rel count flags) w = omega arith
+body_most (Commit time rels) w = omega (arith, main_most (commit_bytes time rels) (commit_bytes time rels), length-commit time rels, w.1.1)

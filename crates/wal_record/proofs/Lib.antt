@@ -7,6 +7,7 @@ pub mod Lengths
 pub mod Writing
 pub mod HeadsWritten
 pub mod MainAgain
+pub mod Dropping
 pub mod Written
 pub mod Sealed
 pub mod Parting

@@ -1,5 +1,5 @@
 -- What is read is sound, and so is what can be written.
-use Rattle.std.proofs.Common.{◌≡◌, ℕ, ◌%◌, ◌<◌, Bool, true, false, cond, List, [], ◌∷◌, length, take, drop, Option, Some, None, Result, Ok, Err, IfOk, refl, subst, arith, ◌&&◌, ◌||◌}
+use Rattle.std.proofs.Common.{◌≡◌, ℕ, zero, suc, ◌%◌, ◌<◌, Bool, true, false, cond, List, [], ◌∷◌, length, take, drop, Option, Some, None, Result, Ok, Err, IfOk, refl, subst, arith, ◌&&◌, ◌||◌}
 use Rattle.std.specs.Prelude.{nat_lt, nat_le, ◌==◌}
 use Rattle.std.specs.Option.{is_none}
 use Rattle.std.specs.List.{All}
@@ -25,20 +25,20 @@ use Rattle.wal_record.specs.declared.record.BlockRef.{BlockRef}
 use Rattle.wal_record.specs.declared.record.Body.{Body}
 use Rattle.wal_record.specs.declared.record.Body.TheVariants.{Image, Delta}
 use Rattle.wal_record.specs.declared.record.Kind.{Kind}
-use Rattle.wal_record.specs.declared.record.Kind.TheVariants.{Shutdown, Online, RedoMark, NoOp, BackupEnd, Images, Generic, Create, Truncate}
+use Rattle.wal_record.specs.declared.record.Kind.TheVariants.{Shutdown, Online, RedoMark, NoOp, BackupEnd, Images, Generic, Create, Truncate, Commit}
 use Rattle.wal_record.specs.declared.record.Record.{Record}
 use Rattle.wal_record.specs.declared.record.RecordFault.{RecordFault}
 use Rattle.wal_record.specs.declared.record.RecordFault.TheVariants as faults
 use Rattle.wal_record.specs.declared.record.Why.{Why}
 use Rattle.wal_record.specs.declared.record.Why.TheVariants as whys
-use Rattle.wal_heads.specs.Announcements.{heads_at}
+use Rattle.wal_heads.specs.Announcements.{named_at, heads_at}
 use Rattle.wal_heads.specs.Heads.{image_size, block_size, main_size}
 use Rattle.wal_heads.specs.Header.{parts_at, is_linked, entry_sum, form_of}
 use Rattle.wal_record.specs.Outcome.{or_fault, refused, Gives}
-use Rattle.wal_record.specs.Parts.{last_of, good_page, page_at, frags_at, delta_at, checkpoint_at, mark_at, start_at, creation_at, truncation_at}
-use Rattle.wal_record.specs.Content.{fork_numbered, relation_of, is_packed, is_applied, id_said, has_blocks, has_deltas, image_said, delta_said, body_by, block_said, own_name, with_block, blocks_said, no_name, creation_said, truncation_said, blocks_alone, kind_said, said}
+use Rattle.wal_record.specs.Parts.{last_of, good_page, page_at, frags_at, delta_at, checkpoint_at, mark_at, start_at, creation_at, truncation_at, commit_time_at, commit_at}
+use Rattle.wal_record.specs.Content.{fork_numbered, relation_of, is_packed, is_applied, id_said, has_blocks, has_deltas, image_said, delta_said, body_by, block_said, own_name, with_block, blocks_said, no_name, creation_said, truncation_said, rel_said, with_rel, rels_said, commit_said, has_other_bits, blocks_alone, kind_said, said}
 use Rattle.wal_record.specs.Decoding.{kind_at, may_come, record_in, record_at}
-use Rattle.wal_record.specs.Spelling.{IsImage, IsWritableBody, IsWritableBlock, IsWritable}
+use Rattle.wal_record.specs.Spelling.{IsImage, IsWritableBody, IsWritableBlock, IsRelation, IsWritable}
 use Rattle.wal_record.specs.Sound.{HasNumbers, IsSoundBody, IsSoundBlock, IsSound}
 use Rattle.wal_heads.proofs.Steps.{passed, took}
 use Rattle.wal_record.proofs.EntryTaken.{went, is_there, says_so, held, held_at_last}
@@ -185,6 +185,37 @@ truncation_sound main kind e =
     let same : Truncate rel x.0 x.1.1 ≡ kind = cc in
     subst IsSound same (named_sound x.1.0 rel (is_there whys.Relation (relation_of x.1.0) rel e3), (eqb-false x.0 0xFFFFFFFF tests.0, ltb-false 7 x.1.1 tests.1))))))
 
+rel_sound : (name : RelName) (rel : Relation) → rel_said name ≡ Ok rel → HasNumbers rel
+unfolding rel_said
+rel_sound name rel e =
+    held (name.space == 1663) _ _ rel (HasNumbers rel) e (λ t g.
+    named_sound name rel (is_there whys.Relation (relation_of name) rel g))
+
+with_rel_sound : (rel : Relation) (o : Result (List Relation) Why) (rels : List Relation) → HasNumbers rel → ((list : List Relation) → o ≡ Ok list → All HasNumbers list) → with_rel rel o ≡ Ok rels → All HasNumbers rels
+with_rel_sound rel (Ok list) rels own more e =
+    let same : rel ∷ list ≡ rels = cc in
+    subst (All HasNumbers) same (All-cons HasNumbers rel list own (more list refl))
+with_rel_sound rel (Err why) rels own more e = absurd cc
+
+rels_sound : (n : ℕ) (bytes : List ℕ) (rels : List Relation) → rels_said n bytes ≡ Ok rels → All HasNumbers rels
+unfolding rels_said
+rels_sound zero bytes rels e =
+    let none : List Relation = [] in
+    let same : none ≡ rels = cc in
+    subst (All HasNumbers) same (All-nil HasNumbers)
+rels_sound (suc n) bytes rels e =
+    went (or_fault whys.Shape (named_at bytes)) _ rels (All HasNumbers rels) e (λ name e1 g1.
+    went (rel_said name.0) _ rels (All HasNumbers rels) g1 (λ rel e2 g2.
+    with_rel_sound rel (rels_said n name.1) rels (rel_sound name.0 rel e2) (λ list e3. rels_sound n name.1 list e3) g2))
+
+commit_sound : (main : List ℕ) (kind : Kind) → commit_said main ≡ Ok kind → IsSound kind
+unfolding commit_said
+commit_sound main kind e =
+    went (or_fault whys.Shape (commit_at main)) _ kind (IsSound kind) e (λ x e1 g1.
+    went (rels_said x.1.0 x.1.1) _ kind (IsSound kind) g1 (λ rels e2 g2.
+    let same : Commit x.0 rels ≡ kind = cc in
+    subst IsSound same (rels_sound x.1.0 x.1.1 rels e2)))
+
 kind_sound : (form : Form) (blocks : List BlockRef) (main : List ℕ) (kind : Kind) → BlocksSound form blocks → kind_said form blocks main ≡ Ok kind → IsSound kind
 unfolding kind_said
 kind_sound forms.Shutdown blocks main kind own e = went (or_fault whys.Shape (checkpoint_at main)) _ kind (IsSound kind) e (λ redo e1 g1. let same : Shutdown redo ≡ kind = cc in subst IsSound same tt)
@@ -204,12 +235,19 @@ kind_sound forms.Generic blocks main kind own e =
     subst IsSound same (subst (All IsSoundBlock) is own.sound))
 kind_sound forms.Create blocks main kind own e = creation_sound main kind e
 kind_sound forms.Truncate blocks main kind own e = truncation_sound main kind e
+kind_sound forms.Commit blocks main kind own e =
+    went (or_fault whys.Shape (commit_time_at main)) _ kind (IsSound kind) e (λ time e1 g1.
+    let none : List Relation = [] in
+    let same : Commit time none ≡ kind = cc in
+    subst IsSound same (All-nil HasNumbers))
+kind_sound forms.CommitMore blocks main kind own e = commit_sound main kind e
 
 said_sound : (form : Form) (heads : List BlockHead) (main : MainHead) (parts : List ℕ) (kind : Kind) → said form heads main parts ≡ Ok kind → IsSound kind
 unfolding said
 said_sound form heads main parts kind e =
-    went (blocks_said form no_name heads parts) _ kind (IsSound kind) e (λ blocks e1 g1.
-    kind_sound form blocks (last_of (main_size main) parts) kind (blocks_sound form no_name heads parts blocks e1) g1)
+    unless_held (has_other_bits form (last_of (main_size main) parts)) _ _ kind (IsSound kind) e (λ none g.
+    went (blocks_said form no_name heads parts) _ kind (IsSound kind) g (λ blocks e1 g1.
+    kind_sound form blocks (last_of (main_size main) parts) kind (blocks_sound form no_name heads parts blocks e1) g1))
 
 body_read_sound : (manager info : ℕ) (body : List ℕ) (kind : Kind) → kind_at manager info body ≡ Ok kind → IsSound kind
 unfolding kind_at
@@ -249,6 +287,10 @@ written_blocks (b ∷ bs) w =
     let own : IsWritableBlock b = All-head IsWritableBlock b bs w in
     All-cons IsSoundBlock b bs (record { number = own.number; rel = own.rel.some; body = written_body b.body own.body }) (written_blocks bs (All-tail IsWritableBlock b bs w))
 
+written_rels : (rels : List Relation) → All IsRelation rels → All HasNumbers rels
+written_rels [] w = All-nil HasNumbers
+written_rels (rel ∷ rels) w = All-cons HasNumbers rel rels (All-head IsRelation rel rels w).some (written_rels rels (All-tail IsRelation rel rels w))
+
 pub written_sound : (kind : Kind) → IsWritable kind → IsSound kind
 written_sound (Shutdown redo) w = tt
 written_sound (Online redo) w = tt
@@ -259,3 +301,4 @@ written_sound (Images blocks) w = (written_blocks blocks w.0.each, w.1)
 written_sound (Generic blocks) w = written_blocks blocks w.each
 written_sound (Create fork) w = w.some
 written_sound (Truncate rel count flags) w = (w.0.some, (omega (arith, w.1.0), w.1.1))
+written_sound (Commit time rels) w = written_rels rels w.1.0

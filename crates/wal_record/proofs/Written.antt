@@ -3,7 +3,7 @@ use Rattle.std.proofs.Common.{◌≡◌, ◌≢◌, ℕ, zero, suc, ◌+◌, ◌
 use Rattle.std.specs.Prelude.{◌==◌}
 use Rattle.std.specs.Option.{is_none}
 use Rattle.std.specs.List.{All}
-use Rattle.std.specs.Int.{w16, w32, w64, to_le_bytes}
+use Rattle.std.specs.Int.{w16, w32, w64, to_le_bytes, cast_unsigned}
 use Rattle.std.proofs.lemmas.Bool.{and_from, and_parts, le-leb, lt-ltb, le-ltb, eqb-true, ne_eqb, or_from}
 use Rattle.std.proofs.lemmas.List.{length-append, length-drop, append_assoc, take_at, drop_at, take-append-le, drop-append-le}
 use Rattle.std.proofs.Math.Seq.{take-append_seam, drop-append_seam, take-length}
@@ -23,19 +23,21 @@ use Rattle.wal_heads.specs.declared.announce.BlockHead.{BlockHead}
 use Rattle.wal_heads.specs.declared.header.Form.{Form}
 use Rattle.wal_heads.specs.declared.header.Form.TheVariants as forms
 use Rattle.wal_record.specs.declared.record.Kind.{Kind}
-use Rattle.wal_record.specs.declared.record.Kind.TheVariants.{Shutdown, Online, RedoMark, NoOp, BackupEnd, Images, Generic, Create, Truncate}
+use Rattle.wal_record.specs.declared.record.Kind.TheVariants.{Shutdown, Online, RedoMark, NoOp, BackupEnd, Images, Generic, Create, Truncate, Commit}
 use Rattle.wal_record.specs.declared.record.BlockRef.{BlockRef}
 use Rattle.wal_record.specs.declared.record.Body.{Body}
 use Rattle.wal_record.specs.declared.record.Body.TheVariants.{Image, Delta}
 use Rattle.wal_record.specs.declared.record.Why.TheVariants as whys
 use Rattle.wal_heads.specs.Heads.{has_bit, image_size, block_size, main_size}
 use Rattle.wal_record.specs.Outcome.{or_fault}
-use Rattle.wal_record.specs.Parts.{last_of, good_page, page_at, frag_at, with_frag, frags_at, delta_at, checkpoint_at, mark_at, start_at, creation_at, truncation_at}
-use Rattle.wal_record.specs.Content.{fork_numbered, relation_of, is_packed, is_applied, id_said, has_blocks, has_deltas, image_said, delta_said, body_by, block_said, own_name, with_block, blocks_said, no_name, creation_said, truncation_said, blocks_alone, kind_said, said}
+use Rattle.wal_record.specs.Parts.{last_of, good_page, page_at, frag_at, with_frag, frags_at, delta_at, checkpoint_at, mark_at, start_at, creation_at, truncation_at, commit_time_at, commit_at}
+use Rattle.wal_record.specs.Content.{fork_numbered, relation_of, is_packed, is_applied, id_said, has_blocks, has_deltas, image_said, delta_said, body_by, block_said, own_name, with_block, blocks_said, no_name, creation_said, truncation_said, rel_said, with_rel, rels_said, commit_said, has_other_bits, blocks_alone, kind_said, said}
 use Rattle.wal_heads.specs.Header.{form_of}
-use Rattle.wal_record.specs.Spelling.{fork_number, manager_of, info_of, main_of, blocks_of, image_head_of, frag_bytes, frags_bytes, body_image, body_bytes, body_data_len, is_same, told_name, full_name, head_of, heads_of, main_head_of, bodies_bytes, checkpoint_bytes, creation_bytes, truncation_bytes, IsRelation, IsWritableBody, IsWritableBlock, IsImage, IsWritable}
+use Rattle.wal_record.specs.Spelling.{fork_number, manager_of, info_of, main_of, blocks_of, image_head_of, frag_bytes, frags_bytes, body_image, body_bytes, body_data_len, is_same, told_name, full_name, head_of, heads_of, main_head_of, bodies_bytes, checkpoint_bytes, creation_bytes, truncation_bytes, relation_bytes, rels_bytes, IsRelation, IsWritableBody, IsWritableBlock, IsImage, IsWritable}
 use Rattle.wal_heads.proofs.Steps.{takes_again, passes, passes_over}
-use Rattle.wal_record.proofs.MainAgain.{checkpoint_again, mark_again, start_again, creation_again, truncation_again}
+use Rattle.wal_record.proofs.MainAgain.{checkpoint_again, mark_again, start_again, creation_again, truncation_again, time_again, bits_again, commit_again, full_name_again}
+use Rattle.wal_record.proofs.Dropping.{length-rels}
+use Rattle.wal_heads.specs.Announcements.{named_at}
 use Rattle.wal_record.proofs.Deltas.{frags_fit}
 use Rattle.wal_record.proofs.EntryAgain.{goes, found, holds}
 use Rattle.wal_record.proofs.HeadsWritten.{flags_of, main_sized, sized}
@@ -216,6 +218,8 @@ form_named (Images blocks) = forms.Images
 form_named (Generic blocks) = forms.Generic
 form_named (Create fork) = forms.Create
 form_named (Truncate rel count flags) = forms.Truncate
+form_named (Commit time []) = forms.Commit
+form_named (Commit time (rel ∷ rels)) = forms.CommitMore
 
 numbered : (kind : ForkKind) → fork_numbered (fork_number kind) ≡ Some kind
 numbered Main = refl
@@ -230,8 +234,21 @@ unfolding blocks_alone
 alone [] some = absurd (omega (arith, some))
 alone (b ∷ bs) some = refl
 
+rel_again : (rel : Relation) → IsRelation rel → rel_said (full_name rel) ≡ Ok rel
+unfolding rel_said
+rel_again rel is = found whys.Relation _ rel (relation_again rel is)
+
+rels_again : (rels : List Relation) → All IsRelation rels → rels_said (length rels) (rels_bytes rels) ≡ Ok rels
+unfolding rels_said
+rels_again [] all = refl
+rels_again (rel ∷ rels) all =
+    let own : IsRelation rel = All-head IsRelation rel rels all in
+    goes (or_fault whys.Shape (named_at (relation_bytes rel [] ++ rels_bytes rels))) _ (full_name rel, rels_bytes rels) _ (found whys.Shape _ _ (full_name_again rel (rels_bytes rels) own)) (
+    goes (rel_said (full_name rel)) _ rel _ (rel_again rel own) (
+    ap (with_rel rel) (rels_again rels (All-tail IsRelation rel rels all))))
+
 kind_told : (kind : Kind) → IsWritable kind → kind_said (form_named kind) (blocks_of kind) (main_of kind) ≡ Ok kind
-unfolding kind_said creation_said truncation_said
+unfolding kind_said creation_said truncation_said commit_said
 kind_told (Shutdown redo) w = goes (or_fault whys.Shape (checkpoint_at (checkpoint_bytes redo))) _ redo _ (found whys.Shape _ redo (checkpoint_again redo w)) refl
 kind_told (Online redo) w = goes (or_fault whys.Shape (checkpoint_at (checkpoint_bytes redo))) _ redo _ (found whys.Shape _ redo (checkpoint_again redo w)) refl
 kind_told (RedoMark n) w = goes (or_fault whys.Shape (mark_at (to_le_bytes w32 n))) _ n _ (found whys.Shape _ n (mark_again n w)) refl
@@ -250,6 +267,26 @@ kind_told (Truncate rel count flags) w =
     goes (or_fault whys.Shape (truncation_at (truncation_bytes rel count flags))) _ (count, (full_name rel, flags)) _ (found whys.Shape _ _ (truncation_again rel count flags w.0 bc bf)) (
     goes (or_fault whys.Relation (relation_of (full_name rel))) _ rel _ (found whys.Relation _ _ (relation_again rel w.0)) (
     passes_over _ _ _ _ (or_from _ _ (ne_eqb count 0xFFFFFFFF other) (le-ltb 7 flags w.1.1)) refl))
+kind_told (Commit time []) w = goes (or_fault whys.Shape (commit_time_at (to_le_bytes w64 (cast_unsigned w64 time)))) _ time _ (found whys.Shape _ time (time_again time w.0)) refl
+kind_told (Commit time (rel ∷ rels)) w =
+    let rs : List Relation = rel ∷ rels in
+    let main : List ℕ = to_le_bytes w64 (cast_unsigned w64 time) ++ (to_le_bytes w32 4 ++ (to_le_bytes w32 (length rs) ++ rels_bytes rs)) in
+    goes (or_fault whys.Shape (commit_at main)) _ (time, (length rs, rels_bytes rs)) _ (found whys.Shape _ _ (commit_again time (length rs) (rels_bytes rs) w.0 (omega (arith, w.1.1)) (length-rels rs))) (
+    goes (rels_said (length rs) (rels_bytes rs)) _ rs _ (rels_again rs w.1.0) refl)
+
+-- it has no other information bits
+bits_told : (kind : Kind) → IsWritable kind → has_other_bits (form_named kind) (main_of kind) ≡ false
+bits_told (Shutdown redo) w = refl
+bits_told (Online redo) w = refl
+bits_told (RedoMark n) w = refl
+bits_told NoOp w = refl
+bits_told (BackupEnd start) w = refl
+bits_told (Images blocks) w = refl
+bits_told (Generic blocks) w = refl
+bits_told (Create fork) w = refl
+bits_told (Truncate rel count flags) w = refl
+bits_told (Commit time []) w = refl
+bits_told (Commit time (rel ∷ rels)) w = bits_again time (to_le_bytes w32 (length (rel ∷ rels)) ++ rels_bytes (rel ∷ rels)) w.0
 
 -- the blocks of a kind are bodies that its form may have
 may_generic : (body : Body) → MayHave forms.Generic body
@@ -285,6 +322,7 @@ blocks_may (Images blocks) w = record { may = all_images blocks w.1; each = w.0.
 blocks_may (Generic blocks) w = record { may = all_may forms.Generic blocks (λ b. may_generic b.body); each = w.each }
 blocks_may (Create fork) w = no_blocks (Create fork) refl
 blocks_may (Truncate rel count flags) w = no_blocks (Truncate rel count flags) refl
+blocks_may (Commit time rels) w = no_blocks (Commit time rels) refl
 
 last_again : (size : ℕ) (front main : List ℕ) → size ≡ length main → last_of size (front ++ main) ≡ main
 last_again size front main e = drop_at front main (length (front ++ main) - size) (omega (arith, length-append front main, e))
@@ -293,9 +331,12 @@ pub written_says : (kind : Kind) → IsWritable kind → said (form_named kind) 
 unfolding said
 written_says kind w =
     let m = blocks_may kind w in
+    let last : last_of (main_size (main_head_of (main_of kind))) (bodies_bytes (blocks_of kind) ++ main_of kind) ≡ main_of kind =
+    last_again (main_size (main_head_of (main_of kind))) (bodies_bytes (blocks_of kind)) (main_of kind) (main_sized (main_of kind)) in
+    passes_over (has_other_bits (form_named kind) (last_of (main_size (main_head_of (main_of kind))) (bodies_bytes (blocks_of kind) ++ main_of kind))) _ _ _ (ap (has_other_bits (form_named kind)) last ∙ bits_told kind w) (
     goes (blocks_said (form_named kind) no_name (heads_of 0 None (blocks_of kind)) (bodies_bytes (blocks_of kind) ++ main_of kind)) _ (blocks_of kind) _
     (blocks_again (form_named kind) 0 no_name None (blocks_of kind) (main_of kind) m.may m.each tt)
-    (ap (kind_said (form_named kind) (blocks_of kind)) (last_again (main_size (main_head_of (main_of kind))) (bodies_bytes (blocks_of kind)) (main_of kind) (main_sized (main_of kind))) ∙ kind_told kind w)
+    (ap (kind_said (form_named kind) (blocks_of kind)) last ∙ kind_told kind w))
 
 -- its manager and its info byte tell that form
 pub form_told : (kind : Kind) → form_of (manager_of kind) (info_of kind) ≡ Some (form_named kind)
@@ -308,6 +349,8 @@ form_told (Images blocks) = refl
 form_told (Generic blocks) = refl
 form_told (Create fork) = refl
 form_told (Truncate rel count flags) = refl
+form_told (Commit time []) = refl
+form_told (Commit time (rel ∷ rels)) = refl
 
 -- and have room in a byte
 pub manager_fits : (kind : Kind) → manager_of kind < 2 ^ 8
@@ -320,6 +363,7 @@ manager_fits (Images blocks) = omega arith
 manager_fits (Generic blocks) = omega arith
 manager_fits (Create fork) = omega arith
 manager_fits (Truncate rel count flags) = omega arith
+manager_fits (Commit time rels) = omega arith
 
 pub info_fits : (kind : Kind) → info_of kind < 2 ^ 8
 info_fits (Shutdown redo) = omega arith
@@ -331,3 +375,5 @@ info_fits (Images blocks) = omega arith
 info_fits (Generic blocks) = omega arith
 info_fits (Create fork) = omega arith
 info_fits (Truncate rel count flags) = omega arith
+info_fits (Commit time []) = omega arith
+info_fits (Commit time (rel ∷ rels)) = omega arith

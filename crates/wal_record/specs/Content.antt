@@ -1,6 +1,6 @@
 -- What an entry says, by its announcements and the bytes behind them, or the first why it is
 -- refused (profile).
-use Rattle.std.specs.Prelude.{ℕ, ◌%◌, Bool, true, false, List, [], ◌∷◌, length, take, drop, Option, Some, None, Result, Ok, Err, not, nat_lt, ◌==◌, ◌&&◌, ◌||◌, if◌then◌else◌}
+use Rattle.std.specs.Prelude.{ℕ, zero, suc, ◌%◌, Bool, true, false, List, [], ◌∷◌, length, take, drop, Option, Some, None, Result, Ok, Err, not, nat_lt, ◌==◌, ◌&&◌, ◌||◌, if◌then◌else◌}
 use Rattle.lsn_core.specs.Relation.{Relation}
 use Rattle.lsn_core.specs.Sizes.{most_blocks}
 use Rattle.lsn_core.specs.declared.ids.BlockId.{BlockId}
@@ -16,12 +16,13 @@ use Rattle.wal_record.specs.declared.record.BlockRef.{BlockRef}
 use Rattle.wal_record.specs.declared.record.Body.{Body}
 use Rattle.wal_record.specs.declared.record.Body.TheVariants.{Image, Delta}
 use Rattle.wal_record.specs.declared.record.Kind.{Kind}
-use Rattle.wal_record.specs.declared.record.Kind.TheVariants.{Shutdown, Online, RedoMark, NoOp, BackupEnd, Images, Generic, Create, Truncate}
+use Rattle.wal_record.specs.declared.record.Kind.TheVariants.{Shutdown, Online, RedoMark, NoOp, BackupEnd, Images, Generic, Create, Truncate, Commit}
 use Rattle.wal_record.specs.declared.record.Why.{Why}
-use Rattle.wal_record.specs.declared.record.Why.TheVariants.{Compressed, NotApplied, Tablespace, Fork, Relation as NoRelation, BlockRange, ImagePage, Fragments, Shape}
+use Rattle.wal_record.specs.declared.record.Why.TheVariants.{CommitBits, Compressed, NotApplied, Tablespace, Fork, Relation as NoRelation, BlockRange, ImagePage, Fragments, Shape}
+use Rattle.wal_heads.specs.Announcements.{named_at}
 use Rattle.wal_heads.specs.Heads.{has_bit, is_compressed, image_size, block_size, main_size}
 use Rattle.wal_record.specs.Outcome.{◌>>=◌, or_fault}
-use Rattle.wal_record.specs.Parts.{last_of, page_at, delta_at, checkpoint_at, mark_at, start_at, creation_at, truncation_at}
+use Rattle.wal_record.specs.Parts.{last_of, page_at, delta_at, checkpoint_at, mark_at, start_at, creation_at, truncation_at, other_bits_at, commit_time_at, commit_at}
 
 -- the fork of a number: fsm and vm, 1 and 2, aren't taken
 abbrev pub fork_numbered : ℕ → Option ForkKind
@@ -64,6 +65,8 @@ has_blocks forms.Images = true
 has_blocks forms.Generic = true
 has_blocks forms.Create = false
 has_blocks forms.Truncate = false
+has_blocks forms.Commit = false
+has_blocks forms.CommitMore = false
 
 abbrev pub has_deltas : Form → Bool
 has_deltas forms.Shutdown = false
@@ -75,6 +78,8 @@ has_deltas forms.Images = false
 has_deltas forms.Generic = true
 has_deltas forms.Create = false
 has_deltas forms.Truncate = false
+has_deltas forms.Commit = false
+has_deltas forms.CommitMore = false
 
 unfoldable pub image_said : Form → BlockHead → ImageHead → List ℕ → Result Body Why
 image_said form head image bytes =
@@ -135,6 +140,42 @@ truncation_said main =
     else (or_fault NoRelation (relation_of x.1.0) >>= λ rel.
     if (x.0 == 0xFFFFFFFF) || nat_lt 7 x.1.1 then Err Shape else Ok (Truncate rel x.0 x.1.1))
 
+-- the relation of a name, of the one tablespace
+unfoldable pub rel_said : RelName → Result Relation Why
+rel_said name =
+    if not (name.space == 1663) then Err Tablespace else or_fault NoRelation (relation_of name)
+
+abbrev pub with_rel : Relation → Result (List Relation) Why → Result (List Relation) Why
+with_rel rel (Ok rels) = Ok (rel ∷ rels)
+with_rel rel (Err why) = Err why
+
+-- relations in turn, so many, each through its whys
+unfoldable pub rels_said : ℕ → List ℕ → Result (List Relation) Why
+rels_said zero bytes = Ok []
+rels_said (suc n) bytes =
+    or_fault Shape (named_at bytes) >>= λ name.
+    rel_said name.0 >>= λ rel. with_rel rel (rels_said n name.1)
+
+unfoldable pub commit_said : List ℕ → Result Kind Why
+commit_said main =
+    or_fault Shape (commit_at main) >>= λ x.
+    rels_said x.1.0 x.1.1 >>= λ rels. Ok (Commit x.0 rels)
+
+-- a commit has other information bits than those of dropped relations; then nothing else of it is
+-- judged
+abbrev pub has_other_bits : Form → List ℕ → Bool
+has_other_bits forms.Shutdown main = false
+has_other_bits forms.Online main = false
+has_other_bits forms.RedoMark main = false
+has_other_bits forms.NoOp main = false
+has_other_bits forms.BackupEnd main = false
+has_other_bits forms.Images main = false
+has_other_bits forms.Generic main = false
+has_other_bits forms.Create main = false
+has_other_bits forms.Truncate main = false
+has_other_bits forms.Commit main = false
+has_other_bits forms.CommitMore main = other_bits_at main
+
 -- blocks, at least one, and no main data
 unfoldable pub blocks_alone : List BlockRef → List ℕ → Result (List BlockRef) Why
 blocks_alone [] main = Err Shape
@@ -154,9 +195,13 @@ kind_said forms.Images blocks main = blocks_alone blocks main >>= λ list. Ok (I
 kind_said forms.Generic blocks main = blocks_alone blocks main >>= λ list. Ok (Generic list)
 kind_said forms.Create blocks main = creation_said main
 kind_said forms.Truncate blocks main = truncation_said main
+kind_said forms.Commit blocks main =
+    or_fault Shape (commit_time_at main) >>= λ time. Ok (Commit time [])
+kind_said forms.CommitMore blocks main = commit_said main
 
 -- what an entry of a form says
 unfoldable pub said : Form → List BlockHead → MainHead → List ℕ → Result Kind Why
 said form heads main parts =
-    blocks_said form no_name heads parts >>= λ blocks.
-    kind_said form blocks (last_of (main_size main) parts)
+    if has_other_bits form (last_of (main_size main) parts) then Err CommitBits
+    else (blocks_said form no_name heads parts >>= λ blocks.
+    kind_said form blocks (last_of (main_size main) parts))

@@ -5,7 +5,7 @@ use Rattle.lsn_core.specs.declared.lsn.Place.{Place}
 use Rattle.wal_heads.specs.declared.header.Header.{Header}
 use Rattle.wal_record.specs.declared.record.Record.{Record}
 use Rattle.wal_record.specs.declared.record.Kind.{Kind}
-use Rattle.wal_record.specs.declared.record.Kind.TheVariants.{Shutdown, Online, RedoMark, NoOp, BackupEnd, Images, Generic, Create, Truncate}
+use Rattle.wal_record.specs.declared.record.Kind.TheVariants.{Shutdown, Online, RedoMark, NoOp, BackupEnd, Images, Generic, Create, Truncate, Commit}
 use Rattle.wal_record.specs.declared.record.RecordFault.{RecordFault}
 use Rattle.wal_record.specs.declared.record.RecordFault.TheVariants as faults
 use Rattle.wal_record.specs.declared.record.Why.TheVariants.{First}
@@ -32,6 +32,7 @@ is_own_redo start (Images blocks) = false
 is_own_redo start (Generic blocks) = false
 is_own_redo start (Create fork) = false
 is_own_redo start (Truncate rel count flags) = false
+is_own_redo start (Commit time rels) = false
 
 -- an entry that stands behind none, where the one before would start at 0, has to be such a
 -- checkpoint

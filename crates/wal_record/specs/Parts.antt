@@ -1,7 +1,7 @@
 -- The parts behind an entry's announcements: images, fragments and main data, each read from bytes.
-use Rattle.std.specs.Prelude.{ℕ, zero, suc, ◌-◌, List, [], ◌∷◌, length, take, drop, Option, Some, None, nat_lt, nat_le, ◌==◌, ◌&&◌, if◌then◌else◌}
+use Rattle.std.specs.Prelude.{ℕ, zero, suc, ◌*◌, ◌-◌, Bool, false, ℤ, not, List, [], ◌∷◌, length, take, drop, Option, Some, None, nat_lt, nat_le, ◌==◌, ◌&&◌, if◌then◌else◌}
 use Rattle.std.specs.Option.{is_none}
-use Rattle.std.specs.Int.{w16, w32, w64}
+use Rattle.std.specs.Int.{w16, w32, w64, cast_signed}
 use Rattle.byte_words.specs.Numbers.{◌>>=◌, number_at}
 use Rattle.lsn_core.specs.declared.lsn.Lsn.{Lsn}
 use Rattle.pg_page.specs.Frags.{Fragment, bad_frag, is_good}
@@ -84,3 +84,35 @@ truncation_at main =
     number_at w32 main >>= λ count.
     creation_at count.1 >>= λ named.
     Some (count.0, named)
+
+-- a commit's information bits, behind its time
+unfoldable pub bits_at : List ℕ → Option ℕ
+bits_at main =
+    number_at w64 main >>= λ time.
+    number_at w32 time.1 >>= λ bits.
+    Some bits.0
+
+-- they are there, and are others than those of dropped relations alone, 4 (profile)
+abbrev pub are_other_bits : Option ℕ → Bool
+are_other_bits None = false
+are_other_bits (Some bits) = not (bits == 4)
+
+unfoldable pub other_bits_at : List ℕ → Bool
+other_bits_at main = are_other_bits (bits_at main)
+
+-- a commit's main data that is its time alone
+unfoldable pub commit_time_at : List ℕ → Option ℤ
+commit_time_at main =
+    number_at w64 main >>= λ time.
+    if length time.1 == 0 then Some (cast_signed w64 time.0) else None
+
+-- a commit's main data that tells more: time, information bits, how many relations are dropped, a
+-- number below 2 ^ 31, and their names, of 12 bytes each
+unfoldable pub commit_at : List ℕ → Option (ℤ × (ℕ × List ℕ))
+commit_at main =
+    number_at w64 main >>= λ time.
+    number_at w32 time.1 >>= λ bits.
+    number_at w32 bits.1 >>= λ count.
+    if nat_lt count.0 0x80000000 && (length count.1 == count.0 * 12) then
+    Some (cast_signed w64 time.0, (count.0, count.1))
+    else None

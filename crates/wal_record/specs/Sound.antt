@@ -9,7 +9,7 @@ use Rattle.wal_record.specs.declared.record.BlockRef.{BlockRef}
 use Rattle.wal_record.specs.declared.record.Body.{Body}
 use Rattle.wal_record.specs.declared.record.Body.TheVariants.{Image, Delta}
 use Rattle.wal_record.specs.declared.record.Kind.{Kind}
-use Rattle.wal_record.specs.declared.record.Kind.TheVariants.{Shutdown, Online, RedoMark, NoOp, BackupEnd, Images, Generic, Create, Truncate}
+use Rattle.wal_record.specs.declared.record.Kind.TheVariants.{Shutdown, Online, RedoMark, NoOp, BackupEnd, Images, Generic, Create, Truncate, Commit}
 use Rattle.wal_record.specs.Spelling.{IsImage}
 
 -- a relation whose numbers aren't 0
@@ -36,3 +36,4 @@ IsSound (Images blocks) = All IsSoundBlock blocks × All (λ b. IsImage b.body) 
 IsSound (Generic blocks) = All IsSoundBlock blocks
 IsSound (Create fork) = HasNumbers fork.rel
 IsSound (Truncate rel count flags) = HasNumbers rel × ((count ≢ 2 ^ 32 - 1) × (flags ≤ 7))
+IsSound (Commit time rels) = All HasNumbers rels

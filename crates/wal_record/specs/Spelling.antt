@@ -1,7 +1,7 @@
 -- The written form of an entry (access/xlogrecord.h).
-use Rattle.std.specs.Prelude.{◌≡◌, ℕ, ◌+◌, ◌-◌, ◌<◌, ◌≤◌, ◌^◌, Bool, false, List, [], ◌∷◌, ◌++◌, length, replicate, Option, Some, None, nat_le, ◌==◌, ◌&&◌, if◌then◌else◌}
+use Rattle.std.specs.Prelude.{◌≡◌, ℕ, ◌+◌, ◌-◌, ◌<◌, ◌≤◌, ◌^◌, Bool, false, ℤ, FitsSigned, List, [], ◌∷◌, ◌++◌, length, replicate, Option, Some, None, nat_le, ◌==◌, ◌&&◌, if◌then◌else◌}
 use Rattle.std.specs.List.{All, flat_map}
-use Rattle.std.specs.Int.{w8, w16, w32, w64, to_le_bytes}
+use Rattle.std.specs.Int.{w8, w16, w32, w64, to_le_bytes, cast_unsigned}
 use Rattle.lsn_core.specs.Relation.{Relation}
 use Rattle.lsn_core.specs.Sizes.{most_blocks}
 use Rattle.lsn_core.specs.declared.ids.ForkKind.{ForkKind}
@@ -14,7 +14,7 @@ use Rattle.pg_page.specs.Image.{image_of}
 use Rattle.pg_page.specs.Frags.{Fragment, bad_frag}
 use Rattle.wal_record.specs.declared.record.Record.{Record}
 use Rattle.wal_record.specs.declared.record.Kind.{Kind}
-use Rattle.wal_record.specs.declared.record.Kind.TheVariants.{Shutdown, Online, RedoMark, NoOp, BackupEnd, Images, Generic, Create, Truncate}
+use Rattle.wal_record.specs.declared.record.Kind.TheVariants.{Shutdown, Online, RedoMark, NoOp, BackupEnd, Images, Generic, Create, Truncate, Commit}
 use Rattle.wal_record.specs.declared.record.BlockRef.{BlockRef}
 use Rattle.wal_record.specs.declared.record.Body.{Body}
 use Rattle.wal_record.specs.declared.record.Body.TheVariants.{Image, Delta}
@@ -40,6 +40,12 @@ manager_of (Images blocks) = 0
 manager_of (Generic blocks) = 20
 manager_of (Create fork) = 2
 manager_of (Truncate rel count flags) = 2
+manager_of (Commit time rels) = 1
+
+-- the info byte of a commit: 0x80 where it tells of dropped relations
+abbrev pub commit_info : List Relation → ℕ
+commit_info [] = 0x00
+commit_info (rel ∷ rels) = 0x81
 
 -- its info byte; bit 1 of a manager's own entries is special relation update
 abbrev pub info_of : Kind → ℕ
@@ -52,6 +58,7 @@ info_of (Images blocks) = 0xB0
 info_of (Generic blocks) = 0x00
 info_of (Create fork) = 0x11
 info_of (Truncate rel count flags) = 0x21
+info_of (Commit time rels) = commit_info rels
 
 -- a checkpoint's 24 bytes (profile): redo point, timeline 1, previous timeline 1, byte 1, zeros
 abbrev pub checkpoint_bytes : Lsn → List ℕ
@@ -70,6 +77,19 @@ abbrev pub truncation_bytes : Relation → ℕ → ℕ → List ℕ
 truncation_bytes rel count flags =
     to_le_bytes w32 count ++ relation_bytes rel (to_le_bytes w32 flags)
 
+-- relations, one behind the other
+abbrev pub rels_bytes : List Relation → List ℕ
+rels_bytes rels = flat_map (λ rel. relation_bytes rel []) rels
+
+-- a commit's time and, where it drops relations, the information bits 4, their number and their
+-- names (access/xact.h)
+abbrev pub commit_bytes : ℤ → List Relation → List ℕ
+commit_bytes time [] = to_le_bytes w64 (cast_unsigned w64 time)
+commit_bytes time (rel ∷ rels) =
+    to_le_bytes w64 (cast_unsigned w64 time)
+    ++ (to_le_bytes w32 4
+    ++ (to_le_bytes w32 (length (rel ∷ rels)) ++ rels_bytes (rel ∷ rels)))
+
 -- the main data
 abbrev pub main_of : Kind → List ℕ
 main_of (Shutdown redo) = checkpoint_bytes redo
@@ -81,6 +101,7 @@ main_of (Images blocks) = []
 main_of (Generic blocks) = []
 main_of (Create fork) = creation_bytes fork
 main_of (Truncate rel count flags) = truncation_bytes rel count flags
+main_of (Commit time rels) = commit_bytes time rels
 
 abbrev pub blocks_of : Kind → List BlockRef
 blocks_of (Shutdown redo) = []
@@ -92,6 +113,7 @@ blocks_of (Images blocks) = blocks
 blocks_of (Generic blocks) = blocks
 blocks_of (Create fork) = []
 blocks_of (Truncate rel count flags) = []
+blocks_of (Commit time rels) = []
 
 -- the head of a page's image, by the page's hole
 abbrev pub image_head_of : Option (ℕ × ℕ) → ImageHead
@@ -163,10 +185,12 @@ abbrev pub all_heads : List BlockRef → List ℕ
 all_heads blocks = heads_bytes (heads_of 0 None blocks) Absent []
 
 -- main data of up to 255 bytes is announced by one byte of length
+abbrev pub sized_head : ℕ → MainHead
+sized_head size = if nat_le size 255 then Short size else Long size
+
 abbrev pub main_head_of : List ℕ → MainHead
 main_head_of [] = Absent
-main_head_of (b ∷ bs) =
-    if nat_le (length (b ∷ bs)) 255 then Short (length (b ∷ bs)) else Long (length (b ∷ bs))
+main_head_of (b ∷ bs) = sized_head (length (b ∷ bs))
 
 -- the bytes of the blocks, one behind the other
 abbrev pub bodies_bytes : List BlockRef → List ℕ
@@ -223,6 +247,10 @@ abbrev pub IsImage : Body → Type 0
 IsImage (Image page) = Unit
 IsImage (Delta frags) = ⊥
 
+-- so many relations at most leave a commit its most bytes
+abbrev pub most_drops : ℕ
+most_drops = 349521
+
 -- a kind that can be written: it is well formed
 abbrev pub IsWritable : Kind → Type 0
 IsWritable (Shutdown redo) = redo.0 < 2 ^ 64
@@ -234,3 +262,5 @@ IsWritable (Images blocks) = IsBlockList blocks × All (λ b. IsImage b.body) bl
 IsWritable (Generic blocks) = IsBlockList blocks
 IsWritable (Create fork) = IsRelation fork.rel
 IsWritable (Truncate rel count flags) = IsRelation rel × ((count < 2 ^ 32 - 1) × (flags ≤ 7))
+IsWritable (Commit time rels) =
+    FitsSigned w64 time × (All IsRelation rels × (length rels ≤ most_drops))

@@ -6,7 +6,7 @@ use Rattle.lsn_core.specs.Tip.{Tip}
 use Rattle.wal_pages.specs.Places.{start_after, end_of}
 use Rattle.wal_record.specs.declared.record.Record.{Record}
 use Rattle.wal_record.specs.declared.record.Kind.{Kind}
-use Rattle.wal_record.specs.declared.record.Kind.TheVariants.{Shutdown, Online, RedoMark, NoOp, BackupEnd, Images, Generic, Create, Truncate}
+use Rattle.wal_record.specs.declared.record.Kind.TheVariants.{Shutdown, Online, RedoMark, NoOp, BackupEnd, Images, Generic, Create, Truncate, Commit}
 use Rattle.wal_record.specs.Spelling.{total_of}
 
 -- the end of a WAL without an entry, with segments of so many MiB: the WAL begins with segment 1
@@ -23,6 +23,7 @@ is_redo_mark (Images blocks) = false
 is_redo_mark (Generic blocks) = false
 is_redo_mark (Create fork) = false
 is_redo_mark (Truncate rel count flags) = false
+is_redo_mark (Commit time rels) = false
 
 -- the latest redo point with one more entry: the start of the first entry, or of the latest mark
 abbrev pub redo_after : Tip → Record → ℕ

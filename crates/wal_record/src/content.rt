@@ -1,19 +1,20 @@
 //! What an entry says, by its announcements and the bytes behind them.
 
-ghost use Rattle.std.specs.Prelude.{◌≡◌};
+ghost use Rattle.std.specs.Prelude.{◌≡◌, ◌≢◌};
+ghost use Rattle.wal_heads.specs.declared.header.Form.TheVariants.{CommitMore};
 ghost use Rattle.wal_record.specs.Outcome.{Gives, refused};
-ghost use Rattle.wal_record.specs.Content.{fork_numbered, relation_of, is_packed, is_applied, id_said, has_blocks, has_deltas, image_said, delta_said, body_by, block_said, own_name, blocks_said, no_name, creation_said, truncation_said, blocks_alone, kind_said, said};
+ghost use Rattle.wal_record.specs.Content.{fork_numbered, relation_of, is_packed, is_applied, id_said, has_blocks, has_deltas, image_said, delta_said, body_by, block_said, own_name, blocks_said, no_name, creation_said, truncation_said, rel_said, rels_said, commit_said, has_other_bits, blocks_alone, kind_said, said};
 
 use crate::parts::{
-    behind, checkpoint_of, creation_of, delta_of, front_of, last_of, mark_of, page_of, start_of,
-    truncation_of,
+    behind, checkpoint_of, commit_of, commit_time_of, creation_of, delta_of, front_of,
+    has_other_bits as other_bits, last_of, mark_of, page_of, start_of, truncation_of,
 };
-use crate::record::{BlockRef, Blocks, Body, Kind, RecordFault, Why};
+use crate::record::{BlockRef, Blocks, Body, Kind, RecordFault, Rels, Why};
 use lsn_core::{BlockId, ForkId, ForkKind, MOST_BLOCKS, Rel};
 use std::alloc::Global;
 use wal_heads::{
     BlockHead, Form, Heads, ImageHead, MainHead, RelName, block_size, has_bit, image_size,
-    is_compressed, main_size,
+    is_compressed, main_size, named_of,
 };
 
 /// What the announcements and the bytes behind them say of an entry of this form.
@@ -22,9 +23,22 @@ pub fn said(alloc: Global, form: Form, heads: &Heads<'_>) -> Result<Kind, Record
     ensures { Gives result
         (refused (said form heads.now.blocks.items heads.now.main heads.now.parts.now)) }
 {
-    let blocks = blocks_said(alloc, form, &heads.blocks, heads.parts)?;
     let main = last_of(main_size(heads.main) as usize, heads.parts);
-    Ok(kind_said(form, blocks, main)?)
+    if has_other_bits(form, main) {
+        return Err(RecordFault::Content(Why::CommitBits));
+    }
+    let blocks = blocks_said(alloc, form, &heads.blocks, heads.parts)?;
+    kind_said(alloc, form, blocks, main)
+}
+
+/// Whether an entry is a commit with other information bits than those of dropped relations.
+fn has_other_bits(form: Form, main: &[u8]) -> bool
+    ensures { result ≡ has_other_bits form main.now }
+{
+    match form {
+        Form::CommitMore => other_bits(main),
+        _ => false,
+    }
 }
 
 /// The blocks in turn.
@@ -203,7 +217,19 @@ fn delta_said(alloc: Global, form: Form, head: BlockHead, bytes: &[u8]) -> Resul
 
 /// The kind of an entry, by its blocks and its main data.
 #[tactic(auto, unfolding(crate::specs::Content::kind_said))]
-fn kind_said(form: Form, blocks: Blocks, main: &[u8]) -> Result<Kind, Why>
+fn kind_said(alloc: Global, form: Form, blocks: Blocks, main: &[u8]) -> Result<Kind, RecordFault>
+    ensures { Gives result (refused (kind_said form blocks main.now)) }
+{
+    match form {
+        Form::CommitMore => commit_said(alloc, main),
+        _ => Ok(plain_said(alloc, form, blocks, main)?),
+    }
+}
+
+/// The kind of an entry of another form than that of a commit that tells more.
+#[tactic(auto, unfolding(crate::specs::Content::kind_said))]
+fn plain_said(alloc: Global, form: Form, blocks: Blocks, main: &[u8]) -> Result<Kind, Why>
+    requires { form ≢ CommitMore }
     ensures { result ≡ kind_said form blocks main.now }
 {
     match form {
@@ -216,6 +242,11 @@ fn kind_said(form: Form, blocks: Blocks, main: &[u8]) -> Result<Kind, Why>
         Form::Generic => blocks_alone(blocks, main).map(Kind::Generic),
         Form::Create => creation_said(main),
         Form::Truncate => truncation_said(main),
+        Form::Commit => match commit_time_of(main) {
+            None => Err(Why::Shape),
+            Some(time) => Ok(Kind::Commit(time, Rels::none(alloc))),
+        },
+        Form::CommitMore => unreachable!(),
     }
 }
 
@@ -259,4 +290,43 @@ fn truncation_said(main: &[u8]) -> Result<Kind, Why>
         return Err(Why::Shape);
     }
     Ok(Kind::Truncate(rel, count, flags))
+}
+
+/// A commit that drops relations, by its main data.
+#[tactic(auto, unfolding(crate::specs::Content::commit_said))]
+fn commit_said(alloc: Global, main: &[u8]) -> Result<Kind, RecordFault>
+    ensures { Gives result (refused (commit_said main.now)) }
+{
+    let Some((time, count, names)) = commit_of(main) else {
+        return Err(RecordFault::Content(Why::Shape));
+    };
+    let rels = rels_said(alloc, count, names)?;
+    Ok(Kind::Commit(time, rels))
+}
+
+/// Relations in turn, so many.
+fn rels_said(alloc: Global, count: u32, names: &[u8]) -> Result<Rels, RecordFault>
+    ensures { Gives result (refused (rels_said count names.now)) }
+{
+    let mut rels = Vec::new(alloc);
+    let mut rest = names;
+    for _ in 0..count {
+        let Some((name, more)) = named_of(rest) else {
+            return Err(RecordFault::Content(Why::Shape));
+        };
+        rels.push(rel_said(name)?)?;
+        rest = more;
+    }
+    Ok(Rels::from_vec(rels))
+}
+
+/// The relation of a name.
+#[tactic(auto, unfolding(crate::specs::Content::rel_said))]
+fn rel_said(name: RelName) -> Result<Rel, Why>
+    ensures { result ≡ rel_said name }
+{
+    if name.space != 1663 {
+        return Err(Why::Tablespace);
+    }
+    Rel::new(name.db, name.rel).ok_or(Why::Relation)
 }

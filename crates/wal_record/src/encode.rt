@@ -1,8 +1,10 @@
 //! Writing an entry.
 
-ghost use Rattle.std.specs.Prelude.{◌≡◌, ◌+◌, ◌<◌, ◌≤◌, ◌++◌, length, IfOk, OnOk};
+ghost use Rattle.std.specs.Prelude.{◌≡◌, ◌+◌, ◌<◌, ◌≤◌, ◌^◌, ◌++◌, [], length, IfOk, OnOk};
+ghost use Rattle.std.specs.List.{All};
 ghost use Rattle.wal_heads.specs.Heads.{main_bytes};
-ghost use Rattle.wal_record.specs.Spelling.{manager_of, info_of, checkpoint_bytes, creation_bytes, truncation_bytes, main_head_of, body_of, total_of, front_of, sealed, IsWritable};
+ghost use Rattle.wal_record.specs.declared.record.Kind.TheVariants.{Commit};
+ghost use Rattle.wal_record.specs.Spelling.{manager_of, info_of, checkpoint_bytes, creation_bytes, truncation_bytes, commit_info, rels_bytes, sized_head, main_head_of, most_drops, body_of, total_of, front_of, sealed, IsWritable};
 
 use crate::blocks::add_blocks;
 use crate::names::{fork_number, relation};
@@ -58,6 +60,7 @@ fn manager_of(kind: &Kind) -> u8
         Kind::Generic(_) => 20,
         Kind::Create(_) => 2,
         Kind::Truncate(_, _, _) => 2,
+        Kind::Commit(_, _) => 1,
     }
 }
 
@@ -75,7 +78,15 @@ fn info_of(kind: &Kind) -> u8
         Kind::Generic(_) => 0x00,
         Kind::Create(_) => 0x11,
         Kind::Truncate(_, _, _) => 0x21,
+        Kind::Commit(_, rels) => commit_info(rels.as_slice()),
     }
+}
+
+/// The info byte of a commit that drops these relations.
+fn commit_info(rels: &[Rel]) -> u8
+    ensures { result ≡ commit_info rels.now }
+{
+    if rels.is_empty() { 0x00 } else { 0x81 }
 }
 
 /// Adds what stands behind the header: announcements, blocks and main data.
@@ -95,7 +106,46 @@ fn add_body(bytes: &mut Vec<u8>, kind: &Kind) -> Result<(), AllocError>
         Kind::Generic(blocks) => add_blocks(bytes, blocks.as_slice()),
         Kind::Create(fork) => add_main(bytes, &creation(*fork)),
         Kind::Truncate(rel, count, flags) => add_main(bytes, &truncation(*rel, *count, *flags)),
+        Kind::Commit(time, rels) => add_commit(bytes, *time, rels.as_slice()),
     }
+}
+
+/// Adds what stands behind the header of a commit.
+fn add_commit(bytes: &mut Vec<u8>, time: i64, rels: &[Rel]) -> Result<(), AllocError>
+    requires { length rels.now ≤ most_drops }
+    ensures { OnOk result (bytes.new.items ≡ bytes.old.items ++ body_of (Commit time rels.now)) }
+{
+    let time = time.cast_unsigned().to_le_bytes();
+    if rels.is_empty() {
+        return add_main(bytes, &time);
+    }
+    let count = rels.len() as u32;
+    announce_main(bytes, 16 + 12 * count)?;
+    bytes.extend_from_slice(&time)?;
+    bytes.extend_from_slice(&[4, 0, 0, 0])?;
+    bytes.extend_from_slice(&count.to_le_bytes())?;
+    add_rels(bytes, rels)
+}
+
+/// Adds the announcement of main data, so many bytes.
+fn announce_main(bytes: &mut Vec<u8>, size: u32) -> Result<(), AllocError>
+    ensures { OnOk result (bytes.new.items ≡ bytes.old.items ++ main_bytes (sized_head size) []) }
+{
+    if size <= 255 {
+        return bytes.extend_from_slice(&[255, size as u8]);
+    }
+    bytes.push(254)?;
+    bytes.extend_from_slice(&size.to_le_bytes())
+}
+
+/// Adds relations, one behind the other.
+fn add_rels(bytes: &mut Vec<u8>, rels: &[Rel]) -> Result<(), AllocError>
+    ensures { OnOk result (bytes.new.items ≡ bytes.old.items ++ rels_bytes rels.now) }
+{
+    for rel in rels {
+        bytes.extend_from_slice(&relation(*rel))?;
+    }
+    Ok(())
 }
 
 /// Adds what stands behind the header of an entry without blocks: main data, announced by one byte

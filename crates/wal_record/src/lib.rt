@@ -26,4 +26,4 @@ pub use decode::{decode_record, is_own_redo};
 pub use encode::encode_record;
 pub use laws::{entries_are_read, entries_are_sound, written_is_read};
 pub use places::{first_tip, tip_after, wal_limit};
-pub use record::{BlockRef, Blocks, Body, Kind, Record, RecordFault, Why};
+pub use record::{BlockRef, Blocks, Body, Kind, Record, RecordFault, Rels, Why};

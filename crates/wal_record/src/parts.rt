@@ -2,7 +2,7 @@
 
 ghost use Rattle.std.specs.Prelude.{◌≡◌, length, take, drop, box_value, IfOk};
 ghost use Rattle.std.specs.Option.{option_map};
-ghost use Rattle.wal_record.specs.Parts.{last_of, good_page, page_at, frag_at, frags_at, delta_at, checkpoint_at, mark_at, start_at, creation_at, truncation_at};
+ghost use Rattle.wal_record.specs.Parts.{last_of, good_page, page_at, frag_at, frags_at, delta_at, checkpoint_at, mark_at, start_at, creation_at, truncation_at, bits_at, other_bits_at, commit_time_at, commit_at};
 
 use byte_words::{u16_at, u32_at, u64_at};
 use lsn_core::Lsn;
@@ -159,4 +159,55 @@ pub fn truncation_of(main: &[u8]) -> Option<(u32, (RelName, u32))>
     let (count, rest) = u32_at(main)?;
     let named = creation_of(rest)?;
     Some((count, named))
+}
+
+/// Whether a commit's information bits, once its time and they are there, are others than those of
+/// dropped relations.
+#[tactic(auto, unfolding(crate::specs::Parts::other_bits_at))]
+pub fn has_other_bits(main: &[u8]) -> bool
+    ensures { result ≡ other_bits_at main.now }
+{
+    match bits_of(main) {
+        None => false,
+        Some(bits) => bits != 4,
+    }
+}
+
+/// A commit's information bits.
+#[tactic(auto, unfolding(crate::specs::Parts::bits_at))]
+fn bits_of(main: &[u8]) -> Option<u32>
+    ensures { result ≡ bits_at main.now }
+{
+    let (_, rest) = u64_at(main)?;
+    let (bits, _) = u32_at(rest)?;
+    Some(bits)
+}
+
+/// The time of a commit's main data that tells nothing else.
+#[tactic(auto, unfolding(crate::specs::Parts::commit_time_at))]
+pub fn commit_time_of(main: &[u8]) -> Option<i64>
+    ensures { result ≡ commit_time_at main.now }
+{
+    let (time, rest) = u64_at(main)?;
+    if rest.is_empty() {
+        Some(time.cast_signed())
+    } else {
+        None
+    }
+}
+
+/// The time of a commit's main data that tells more, how many relations are dropped, and the bytes
+/// that name them, 12 each.
+#[tactic(auto, unfolding(crate::specs::Parts::commit_at))]
+pub fn commit_of(main: &[u8]) -> Option<(i64, u32, &[u8])>
+    ensures { option_map (λ x. (x.0, (x.1, x.2.now))) result ≡ commit_at main.now }
+{
+    let (time, rest) = u64_at(main)?;
+    let (_, rest) = u32_at(rest)?;
+    let (count, rest) = u32_at(rest)?;
+    if count < 0x8000_0000 && rest.len() == count as usize * 12 {
+        Some((time.cast_signed(), count, rest))
+    } else {
+        None
+    }
 }

@@ -40,6 +40,57 @@ pub enum Kind {
     Create(ForkId),
     /// A relation is truncated to so many blocks, with flags: 1 its main fork, 2 and 4 others.
     Truncate(Rel, u32, u32),
+    /// A transaction commits, at a time, and drops these relations (access/xact.h).
+    Commit(i64, Rels),
+}
+
+/// The relations of an entry, in order. Contracts see the list.
+#[derive(Debug, Drop)]
+pub struct Rels {
+    list: Vec<Rel>,
+}
+
+impl Model for Rels {
+    ghost use Rattle.std.specs.Prelude.{List};
+    ghost use Rattle.lsn_core.specs.Relation.{Relation};
+
+    ghost Value = { List Relation };
+
+    ghost view = { λ r. r.list.items };
+}
+
+impl Rels {
+    /// These relations. Takes no memory.
+    pub fn from_vec(list: Vec<Rel>) -> Rels
+        ensures { result ≡ list.items }
+    {
+        Rels { list }
+    }
+
+    /// No relations.
+    pub fn none(alloc: Global) -> Rels
+        ensures { result ≡ [] }
+    {
+        Rels {
+            list: Vec::new(alloc),
+        }
+    }
+
+    /// One relation.
+    pub fn one(alloc: Global, rel: Rel) -> Result<Rels, AllocError>
+        ensures { IfOk result (λ r. r ≡ rel ∷ []) }
+    {
+        let mut list = Vec::new(alloc);
+        list.push(rel)?;
+        Ok(Rels { list })
+    }
+
+    /// The relations.
+    pub fn as_slice(&self) -> &[Rel]
+        ensures { result.now ≡ self.now }
+    {
+        &self.list
+    }
 }
 
 /// The blocks of an entry, in order. Contracts see the list.
@@ -120,6 +171,8 @@ pub enum RecordFault {
 /// Why what an entry says is refused (profile).
 #[derive(Clone, Copy, Debug, PartialEq, Eq)]
 pub enum Why {
+    /// The information bits of a commit tell other things than dropped relations.
+    CommitBits,
     /// An image is compressed.
     Compressed,
     /// An image isn't to be applied.

@@ -1,5 +1,5 @@
 -- What writes of the archive leave: in its files, and at a stop.
-use Rattle.std.proofs.Common.{◌≡◌, ℕ, ◌+◌, ◌-◌, ◌*◌, ◌/◌, ◌%◌, ◌<◌, ◌≤◌, true, List, [], ◌∷◌, length, Option, Some, None, Result, Ok, Err, OnOk, OnErr, refl, sym, ap, subst, ◌∙◌, arith, inl, inr}
+use Rattle.std.proofs.Common.{◌≡◌, ℕ, ◌+◌, ◌*◌, ◌/◌, ◌%◌, ◌<◌, ◌≤◌, true, List, [], ◌∷◌, length, Option, Some, None, Result, Ok, Err, OnOk, OnErr, refl, sym, subst, ◌∙◌, arith, inl, inr}
 use Rattle.std.proofs.lemmas.Nat.{div-add-mod', mod_below, le-div, div_below}
 use Rattle.std.proofs.Math.Nat.{add-mul}
 use Rattle.lsn_core.specs.Files.{Files}
@@ -23,7 +23,7 @@ use Rattle.wal_archive.proofs.Chain.{walks_extended}
 use Rattle.wal_archive.proofs.Files.{files_archive}
 use Rattle.wal_archive.proofs.Read.{origin_end}
 use Rattle.wal_archive.proofs.Writes.{segment_by}
-use Rattle.wal_writer.specs.Stops.{IsSegmentFile, IsBehind, WritesBehind, Leaves, Holds, Reads, KeepsArchive, StopsKeepEntries, SettledIsHeld}
+use Rattle.wal_writer.specs.Stops.{IsSegmentFile, IsBetween, WritesBetween, Leaves, Holds, Reads, KeepsArchive, StopsKeepEntries, SettledIsHeld}
 
 -- ---- files that are related
 
@@ -90,57 +90,67 @@ leaves_on mib at from count more old mid new e one two =
 
 -- ---- frames
 
-pub frame_on : {V : Type 0} (g : Ghosts V) (mib at from : ℕ) (x y z : V) → at ≤ from
-    → WritesBehind g mib at x y → WritesBehind g mib from y z → WritesBehind g mib at x z
-frame_on g mib at from x y z le one two = record {
-  files = related_on (AgreeBut (IsSegmentFile mib at)) (AgreeBut (IsSegmentFile mib from))
-      (AgreeBut (IsSegmentFile mib at)) (g.files x) (g.files y) (g.files z)
-      (λ a b c l r. (λ q out. r q (λ i. out (wider q i)) ∙ l q out)) one.files two.files;
-  past = adds_on (IsBehind mib at) (g.past x) (g.past y) (g.past z) one.past (adds_wider (g.past y)
-      (g.past z) two.past);
-  faults = omega (arith, one.faults, two.faults);
+-- between two places is between wider ones
+pub frame_wider : {V : Type 0} (g : Ghosts V) (mib at from till end : ℕ) (x y : V) → at ≤ from
+    → till ≤ end → WritesBetween g mib from till x y → WritesBetween g mib at end x y
+frame_wider g mib at from till end x y low high one = record {
+  files = related_map (AgreeBut (IsSegmentFile mib from till)) (AgreeBut (IsSegmentFile mib at end))
+      (g.files x) (g.files y) (λ a b r. (λ q out. r q (λ i. out (wider q i)))) one.files;
+  past = record {
+    events = one.past.events;
+    each = each_wider one.past.events one.past.each;
+    past = one.past.past;
+  };
+  faults = one.faults;
 }
   where
-    wider : (q : List ℕ) → IsSegmentFile mib from q → IsSegmentFile mib at q
+    wider : (q : List ℕ) → IsSegmentFile mib from till q → IsSegmentFile mib at end q
     wider q i = record {
       seg = i.seg;
       there = i.there;
-      behind = omega (arith, i.behind, le);
+      behind = omega (arith, i.behind, low);
+      before = omega (arith, i.before, high);
       named = i.named;
     }
 
-    event_wider : (event : Event) → IsBehind mib from event → IsBehind mib at event
+    event_wider : (event : Event) → IsBetween mib from till event → IsBetween mib at end event
     event_wider (inl w) i = record {
       seg = i.seg;
       there = i.there;
       named = i.named;
-      behind = omega (arith, i.behind, le);
+      behind = omega (arith, i.behind, low);
+      before = omega (arith, i.before, high);
+      within = omega (arith, i.within, high);
     }
     event_wider (inr (inl k)) i = absurd i
     event_wider (inr (inr (inl name))) i = absurd i
     event_wider (inr (inr (inr files))) i = tt
 
-    each_wider : (events : List Event) → Each (IsBehind mib from) events
-        → Each (IsBehind mib at) events
+    each_wider : (events : List Event) → Each (IsBetween mib from till) events
+        → Each (IsBetween mib at end) events
     each_wider [] e = tt
     each_wider (x ∷ xs) e = (event_wider x e.0, each_wider xs e.1)
 
-    adds_wider : (old new : Option (List Event)) → Adds (IsBehind mib from) old new
-        → Adds (IsBehind mib at) old new
-    adds_wider old new a = record {
-      events = a.events;
-      each = each_wider a.events a.each;
-      past = a.past;
-    }
+pub frame_on : {V : Type 0} (g : Ghosts V) (mib at end : ℕ) (x y z : V)
+    → WritesBetween g mib at end x y → WritesBetween g mib at end y z
+    → WritesBetween g mib at end x z
+frame_on g mib at end x y z one two = record {
+  files = related_on (AgreeBut (IsSegmentFile mib at end)) (AgreeBut (IsSegmentFile mib at end))
+      (AgreeBut (IsSegmentFile mib at end)) (g.files x) (g.files y) (g.files z)
+      (λ a b c l r. (λ q out. r q out ∙ l q out)) one.files two.files;
+  past = adds_on (IsBetween mib at end) (g.past x) (g.past y) (g.past z) one.past two.past;
+  faults = omega (arith, one.faults, two.faults);
+}
 
-pub frame_sync : {T : Type 0} {V : Type 0} (g : Ghosts V) (mib at : ℕ) (x y : V)
+pub frame_sync : {T : Type 0} {V : Type 0} (g : Ghosts V) (mib at end : ℕ) (x y : V)
     (result : Result T AreaFault) → g.files y ≡ g.files x
     → OnOk result (g.past y ≡ noted (synced (g.files x)) (g.past x))
-    → OnErr result (g.past y ≡ g.past x) → g.faults x ≤ g.faults y → WritesBehind g mib at x y
-frame_sync g mib at x y result files ok err faults = record {
-  files = related_same (AgreeBut (IsSegmentFile mib at)) (g.files x) (g.files y) (λ m q out. refl)
-      files;
-  past = adds_sync (IsBehind mib at) (g.files x) (g.past x) (g.past y) result tt ok err;
+    → OnErr result (g.past y ≡ g.past x) → g.faults x ≤ g.faults y
+    → WritesBetween g mib at end x y
+frame_sync g mib at end x y result files ok err faults = record {
+  files = related_same (AgreeBut (IsSegmentFile mib at end)) (g.files x) (g.files y)
+      (λ m q out. refl) files;
+  past = adds_sync (IsBetween mib at end) (g.files x) (g.past x) (g.past y) result tt ok err;
   faults = faults;
 }
 
@@ -185,25 +195,28 @@ piece_leaves mib at count name place old new some is named there torn =
 pub piece_frame : {T : Type 0} {V : Type 0} (g : Ghosts V) (mib at : ℕ) (name : List ℕ) (place : ℕ)
     (piece : List ℕ) (x y : V) (result : Result T AreaFault) → IsSegmentPlace mib at
     → name ≡ segment_name_bytes (at / segment_bytes mib) mib → place ≡ at % segment_bytes mib
-    → Related (IsTorn name place (length piece)) (g.files x) (g.files y)
+    → 0 < length piece → Related (IsTorn name place (length piece)) (g.files x) (g.files y)
     → Notes (wrote name place piece) (g.past x) (g.past y) result
     → Tries (wrote name place piece) (g.past x) (g.past y) result → g.faults x ≤ g.faults y
-    → WritesBehind g mib at x y
-piece_frame g mib at name place piece x y result is named there torn ok err faults = record {
-  files = related_map (IsTorn name place (length piece)) (AgreeBut (IsSegmentFile mib at))
-      (g.files x) (g.files y)
+    → WritesBetween g mib at (at + length piece) x y
+piece_frame g mib at name place piece x y result is named there some torn ok err faults = record {
+  files = related_map (IsTorn name place (length piece))
+      (AgreeBut (IsSegmentFile mib at (at + length piece))) (g.files x) (g.files y)
       (λ m n t. (λ q out. t.others q (λ e. out (record {
         seg = at / segment_bytes mib;
         there = is.there;
         behind = is.behind;
+        before = omega (arith, is.whole, some);
         named = e ∙ named;
       })))) torn;
-  past = adds_by (IsBehind mib at) (wrote name place piece) (g.past x) (g.past y) result
-      (record {
+  past = adds_by (IsBetween mib at (at + length piece)) (wrote name place piece) (g.past x)
+      (g.past y) result (record {
         seg = at / segment_bytes mib;
         there = is.there;
         named = named;
         behind = omega (arith, is.whole, there);
+        before = omega (arith, is.whole, some);
+        within = omega (arith, is.whole, there);
       }) ok err;
   faults = faults;
 }
@@ -211,24 +224,26 @@ piece_frame g mib at name place piece x y result is named there torn ok err faul
 -- ---- stops
 
 -- a write at or behind a place keeps what is held of the archive before it
-pub held_on : (mib at : ℕ) (a : Archive) → 1 ≤ mib → (event : Event) (d c : Files)
-    → IsBehind mib at event → Holds mib a at d → Made event d c → Holds mib a at c
-held_on mib at a some (inl w) d c is held made =
+held_on : (mib at end : ℕ) (a : Archive) → 1 ≤ mib → (event : Event) (d c : Files)
+    → IsBetween mib at end event → Holds mib a at d → Made event d c → Holds mib a at c
+held_on mib at end a some (inl w) d c is held made =
     let torn = subst (λ k. IsTorn k w.1.0 (length w.1.1) d c) is.named made in
     let left = torn_left mib d c is.seg w.1.0 (length w.1.1) (is.seg * segment_bytes mib + w.1.0)
     some is.there refl torn in
     λ x b lt there. left.before x b (omega (arith, lt, is.behind)) (held x b lt there)
-held_on mib at a some (inr (inl k)) d c is held made = absurd is
-held_on mib at a some (inr (inr (inl q))) d c is held made = absurd is
-held_on mib at a some (inr (inr (inr None))) d c is held made = subst (Holds mib a at) (sym made)
-    held
-held_on mib at a some (inr (inr (inr (Some files)))) d c is held made = subst (Holds mib a at)
-    (sym made.0) held
+held_on mib at end a some (inr (inl k)) d c is held made = absurd is
+held_on mib at end a some (inr (inr (inl q))) d c is held made = absurd is
+held_on mib at end a some (inr (inr (inr None))) d c is held made =
+    subst (Holds mib a at) (sym made) held
+held_on mib at end a some (inr (inr (inr (Some files)))) d c is held made =
+    subst (Holds mib a at) (sym made.0) held
 
-pub keeps_archive : (mib at : ℕ) (x y : Option (List Event)) → 1 ≤ mib → Adds (IsBehind mib at) x y
-    → KeepsArchive mib at x y
-keeps_archive mib at x y some adds a here = leaves_only (Holds mib a at) (IsBehind mib at) x y
-    (held_on mib at a some) adds here
+pub keeps_archive : (mib at end : ℕ) (x y : Option (List Event)) → 1 ≤ mib
+    → Adds (IsBetween mib at end) x y → KeepsArchive mib at x y
+keeps_archive mib at end x y some adds a here =
+    leaves_only (Holds mib a at) (IsBetween mib at end) x y (held_on mib at end a some) adds here
+
+-- ---- entries
 
 leaves_map : (P Q : Files → Type 0) (old new : Option (List Event)) → ((c : Files) → P c → Q c)
     → LeavesOnly P old new → LeavesOnly Q old new

@@ -1,5 +1,5 @@
 -- What calls on the writer of the WAL answer.
-use Rattle.std.specs.Prelude.{◌≡◌, ℕ, ◌+◌, ◌-◌, ◌<◌, ◌≤◌, List, length, Option, Some, Result, Ok, Err}
+use Rattle.std.specs.Prelude.{◌≡◌, ℕ, ◌-◌, ◌<◌, ◌≤◌, length, Some, Result, Ok, Err}
 use Rattle.std.specs.Global.{Vec}
 use Rattle.std.specs.Option.{option_map}
 use Rattle.lsn_core.specs.Files.{Files}
@@ -17,8 +17,8 @@ use Rattle.wal_writer.specs.declared.fault.AppendFault.TheVariants.{WalFull, NoM
 use Rattle.lsn_core.specs.declared.fault.NoMemory.{NoMemory as Lack}
 use Rattle.wal_writer.specs.declared.prepared.Prepared.{Prepared}
 use Rattle.wal_writer.specs.declared.state.WalState.{WalState}
-use Rattle.wal_writer.specs.Log.{Log, Ready, IsReady, next_record, appended, flushed_to, touched_to, flush_end, to_flush}
-use Rattle.wal_writer.specs.Stops.{Leaves, WritesBehind, KeepsArchive, IsSettled}
+use Rattle.wal_writer.specs.Log.{Log, Ready, IsReady, next_record, appended, flushed_to, flush_end, to_flush}
+use Rattle.wal_writer.specs.Stops.{Leaves, WritesBetween, KeepsArchive, IsSettled}
 
 -- the entry that comes next is prepared exactly where it ends within the WAL's room
 abbrev pub PrepareAnswer : Kind → Log → Result Prepared AppendFault → Type 0
@@ -70,9 +70,12 @@ module _ {V : Type 0} (g : Ghosts V) where
   Keeps old new =
       KeepsArchive old.tail.mib old.tail.flushed (g.past old.area) (g.past new.area)
 
-  -- only the archive is written, from the flushed place on
-  abbrev pub FlushWrites : WalState V → WalState V → Type 0
-  FlushWrites old new = WritesBehind g old.tail.mib old.tail.flushed old.area new.area
+  -- only the archive is written, from the flushed place on and up to another one
+  abbrev pub FlushWritesAt : ℕ → WalState V → WalState V → Type 0
+  FlushWritesAt at old new = WritesBetween g old.tail.mib old.tail.flushed at old.area new.area
+
+  abbrev pub FlushWrites : ℕ → WalState V → WalState V → Type 0
+  FlushWrites to old new = FlushWritesAt (flush_end old.tail to) old new
 
   -- a piece of what is flushed is read
   abbrev pub ReadsFlushed : StoreSettings → ℕ → ℕ → WalState V → WalState V

@@ -4,7 +4,7 @@ use Rattle.lsn_core.specs.Segment.{StoreSettings, IsSegmentMib, segment_bytes}
 use Rattle.lsn_core.specs.Tip.{Tip}
 use Rattle.wal_pages.specs.Spread.{spread}
 use Rattle.wal_record.specs.Spelling.{sealed}
-use Rattle.wal_record.specs.Tips.{tip_after, record_at_tip, wal_limit, IsWithin}
+use Rattle.wal_record.specs.Tips.{tip_after, record_at_tip, IsWithin}
 use Rattle.wal_record.specs.declared.record.Record.{Record}
 use Rattle.wal_record.specs.declared.record.Kind.{Kind}
 

@@ -3,6 +3,8 @@
 ghost use Rattle.wal_writer.specs.Laws.{AppendedComesNext, AddedEntriesWait};
 ghost use Rattle.wal_writer.specs.Laws.{FailedFlushesWait, FlushedEntriesAreRead};
 ghost use Rattle.wal_writer.specs.Stops.{StopsKeepEntries, SettledIsHeld};
+ghost use Rattle.wal_writer.specs.Stops.{WritesKeepRest, StopsKeepRest};
+ghost use Rattle.wal_writer.specs.Stops.{SettledHasRest, NothingNewIsRead};
 
 /// An entry that is appended is one that comes next, and is read as itself.
 pub fn appended_comes_next()
@@ -30,4 +32,14 @@ pub fn flushed_entries_are_read()
 pub fn stops_keep_entries()
     ensures moments { StopsKeepEntries }
     ensures settled { SettledIsHeld }
+{}
+
+/// Nothing is written behind the end of what is flushed: from there on the archive is as it was,
+/// and so each stop during a flush leaves it. No entry is read behind that end but one that was
+/// read there before.
+pub fn nothing_is_written_behind()
+    ensures files { WritesKeepRest }
+    ensures moments { StopsKeepRest }
+    ensures settled { SettledHasRest }
+    ensures read { NothingNewIsRead }
 {}

@@ -6,7 +6,7 @@
 //! comes exactly where it would end behind the last segment. What a flush writes, what it leaves
 //! where it fails, and what a stop leaves at each moment is said in `specs/Answers.antt`. A
 //! `Flushed` is made by a flush alone. `laws` says that what is flushed is read again, behind what
-//! was there, as the entries that were appended.
+//! was there, as the entries that were appended, and that nothing is written behind its end.
 //!
 //! Left to others: an entry's bytes (`wal_record`), how they are cut over pages (`wal_pages`), and
 //! that the tip given is the one with which the area's archive ends (`wal_reader`).
@@ -22,7 +22,7 @@ mod tail;
 pub use fault::AppendFault;
 pub use laws::{
     added_entries_wait, appended_comes_next, failed_flushes_wait, flushed_entries_are_read,
-    stops_keep_entries,
+    nothing_is_written_behind, stops_keep_entries,
 };
 pub use prepared::Prepared;
 pub use state::{Flushed, WalState};

@@ -5,7 +5,7 @@ ghost use Rattle.lsn_core.specs.Causes.{HasCause};
 ghost use Rattle.lsn_core.specs.Segment.{segment_bytes};
 ghost use Rattle.wal_record.specs.Tips.{wal_limit};
 ghost use Rattle.wal_archive.specs.Writing.{room_in};
-ghost use Rattle.wal_writer.specs.Stops.{Leaves, WritesBehind, IsSettled};
+ghost use Rattle.wal_writer.specs.Stops.{Leaves, WritesBetween, IsSettled};
 ghost use Rattle.wal_writer.specs.Inside.{WritesPiece, WritesArchive};
 
 use lsn_core::{AreaFault, SegSize, segment_name};
@@ -28,7 +28,7 @@ pub fn write_synced<V: Vault>(
     ensures written { OnOk result (WritesArchive V.Vault size at bytes.now area.old area.new) }
     ensures settled { OnOk result (IsSettled V.Vault area.new) }
     ensures left { Leaves size at (length bytes.now) (V.files area.old) (V.files area.new) }
-    ensures frame { WritesBehind V.Vault size at area.old area.new }
+    ensures frame { WritesBetween V.Vault size at (at + length bytes.now) area.old area.new }
     ensures cause { HasCause (V.faults area.old) (V.faults area.new) result }
 {
     write_pieces(alloc, area, size, at, bytes)?;
@@ -47,7 +47,7 @@ fn write_pieces<V: Vault>(
     requires most { at + length bytes.now ≤ wal_limit size }
     ensures written { OnOk result (WritesArchive V.Vault size at bytes.now area.old area.new) }
     ensures left { Leaves size at (length bytes.now) (V.files area.old) (V.files area.new) }
-    ensures frame { WritesBehind V.Vault size at area.old area.new }
+    ensures frame { WritesBetween V.Vault size at (at + length bytes.now) area.old area.new }
     ensures cause { HasCause (V.faults area.old) (V.faults area.new) result }
 {
     let mut from = at;
@@ -92,9 +92,10 @@ fn write_piece<V: Vault>(
 ) -> Result<(), AreaFault>
     requires least { segment_bytes size ≤ at }
     requires most { at < wal_limit size }
+    requires some { 0 < length piece.now }
     ensures written { OnOk result (WritesPiece V.Vault size at piece.now area.old area.new) }
     ensures left { Leaves size at (length piece.now) (V.files area.old) (V.files area.new) }
-    ensures frame { WritesBehind V.Vault size at area.old area.new }
+    ensures frame { WritesBetween V.Vault size at (at + length piece.now) area.old area.new }
     ensures cause { HasCause (V.faults area.old) (V.faults area.new) result }
 {
     let bytes = size.bytes();

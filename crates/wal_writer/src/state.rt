@@ -7,8 +7,8 @@ ghost use Rattle.wal_record.specs.Spelling.{IsWritable};
 ghost use Rattle.wal_record.specs.Tips.{IsWithin};
 ghost use Rattle.wal_writer.specs.Log.{IsLog, IsReady, log_at, flush_end, touched_to};
 ghost use Rattle.wal_writer.specs.Answers.{PrepareAnswer, AddAnswer, AppendAnswer};
-ghost use Rattle.wal_writer.specs.Answers.{FlushesAt, Flushes, TearsAt, Tears, Keeps, FlushWrites};
-ghost use Rattle.wal_writer.specs.Answers.{ReadsFlushed};
+ghost use Rattle.wal_writer.specs.Answers.{FlushesAt, Flushes, TearsAt, Tears, Keeps};
+ghost use Rattle.wal_writer.specs.Answers.{FlushWritesAt, FlushWrites, ReadsFlushed};
 
 use crate::fault::AppendFault;
 use crate::pieces::write_synced;
@@ -95,8 +95,8 @@ impl<V: Vault> WalState<V> {
     /// Writes what stands before a place and isn't flushed yet, in pieces of at most 1 MiB, and
     /// syncs the area. Up to the flushed position nothing is to be done. After a fault the flushed
     /// position stands, and the next flush writes the same bytes again, at least up to where this
-    /// one may have written. Whatever it answers, and wherever it is stopped, the archive before
-    /// the flushed position stays.
+    /// one may have written, but nothing behind the WAL's end. Whatever it answers, and wherever it
+    /// is stopped, the archive before the flushed position stays.
     pub fn flush_to(&mut self, alloc: Global, to: Lsn) -> Result<Flushed, AreaFault>
         requires { to.0 ≤ self.old.tail.tip.end }
         ensures idle { to.0 ≤ self.old.tail.flushed → self.new ≡ self.old }
@@ -108,7 +108,7 @@ impl<V: Vault> WalState<V> {
             (self.new.tail ≡ touched_to self.old.tail (flush_end self.old.tail to.0)) }
         ensures left { Tears V.Vault to.0 self.old self.new }
         ensures moments { Keeps V.Vault self.old self.new }
-        ensures frame { FlushWrites V.Vault self.old self.new }
+        ensures frame { FlushWrites V.Vault to.0 self.old self.new }
         ensures cause { HasCause (V.faults self.old.area) (V.faults self.new.area) result }
     {
         if self.tail.flushed() < to.0 {
@@ -169,7 +169,7 @@ impl<V: Vault> WalState<V> {
         ensures flushed { OnOk result (FlushesAt V.Vault at self.old self.new) }
         ensures stands { OnErr result (self.new.tail ≡ touched_to self.old.tail at) }
         ensures left { TearsAt V.Vault at self.old self.new }
-        ensures frame { FlushWrites V.Vault self.old self.new }
+        ensures frame { FlushWritesAt V.Vault at self.old self.new }
         ensures cause { HasCause (V.faults self.old.area) (V.faults self.new.area) result }
     {
         let size = self.tail.segment();

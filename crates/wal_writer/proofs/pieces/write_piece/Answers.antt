@@ -31,5 +31,5 @@ returns-clause-frame g c =
     c.write_at.ensures.memory c.write_at.ensures.failed in
     piece_frame g.V.Vault c.args.size c.args.at c.as_bytes.result.now _ c.args.piece.now
     c.args.area.now c.write_at.new.self c.write_at.result is named (ap (λ n. c.args.at % n)
-    c.bytes-bytes.ensures.bytes) torn c.write_at.ensures.noted c.write_at.ensures.tried
-    c.write_at.ensures.cause.later
+    c.bytes-bytes.ensures.bytes) c.requires.some torn c.write_at.ensures.noted
+    c.write_at.ensures.tried c.write_at.ensures.cause.later

@@ -1,7 +1,7 @@
 -- The pieces so far and the next one.
 use Rattle.std.proofs.Common.{rules, ◌≡◌, ◌+◌, ◌-◌, ◌<◌, ◌≤◌, length, ap, arith}
 use Rattle.std.proofs.lemmas.List.{length-take, length-drop}
-use Rattle.wal_writer.proofs.Tears.{leaves_on, leaves_longer, frame_on}
+use Rattle.wal_writer.proofs.Tears.{leaves_on, leaves_longer, frame_on, frame_wider}
 use Rattle.wal_writer.proofs.WritesOn.{writes_step, writes_all}
 use Rattle.wal_writer.proofs.pieces.write_pieces.Goals as goal
 
@@ -24,15 +24,39 @@ returns-in_err-write_piece-clause-left g c =
     (g.V.Vault.files c.loop-rest.area) (g.V.Vault.files c.write_piece.new.area)
     (omega (arith, i.whole some, i.short)) i.left c.write_piece.ensures.left)
 
+pub write_piece-requires-clause-some : goal.write_piece-requires-clause-some
+write_piece-requires-clause-some g c =
+    let some : 0 < length c.loop-rest.rest.now = search rules in
+    omega (
+      arith,
+      some,
+      c.room_in-room.ensures.some,
+      ap length c.cut.ensures.front,
+      length-take c.room_in-room.result
+          c.loop-rest.rest.now,
+    )
+
 pub returns-in_err-write_piece-clause-frame : goal.returns-in_err-write_piece-clause-frame
 returns-in_err-write_piece-clause-frame g c =
     let i = c.loop-rest.invariant in
-    frame_on g.V.Vault c.args.size c.args.at c.loop-rest.from c.args.area.now c.loop-rest.area
-    c.write_piece.new.area i.behind i.frame c.write_piece.ensures.frame
+    let end = c.args.at + length c.args.bytes.now in
+    let some : 0 < length c.loop-rest.rest.now = search rules in
+    let front : length c.cut.result.0.now ≤ length c.loop-rest.rest.now =
+    omega (
+      arith,
+      ap length c.cut.ensures.front,
+      length-take c.room_in-room.result
+          c.loop-rest.rest.now,
+    ) in
+    frame_on g.V.Vault c.args.size c.args.at end c.args.area.now c.loop-rest.area
+    c.write_piece.new.area i.frame (frame_wider g.V.Vault c.args.size c.args.at c.loop-rest.from
+    (c.loop-rest.from + length c.cut.result.0.now) end c.loop-rest.area c.write_piece.new.area
+    i.behind (omega (arith, i.whole some, front)) c.write_piece.ensures.frame)
 
 pub loop-rest-preserved : goal.loop-rest-preserved
 loop-rest-preserved g c =
     let i = c.loop-rest.invariant in
+    let end = c.args.at + length c.args.bytes.now in
     let some : 0 < length c.loop-rest.rest.now = search rules in
     let front : length c.cut.result.0.now ≤ length c.loop-rest.rest.now =
     omega (
@@ -75,8 +99,11 @@ loop-rest-preserved g c =
           c.cut.result.1.now) (g.V.Vault.files c.args.area.now) (g.V.Vault.files
           c.write_piece.new.area) (omega (arith, parts, i.short)) left;
       short = omega (arith, parts, i.short);
-      frame = frame_on g.V.Vault c.args.size c.args.at c.loop-rest.from c.args.area.now
-          c.loop-rest.area c.write_piece.new.area i.behind i.frame c.write_piece.ensures.frame;
+      frame = frame_on g.V.Vault c.args.size c.args.at end c.args.area.now c.loop-rest.area
+          c.write_piece.new.area i.frame (frame_wider g.V.Vault c.args.size c.args.at
+          c.loop-rest.from (c.loop-rest.from + length c.cut.result.0.now) end c.loop-rest.area
+          c.write_piece.new.area i.behind (omega (arith, i.whole some, front))
+          c.write_piece.ensures.frame);
     }
 
 pub returns-clause-written : goal.returns-clause-written

@@ -1,5 +1,5 @@
 use Rattle.std.proofs.Common.{◌≡◌, ◌+◌, ◌-◌, ◌≤◌, ◌<◌, length}
-use Rattle.wal_writer.specs.Stops.{Leaves, WritesBehind}
+use Rattle.wal_writer.specs.Stops.{Leaves, WritesBetween}
 use Rattle.wal_writer.proofs.WritesOn.{WritesOn}
 use Rattle.wal_writer.proofs.pieces.write_pieces.Given as goal
 
@@ -12,7 +12,7 @@ invariant-loop-rest g l = record {
   left : Leaves l.size l.fn.at (length l.fn.bytes - length l.rest) (g.V.Vault.files l.fn.area)
       (g.V.Vault.files l.area);
   short : length l.rest ≤ length l.fn.bytes;
-  frame : WritesBehind g.V.Vault l.size l.fn.at l.fn.area l.area;
+  frame : WritesBetween g.V.Vault l.size l.fn.at (l.fn.at + length l.fn.bytes) l.fn.area l.area;
 }
 
 abbrev pub decreases-loop-rest : goal.decreases-loop-rest
