@@ -1,6 +1,12 @@
 -- Items with a page for each.
-use Rattle.std.proofs.Common.{◌≡◌, ℕ, zero, suc, ◌+◌, ◌<◌, ◌≤◌, List, [], ◌∷◌, ◌++◌, map, length, get_or, take, refl, ap, sym, ◌∙◌, arith}
+use Rattle.std.proofs.Common.{◌≡◌, ℕ, zero, suc, ◌+◌, ◌<◌, ◌≤◌, ◌^◌, pos, List, [], ◌∷◌, ◌++◌, map, length, get_or, take, refl, ap, sym, ◌∙◌, arith}
 use Rattle.std.specs.List.{All}
+use Rattle.std.specs.Int.{w64}
+use Rattle.std.proofs.lemmas.Int.{fits_signed_from_abs}
+use Rattle.std.proofs.lemmas.List.Elements.{All-nil, All-cons}
+use Rattle.lsn_core.specs.Relation.{Relation}
+use Rattle.wal_record.specs.declared.record.Kind.TheVariants.{Commit}
+use Rattle.wal_record.specs.Spelling.{IsRelation, IsWritable}
 use Rattle.std.proofs.lemmas.List.{take_all}
 use Rattle.lsn_core.specs.Store.{Store}
 use Rattle.history.specs.declared.op.Item.{Item}
@@ -64,3 +70,9 @@ each_fit store (item ∷ items) all =
 
 pub have_pages : FitChangesHavePages
 have_pages store items fit = record { some = fit.some; most = fit.most; each = each_fit store items fit.each }
+
+-- a drop of a relation can be written
+pub drop_writable : (rel : Relation) → (0 < rel.db) × (0 < rel.rel) → (rel.db < 2 ^ 32) × (rel.rel < 2 ^ 32) → IsWritable (Commit (pos 0) (rel ∷ []))
+drop_writable rel some fits =
+    let is : IsRelation rel = record { some = some; fits = fits } in
+    (fits_signed_from_abs w64 (pos 0) (omega arith), (All-cons IsRelation rel [] is (All-nil IsRelation), omega arith))

@@ -1,6 +1,6 @@
 //! The kinds of entries.
 
-ghost use Rattle.std.specs.Prelude.{◌≡◌, ◌<◌, ◌-◌, ◌^◌, true, nat_le, None, IfOk};
+ghost use Rattle.std.specs.Prelude.{◌≡◌, ◌<◌, ◌-◌, ◌^◌, true, pos, [], ◌∷◌, nat_le, None, IfOk};
 ghost use Rattle.std.specs.List.{All};
 ghost use Rattle.pg_page.specs.Header.{lsn_of, hole_zeroed};
 ghost use Rattle.pg_page.specs.Frags.{bad_frag, written_frags, patched, is_good};
@@ -17,7 +17,7 @@ use lsn_core::{ForkId, Lsn, NoMemory, Rel};
 use pg_page::{Frags, Page, lsn_of, patch, zero_hole};
 use std::alloc::{AllocError, Global};
 use std::boxed::Box;
-use wal_record::{BlockRef, Blocks, Body, Kind};
+use wal_record::{BlockRef, Blocks, Body, Kind, Rels};
 
 /// Whether a patch of a page with this LSN is written as an image of the page, behind this redo
 /// point: exactly where the LSN is at most the redo point (manual, full_page_writes).
@@ -62,6 +62,16 @@ pub fn truncation_kind(rel: Rel, count: u32) -> Kind
 {
     know(&rel);
     Kind::Truncate(rel, count, 7)
+}
+
+/// The kind of entry that a drop of a relation is written as: a commit at time 0.
+#[tactic(auto, using(crate::proofs::Pages::drop_writable))]
+pub fn drop_kind(alloc: Global, rel: Rel) -> Result<Kind, NoMemory>
+    ensures kind { IfOk result (λ made. made ≡ kind.Commit (pos 0) (rel ∷ [])) }
+    ensures writable { IfOk result IsWritable }
+{
+    know(&rel);
+    Ok(Kind::Commit(0, Rels::one(alloc, rel)?))
 }
 
 /// The kind of the entry that starts a checkpoint, whose place is the redo point.

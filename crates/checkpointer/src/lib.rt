@@ -16,6 +16,7 @@ mod kinds;
 mod laws;
 
 pub use kinds::{
-    change_kind, creation_kind, first_kind, needs_image, online_kind, redo_kind, truncation_kind,
+    change_kind, creation_kind, drop_kind, first_kind, needs_image, online_kind, redo_kind,
+    truncation_kind,
 };
 pub use laws::changes_are_written_by_pages;

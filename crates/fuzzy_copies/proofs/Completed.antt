@@ -1,5 +1,5 @@
 -- Replay over a copy gives what replay over the store gives, where the copy is completed by the entries.
-use Rattle.std.proofs.Common.{◌≡◌, ℕ, ◌<◌, ◌≤◌, Bool, true, false, cond, ◌&&◌, ◌||◌, List, [], ◌∷◌, ◌++◌, map, Option, Some, None, refl, sym, ap, subst, ◌∙◌, arith}
+use Rattle.std.proofs.Common.{◌≡◌, ℕ, ◌<◌, ◌≤◌, Bool, true, false, cond, not, ◌&&◌, ◌||◌, List, [], ◌∷◌, ◌++◌, map, Option, Some, None, refl, sym, ap, subst, ◌∙◌, arith}
 use Rattle.std.specs.Prelude.{nat_le}
 use Rattle.std.proofs.lemmas.Bool.{and_parts, or_parts, or_from, or_left, or_right, false_from_ne_true}
 use Rattle.std.specs.List.{list_any}
@@ -11,14 +11,14 @@ use Rattle.lsn_core.specs.Blocks.{block_of}
 use Rattle.history.specs.declared.op.Edit.{Edit}
 use Rattle.history.specs.declared.op.Edit.TheVariants.{Put, Patch}
 use Rattle.history.specs.declared.op.Item.{Item}
-use Rattle.history.specs.Entry.{Act, Create, Truncate, Change, Mark, Entry}
-use Rattle.history.specs.Apply.{Rule, edited, main_fork, is_same_fork}
+use Rattle.history.specs.Entry.{Act, Create, Truncate, Change, Drop, Mark, Entry}
+use Rattle.history.specs.Apply.{Rule, edited, main_fork, is_same_fork, is_of_any}
 use Rattle.history.specs.Redo.{redone}
 use Rattle.history.specs.Whole.{is_named, is_patch}
 use Rattle.history.specs.Laws.{AreFresh, IsFresh}
 use Rattle.history.proofs.Stores.{block_is}
 use Rattle.history.proofs.Names.{named_more, named_here}
-use Rattle.fuzzy_copies.specs.Touches.{is_at, is_patch_at, act_touches, act_cuts, act_creates, act_patches, resets, creates, patches}
+use Rattle.fuzzy_copies.specs.Touches.{is_at, is_patch_at, act_touches, act_cuts, act_settles, act_patches, resets, settles, patches}
 use Rattle.fuzzy_copies.specs.Effects.{Effect, Stay, Reach, Alter, Clear, after_all, is_past, item_effect, act_effects, effects_on, fork_after, fork_after_all}
 use Rattle.fuzzy_copies.specs.Orderly.{IsOrderly}
 use Rattle.fuzzy_copies.specs.Sound.{block_lsn}
@@ -128,6 +128,8 @@ act_rises last end fork block (Create made) xs h fresh r = weaker last end xs (o
 act_rises last end fork block (Truncate rel count) xs h fresh r =
     elim (is_same_fork fork (main_fork rel) && nat_le count block) as (λ s. Rises last (cond s Clear Stay ∷ xs)) [ true ↦ weaker last end xs (omega arith) r | false ↦ weaker last end xs (omega arith) r ]
 act_rises last end fork block (Change items) xs h fresh r = items_rise last end [] fork block items xs h fresh r
+act_rises last end fork block (Drop rels) xs h fresh r =
+    elim (is_of_any fork rels) as (λ s. Rises last (cond s Clear Stay ∷ xs)) [ true ↦ weaker last end xs (omega arith) r | false ↦ weaker last end xs (omega arith) r ]
 act_rises last end fork block (Mark marking) xs h fresh r = weaker last end xs (omega arith) r
 
 pub rises : (last : ℕ) (es : List Entry) (fork : ForkId) (block : ℕ) → IsOrderly last es → Rises last (effects_on fork block es)
@@ -156,12 +158,14 @@ act_completes : (fork : ForkId) (block end : ℕ) (act : Act) (xs : List Effect)
 act_completes fork block end (Create made) xs any none = absurd cc
 act_completes fork block end (Truncate rel count) xs any none = subst (λ s. Completes (cond s Clear Stay ∷ xs)) (sym any) tt
 act_completes fork block end (Change items) xs any none = items_complete fork block end items xs (either_none (list_any (is_at fork block) items) any) none
+act_completes fork block end (Drop rels) xs any none = subst (λ s. Completes (cond s Clear Stay ∷ xs)) (sym any) tt
 act_completes fork block end (Mark marking) xs any none = absurd cc
 
 act_passes : (fork : ForkId) (block end : ℕ) (act : Act) (xs : List Effect) → (act_touches fork block act || act_cuts fork block act) ≡ false → Completes xs → Completes (act_effects fork block end act ++ xs)
 act_passes fork block end (Create made) xs none c = c
 act_passes fork block end (Truncate rel count) xs none c = subst (λ s. Completes (cond s Clear Stay ∷ xs)) (sym none) c
 act_passes fork block end (Change items) xs none c = items_pass fork block end items xs (or_parts (list_any (is_at fork block) items) false none).0 c
+act_passes fork block end (Drop rels) xs none c = subst (λ s. Completes (cond s Clear Stay ∷ xs)) (sym none) c
 act_passes fork block end (Mark marking) xs none c = c
 
 -- what completes a copy completes each block that it resets
@@ -177,26 +181,32 @@ completes fork block (e ∷ es) any deltas =
           (λ front d back is p. or_second (resets fork block e) (list_any (resets fork block) front) (deltas (e ∷ front) d back (ap (λ (l : List Entry). e ∷ l) is) p) none))
     ] refl
 
+-- a fork that is dropped isn't there
+gone_now : (there dropped : Bool) → dropped ≡ true → (there && not dropped) ≡ false
+gone_now true dropped e = ap not e
+gone_now false dropped e = refl
+
 -- a fork that an entry creates is there, and one that is there in both stores or in none stays so
-fork_created : (fork : ForkId) (a b : Bool) (act : Act) → act_creates fork act ≡ true → fork_after fork a act ≡ fork_after fork b act
+fork_created : (fork : ForkId) (a b : Bool) (act : Act) → act_settles fork act ≡ true → fork_after fork a act ≡ fork_after fork b act
 fork_created fork a b (Create made) e = or_right a _ e ∙ sym (or_right b _ e)
 fork_created fork a b (Truncate rel count) e = absurd cc
 fork_created fork a b (Change items) e = absurd cc
+fork_created fork a b (Drop rels) e = gone_now a (is_of_any fork rels) e ∙ sym (gone_now b (is_of_any fork rels) e)
 fork_created fork a b (Mark marking) e = absurd cc
 
-pub forks_settled : (fork : ForkId) (a b : Bool) (es : List Entry) → (list_any (creates fork) es ≡ false → a ≡ b) → fork_after_all fork a es ≡ fork_after_all fork b es
+pub forks_settled : (fork : ForkId) (a b : Bool) (es : List Entry) → (list_any (settles fork) es ≡ false → a ≡ b) → fork_after_all fork a es ≡ fork_after_all fork b es
 forks_settled fork a b [] same = same refl
 forks_settled fork a b (e ∷ es) same =
     forks_settled fork (fork_after fork a e.act) (fork_after fork b e.act) es (λ none.
-    elim (creates fork e) as (λ c. creates fork e ≡ c → fork_after fork a e.act ≡ fork_after fork b e.act) [
+    elim (settles fork e) as (λ c. settles fork e ≡ c → fork_after fork a e.act ≡ fork_after fork b e.act) [
       | true ↦ λ made. fork_created fork a b e.act made
-      | false ↦ λ not. ap (λ t. fork_after fork t e.act) (same (or_from (creates fork e) _ not none))
+      | false ↦ λ not. ap (λ t. fork_after fork t e.act) (same (or_from (settles fork e) _ not none))
     ] refl)
 
 -- a copy that replay of these entries makes the same as a store after them
 pub record IsCompleted (copy base : Store) (window : List Entry) : Type 0 where
   pub blocks : (fork : ForkId) (block : ℕ) → list_any (resets fork block) window ≡ false → block_of copy fork block ≡ block_of base fork block
-  pub forks : (fork : ForkId) → list_any (creates fork) window ≡ false → contains_key copy fork ≡ contains_key base fork
+  pub forks : (fork : ForkId) → list_any (settles fork) window ≡ false → contains_key copy fork ≡ contains_key base fork
   pub deltas : (fork : ForkId) (block : ℕ) (front : List Entry) (e : Entry) (back : List Entry) → window ≡ front ++ (e ∷ back) → patches fork block e ≡ true → list_any (resets fork block) front ≡ true
 
 -- the law on a window of entries

@@ -13,7 +13,7 @@ use Rattle.lsn_core.specs.Store.{Store}
 use Rattle.lsn_core.specs.Blocks.{block_of}
 use Rattle.history.specs.Entry.{Entry}
 use Rattle.history.specs.Apply.{apply_all}
-use Rattle.fuzzy_copies.specs.Touches.{resets, creates}
+use Rattle.fuzzy_copies.specs.Touches.{resets, settles}
 use Rattle.fuzzy_copies.specs.Orderly.{IsOrderly}
 use Rattle.fuzzy_copies.specs.Sound.{entries_before, state_before, is_in, window}
 use Rattle.fuzzy_copies.specs.Taken.{since}
@@ -90,7 +90,7 @@ added ours disk history more from late c =
           ap (apply_all empty) (filter-append (λ e. nat_lt e.start from) history more ∙ ap (λ (l : List Entry). entries_before history from ++ l) late ∙ append-nil (entries_before history from)) ∙ c.defined;
       agrees = record {
         blocks = λ fork block mine none. a.blocks fork block mine (first_none (resets fork block) history more from none);
-        forks = λ fork mine none. a.forks fork mine (first_none (creates fork) history more from none);
+        forks = λ fork mine none. a.forks fork mine (first_none (settles fork) history more from none);
       };
     }
 
@@ -130,7 +130,7 @@ kept ours disk seen from place base r h defined tidy c =
     let a = c.agrees in
     record {
       blocks = λ fork block mine none. a.blocks fork block mine (parts (resets fork block) none).1 ∙ entries_keep base c.base (window seen from place) fork block tidy_between between (parts (resets fork block) none).0;
-      forks = λ fork mine none. a.forks fork mine (parts (creates fork) none).1 ∙ forks_keep base c.base (window seen from place) fork tidy_between between (parts (creates fork) none).0;
+      forks = λ fork mine none. a.forks fork mine (parts (settles fork) none).1 ∙ forks_keep base c.base (window seen from place) fork tidy_between between (parts (settles fork) none).0;
     }
 
 pub answers : CoveringDisksAnswer

@@ -5,7 +5,7 @@ use Rattle.std.proofs.lemmas.Bool.{or_parts}
 use Rattle.lsn_core.specs.declared.ids.ForkId.{ForkId}
 use Rattle.lsn_core.specs.Blocks.{block_of}
 use Rattle.history.specs.declared.op.Item.{Item}
-use Rattle.history.specs.Entry.{Act, Create, Truncate, Change, Mark, Entry}
+use Rattle.history.specs.Entry.{Act, Create, Truncate, Change, Drop, Mark, Entry}
 use Rattle.history.specs.Apply.{edited}
 use Rattle.fuzzy_copies.specs.Touches.{is_at, act_touches, act_cuts, resets}
 use Rattle.fuzzy_copies.specs.Effects.{Effect, Stay, Reach, Alter, Clear, after_all, is_past, item_effect, act_effects, effects_on, act_reaches, reaches}
@@ -66,6 +66,7 @@ leave_act : (may : Bool) (fork : ForkId) (block end : ℕ) (act : Act) (xs : Lis
 leave_act may fork block end (Create made) xs none past l = l
 leave_act may fork block end (Truncate rel count) xs none past l = subst (λ s. Leaves may (cond s Clear Stay ∷ xs)) (sym none) l
 leave_act may fork block end (Change items) xs none past l = leave_items may fork block end items xs (or_parts (list_any (is_at fork block) items) false none).0 past l
+leave_act may fork block end (Drop rels) xs none past l = subst (λ s. Leaves may (cond s Clear Stay ∷ xs)) (sym none) l
 leave_act may fork block end (Mark marking) xs none past l = l
 
 leave_all : (may : Bool) (fork : ForkId) (block : ℕ) (es : List Entry) → list_any (resets fork block) es ≡ false → (may ≡ false → list_any (reaches fork block) es ≡ false) → Leaves may (effects_on fork block es)

@@ -11,7 +11,7 @@ use Rattle.lsn_core.specs.Blocks.{block_of}
 use Rattle.history.specs.Entry.{Entry}
 use Rattle.history.specs.Apply.{apply_all}
 use Rattle.history.specs.Written.{is_redo}
-use Rattle.fuzzy_copies.specs.Touches.{resets, creates}
+use Rattle.fuzzy_copies.specs.Touches.{resets, settles}
 use Rattle.fuzzy_copies.specs.Orderly.{IsOrderly}
 use Rattle.fuzzy_copies.specs.Sound.{entries_before, state_before, window, is_in, IsSoundCopy}
 use Rattle.fuzzy_copies.specs.Taken.{since}
@@ -137,7 +137,7 @@ increments_sound copy prior history first start stop from to running tidy sound 
       forks = λ fork none.
           let f = origins fork in
           let l = f.listed in
-          f.there ∙ l.there (none_since (creates fork) history f.seen from to orderly f.prefix none) base (same_base history f.seen from to orderly f.prefix ∙ defined);
+          f.there ∙ l.there (none_since (settles fork) history f.seen from to orderly f.prefix none) base (same_base history f.seen from to orderly f.prefix ∙ defined);
       deltas = deltas_follow history from to running;
       starts = any_weaker (λ d. d.start == from) (λ d. is_redo d.act) history running.redo;
       ends = let f = origins some_fork in

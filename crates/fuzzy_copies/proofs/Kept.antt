@@ -1,5 +1,5 @@
 -- A block that tidy entries neither touch nor cut stays as it is.
-use Rattle.std.proofs.Common.{◌≡◌, ℕ, ◌<◌, true, false, cond, ◌||◌, List, [], ◌∷◌, ◌++◌, length, Option, Some, None, is_some, refl, sym, ap, subst, ◌∙◌, arith}
+use Rattle.std.proofs.Common.{◌≡◌, ℕ, ◌<◌, Bool, true, false, cond, not, ◌&&◌, ◌||◌, List, [], ◌∷◌, ◌++◌, length, Option, Some, None, is_some, refl, sym, ap, subst, ◌∙◌, arith}
 use Rattle.std.specs.Prelude.{◌==◌, nat_lt, slice_get}
 use Rattle.std.specs.List.{list_any}
 use Rattle.std.specs.FinMap.{get, contains_key}
@@ -13,11 +13,11 @@ use Rattle.lsn_core.specs.Blocks.{block_of, page_put}
 use Rattle.history.specs.declared.op.Edit.{Edit}
 use Rattle.history.specs.declared.op.Edit.TheVariants.{Put, Patch}
 use Rattle.history.specs.declared.op.Item.{Item}
-use Rattle.history.specs.Entry.{Act, Create, Truncate, Change, Mark, Entry}
-use Rattle.history.specs.Apply.{edited, is_same_fork, page_at, apply_item, apply_items, apply_act, apply, apply_all}
+use Rattle.history.specs.Entry.{Act, Create, Truncate, Change, Drop, Mark, Entry}
+use Rattle.history.specs.Apply.{edited, is_same_fork, is_of_any, page_at, apply_item, apply_items, apply_act, apply, apply_all}
 use Rattle.history.specs.Op.{IsReached, IsTidyItem, AreTidyItems, IsTidy}
 use Rattle.history.proofs.Stores.{fork_is}
-use Rattle.fuzzy_copies.specs.Touches.{is_at, act_touches, act_cuts, act_creates, resets, creates}
+use Rattle.fuzzy_copies.specs.Touches.{is_at, act_touches, act_cuts, act_settles, resets, settles}
 use Rattle.fuzzy_copies.specs.Effects.{Stay, Reach, Alter, Clear, after, is_past}
 use Rattle.fuzzy_copies.specs.Covers.{AreTidy}
 use Rattle.fuzzy_copies.proofs.Pages.{contains_key-insert, absorbed}
@@ -64,6 +64,8 @@ act_keeps end store next (Create made) fork block tidy e none = same_some _ _ (a
 act_keeps end store next (Truncate rel count) fork block tidy e none =
     same_some _ _ (sym (ap (λ s. after edited (cond s Clear Stay) (block_of store fork block) >>= λ n. Some n) none) ∙ act_view edited end store next (Truncate rel count) e fork block)
 act_keeps end store next (Change items) fork block tidy e none = items_keep end store next items fork block tidy e (or_parts (list_any (is_at fork block) items) false none).0
+act_keeps end store next (Drop rels) fork block tidy e none =
+    same_some _ _ (sym (ap (λ s. after edited (cond s Clear Stay) (block_of store fork block) >>= λ n. Some n) none) ∙ act_view edited end store next (Drop rels) e fork block)
 act_keeps end store next (Mark marking) fork block tidy e none = same_some _ _ (act_view edited end store next (Mark marking) e fork block)
 
 pub entries_keep : (store next : Store) (es : List Entry) (fork : ForkId) (block : ℕ) → AreTidy store es → apply_all store es ≡ Some next → list_any (resets fork block) es ≡ false → block_of next fork block ≡ block_of store fork block
@@ -82,35 +84,42 @@ items_forks_keep end store next (item ∷ items) fork tidy e =
     ∙ mapped (edited end (page_at store item.at) item.edit) (λ page. page_put item.at page store) s first (λ page found is.
     ap (λ (t : Store). contains_key t fork) (sym is) ∙ contains_key-insert store item.at.fork _ fork ∙ absorbed store item.at.fork fork (ap (λ (o : Option ForkPages). is_some o) tidy.0.there)))
 
-act_forks_keep : (end : ℕ) (store next : Store) (act : Act) (fork : ForkId) → IsTidy store act → apply_act end store act ≡ Some next → act_creates fork act ≡ false → contains_key next fork ≡ contains_key store fork
+and_yes : (b : Bool) → (b && not false) ≡ b
+and_yes true = refl
+and_yes false = refl
+
+act_forks_keep : (end : ℕ) (store next : Store) (act : Act) (fork : ForkId) → IsTidy store act → apply_act end store act ≡ Some next → act_settles fork act ≡ false → contains_key next fork ≡ contains_key store fork
 act_forks_keep end store next (Create made) fork tidy e none = act_forks edited end store next (Create made) e fork ∙ ap (λ s. contains_key store fork || s) none ∙ or-false (contains_key store fork)
 act_forks_keep end store next (Truncate rel count) fork tidy e none = act_forks edited end store next (Truncate rel count) e fork
 act_forks_keep end store next (Change items) fork tidy e none = items_forks_keep end store next items fork tidy e
+act_forks_keep end store next (Drop rels) fork tidy e none = act_forks edited end store next (Drop rels) e fork ∙ ap (λ s. contains_key store fork && not s) none ∙ and_yes (contains_key store fork)
 act_forks_keep end store next (Mark marking) fork tidy e none = act_forks edited end store next (Mark marking) e fork
 
-pub forks_keep : (store next : Store) (es : List Entry) (fork : ForkId) → AreTidy store es → apply_all store es ≡ Some next → list_any (creates fork) es ≡ false → contains_key next fork ≡ contains_key store fork
+pub forks_keep : (store next : Store) (es : List Entry) (fork : ForkId) → AreTidy store es → apply_all store es ≡ Some next → list_any (settles fork) es ≡ false → contains_key next fork ≡ contains_key store fork
 forks_keep store next [] fork tidy e none = let same : store ≡ next = cc in ap (λ (s : Store). contains_key s fork) (sym same)
 forks_keep store next (x ∷ es) fork tidy e none =
-    let p = or_parts (creates fork x) (list_any (creates fork) es) none in
+    let p = or_parts (settles fork x) (list_any (settles fork) es) none in
     middle (apply store x) (λ s. apply_all s es) next e (λ s first rest.
     forks_keep s next es fork (tidy.1 s first) rest p.1 ∙ act_forks_keep x.end store s x.act fork tidy.0 first p.0)
 
--- tidy entries don't create a fork that is there
-act_makes_none : (store : Store) (act : Act) (fork : ForkId) → IsTidy store act → contains_key store fork ≡ true → act_creates fork act ≡ false
-act_makes_none store (Create made) fork tidy there =
+-- tidy entries that cut off no block of it neither create nor drop a fork that is there
+act_makes_none : (store : Store) (act : Act) (fork : ForkId) (block : ℕ) → IsTidy store act → contains_key store fork ≡ true → (act_touches fork block act || act_cuts fork block act) ≡ false → act_settles fork act ≡ false
+act_makes_none store (Create made) fork block tidy there uncut =
     false_from_ne_true (is_same_fork fork made) (λ k.
     let gone : get store fork ≡ None = ap (get store) (fork_is fork made k) ∙ tidy in
     let missing : contains_key store fork ≡ false = ap (λ (o : Option ForkPages). is_some o) gone in cc)
-act_makes_none store (Truncate rel count) fork tidy there = refl
-act_makes_none store (Change items) fork tidy there = refl
-act_makes_none store (Mark marking) fork tidy there = refl
+act_makes_none store (Truncate rel count) fork block tidy there uncut = refl
+act_makes_none store (Change items) fork block tidy there uncut = refl
+act_makes_none store (Drop rels) fork block tidy there uncut = uncut
+act_makes_none store (Mark marking) fork block tidy there uncut = refl
 
-pub none_made : (store next : Store) (es : List Entry) (fork : ForkId) → AreTidy store es → apply_all store es ≡ Some next → contains_key store fork ≡ true → list_any (creates fork) es ≡ false
-none_made store next [] fork tidy e there = refl
-none_made store next (x ∷ es) fork tidy e there =
-    let none = act_makes_none store x.act fork tidy.0 there in
+pub none_made : (store next : Store) (es : List Entry) (fork : ForkId) (block : ℕ) → AreTidy store es → apply_all store es ≡ Some next → contains_key store fork ≡ true → list_any (resets fork block) es ≡ false → list_any (settles fork) es ≡ false
+none_made store next [] fork block tidy e there uncut = refl
+none_made store next (x ∷ es) fork block tidy e there uncut =
+    let p = or_parts (resets fork block x) (list_any (resets fork block) es) uncut in
+    let none = act_makes_none store x.act fork block tidy.0 there p.0 in
     middle (apply store x) (λ s. apply_all s es) next e (λ s first rest.
-    or_from (creates fork x) _ none (none_made s next es fork (tidy.1 s first) rest (act_forks_keep x.end store s x.act fork tidy.0 first none ∙ there)))
+    or_from (settles fork x) _ none (none_made s next es fork block (tidy.1 s first) rest (act_forks_keep x.end store s x.act fork tidy.0 first none ∙ there) p.1))
 
 -- the fork of a block that was touched is there
 items_of_fork : (fork : ForkId) (block : ℕ) (items : List Item) → list_any (is_at fork block) items ≡ true → list_any (λ (i : Item). is_same_fork fork i.at.fork) items ≡ true
@@ -125,6 +134,7 @@ pub touched_there : (end : ℕ) (store next : Store) (act : Act) (fork : ForkId)
 touched_there end store next (Create made) fork block e touched = absurd cc
 touched_there end store next (Truncate rel count) fork block e touched = absurd cc
 touched_there end store next (Change items) fork block e touched = act_forks edited end store next (Change items) e fork ∙ or_right (contains_key store fork) _ (items_of_fork fork block items touched)
+touched_there end store next (Drop rels) fork block e touched = absurd cc
 touched_there end store next (Mark marking) fork block e touched = absurd cc
 
 -- tidy entries, in two parts

@@ -1,5 +1,5 @@
 -- A history as it is read back from its log: entries that touch, cut and create the same, at the same places.
-use Rattle.std.proofs.Common.{◌≡◌, ℕ, ◌*◌, ◌%◌, ◌/◌, true, false, cond, ◌&&◌, ◌||◌, List, [], ◌∷◌, ◌++◌, map, refl, sym, ap, ◌∙◌, ⊎_elim, arith}
+use Rattle.std.proofs.Common.{◌≡◌, ℕ, ◌*◌, ◌%◌, ◌/◌, true, false, pos, cond, ◌&&◌, ◌||◌, List, [], ◌∷◌, ◌++◌, map, refl, sym, ap, ◌∙◌, ⊎_elim, arith}
 use Rattle.std.specs.Prelude.{nat_lt, nat_le}
 use Rattle.std.specs.List.{list_any}
 use Rattle.std.proofs.lemmas.Bool.{and_parts, and_from, or_left, or_right, leb-false, lt-ltb}
@@ -13,12 +13,12 @@ use Rattle.wal_record.specs.declared.record.Body.TheVariants.{Image, Delta}
 use Rattle.history.specs.declared.op.Edit.{Edit}
 use Rattle.history.specs.declared.op.Edit.TheVariants.{Put, Patch}
 use Rattle.history.specs.declared.op.Item.{Item}
-use Rattle.history.specs.Entry.{Shutdown, Online, RedoMark, NoOp, BackupEnd, IdleCut, Act, Create, Truncate, Change, Mark}
+use Rattle.history.specs.Entry.{Shutdown, Online, RedoMark, NoOp, BackupEnd, IdleCut, IdleCommit, Act, Create, Truncate, Change, Drop, Mark}
 use Rattle.history.specs.Apply.{page_at}
-use Rattle.history.specs.Whole.{edit_of, item_of, is_named, is_patch, said_behind, cuts_main, act_of}
+use Rattle.history.specs.Whole.{edit_of, item_of, is_named, is_patch, said_behind, cuts_main, commit_act, act_of}
 use Rattle.history.specs.Written.{body_of, block_of_item, kind_of}
 use Rattle.history.specs.Laws.{AreFresh, IsFresh}
-use Rattle.fuzzy_copies.specs.Touches.{is_at, is_patch_at, act_touches, act_cuts, act_creates, act_patches, limit_of}
+use Rattle.fuzzy_copies.specs.Touches.{is_at, is_patch_at, act_touches, act_cuts, act_settles, act_patches, limit_of}
 use Rattle.fuzzy_copies.proofs.Completed.{same_place, or_second}
 use Rattle.fuzzy_copies.proofs.Ranges.{and_false}
 
@@ -77,12 +77,14 @@ abbrev pub said_act : Store → ℕ → Act → Act
 said_act store redo (Create made) = Create made
 said_act store redo (Truncate rel count) = Truncate rel count
 said_act store redo (Change items) = Change (map (said_item store redo) items)
+said_act store redo (Drop rels) = commit_act (pos 0) rels
 said_act store redo (Mark marking) = Mark marking
 
 pub act_back : (store : Store) (redo : ℕ) (act : Act) → IsFresh act → act_of (kind_of store redo act) ≡ said_act store redo act
 act_back store redo (Create made) fresh = refl
 act_back store redo (Truncate rel count) fresh = refl
 act_back store redo (Change items) fresh = ap (λ (l : List Item). Change l) (all_said store redo [] items fresh)
+act_back store redo (Drop rels) fresh = refl
 act_back store redo (Mark (Shutdown at)) fresh = refl
 act_back store redo (Mark (Online at)) fresh = refl
 act_back store redo (Mark (RedoMark n)) fresh = refl
@@ -91,30 +93,39 @@ act_back store redo (Mark (BackupEnd at)) fresh = refl
 act_back store redo (Mark (IdleCut rel count others)) fresh =
     let half : 2 * others / 2 ≡ others = omega arith in
     ap (λ b. cond b (Truncate rel count) (Mark (IdleCut rel count (2 * others / 2)))) (even others) ∙ ap (λ n. Mark (IdleCut rel count n)) half
+act_back store redo (Mark (IdleCommit time)) fresh = refl
 
 -- it touches, cuts and creates the same, and has the same limits
 said_touches : (store : Store) (redo : ℕ) (fork : ForkId) (block : ℕ) (act : Act) → act_touches fork block (said_act store redo act) ≡ act_touches fork block act
 said_touches store redo fork block (Create made) = refl
 said_touches store redo fork block (Truncate rel count) = refl
 said_touches store redo fork block (Change items) = touches_same store redo fork block items
+said_touches store redo fork block (Drop []) = refl
+said_touches store redo fork block (Drop (rel ∷ rels)) = refl
 said_touches store redo fork block (Mark marking) = refl
 
 said_cuts : (store : Store) (redo : ℕ) (fork : ForkId) (block : ℕ) (act : Act) → act_cuts fork block (said_act store redo act) ≡ act_cuts fork block act
 said_cuts store redo fork block (Create made) = refl
 said_cuts store redo fork block (Truncate rel count) = refl
 said_cuts store redo fork block (Change items) = refl
+said_cuts store redo fork block (Drop []) = refl
+said_cuts store redo fork block (Drop (rel ∷ rels)) = refl
 said_cuts store redo fork block (Mark marking) = refl
 
-said_creates : (store : Store) (redo : ℕ) (fork : ForkId) (act : Act) → act_creates fork (said_act store redo act) ≡ act_creates fork act
+said_creates : (store : Store) (redo : ℕ) (fork : ForkId) (act : Act) → act_settles fork (said_act store redo act) ≡ act_settles fork act
 said_creates store redo fork (Create made) = refl
 said_creates store redo fork (Truncate rel count) = refl
 said_creates store redo fork (Change items) = refl
+said_creates store redo fork (Drop []) = refl
+said_creates store redo fork (Drop (rel ∷ rels)) = refl
 said_creates store redo fork (Mark marking) = refl
 
 said_limit : (store : Store) (redo : ℕ) (fork : ForkId) (act : Act) → limit_of fork (said_act store redo act) ≡ limit_of fork act
 said_limit store redo fork (Create made) = refl
 said_limit store redo fork (Truncate rel count) = refl
 said_limit store redo fork (Change items) = refl
+said_limit store redo fork (Drop []) = refl
+said_limit store redo fork (Drop (rel ∷ rels)) = refl
 said_limit store redo fork (Mark marking) = refl
 
 -- and so does an act that is read back
@@ -127,8 +138,8 @@ act_resets store redo fork block act fresh =
     let cuts : act_cuts fork block (act_of (kind_of store redo act)) ≡ act_cuts fork block act = ap (act_cuts fork block) (act_back store redo act fresh) ∙ said_cuts store redo fork block act in
     ap (λ b. b || act_cuts fork block (act_of (kind_of store redo act))) (act_touches_same store redo fork block act fresh) ∙ ap (λ b. act_touches fork block act || b) cuts
 
-pub act_creates_same : (store : Store) (redo : ℕ) (fork : ForkId) (act : Act) → IsFresh act → act_creates fork (act_of (kind_of store redo act)) ≡ act_creates fork act
-act_creates_same store redo fork act fresh = ap (act_creates fork) (act_back store redo act fresh) ∙ said_creates store redo fork act
+pub act_settles_same : (store : Store) (redo : ℕ) (fork : ForkId) (act : Act) → IsFresh act → act_settles fork (act_of (kind_of store redo act)) ≡ act_settles fork act
+act_settles_same store redo fork act fresh = ap (act_settles fork) (act_back store redo act fresh) ∙ said_creates store redo fork act
 
 pub act_limit_same : (store : Store) (redo : ℕ) (fork : ForkId) (act : Act) → IsFresh act → limit_of fork (act_of (kind_of store redo act)) ≡ limit_of fork act
 act_limit_same store redo fork act fresh = ap (limit_of fork) (act_back store redo act fresh) ∙ said_limit store redo fork act
@@ -139,6 +150,8 @@ said_patch : (store : Store) (redo : ℕ) (fork : ForkId) (block : ℕ) (act : A
 said_patch store redo fork block (Create made) e = absurd cc
 said_patch store redo fork block (Truncate rel count) e = absurd cc
 said_patch store redo fork block (Change items) e = items_patch store redo fork block items e
+said_patch store redo fork block (Drop []) e = absurd cc
+said_patch store redo fork block (Drop (rel ∷ rels)) e = absurd cc
 said_patch store redo fork block (Mark marking) e = absurd cc
 
 pub act_patch : (store : Store) (redo : ℕ) (fork : ForkId) (block : ℕ) (act : Act) → IsFresh act → act_patches fork block (act_of (kind_of store redo act)) ≡ true

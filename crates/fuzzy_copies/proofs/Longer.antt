@@ -9,7 +9,7 @@ use Rattle.std.proofs.lemmas.Bool.{eqb-true, ltb-true, le-ltb, and_parts, or_lef
 use Rattle.std.specs.FinMap.{empty}
 use Rattle.history.specs.Entry.{Entry}
 use Rattle.history.specs.Apply.{apply_all}
-use Rattle.fuzzy_copies.specs.Touches.{resets, creates}
+use Rattle.fuzzy_copies.specs.Touches.{resets, settles}
 use Rattle.fuzzy_copies.specs.Orderly.{IsOrderly}
 use Rattle.fuzzy_copies.specs.Sound.{window, is_in}
 use Rattle.fuzzy_copies.specs.Laws.{SoundCopiesStaySound}
@@ -54,7 +54,7 @@ sound_later copy history more from to r sound =
       defined = ap (apply_all empty) (filter-append (λ e. nat_lt e.start from) history more
           ∙ ap (λ (es : List Entry). filter (λ e. nat_lt e.start from) history ++ es) (none_early from l.at more l.orderly (let a = sound.above in let b = l.later in omega arith)) ∙ append-nil (filter (λ e. nat_lt e.start from) history)) ∙ sound.defined;
       blocks = λ fork block none. sound.blocks fork block (sym (ap (list_any (resets fork block)) same) ∙ none);
-      forks = λ fork none. sound.forks fork (sym (ap (list_any (creates fork)) same) ∙ none);
+      forks = λ fork none. sound.forks fork (sym (ap (list_any (settles fork)) same) ∙ none);
       deltas = λ fork block before e later is within delta.
           let f = in_front to history more before e later l is (ltb-true e.start to (and_parts (nat_le from e.start) (nat_lt e.start to) within).1) in
           sound.deltas fork block before e f.0 f.1 within delta;

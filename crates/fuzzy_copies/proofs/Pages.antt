@@ -1,5 +1,5 @@
 -- The blocks of a store after one fork's pages were put there, cut or made.
-use Rattle.std.proofs.Common.{◌≡◌, ℕ, zero, suc, ◌+◌, ◌-◌, ◌<◌, ◌≤◌, true, false, cond, ◌&&◌, ◌||◌, List, [], ◌∷◌, ◌++◌, length, replicate, take, Option, Some, None, unwrap_or, option_map, is_some, refl, sym, ap, ◌∙◌, arith}
+use Rattle.std.proofs.Common.{◌≡◌, ℕ, zero, suc, ◌+◌, ◌-◌, ◌<◌, ◌≤◌, Bool, true, false, cond, not, ◌&&◌, ◌||◌, List, [], ◌∷◌, ◌++◌, length, replicate, take, Option, Some, None, unwrap_or, option_map, is_some, refl, sym, ap, ◌∙◌, arith}
 use Rattle.std.specs.Prelude.{slice_get, slice_set, nat_lt, nat_le, ◌==◌, if◌then◌else◌}
 use Rattle.std.proofs.lemmas.List.{length-append, length-replicate}
 use Rattle.std.proofs.lemmas.Option.{unwrap_or-slice_get}
@@ -14,9 +14,10 @@ use Rattle.lsn_core.specs.Blocks.{block_of, pages_of, with_block, with_page, wit
 use Rattle.lsn_core.proofs.ForkOrder.{fork_cmp_total, fork_cmp-IsAntisymmetric}
 use Rattle.pg_page.specs.Header.{zero_page}
 use Rattle.history.specs.declared.op.Edit.{Edit}
-use Rattle.history.specs.Apply.{Rule, is_same_fork, page_at}
-use Rattle.history.proofs.Stores.{fork_is}
-use Rattle.fuzzy_copies.specs.Effects.{Stay, Reach, Alter, Clear, after, cut_effect}
+use Rattle.history.specs.Apply.{Rule, is_same_fork, is_of_any, without_rels, page_at}
+use Rattle.history.proofs.Stores.{fork_is, get_without_rels}
+use Rattle.lsn_core.specs.Relation.{Relation}
+use Rattle.fuzzy_copies.specs.Effects.{Stay, Reach, Alter, Clear, after, cut_effect, drop_effect}
 
 -- a block by the pages of its fork, which are none where the fork is missing
 pub block_by_pages : (store : Store) (fork : ForkId) (b : ℕ) → block_of store fork b ≡ slice_get (pages_of store fork) b
@@ -236,3 +237,22 @@ contains_key-with_cut store cut count fork =
       | Some pages ↦ λ there. contains_key-insert store cut (take count pages) fork ∙ absorbed store cut fork (ap (λ (o : Option ForkPages). is_some o) there)
       | None ↦ λ gone. refl
     ] refl
+
+-- relations that were taken away: their blocks are gone, and others stay
+pub drop_view : (rule : Rule) (store : Store) (rels : List Relation) (fork : ForkId) (block : ℕ) → after rule (drop_effect fork rels) (block_of store fork block) ≡ Some (block_of (without_rels store rels) fork block)
+drop_view rule store rels fork block =
+    go (is_of_any fork rels) (get store fork) ∙ ap (λ (o : Option ForkPages). Some (o >>= λ pages. slice_get pages block)) (sym (get_without_rels store rels fork))
+  where
+    go : (s : Bool) (o : Option ForkPages) → after rule (cond s Clear Stay) (o >>= λ pages. slice_get pages block) ≡ Some (cond s None o >>= λ pages. slice_get pages block)
+    go true o = refl
+    go false o = refl
+
+pub contains_key-without_rels : (store : Store) (rels : List Relation) (fork : ForkId) → contains_key (without_rels store rels) fork ≡ (contains_key store fork && not (is_of_any fork rels))
+contains_key-without_rels store rels fork =
+    ap (λ (o : Option ForkPages). is_some o) (get_without_rels store rels fork) ∙ go (is_of_any fork rels) (get store fork)
+  where
+    go : (s : Bool) (o : Option ForkPages) → is_some (cond s None o) ≡ (is_some o && not s)
+    go true None = refl
+    go true (Some pages) = refl
+    go false None = refl
+    go false (Some pages) = refl

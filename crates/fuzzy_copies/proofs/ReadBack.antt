@@ -10,7 +10,7 @@ use Rattle.history.specs.Entry.{Entry}
 use Rattle.history.specs.Whole.{entry_of}
 use Rattle.history.proofs.Pushes.{all_first, all_rest}
 use Rattle.history.specs.Written.{Before, behind, behind_all, written, at_first}
-use Rattle.fuzzy_copies.specs.Touches.{resets, creates, patches}
+use Rattle.fuzzy_copies.specs.Touches.{resets, settles, patches}
 use Rattle.fuzzy_copies.specs.Orderly.{IsOrderly, AllEndBy, RecordsRise}
 use Rattle.fuzzy_copies.specs.Sound.{state_before, is_in, IsWrittenAsDelta, IsSoundCopy}
 use Rattle.fuzzy_copies.specs.Logged.{found_before, log_of}
@@ -22,7 +22,7 @@ pub record IsReadBack (before : List Entry) (e l : Entry) : Type 0 where
   pub start : l.start ≡ e.start
   pub end : l.end ≡ e.end
   pub same : (fork : ForkId) (block : ℕ) → resets fork block l ≡ resets fork block e
-  pub made : (fork : ForkId) → creates fork l ≡ creates fork e
+  pub made : (fork : ForkId) → settles fork l ≡ settles fork e
   pub delta : (fork : ForkId) (block : ℕ) → patches fork block l ≡ true → IsWrittenAsDelta before e fork block
 
 abbrev pub AreReadBack : List Entry → List Entry → List Entry → Type 0
@@ -85,7 +85,7 @@ sound_back copy history ls from to r base sound = record {
   base = sound.base;
   defined = base ∙ sound.defined;
   blocks = λ fork block none. sound.blocks fork block (sym (any_kept (resets fork block) (is_in from to) (resets_tell fork block) (within_tells from to) [] history ls r) ∙ none);
-  forks = λ fork none. sound.forks fork (sym (any_kept (creates fork) (is_in from to) (λ b e l k. k.made fork) (within_tells from to) [] history ls r) ∙ none);
+  forks = λ fork none. sound.forks fork (sym (any_kept (settles fork) (is_in from to) (λ b e l k. k.made fork) (within_tells from to) [] history ls r) ∙ none);
   deltas = λ fork block front d back is within delta.
       let f = back_of [] history front d back (subst (AreReadBack [] history) is r) in
       any_kept (resets fork block) (is_in from to) (resets_tell fork block) (within_tells from to) [] f.prefix front f.front_is

@@ -100,6 +100,7 @@ kind_said end s (kind.Images blocks) some fits = redo_said end [] s blocks some 
 kind_said end s (kind.Generic blocks) some fits = redo_said end [] s blocks some fits (λ q n. absurd (true≢false (sym n)))
 kind_said end s (kind.Create fork) some fits = refl
 kind_said end s (kind.Truncate rel count flags) some fits = refl
+kind_said end s (kind.Commit time rels) some fits = refl
 
 -- records behind a place, replayed, are the entries that they say, replayed
 pub redo_entries : (last : ℕ) (s : Store) (rs : List Record) → RecordsRise last rs → redo_all s rs ≡ entries_by redone s (map entry_of rs)
@@ -139,6 +140,8 @@ kind_fresh (kind.Images blocks) = said_fresh [] [] blocks (λ q. refl)
 kind_fresh (kind.Generic blocks) = said_fresh [] [] blocks (λ q. refl)
 kind_fresh (kind.Create fork) = tt
 kind_fresh (kind.Truncate rel count flags) = by_flag (cuts_main flags) _ _ tt tt
+kind_fresh (kind.Commit time []) = tt
+kind_fresh (kind.Commit time (rel ∷ rels)) = tt
 
 pub entries_rise : (last : ℕ) (rs : List Record) → RecordsRise last rs → IsOrderly last (map entry_of rs)
 entries_rise last [] r = tt

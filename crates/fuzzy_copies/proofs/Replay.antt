@@ -9,8 +9,8 @@ use Rattle.lsn_core.specs.declared.ids.ForkId.{ForkId}
 use Rattle.lsn_core.specs.Store.{Store, ForkPages, fork_cmp}
 use Rattle.lsn_core.specs.Blocks.{block_of}
 use Rattle.history.specs.declared.op.Item.{Item}
-use Rattle.history.specs.Entry.{Act, Create, Truncate, Change, Mark, Entry, is_of_run}
-use Rattle.history.specs.Apply.{Rule, edited, main_fork, is_same_fork, act_by, apply_all}
+use Rattle.history.specs.Entry.{Act, Create, Truncate, Change, Drop, Mark, Entry, is_of_run}
+use Rattle.history.specs.Apply.{Rule, edited, main_fork, is_same_fork, is_of_any, act_by, apply_all}
 use Rattle.history.specs.Redo.{redone}
 use Rattle.history.proofs.Pushes.{all_first, all_rest}
 use Rattle.fuzzy_copies.specs.Touches.{resets}
@@ -53,6 +53,7 @@ act_ends_by : (top : ℕ) (fork : ForkId) (block end : ℕ) (act : Act) (xs : Li
 act_ends_by top fork block end (Create made) xs h b = b
 act_ends_by top fork block end (Truncate rel count) xs h b = elim (is_same_fork fork (main_fork rel) && nat_le count block) as (λ s. EndsBy top (cond s Clear Stay ∷ xs)) [ true ↦ b | false ↦ b ]
 act_ends_by top fork block end (Change items) xs h b = more_effects top fork block end items xs h b
+act_ends_by top fork block end (Drop rels) xs h b = elim (is_of_any fork rels) as (λ s. EndsBy top (cond s Clear Stay ∷ xs)) [ true ↦ b | false ↦ b ]
 act_ends_by top fork block end (Mark marking) xs h b = b
 
 ends_by : (top : ℕ) (fork : ForkId) (block : ℕ) (es : List Entry) → AllEndBy top es → EndsBy top (effects_on fork block es)

@@ -32,7 +32,7 @@ use Rattle.fuzzy_copies.proofs.Ranges.{IsBoundary, boundary_start}
 use Rattle.fuzzy_copies.proofs.Replay.{applied_in_two}
 use Rattle.fuzzy_copies.proofs.Taken.{taken_sound}
 use Rattle.fuzzy_copies.proofs.Records.{filter_entries, records_complete}
-use Rattle.fuzzy_copies.proofs.Logged.{act_resets, act_creates_same, act_patch}
+use Rattle.fuzzy_copies.proofs.Logged.{act_resets, act_settles_same, act_patch}
 use Rattle.fuzzy_copies.proofs.ReadBack.{log_is_written, AreReadBack, any_same, sound_back, rising_back, records_back, found_back}
 
 -- what is known before an entry is what the entries before it make
@@ -87,7 +87,7 @@ own_back mib prefix b (e ∷ es) last k made starts placed =
         start = sym starts.0;
         end = sym placed.1.0;
         same = λ fork block. act_resets b.store b.tip.redo fork block e.act fresh;
-        made = λ fork. act_creates_same b.store b.tip.redo fork e.act fresh;
+        made = λ fork. act_settles_same b.store b.tip.redo fork e.act fresh;
         delta = λ fork block p. let q = act_patch b.store b.tip.redo fork block e.act fresh p in (q.0, delta_known prefix b e fork block k q.1);
       },
       own_back mib (prefix ++ (e ∷ [])) (behind b e) es last (knows_more prefix b e found.0 k found.1)

@@ -12,17 +12,17 @@ use Rattle.lsn_core.specs.Store.{Store}
 use Rattle.lsn_core.specs.Blocks.{block_of}
 use Rattle.pg_page.specs.Header.{zero_page}
 use Rattle.history.specs.declared.op.Item.{Item}
-use Rattle.history.specs.Entry.{Act, Create, Truncate, Change, Mark, Entry}
-use Rattle.history.specs.Apply.{edited, main_fork, is_same_fork, apply_act, apply, apply_all}
+use Rattle.history.specs.Entry.{Act, Create, Truncate, Change, Drop, Mark, Entry}
+use Rattle.history.specs.Apply.{edited, main_fork, is_same_fork, is_of_any, apply_act, apply, apply_all}
 use Rattle.history.specs.Op.{IsTidy}
 use Rattle.history.proofs.Stores.{fork_is}
-use Rattle.fuzzy_copies.specs.Touches.{act_touches, act_cuts, act_creates, limit_of, touches, creates, resets}
+use Rattle.fuzzy_copies.specs.Touches.{act_touches, act_cuts, act_settles, limit_of, touches, settles, resets}
 use Rattle.fuzzy_copies.specs.Effects.{Effect, Stay, Reach, Alter, Clear, after, after_all, item_effect, act_effects, effects_on}
 use Rattle.fuzzy_copies.specs.Orderly.{IsOrderly}
 use Rattle.fuzzy_copies.specs.Sound.{is_in, window}
 use Rattle.fuzzy_copies.specs.Covers.{AreTidy}
 use Rattle.fuzzy_copies.specs.Summary.{BlockRefTable, table_of, least, is_at_most, limits, limit_in, is_listed}
-use Rattle.fuzzy_copies.specs.CoverLaws.{SummariesMeet, UnlistedBlocksStand, LimitsTellCreations, BlocksBelowLimitsAreThere}
+use Rattle.fuzzy_copies.specs.CoverLaws.{SummariesMeet, UnlistedBlocksStand, LimitsTellSettled, BlocksBelowLimitsAreThere}
 use Rattle.fuzzy_copies.proofs.View.{middle, act_view, entries_view}
 use Rattle.fuzzy_copies.proofs.Completed.{or_second, by_effect}
 use Rattle.fuzzy_copies.proofs.Ranges.{cut_at}
@@ -31,24 +31,25 @@ use Rattle.fuzzy_copies.proofs.Taken.{same_filter}
 use Rattle.fuzzy_copies.proofs.Kept.{block_there, entries_keep, none_made, touched_there}
 
 -- a limit at or below a block is a creation or a cut there
-limits_are : (fork : ForkId) (block : ℕ) (act : Act) → is_at_most block (limit_of fork act) ≡ (act_creates fork act || act_cuts fork block act)
+limits_are : (fork : ForkId) (block : ℕ) (act : Act) → is_at_most block (limit_of fork act) ≡ (act_settles fork act || act_cuts fork block act)
 limits_are fork block (Create made) = elim (is_same_fork fork made) as (λ s. is_at_most block (cond s (Some 0) None) ≡ (s || false)) [ true ↦ le-leb 0 block (omega arith) | false ↦ refl ]
 limits_are fork block (Truncate rel count) = elim (is_same_fork fork (main_fork rel)) as (λ s. is_at_most block (cond s (Some count) None) ≡ (s && nat_le count block)) [ true ↦ refl | false ↦ refl ]
 limits_are fork block (Change items) = refl
+limits_are fork block (Drop rels) = elim (is_of_any fork rels) as (λ s. is_at_most block (cond s (Some 0) None) ≡ (s || s)) [ true ↦ le-leb 0 block (omega arith) | false ↦ refl ]
 limits_are fork block (Mark marking) = refl
 
-no_limits : (fork : ForkId) (block : ℕ) (es : List Entry) → list_any (creates fork) es ≡ false → list_any (resets fork block) es ≡ false → list_any (limits fork block) (map table_of es) ≡ false
+no_limits : (fork : ForkId) (block : ℕ) (es : List Entry) → list_any (settles fork) es ≡ false → list_any (resets fork block) es ≡ false → list_any (limits fork block) (map table_of es) ≡ false
 no_limits fork block [] c r = refl
 no_limits fork block (e ∷ es) c r =
-    let p = or_parts (creates fork e) (list_any (creates fork) es) c in
+    let p = or_parts (settles fork e) (list_any (settles fork) es) c in
     let q = or_parts (resets fork block e) (list_any (resets fork block) es) r in
-    or_from (limits fork block (table_of e)) _ (limits_are fork block e.act ∙ or_from (act_creates fork e.act) (act_cuts fork block e.act) p.0 (or_parts (act_touches fork block e.act) (act_cuts fork block e.act) q.0).1) (no_limits fork block es p.1 q.1)
+    or_from (limits fork block (table_of e)) _ (limits_are fork block e.act ∙ or_from (act_settles fork e.act) (act_cuts fork block e.act) p.0 (or_parts (act_touches fork block e.act) (act_cuts fork block e.act) q.0).1) (no_limits fork block es p.1 q.1)
 
-none_created : (fork : ForkId) (block : ℕ) (es : List Entry) → list_any (limits fork block) (map table_of es) ≡ false → list_any (creates fork) es ≡ false
+none_created : (fork : ForkId) (block : ℕ) (es : List Entry) → list_any (limits fork block) (map table_of es) ≡ false → list_any (settles fork) es ≡ false
 none_created fork block [] none = refl
 none_created fork block (e ∷ es) none =
     let p = or_parts (limits fork block (table_of e)) (list_any (limits fork block) (map table_of es)) none in
-    or_from (creates fork e) _ (or_parts (act_creates fork e.act) (act_cuts fork block e.act) (sym (limits_are fork block e.act) ∙ p.0)).0 (none_created fork block es p.1)
+    or_from (settles fork e) _ (or_parts (act_settles fork e.act) (act_cuts fork block e.act) (sym (limits_are fork block e.act) ∙ p.0)).0 (none_created fork block es p.1)
 
 -- a limit is at or below a block exactly where the least one is
 min_at_most : (n m b : ℕ) → nat_le (min n m) b ≡ (nat_le n b || nat_le m b)
@@ -89,7 +90,7 @@ not_zero None k = refl
 not_zero (Some zero) k = absurd (k refl)
 not_zero (Some (suc n)) k = lt-leb (suc n) 0 (omega arith)
 
-pub limits_tell : LimitsTellCreations
+pub limits_tell : LimitsTellSettled
 limits_tell entries fork other = none_created fork 0 entries (any_limits fork 0 (map table_of entries) ∙ not_zero (limit_in fork (map table_of entries)) other)
 
 unlisted : (t l : Bool) → (t && not l) ≡ false → l ≡ false → t ≡ false
@@ -103,6 +104,9 @@ cut_away end store next (Truncate rel count) fork block e cut =
     let gone : Some None ≡ Some (block_of next fork block) = sym (ap (λ s. after edited (cond s Clear Stay) (block_of store fork block) >>= λ n. Some n) cut) ∙ act_view edited end store next (Truncate rel count) e fork block in
     cc
 cut_away end store next (Change items) fork block e cut = absurd cc
+cut_away end store next (Drop rels) fork block e cut =
+    let gone : Some None ≡ Some (block_of next fork block) = sym (ap (λ s. after edited (cond s Clear Stay) (block_of store fork block) >>= λ n. Some n) cut) ∙ act_view edited end store next (Drop rels) e fork block in
+    cc
 cut_away end store next (Mark marking) fork block e cut = absurd cc
 
 -- a block that is there, and that no summary of the entries lists, was neither touched nor cut
@@ -114,7 +118,7 @@ stands store next (x ∷ es) fork block tidy e out there =
     let q = or_parts (touches fork block x && not (list_any (limits fork block) (map table_of es))) (is_listed fork block (map table_of es)) out in
     let later : list_any (resets fork block) es ≡ false = stands s next es fork block (tidy.1 s first) rest q.1 there in
     let untouched : act_touches fork block x.act ≡ false = false_from_ne_true (act_touches fork block x.act) (λ k.
-    let none = none_made s next es fork (tidy.1 s first) rest (touched_there x.end store s x.act fork block first k) in
+    let none = none_made s next es fork block (tidy.1 s first) rest (touched_there x.end store s x.act fork block first k) later in
     let b = unlisted (touches fork block x) (list_any (limits fork block) (map table_of es)) q.0 (no_limits fork block es none later) in cc) in
     let uncut : act_cuts fork block x.act ≡ false = false_from_ne_true (act_cuts fork block x.act) (λ k.
     let gone : block_of next fork block ≡ None = entries_keep s next es fork block (tidy.1 s first) rest later ∙ cut_away x.end store s x.act fork block first k in
@@ -153,13 +157,14 @@ act_no_clear : (fork : ForkId) (block end : ℕ) (act : Act) (xs : List Effect) 
 act_no_clear fork block end (Create made) xs e n = n
 act_no_clear fork block end (Truncate rel count) xs e n = subst (λ s. NoClear (cond s Clear Stay ∷ xs)) (sym e) n
 act_no_clear fork block end (Change items) xs e n = items_no_clear fork block end items xs n
+act_no_clear fork block end (Drop rels) xs e n = subst (λ s. NoClear (cond s Clear Stay ∷ xs)) (sym e) n
 act_no_clear fork block end (Mark marking) xs e n = n
 
 no_clear : (fork : ForkId) (block : ℕ) (es : List Entry) → list_any (limits fork block) (map table_of es) ≡ false → NoClear (effects_on fork block es)
 no_clear fork block [] e = tt
 no_clear fork block (x ∷ es) e =
     let p = or_parts (limits fork block (table_of x)) (list_any (limits fork block) (map table_of es)) e in
-    act_no_clear fork block x.end x.act (effects_on fork block es) (or_parts (act_creates fork x.act) (act_cuts fork block x.act) (sym (limits_are fork block x.act) ∙ p.0)).1 (no_clear fork block es p.1)
+    act_no_clear fork block x.end x.act (effects_on fork block es) (or_parts (act_settles fork x.act) (act_cuts fork block x.act) (sym (limits_are fork block x.act) ∙ p.0)).1 (no_clear fork block es p.1)
 
 abbrev emptied : Bool → Option ℕ
 emptied s = cond s (Some 0) None
@@ -178,6 +183,9 @@ cut_past store (Truncate rel count) fork block tidy some far =
       | false ↦ λ _ k _. absurd (true≢false (sym k))
     ] refl some far
 cut_past store (Change items) fork block tidy some far = absurd cc
+cut_past store (Drop rels) fork block tidy some far =
+    let apart = (or_parts (is_of_any fork rels) (is_of_any fork rels) (sym (limits_are fork block (Drop rels)) ∙ far)).0 in
+    absurd (true≢false (sym some ∙ ap (λ s. is_some (emptied s)) apart))
 cut_past store (Mark marking) fork block tidy some far = absurd cc
 
 -- where entries have limits of a fork, but none at or below a block, the block is there afterwards

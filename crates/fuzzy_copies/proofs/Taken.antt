@@ -17,10 +17,10 @@ use Rattle.lsn_core.specs.Blocks.{block_of, block_count}
 use Rattle.lsn_core.specs.Tip.{Tip, tip_with}
 use Rattle.pg_page.specs.Header.{zero_page}
 use Rattle.history.specs.declared.op.Item.{Item}
-use Rattle.history.specs.Entry.{Act, Create, Truncate, Change, Mark, Entry, is_of_run}
+use Rattle.history.specs.Entry.{Act, Create, Truncate, Change, Drop, Mark, Entry, is_of_run}
 use Rattle.history.specs.Apply.{edited, apply_all}
 use Rattle.history.specs.Written.{is_redo, tip_past, tip_over}
-use Rattle.fuzzy_copies.specs.Touches.{is_at, resets, creates, act_touches, act_cuts, act_patches}
+use Rattle.fuzzy_copies.specs.Touches.{is_at, resets, settles, act_touches, act_cuts, act_patches}
 use Rattle.fuzzy_copies.specs.Effects.{Effect, Clear, Stay, item_effect, act_effects, effects_on}
 use Rattle.fuzzy_copies.specs.Orderly.{IsOrderly, AreOwnFrom}
 use Rattle.fuzzy_copies.specs.Sound.{entries_before, state_before, redo_point, block_lsn, lsn_after, IsWrittenAsDelta, is_logged_as_delta, window, is_in}
@@ -104,6 +104,7 @@ untouched_act : (top : ℕ) (fork : ForkId) (block end : ℕ) (act : Act) (xs : 
 untouched_act top fork block end (Create made) xs none b = b
 untouched_act top fork block end (Truncate rel count) xs none b = subst (λ s. EndsBy top (cond s Clear Stay ∷ xs)) (sym none) b
 untouched_act top fork block end (Change items) xs none b = untouched_items top fork block end items xs (or_parts (list_any (is_at fork block) items) false none).0 b
+untouched_act top fork block end (Drop rels) xs none b = subst (λ s. EndsBy top (cond s Clear Stay ∷ xs)) (sym none) b
 untouched_act top fork block end (Mark marking) xs none b = b
 
 untouched : (top : ℕ) (fork : ForkId) (block : ℕ) (es : List Entry) → list_any (resets fork block) es ≡ false → EndsBy top (effects_on fork block es)
@@ -154,6 +155,7 @@ patch_no_redo : (fork : ForkId) (block : ℕ) (act : Act) → act_patches fork b
 patch_no_redo fork block (Create made) e = refl
 patch_no_redo fork block (Truncate rel count) e = refl
 patch_no_redo fork block (Change items) e = refl
+patch_no_redo fork block (Drop rels) e = refl
 patch_no_redo fork block (Mark marking) e = absurd cc
 
 pub same_filter : (p q : Entry → Bool) (es : List Entry) → ((e : Entry) → p e ≡ q e) → filter p es ≡ filter q es
@@ -268,7 +270,7 @@ taken_sound copy history from to running taken =
           ] refl there;
       forks = λ fork none.
           let l = taken.forks fork in
-          sym (listed_fork (get copy fork)) ∙ l.listed.there (none_since (creates fork) history l.seen from to orderly l.prefix none) base (same_base history l.seen from to orderly l.prefix ∙ defined);
+          sym (listed_fork (get copy fork)) ∙ l.listed.there (none_since (settles fork) history l.seen from to orderly l.prefix none) base (same_base history l.seen from to orderly l.prefix ∙ defined);
       deltas = deltas_follow history from to running;
       starts = any_weaker (λ d. d.start == from) (λ d. is_redo d.act) history running.redo;
       ends = let p = (taken.forks some_fork).prefix in

@@ -1,5 +1,5 @@
 -- The entries of a log are tidy where those of its history are.
-use Rattle.std.proofs.Common.{◌≡◌, ℕ, ◌+◌, ◌-◌, ◌<◌, Bool, true, false, cond, List, [], ◌∷◌, ◌++◌, map, length, replicate, take, Option, Some, None, unwrap_or, option_map, is_some, refl, sym, ap, subst, ◌∙◌, arith, true≢false}
+use Rattle.std.proofs.Common.{◌≡◌, ℕ, ◌+◌, ◌-◌, ◌<◌, Bool, true, false, cond, List, [], ◌∷◌, ◌++◌, map, length, replicate, take, pos, Option, Some, None, unwrap_or, option_map, is_some, refl, sym, ap, subst, ◌∙◌, arith, true≢false}
 use Rattle.std.proofs.lemmas.List.{map-append, length-append, length-replicate, length-set, length-take}
 use Rattle.std.specs.Prelude.{min, nat_le}
 use Rattle.std.specs.FinMap.{empty, get, insert, contains_key}
@@ -14,10 +14,13 @@ use Rattle.wal_record.specs.declared.record.Body.TheVariants.{Image, Delta}
 use Rattle.history.specs.declared.op.Edit.{Edit}
 use Rattle.history.specs.declared.op.Edit.TheVariants.{Put, Patch}
 use Rattle.history.specs.declared.op.Item.{Item}
-use Rattle.history.specs.Entry.{Act, Create, Truncate, Change, Mark, Entry}
-use Rattle.history.specs.Apply.{edited, main_fork, is_same_fork, page_at, apply_item, apply_items, apply_act, apply, apply_all}
+use Rattle.history.specs.Entry.{Act, Create, Truncate, Change, Drop, Mark, Entry}
+use Rattle.history.specs.Apply.{edited, main_fork, is_same_fork, is_of_any, without_rels, page_at, apply_item, apply_items, apply_act, apply, apply_all}
 use Rattle.history.specs.Op.{IsReached, AreTidyItems, IsTidy}
 use Rattle.history.specs.Whole.{edit_of, entry_of}
+use Rattle.history.proofs.Histories.{commit_done}
+use Rattle.history.proofs.Stores.{get_without_rels}
+use Rattle.lsn_core.specs.Relation.{Relation}
 use Rattle.history.specs.Written.{Before, body_of, behind, next_record, written}
 use Rattle.history.specs.Laws.{AreWrittenInPlace}
 use Rattle.fuzzy_copies.specs.Logged.{found_before}
@@ -95,6 +98,14 @@ cut_long s t fork n same =
           subst (λ o. AreAsLong (insert s fork (take n ps)) (with_cut_pages t fork n o)) (sym f.1) (put_long s t fork (take n ps) (take n f.0) same (length-take n ps ∙ ap (min n) (sym f.2) ∙ sym (length-take n f.0)))
     ] refl
 
+dropped_long : (s t : Store) (rels : List Relation) → AreAsLong s t → AreAsLong (without_rels s rels) (without_rels t rels)
+dropped_long s t rels same fork =
+    ap (option_map length) (get_without_rels s rels fork) ∙ go (is_of_any fork rels) ∙ sym (ap (option_map length) (get_without_rels t rels fork))
+  where
+    go : (b : Bool) → option_map length (cond b None (get s fork)) ≡ option_map length (cond b None (get t fork))
+    go true = refl
+    go false = same fork
+
 act_long : (end other : ℕ) (store : Store) (redo : ℕ) (s t last next : Store) (act : Act) → AreAsLong s t → apply_act end s act ≡ Some last → apply_act other t (said_act store redo act) ≡ Some next → AreAsLong last next
 act_long end other store redo s t last next (Create fork) same e f =
     let p : with_fork s fork ≡ last = cc in let q : with_fork t fork ≡ next = cc in subst (λ x. AreAsLong x next) p (subst (AreAsLong (with_fork s fork)) q (made_long s t fork same))
@@ -103,6 +114,11 @@ act_long end other store redo s t last next (Truncate rel n) same e f =
     let q : with_cut t (main_fork rel) n ≡ next = cc in
     subst (λ x. AreAsLong x next) p (subst (AreAsLong (with_cut s (main_fork rel) n)) q (cut_long s t (main_fork rel) n same))
 act_long end other store redo s t last next (Change items) same e f = items_long end other store redo s t last next items same e f
+act_long end other store redo s t last next (Drop rels) same e f =
+    let p : without_rels s rels ≡ last = cc in
+    let made : Some (without_rels t rels) ≡ Some next = sym (commit_done other t (pos 0) rels) ∙ f in
+    let q : without_rels t rels ≡ next = cc in
+    subst (λ x. AreAsLong x next) p (subst (AreAsLong (without_rels s rels)) q (dropped_long s t rels same))
 act_long end other store redo s t last next (Mark marking) same e f =
     let p : s ≡ last = cc in let q : t ≡ next = cc in subst (λ x. AreAsLong x next) p (subst (AreAsLong s) q same)
 
@@ -132,6 +148,8 @@ act_tidy end store redo s t last (Truncate rel n) same e tidy =
     let within = tidy.within in
     record { pages = f.0; there = f.1; within = omega arith }
 act_tidy end store redo s t last (Change items) same e tidy = items_tidy end store redo s t last items same e tidy
+act_tidy end store redo s t last (Drop []) same e tidy = tt
+act_tidy end store redo s t last (Drop (rel ∷ rels)) same e tidy = tt
 act_tidy end store redo s t last (Mark marking) same e tidy = tt
 
 -- own entries, as they are read back

@@ -10,12 +10,12 @@ use Rattle.lsn_core.specs.declared.ids.ForkId.{ForkId}
 use Rattle.lsn_core.specs.Store.{Store}
 use Rattle.lsn_core.specs.Blocks.{block_of, page_put}
 use Rattle.history.specs.declared.op.Item.{Item}
-use Rattle.history.specs.Entry.{Act, Create, Truncate, Change, Mark, Entry}
+use Rattle.history.specs.Entry.{Act, Create, Truncate, Change, Drop, Mark, Entry}
 use Rattle.history.specs.Apply.{Rule, main_fork, is_same_fork, page_at, item_by, items_by, act_by}
 use Rattle.history.proofs.Stores.{fork_self}
 use Rattle.fuzzy_copies.specs.Effects.{Effect, Stay, Reach, Alter, after, after_all, item_effect, act_effects, effects_on, fork_after, fork_after_all}
 use Rattle.fuzzy_copies.specs.Recovered.{entries_by}
-use Rattle.fuzzy_copies.proofs.Pages.{page_by_block, put_view, cut_view, fork_view, contains_key-insert, contains_key-with_fork, contains_key-with_cut}
+use Rattle.fuzzy_copies.proofs.Pages.{page_by_block, put_view, cut_view, fork_view, contains_key-insert, contains_key-with_fork, contains_key-with_cut, drop_view, contains_key-without_rels}
 
 -- a step that ends well has a middle
 pub middle : {A B P : Type 0} (o : Option A) (f : A → Option B) (y : B) → (o >>= f) ≡ Some y → ((x : A) → o ≡ Some x → f x ≡ Some y → P) → P
@@ -55,6 +55,8 @@ act_view rule end store next (Create made) e fork block = ap (λ (o : Option (Li
 act_view rule end store next (Truncate rel count) e fork block =
     ap (λ (m : Option (Option (List ℕ))). m >>= λ next. Some next) (cut_view rule store (main_fork rel) count fork block) ∙ ap (λ (o : Option Store). option_map (λ s. block_of s fork block) o) e
 act_view rule end store next (Change items) e fork block = items_view rule end store next items e fork block
+act_view rule end store next (Drop rels) e fork block =
+    ap (λ (m : Option (Option (List ℕ))). m >>= λ next. Some next) (drop_view rule store rels fork block) ∙ ap (λ (o : Option Store). option_map (λ s. block_of s fork block) o) e
 act_view rule end store next (Mark marking) e fork block = ap (λ (o : Option Store). option_map (λ s. block_of s fork block) o) e
 
 -- each block after entries that could be done is what they do to the block before
@@ -97,6 +99,7 @@ act_fails : (rule : Rule) (end : ℕ) (store : Store) (act : Act) → act_by rul
 act_fails rule end store (Create made) e = absurd cc
 act_fails rule end store (Truncate rel count) e = absurd cc
 act_fails rule end store (Change items) e = items_fail rule end store items e
+act_fails rule end store (Drop rels) e = absurd cc
 act_fails rule end store (Mark marking) e = absurd cc
 
 -- where entries can't be done, they can't be done at some block
@@ -141,6 +144,7 @@ pub act_forks : (rule : Rule) (end : ℕ) (store next : Store) (act : Act) → a
 act_forks rule end store next (Create made) e fork = ap (λ (s : Store). contains_key s fork) (sym (same_next _ next e)) ∙ contains_key-with_fork store made fork
 act_forks rule end store next (Truncate rel count) e fork = ap (λ (s : Store). contains_key s fork) (sym (same_next _ next e)) ∙ contains_key-with_cut store (main_fork rel) count fork
 act_forks rule end store next (Change items) e fork = items_forks rule end store next items e fork
+act_forks rule end store next (Drop rels) e fork = ap (λ (s : Store). contains_key s fork) (sym (same_next _ next e)) ∙ contains_key-without_rels store rels fork
 act_forks rule end store next (Mark marking) e fork = ap (λ (s : Store). contains_key s fork) (sym (same_next store next e))
 
 -- the forks after entries that could be done

@@ -10,7 +10,7 @@ use Rattle.wal_record.specs.declared.record.Record.{Record}
 use Rattle.history.specs.Entry.{Entry}
 use Rattle.history.specs.Apply.{apply_all}
 use Rattle.history.specs.Whole.{entry_of}
-use Rattle.fuzzy_copies.specs.Touches.{resets, creates}
+use Rattle.fuzzy_copies.specs.Touches.{resets, settles}
 use Rattle.fuzzy_copies.specs.Orderly.{IsOrderly}
 use Rattle.fuzzy_copies.specs.Sound.{entries_before, IsSoundCopy}
 use Rattle.fuzzy_copies.specs.Taken.{since, IsBlockCopied, IsListed, IsRunning}
@@ -95,10 +95,10 @@ UnlistedBlocksStand =
     → is_some (block_of next fork block) ≡ true → list_any (resets fork block) entries ≡ false
 
 -- they don't create a fork of which their summary has another limit than 0, or none
-abbrev pub LimitsTellCreations : Type 0
-LimitsTellCreations =
+abbrev pub LimitsTellSettled : Type 0
+LimitsTellSettled =
     (entries : List Entry) (fork : ForkId) → ((summed_up entries).limit fork ≡ Some 0 → ⊥)
-    → list_any (creates fork) entries ≡ false
+    → list_any (settles fork) entries ≡ false
 
 -- a block below the fork's limit is there after them
 abbrev pub BlocksBelowLimitsAreThere : Type 0

@@ -7,7 +7,7 @@ use Rattle.lsn_core.specs.Store.{Store}
 use Rattle.history.specs.Entry.{Entry}
 use Rattle.history.specs.Apply.{apply}
 use Rattle.history.specs.Op.{IsTidy}
-use Rattle.fuzzy_copies.specs.Touches.{resets, creates}
+use Rattle.fuzzy_copies.specs.Touches.{resets, settles}
 use Rattle.fuzzy_copies.specs.Sound.{state_before, Agree}
 use Rattle.fuzzy_copies.specs.Taken.{since}
 
@@ -29,7 +29,7 @@ pub record AgreesUnlessChanged (ours : ForkId → Bool) (disk store : Store) (en
   pub blocks : (fork : ForkId) (block : ℕ) → ours fork ≡ true
       → list_any (resets fork block) entries ≡ false → Agree disk store fork block
   -- on whether a fork is there that no entry creates
-  pub forks : (fork : ForkId) → ours fork ≡ true → list_any (creates fork) entries ≡ false
+  pub forks : (fork : ForkId) → ours fork ≡ true → list_any (settles fork) entries ≡ false
       → contains_key disk fork ≡ contains_key store fork
 
 -- a disk of these forks covers a history from a place on: it has what the store had at the place,
@@ -52,6 +52,6 @@ pub record IsRewritten (ours : ForkId → Bool) (old new now : Store) (entries :
   pub blocks : (fork : ForkId) (block : ℕ) → ours fork ≡ true
       → list_any (resets fork block) entries ≡ false
       → Agree new old fork block ⊎ Agree new now fork block
-  pub forks : (fork : ForkId) → ours fork ≡ true → list_any (creates fork) entries ≡ false
+  pub forks : (fork : ForkId) → ours fork ≡ true → list_any (settles fork) entries ≡ false
       → (contains_key new fork ≡ contains_key old fork)
       ⊎ (contains_key new fork ≡ contains_key now fork)

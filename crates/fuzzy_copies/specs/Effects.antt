@@ -1,15 +1,16 @@
 -- What entries do to one block of a store, and whether they leave a fork there: with this, laws on
 -- pages are proved block by block.
-use Rattle.std.specs.Prelude.{ℕ, ◌&&◌, ◌||◌, Bool, false, List, [], ◌∷◌, ◌++◌, map, nat_lt, nat_le, Option, Some, None, if◌then◌else◌}
+use Rattle.std.specs.Prelude.{ℕ, ◌&&◌, ◌||◌, Bool, false, not, List, [], ◌∷◌, ◌++◌, map, nat_lt, nat_le, Option, Some, None, if◌then◌else◌}
 use Rattle.std.specs.List.{list_any}
 use Rattle.std.specs.Option.{option_map, unwrap_or}
 use Rattle.byte_words.specs.Numbers.{◌>>=◌}
+use Rattle.lsn_core.specs.Relation.{Relation}
 use Rattle.lsn_core.specs.declared.ids.ForkId.{ForkId}
 use Rattle.pg_page.specs.Header.{zero_page}
 use Rattle.history.specs.declared.op.Edit.{Edit}
 use Rattle.history.specs.declared.op.Item.{Item}
-use Rattle.history.specs.Entry.{Act, Create, Truncate, Change, Mark, Entry}
-use Rattle.history.specs.Apply.{Rule, main_fork, is_same_fork}
+use Rattle.history.specs.Entry.{Act, Create, Truncate, Change, Drop, Mark, Entry}
+use Rattle.history.specs.Apply.{Rule, main_fork, is_same_fork, is_of_any}
 use Rattle.fuzzy_copies.specs.Touches.{is_at}
 
 -- what an item or a cut does to a block: nothing; its fork is made longer than the block's number;
@@ -49,11 +50,16 @@ abbrev pub cut_effect : ForkId → ℕ → ForkId → ℕ → Effect
 cut_effect fork block cut count =
     if is_same_fork fork cut && nat_le count block then Clear else Stay
 
+-- a fork of relations is dropped
+abbrev pub drop_effect : ForkId → List Relation → Effect
+drop_effect fork rels = if is_of_any fork rels then Clear else Stay
+
 abbrev pub act_effects : ForkId → ℕ → ℕ → Act → List Effect
 act_effects fork block end (Create made) = []
 act_effects fork block end (Truncate rel count) =
     cut_effect fork block (main_fork rel) count ∷ []
 act_effects fork block end (Change items) = map (item_effect fork block end) items
+act_effects fork block end (Drop rels) = drop_effect fork rels ∷ []
 act_effects fork block end (Mark marking) = []
 
 -- all that entries do to a block, in turn
@@ -68,6 +74,7 @@ fork_after fork there (Create made) = there || is_same_fork fork made
 fork_after fork there (Truncate rel count) = there
 fork_after fork there (Change items) =
     there || list_any (λ i. is_same_fork fork i.at.fork) items
+fork_after fork there (Drop rels) = there && not (is_of_any fork rels)
 fork_after fork there (Mark marking) = there
 
 -- and after entries, in turn
@@ -80,6 +87,7 @@ abbrev pub act_reaches : ForkId → ℕ → Act → Bool
 act_reaches fork block (Create made) = false
 act_reaches fork block (Truncate rel count) = false
 act_reaches fork block (Change items) = list_any (is_past fork block) items
+act_reaches fork block (Drop rels) = false
 act_reaches fork block (Mark marking) = false
 
 abbrev pub reaches : ForkId → ℕ → Entry → Bool

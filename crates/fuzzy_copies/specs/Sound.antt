@@ -11,7 +11,7 @@ use Rattle.pg_page.specs.Header.{lsn_of}
 use Rattle.history.specs.Entry.{Entry, is_of_run}
 use Rattle.history.specs.Apply.{apply_all}
 use Rattle.history.specs.Written.{tip_over}
-use Rattle.fuzzy_copies.specs.Touches.{patches, resets, creates}
+use Rattle.fuzzy_copies.specs.Touches.{patches, resets, settles}
 
 -- the entries that start below a place, and the store that they make from nothing
 abbrev pub entries_before : List Entry → ℕ → List Entry
@@ -68,7 +68,7 @@ pub record IsSoundCopy (copy : Store) (history : List Entry) (from to : ℕ) : T
       → list_any (resets fork block) (window history from to) ≡ false
       → Agree copy base fork block
   -- a fork that no entry in between creates is there where it was then
-  pub forks : (fork : ForkId) → list_any (creates fork) (window history from to) ≡ false
+  pub forks : (fork : ForkId) → list_any (settles fork) (window history from to) ≡ false
       → contains_key copy fork ≡ contains_key base fork
   -- an entry in between that is written with a delta of a block follows another one in between that
   -- touches or cuts the block

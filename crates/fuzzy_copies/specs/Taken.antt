@@ -10,7 +10,7 @@ use Rattle.pg_page.specs.Header.{zero_page}
 use Rattle.history.specs.Entry.{Entry}
 use Rattle.history.specs.Apply.{apply_all}
 use Rattle.history.specs.Written.{is_redo}
-use Rattle.fuzzy_copies.specs.Touches.{resets, creates}
+use Rattle.fuzzy_copies.specs.Touches.{resets, settles}
 use Rattle.fuzzy_copies.specs.Orderly.{IsOrderly, AreOwnFrom}
 use Rattle.fuzzy_copies.specs.Sound.{state_before}
 
@@ -28,7 +28,7 @@ IsBlockCopied seen from fork block answer =
 -- what it may be answered when it asks for a fork's length
 pub record IsListed (seen : List Entry) (from : ℕ) (fork : ForkId) (found : Option ℕ) : Type 0 where
   -- where no entry since then creates the fork, it is there where it was
-  pub there : list_any (creates fork) (since from seen) ≡ false
+  pub there : list_any (settles fork) (since from seen) ≡ false
       → (base : Store) → state_before seen from ≡ Some base
       → is_some found ≡ contains_key base fork
   -- where no entry since then touches or cuts a block, the fork has the block where it had it

@@ -1,7 +1,7 @@
 //! Laws of summaries and of incremental copies: each is the contract of a function that does
 //! nothing.
 
-ghost use Rattle.fuzzy_copies.specs.CoverLaws.{SummariesMeet, LogsAreSummedAlike, LogsAreTidy, UnlistedBlocksStand, LimitsTellCreations, BlocksBelowLimitsAreThere, IncrementsAreSound};
+ghost use Rattle.fuzzy_copies.specs.CoverLaws.{SummariesMeet, LogsAreSummedAlike, LogsAreTidy, UnlistedBlocksStand, LimitsTellSettled, BlocksBelowLimitsAreThere, IncrementsAreSound};
 
 /// The summary of a range is made of those of its two parts.
 pub fn summaries_meet()
@@ -19,7 +19,7 @@ pub fn logs_are_summed_alike()
 /// cut; of a created fork the limit is 0; and blocks below a fork's limit are there.
 pub fn summaries_tell_blocks()
     ensures unlisted { UnlistedBlocksStand }
-    ensures created { LimitsTellCreations }
+    ensures created { LimitsTellSettled }
     ensures below { BlocksBelowLimitsAreThere }
 {}
 

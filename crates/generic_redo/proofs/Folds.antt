@@ -6,7 +6,7 @@ use Rattle.wal_record.specs.declared.record.Record.{Record}
 use Rattle.wal_record.specs.declared.record.BlockRef.{BlockRef}
 use Rattle.wal_record.specs.Spelling.{blocks_of}
 use Rattle.history.specs.Whole.{item_of}
-use Rattle.history.specs.Redo.{redone, redo}
+use Rattle.history.specs.Redo.{redone}
 use Rattle.history.proofs.Pushes.{map_more}
 use Rattle.generic_redo.specs.Redo.{ref_redone}
 use Rattle.byte_words.specs.Numbers.{◌>>=◌}

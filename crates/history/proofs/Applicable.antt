@@ -3,7 +3,7 @@ use Rattle.std.proofs.lemmas.List.Elements.{All-nil}
 use Rattle.wal_record.specs.declared.record.BlockRef.{BlockRef}
 use Rattle.wal_record.specs.declared.record.Body.{Body}
 use Rattle.wal_record.specs.declared.record.Body.TheVariants.{Image, Delta}
-use Rattle.wal_record.specs.declared.record.Kind.TheVariants.{Shutdown, Online, RedoMark, NoOp, BackupEnd, Images, Generic, Create, Truncate}
+use Rattle.wal_record.specs.declared.record.Kind.TheVariants.{Shutdown, Online, RedoMark, NoOp, BackupEnd, Images, Generic, Create, Truncate, Commit}
 use Rattle.wal_record.specs.Spelling.{IsWritableBody, IsWritableBlock}
 use Rattle.wal_record.specs.Sound.{IsSoundBody, IsSoundBlock}
 use Rattle.history.specs.Applied.{IsApplicableBody, IsApplicableBlock}
@@ -27,6 +27,7 @@ sound_may (Images blocks) sound = all_weaker IsSoundBlock IsApplicableBlock bloc
 sound_may (Generic blocks) sound = all_weaker IsSoundBlock IsApplicableBlock blocks sound_block sound
 sound_may (Create fork) sound = All-nil IsApplicableBlock
 sound_may (Truncate rel count flags) sound = All-nil IsApplicableBlock
+sound_may (Commit time rels) sound = All-nil IsApplicableBlock
 
 writable_body : (body : Body) → IsWritableBody body → IsApplicableBody body
 writable_body (Image page) w = tt
@@ -45,3 +46,4 @@ writable_may (Images blocks) w = all_weaker IsWritableBlock IsApplicableBlock bl
 writable_may (Generic blocks) w = all_weaker IsWritableBlock IsApplicableBlock blocks writable_block w.each
 writable_may (Create fork) w = All-nil IsApplicableBlock
 writable_may (Truncate rel count flags) w = All-nil IsApplicableBlock
+writable_may (Commit time rels) w = All-nil IsApplicableBlock

@@ -16,7 +16,7 @@ use Rattle.lsn_core.proofs.ForkOrder.{fork_cmp_total, fork_cmp-IsAntisymmetric}
 use Rattle.lsn_core.specs.declared.ids.BlockId.{BlockId}
 use Rattle.history.specs.Inside.{IsRecounted}
 use Rattle.history.specs.Pages.{page_count, IsTotal}
-use Rattle.history.specs.Undo.{with_pages_found, with_pages, with_set_found, with_set}
+use Rattle.history.specs.Undo.{with_set_found, with_set}
 use Rattle.history.proofs.Stores.{fork_self, get_here}
 
 abbrev Entries : Type 0
@@ -113,18 +113,11 @@ moved_cut s fork count = go (get s fork)
     go None = refl
     go (Some pages) = moved_insert s fork (take count pages)
 
-pub moved_pages : (s : Store) (fork : ForkId) (pages : ForkPages) → IsMoved s (with_pages s fork pages) fork
-moved_pages s fork pages = go (get s fork)
-  where
-    go : (o : Option ForkPages) → IsMoved s (with_pages_found s fork pages o) fork
-    go None = refl
-    go (Some found) = moved_insert s fork pages
-
 -- a fork that is taken away
 same : (a b : ForkId) → eq_by_cmp fork_cmp a b ≡ true → a ≡ b
 same a b e = fork_cmp-IsAntisymmetric a b ((Equal-is _).0 e)
 
-put_back : (s : Store) (fork : ForkId) (pages : ForkPages) → get s fork ≡ Some pages → insert (remove s fork) fork pages ≡ s
+pub put_back : (s : Store) (fork : ForkId) (pages : ForkPages) → get s fork ≡ Some pages → insert (remove s fork) fork pages ≡ s
 put_back s fork pages found =
     same_map fork_cmp_total fork_cmp-IsAntisymmetric (insert (remove s fork) fork pages) s (λ q.
     get-insert fork_cmp_total (remove s fork) fork pages q
@@ -133,7 +126,7 @@ put_back s fork pages found =
       | false ↦ λ k. get-remove fork_cmp_total s fork q ∙ ap (λ b. cond b None (get s q)) k
     ] refl)
 
-none_removed : (s : Store) (fork : ForkId) → get s fork ≡ None → remove s fork ≡ s
+pub none_removed : (s : Store) (fork : ForkId) → get s fork ≡ None → remove s fork ≡ s
 none_removed s fork none =
     same_map fork_cmp_total fork_cmp-IsAntisymmetric (remove s fork) s (λ q.
     get-remove fork_cmp_total s fork q

@@ -1,6 +1,7 @@
 -- Where the WAL of a history ends, what its entries make, and what they are written as.
-use Rattle.std.proofs.Common.{◌≡◌, ℕ, ◌+◌, Bool, true, false, cond, List, [], ◌∷◌, ◌++◌, map, Option, Some, refl, ap, ◌∙◌}
+use Rattle.std.proofs.Common.{◌≡◌, ℕ, ◌+◌, ◌<◌, ℤ, length, get_or, drop, sym, Bool, true, false, cond, List, [], ◌∷◌, ◌++◌, map, Option, Some, refl, ap, ◌∙◌}
 use Rattle.std.specs.Prelude.{◌==◌, ◌||◌}
+use Rattle.std.proofs.lemmas.List.{drop_more}
 use Rattle.byte_words.specs.Numbers.{◌>>=◌}
 use Rattle.byte_words.proofs.Fields.{bind_some}
 use Rattle.lsn_core.specs.Store.{Store}
@@ -11,8 +12,8 @@ use Rattle.wal_record.specs.declared.record.Kind.{Kind}
 use Rattle.wal_record.specs.declared.record.Kind.TheVariants as kind
 use Rattle.wal_record.specs.Tips.{is_redo_mark, tip_behind, tip_after}
 use Rattle.history.specs.Entry.{Truncate, Mark, IdleCut, Entry, is_of_run}
-use Rattle.history.specs.Apply.{apply, apply_all}
-use Rattle.history.specs.Whole.{cuts_main, act_of, entry_of}
+use Rattle.history.specs.Apply.{without_rel, without_rels, apply_act, apply, apply_all}
+use Rattle.history.specs.Whole.{cuts_main, commit_act, act_of, entry_of}
 use Rattle.history.specs.Written.{is_redo, tip_over, tip_past, behind, behind_all, next_record, written}
 use Rattle.history.specs.Laws.{HistoriesAreWrittenOn}
 
@@ -36,6 +37,20 @@ redo_told (kind.Images blocks) = refl
 redo_told (kind.Generic blocks) = refl
 redo_told (kind.Create fork) = refl
 redo_told (kind.Truncate rel count flags) = no_redo rel count _ (cuts_main flags)
+redo_told (kind.Commit time []) = refl
+redo_told (kind.Commit time (rel ∷ rels)) = refl
+
+-- a commit takes away what it names
+pub commit_done : (end : ℕ) (store : Store) (time : ℤ) (rels : List Relation) → apply_act end store (commit_act time rels) ≡ Some (without_rels store rels)
+commit_done end store time [] = refl
+commit_done end store time (rel ∷ rels) = refl
+
+-- one relation more is taken away
+pub drop_more_rels : (store now first : Store) (rels : List Relation) (i : ℕ) (rel : Relation) → i < length rels → rel ≡ get_or rels i rel → now ≡ without_rel store rel → without_rels store (drop i rels) ≡ without_rels first rels
+    → without_rels now (drop (i + 1) rels) ≡ without_rels first rels
+drop_more_rels store now first rels i rel lt is gone e =
+    let next : drop i rels ≡ rel ∷ drop (i + 1) rels = drop_more rels i rel lt ∙ ap (λ (x : Relation). x ∷ drop (i + 1) rels) (sym is) in
+    ap (λ (s : Store). without_rels s (drop (i + 1) rels)) gone ∙ ap (λ (l : List Relation). without_rels store l) (sym next) ∙ e
 
 -- the entries that were read end where their records do
 past_read : (tip : Tip) (r : Record) → tip_past tip (entry_of r) ≡ tip_after tip r

@@ -5,6 +5,7 @@ use Rattle.std.specs.FinMap.{get, insert, contains_key}
 use Rattle.byte_words.specs.Numbers.{◌>>=◌}
 use Rattle.byte_words.proofs.Fields.{bind_some}
 use Rattle.lsn_core.specs.declared.ids.BlockId.{BlockId}
+use Rattle.lsn_core.specs.Relation.{Relation}
 use Rattle.lsn_core.specs.declared.ids.ForkId.{ForkId}
 use Rattle.lsn_core.specs.Store.{Store, ForkPages}
 use Rattle.lsn_core.specs.Blocks.{page_put, with_cut_pages, with_cut, with_fork}
@@ -17,11 +18,11 @@ use Rattle.wal_record.specs.declared.record.BlockRef.{BlockRef}
 use Rattle.history.specs.declared.op.Edit.{Edit}
 use Rattle.history.specs.declared.op.Edit.TheVariants.{Put, Patch}
 use Rattle.history.specs.declared.op.Item.{Item}
-use Rattle.history.specs.Entry.{Act, Create, Truncate, Change, Mark}
-use Rattle.history.specs.Apply.{edited, is_same_block, is_same_fork, page_at, main_fork, items_by, act_by, apply_item, apply_items, apply_act}
+use Rattle.history.specs.Entry.{Act, Create, Truncate, Change, Drop, Mark}
+use Rattle.history.specs.Apply.{edited, is_same_block, is_same_fork, is_of_any, without_rels, page_at, main_fork, items_by, act_by, apply_item, apply_items, apply_act}
 use Rattle.history.specs.Whole.{edit_of, item_of, is_named, is_repeat, said_behind, cuts_main, act_with, act_of}
 use Rattle.history.specs.Redo.{redone, redo_all, AreBelow, TestsChangeNothing}
-use Rattle.history.proofs.Stores.{fork_is, get_here, get_there, by_test, block_is, page_apart, page_here, put_same, lsn_of-zero_page}
+use Rattle.history.proofs.Stores.{fork_is, get_here, get_there, get_without_rels, by_test, block_is, page_apart, page_here, put_same, lsn_of-zero_page}
 use Rattle.history.proofs.Names.{named_here, named_there, named_again}
 
 -- an edited page has the entry's end as its LSN
@@ -165,10 +166,19 @@ cut_below end store fork n below q = go (get store fork) refl
         ⊎_elim (λ s. subst (λ (p : List ℕ). lsn_of p ≤ end) (sym (at ∙ s ∙ old)) (below q)) (λ z. subst (λ (p : List ℕ). lsn_of p ≤ end) (sym (at ∙ z)) (low end)) (get_short n q.block pages zero_page))
         (λ away. subst (λ (p : List ℕ). lsn_of p ≤ end) (sym (ap (λ (o : Option ForkPages). get_or (unwrap_or o []) q.block zero_page) (get_there store fork q.fork (take n pages) away))) (below q))
 
+rels_below : (end : ℕ) (store : Store) (rels : List Relation) → AreBelow end store → AreBelow end (without_rels store rels)
+rels_below end store rels below q =
+    subst (λ (p : List ℕ). lsn_of p ≤ end) (sym (ap (λ (o : Option ForkPages). get_or (unwrap_or o []) q.block zero_page) (get_without_rels store rels q.fork))) (go (is_of_any q.fork rels))
+  where
+    go : (t : Bool) → lsn_of (get_or (unwrap_or (cond t None (get store q.fork)) []) q.block zero_page) ≤ end
+    go true = low end
+    go false = below q
+
 act_below : (end : ℕ) (store next : Store) (act : Act) → end < 2 ^ 64 → AreBelow end store → apply_act end store act ≡ Some next → AreBelow end next
 act_below end store next (Create fork) fits below e = subst (AreBelow end) (ap (λ (o : Option Store). unwrap_or o store) e) (fork_below end store fork below)
 act_below end store next (Truncate rel count) fits below e = subst (AreBelow end) (ap (λ (o : Option Store). unwrap_or o store) e) (cut_below end store (main_fork rel) count below)
 act_below end store next (Change items) fits below e = items_below end store next items fits below e
+act_below end store next (Drop rels) fits below e = subst (AreBelow end) (ap (λ (o : Option Store). unwrap_or o store) e) (rels_below end store rels below)
 act_below end store next (Mark marking) fits below e = subst (AreBelow end) (ap (λ (o : Option Store). unwrap_or o store) e) below
 
 same_cut : (end : ℕ) (store : Store) (t : Bool) (a b : Act) → act_by redone end store a ≡ apply_act end store a → act_by redone end store b ≡ apply_act end store b → act_by redone end store (cond t a b) ≡ apply_act end store (cond t a b)
@@ -185,6 +195,8 @@ kind_again place end store (kind.Images blocks) fits l below = blocks_again end 
 kind_again place end store (kind.Generic blocks) fits l below = blocks_again end [] store blocks fits (omega (arith, l)) (λ q. (λ n. absurd (true≢false (sym n)), λ n. let b = below q in omega (arith, b, l)))
 kind_again place end store (kind.Create fork) fits l below = refl
 kind_again place end store (kind.Truncate rel count flags) fits l below = same_cut end store (cuts_main flags) _ _ refl refl
+kind_again place end store (kind.Commit time []) fits l below = refl
+kind_again place end store (kind.Commit time (rel ∷ rels)) fits l below = refl
 
 pub tests_change_nothing : TestsChangeNothing
 tests_change_nothing place store [] below rising = refl

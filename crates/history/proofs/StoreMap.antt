@@ -19,7 +19,7 @@ use Rattle.lsn_core.proofs.ForkOrder.{fork_cmp_total, fork_cmp-IsAntisymmetric, 
 use Rattle.std.specs.Prelude.{slice_set}
 use Rattle.lsn_core.specs.declared.ids.BlockId.{BlockId}
 use Rattle.lsn_core.specs.Blocks.{with_block, with_page, with_fork, with_cut_pages, with_cut}
-use Rattle.history.specs.Undo.{with_set_found, with_set, with_pages_found, with_pages}
+use Rattle.history.specs.Undo.{with_set_found, with_set}
 use Rattle.history.specs.Pages.{store_in, page_count}
 
 abbrev Forks : Type 0
@@ -173,13 +173,3 @@ set_there m n at page found w e updates put =
 pub set_missing : (m same : Forks) (at : BlockId) (page : List ℕ) → same ≡ m → None ≡ tree.get derived_cmp m at.fork → store_in same ≡ with_set (store_in m) at page
 set_missing m same at page e none =
     ap store_in e ∙ sym (ap (with_set_found (store_in m) at page) (get_found m at.fork None none))
-
--- a fork that was given other pages, and a missing one that stays so
-pub replaced_there : (m n : Forks) (fork : ForkId) (found w : Vec (List ℕ)) → Some found ≡ tree.get derived_cmp m fork → UpdatesBy derived_cmp (derived_cmp fork) m n (Some w) → store_in n ≡ with_pages (store_in m) fork w.items
-replaced_there m n fork found w e updates =
-    store-insert m n fork w (updated m n fork (Some w) updates)
-    ∙ sym (ap (with_pages_found (store_in m) fork w.items) (get_found m fork (Some found) e))
-
-pub replaced_missing : (m same : Forks) (fork : ForkId) (pages : ForkPages) → same ≡ m → None ≡ tree.get derived_cmp m fork → store_in same ≡ with_pages (store_in m) fork pages
-replaced_missing m same fork pages e none =
-    ap store_in e ∙ sym (ap (with_pages_found (store_in m) fork pages) (get_found m fork None none))

@@ -1,20 +1,22 @@
 -- The page at a block of a store where another one was put.
 use Rattle.std.proofs.Common.{◌≡◌, ℕ, zero, suc, ◌+◌, ◌-◌, ◌<◌, ◌≤◌, Bool, true, false, cond, List, [], ◌∷◌, ◌++◌, length, replicate, get_or, slice_set, Option, Some, None, unwrap_or, inl, inr, refl, ap, sym, ◌∙◌, arith, eqb-true, get_or-set_other, get_or-set_same, length-append, true≢false}
-use Rattle.std.specs.Prelude.{◌==◌, ◌&&◌, slice_get}
+use Rattle.std.specs.Prelude.{◌==◌, ◌&&◌, ◌||◌, slice_get}
 use Rattle.std.specs.Cmp.{Equal-is, eq_by_cmp_equiv}
-use Rattle.std.specs.FinMap.{get, insert, get-insert}
+use Rattle.std.specs.Ordering.{eq_by_cmp}
+use Rattle.std.specs.FinMap.{get, insert, remove, get-insert, get-remove}
 use Rattle.std.proofs.Math.ListN.{get_or-eq_default}
 use Rattle.std.proofs.lemmas.List.{append-nil, set-get_or, length-replicate}
 use Rattle.std.proofs.lemmas.Option.{get_or_from_slice_get, slice_get-get_or}
 use Rattle.std.proofs.lemmas.Bool.{cases_lt, and_parts, eq-eqb}
 use Rattle.byte_words.specs.Numbers.{◌>>=◌}
+use Rattle.lsn_core.specs.Relation.{Relation}
 use Rattle.lsn_core.specs.declared.ids.ForkId.{ForkId}
 use Rattle.lsn_core.specs.declared.ids.BlockId.{BlockId}
-use Rattle.lsn_core.specs.Store.{Store, ForkPages}
+use Rattle.lsn_core.specs.Store.{Store, ForkPages, fork_cmp}
 use Rattle.lsn_core.specs.Blocks.{block_of, pages_of, with_block, page_put}
 use Rattle.lsn_core.proofs.ForkOrder.{fork_cmp_total, fork_cmp-IsAntisymmetric}
 use Rattle.pg_page.specs.Header.{lsn_of, zero_page}
-use Rattle.history.specs.Apply.{is_same_fork, is_same_block, page_at}
+use Rattle.history.specs.Apply.{main_fork, init_fork, is_same_fork, is_fork_of, is_of_any, without_rel, without_rels, is_same_block, page_at}
 use Rattle.history.proofs.StoreMap.{insert_same}
 
 -- forks are one where the test says so
@@ -33,6 +35,27 @@ get_here store fork q v e = get-insert fork_cmp_total store fork v q ∙ ap (λ 
 pub get_there : (store : Store) (fork q : ForkId) (v : ForkPages) → is_same_fork q fork ≡ false → get (insert store fork v) q ≡ get store q
 unfolding is_same_fork
 get_there store fork q v e = get-insert fork_cmp_total store fork v q ∙ ap (λ c. cond c (Some v) (get store q)) e
+
+-- relations that were taken away
+pub gone_of_two : (a b : Bool) (o : Option ForkPages) → cond b None (cond a None o) ≡ cond (a || b) None o
+gone_of_two true true o = refl
+gone_of_two true false o = refl
+gone_of_two false true o = refl
+gone_of_two false false o = refl
+
+pub get_without_rel : (store : Store) (rel : Relation) (q : ForkId) → get (without_rel store rel) q ≡ cond (is_fork_of q rel) None (get store q)
+unfolding is_same_fork
+get_without_rel store rel q =
+    get-remove fork_cmp_total (remove store (main_fork rel)) (init_fork rel) q
+    ∙ ap (λ o. cond (eq_by_cmp fork_cmp q (init_fork rel)) None o) (get-remove fork_cmp_total store (main_fork rel) q)
+    ∙ gone_of_two (eq_by_cmp fork_cmp q (main_fork rel)) (eq_by_cmp fork_cmp q (init_fork rel)) (get store q)
+
+pub get_without_rels : (store : Store) (rels : List Relation) (q : ForkId) → get (without_rels store rels) q ≡ cond (is_of_any q rels) None (get store q)
+get_without_rels store [] q = refl
+get_without_rels store (rel ∷ rels) q =
+    get_without_rels (without_rel store rel) rels q
+    ∙ ap (λ o. cond (is_of_any q rels) None o) (get_without_rel store rel q)
+    ∙ gone_of_two (is_fork_of q rel) (is_of_any q rels) (get store q)
 
 pub by_test : {P : Type 0} (t : Bool) → (t ≡ true → P) → (t ≡ false → P) → P
 by_test true first other = first refl

@@ -1,5 +1,5 @@
 -- What undoes a change gives the store before it.
-use Rattle.std.proofs.Common.{◌≡◌, ℕ, ◌+◌, ◌-◌, ◌≤◌, true, false, cond, List, [], ◌∷◌, ◌++◌, length, replicate, take, Option, Some, None, inl, inr, option_map, is_some, unwrap_or, refl, sym, ap, ◌∙◌, arith}
+use Rattle.std.proofs.Common.{◌≡◌, ℕ, ◌+◌, ◌-◌, ◌≤◌, true, false, cond, List, [], ◌∷◌, ◌++◌, length, replicate, take, Option, Some, None, inl, inr, unwrap_or, refl, sym, ap, ◌∙◌, arith}
 use Rattle.std.specs.Prelude.{slice_get, slice_set}
 use Rattle.std.specs.FinMap.{get, insert, remove, get-insert, get-remove, same_map}
 use Rattle.std.specs.Ordering.{eq_by_cmp}
@@ -10,11 +10,11 @@ use Rattle.std.proofs.lemmas.Bool.{cases_lt}
 use Rattle.lsn_core.specs.declared.ids.ForkId.{ForkId}
 use Rattle.lsn_core.specs.declared.ids.BlockId.{BlockId}
 use Rattle.lsn_core.specs.Store.{Store, ForkPages, fork_cmp}
-use Rattle.lsn_core.specs.Blocks.{pages_of, block_count, with_block, page_put, with_fork, with_cut_pages, with_cut}
+use Rattle.lsn_core.specs.Blocks.{pages_of, with_block, page_put, with_cut_pages, with_cut}
 use Rattle.lsn_core.proofs.ForkOrder.{fork_cmp_total, fork_cmp-IsAntisymmetric}
 use Rattle.pg_page.specs.Header.{zero_page}
 use Rattle.history.specs.declared.undo.Step.{Step}
-use Rattle.history.specs.Undo.{with_pages_found, with_pages, with_set_found, with_set, undone_step, undone_steps}
+use Rattle.history.specs.Undo.{with_set_found, with_set, undone_step, undone_steps}
 
 same : (a b : ForkId) → eq_by_cmp fork_cmp a b ≡ true → a ≡ b
 same a b e = fork_cmp-IsAntisymmetric a b ((Equal-is _).0 e)
@@ -77,26 +77,6 @@ restored s at old page before found there =
     ap (with_set_found (insert s at.fork new) at before) (now_there s at.fork new)
     ∙ ap (insert (insert s at.fork new) at.fork) (ap (λ (ps : ForkPages). slice_set (with_block ps at.block page) at.block before) here ∙ short_set old (at.block + 1 - length old) at.block page before (omega arith) there)
     ∙ put_back s at.fork old new found
-
--- a fork that is there, and one that was missing and was made
-pub fork_there : (s : Store) (fork : ForkId) → true ≡ is_some (block_count s fork) → s ≡ with_fork s fork
-fork_there s fork e = go (get s fork) refl e
-  where
-    go : (o : Option ForkPages) → get s fork ≡ o → true ≡ is_some (option_map length o) → s ≡ with_fork s fork
-    go None is e = absurd cc
-    go (Some pages) is e = sym (ap (λ (o : Option ForkPages). cond (is_some o) s (insert s fork [])) is)
-
-pub fork_unmade : (s : Store) (fork : ForkId) → false ≡ is_some (block_count s fork) → remove (with_fork s fork) fork ≡ s
-fork_unmade s fork e = go (get s fork) refl e
-  where
-    go : (o : Option ForkPages) → get s fork ≡ o → false ≡ is_some (option_map length o) → remove (with_fork s fork) fork ≡ s
-    go None is e = ap (λ (o : Option ForkPages). remove (cond (is_some o) s (insert s fork [])) fork) is ∙ unmade s fork [] is
-    go (Some pages) is e = absurd cc
-
-pub given_back : (s : Store) (fork : ForkId) (old new : ForkPages) → get s fork ≡ Some old → with_pages (with_pages s fork new) fork old ≡ s
-given_back s fork old new found =
-    ap (λ (o : Option ForkPages). with_pages (with_pages_found s fork new o) fork old) found
-    ∙ ap (with_pages_found (insert s fork new) fork old) (now_there s fork new) ∙ put_back s fork old new found
 
 -- one change more
 pub steps-push : (us : List Step) (u : Step) (s : Store) → undone_steps (us ++ (u ∷ [])) s ≡ undone_steps us (undone_step u s)

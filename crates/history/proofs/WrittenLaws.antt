@@ -19,8 +19,8 @@ use Rattle.wal_record.specs.declared.record.Body.TheVariants.{Image, Delta}
 use Rattle.history.specs.declared.op.Edit.{Edit}
 use Rattle.history.specs.declared.op.Edit.TheVariants.{Put, Patch}
 use Rattle.history.specs.declared.op.Item.{Item}
-use Rattle.history.specs.Entry.{Shutdown, Online, RedoMark, NoOp, BackupEnd, IdleCut, Act, Create, Truncate, Change, Mark, Entry, is_of_run}
-use Rattle.history.specs.Apply.{edited, main_fork, page_at, apply_items, apply_act, apply, apply_all}
+use Rattle.history.specs.Entry.{Shutdown, Online, RedoMark, NoOp, BackupEnd, IdleCut, IdleCommit, Act, Create, Truncate, Change, Drop, Mark, Entry, is_of_run}
+use Rattle.history.specs.Apply.{edited, main_fork, without_rel, page_at, apply_items, apply_act, apply, apply_all}
 use Rattle.history.specs.Whole.{edit_of, item_of, is_named, is_patch, is_repeat, said_behind, cuts_main, act_of, entry_of}
 use Rattle.history.specs.Written.{body_of, block_of_item, kind_of, Before, behind, next_record, written}
 use Rattle.history.specs.Laws.{AreFresh, IsFresh, HasGoodPage, HaveGoodPages, HasGoodPages, AreWrittenInPlace, replayed_up_to, WrittenIsApplied, FitCommandsAreDone, CommandsAreSaid}
@@ -124,18 +124,22 @@ act_again : (redo end : ℕ) (store last : Store) (act : Act) → IsFresh act �
 act_again redo end store last (Create fork) fresh good e = e
 act_again redo end store last (Truncate rel count) fresh good e = e
 act_again redo end store last (Change items) fresh good e = items_again redo end store store last [] items fresh (good_settle items good) (λ q n. refl) e
+act_again redo end store last (Drop []) fresh good e = e
+act_again redo end store last (Drop (rel ∷ rels)) fresh good e = e
 act_again redo end store last (Mark (Shutdown place)) fresh good e = e
 act_again redo end store last (Mark (Online place)) fresh good e = e
 act_again redo end store last (Mark (RedoMark n)) fresh good e = e
 act_again redo end store last (Mark NoOp) fresh good e = e
 act_again redo end store last (Mark (BackupEnd place)) fresh good e = e
 act_again redo end store last (Mark (IdleCut rel count others)) fresh good e = idle_cut end store rel count (2 * others / 2) (cuts_main (2 * others)) (even others) ∙ e
+act_again redo end store last (Mark (IdleCommit time)) fresh good e = e
 
 -- a command
 pub commands_said : CommandsAreSaid
 commands_said redo end store last (op.Create fork) w fresh e = e
 commands_said redo end store last (op.Truncate rel count) w fresh e = e
 commands_said redo end store last (op.Change items) w fresh e = items_again redo end store store last [] items fresh (writable_settle store redo items w.each) (λ q n. refl) e
+commands_said redo end store last (op.Drop rel) w fresh e = e
 
 edit_done : (end : ℕ) (first here : List ℕ) (edit : Edit) → IsFitEdit first edit → (is_patch edit ≡ true → here ≡ first) → (page : List ℕ) × (edited end here edit ≡ Some page)
 edit_done end first here (Put page) fit same = (with_lsn end (hole_zeroed page), refl)
@@ -156,6 +160,7 @@ pub commands_done : FitCommandsAreDone
 commands_done end store (op.Create fork) fit fresh = (with_fork store fork, refl)
 commands_done end store (op.Truncate rel count) fit fresh = (with_cut store (main_fork rel) count, refl)
 commands_done end store (op.Change items) fit fresh = items_done end store store [] items fresh fit.each (λ q n. refl)
+commands_done end store (op.Drop rel) fit fresh = (without_rel store rel, refl)
 
 -- past a place nothing is kept
 over : (a b : ℕ) → b < a → nat_le a b ≡ false

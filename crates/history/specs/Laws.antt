@@ -12,7 +12,7 @@ use Rattle.history.specs.declared.op.Edit.{Edit}
 use Rattle.history.specs.declared.op.Edit.TheVariants.{Put, Patch}
 use Rattle.history.specs.declared.op.Item.{Item}
 use Rattle.history.specs.declared.op.Op.{Op}
-use Rattle.history.specs.Entry.{Act, Create, Truncate, Change, Mark, Entry, is_of_run}
+use Rattle.history.specs.Entry.{Act, Create, Truncate, Change, Drop, Mark, Entry, is_of_run}
 use Rattle.history.specs.Apply.{apply_act, apply_all}
 use Rattle.history.specs.Whole.{is_repeat, act_of, entry_of}
 use Rattle.history.specs.Written.{Before, behind, behind_all, kind_of, next_record, written}
@@ -45,12 +45,14 @@ abbrev pub IsFresh : Act → Type 0
 IsFresh (Create fork) = Unit
 IsFresh (Truncate rel count) = Unit
 IsFresh (Change items) = AreFresh [] items
+IsFresh (Drop rels) = Unit
 IsFresh (Mark marking) = Unit
 
 abbrev pub HasGoodPages : Act → Type 0
 HasGoodPages (Create fork) = Unit
 HasGoodPages (Truncate rel count) = Unit
 HasGoodPages (Change items) = HaveGoodPages items
+HasGoodPages (Drop rels) = Unit
 HasGoodPages (Mark marking) = Unit
 
 -- entries of a run, each of which ends where it is written to, behind the one before

@@ -11,7 +11,7 @@ use Rattle.history.specs.declared.op.Op.TheVariants as op
 use Rattle.history.specs.declared.op.Edit.{Edit}
 use Rattle.history.specs.declared.op.Edit.TheVariants.{Put, Patch}
 use Rattle.history.specs.declared.op.Item.{Item}
-use Rattle.history.specs.Entry.{Act, Create, Truncate, Change, Mark}
+use Rattle.history.specs.Entry.{Act, Create, Truncate, Change, Drop, Mark}
 use Rattle.history.specs.Apply.{main_fork, page_at, apply_item, apply_act}
 
 -- the act that a command is
@@ -19,6 +19,7 @@ abbrev pub act_of_op : Op → Act
 act_of_op (op.Create fork) = Create fork
 act_of_op (op.Truncate rel count) = Truncate rel count
 act_of_op (op.Change items) = Change items
+act_of_op (op.Drop rel) = Drop (rel ∷ [])
 
 -- a command done on a store, by an entry that ends at a place
 abbrev pub apply_op : ℕ → Store → Op → Option Store
@@ -53,6 +54,7 @@ abbrev pub IsTidy : Store → Act → Type 0
 IsTidy store (Create fork) = get store fork ≡ None
 IsTidy store (Truncate rel count) = IsTidyCut store (main_fork rel) count
 IsTidy store (Change items) = AreTidyItems store items
+IsTidy store (Drop rels) = Unit
 IsTidy store (Mark marking) = Unit
 
 -- an edit of a page can be written: a patch has good fragments, and leaves a good header
@@ -81,3 +83,4 @@ abbrev pub IsFit : Store → Op → Type 0
 IsFit store (op.Create fork) = Unit
 IsFit store (op.Truncate rel count) = count < 2 ^ 32 - 1
 IsFit store (op.Change items) = AreFit store items
+IsFit store (op.Drop rel) = Unit

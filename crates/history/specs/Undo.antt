@@ -7,17 +7,6 @@ use Rattle.lsn_core.specs.Store.{Store, ForkPages}
 use Rattle.lsn_core.specs.Blocks.{with_cut}
 use Rattle.history.specs.declared.undo.Step.{Step}
 use Rattle.history.specs.declared.undo.Step.TheVariants as step
-use Rattle.history.specs.declared.undo.Way.{Way}
-use Rattle.history.specs.declared.undo.Way.TheVariants as way
-use Rattle.history.specs.declared.undo.Undo.{Undo}
-
--- the store with other pages of a fork that is there
-abbrev pub with_pages_found : Store → ForkId → ForkPages → Option ForkPages → Store
-with_pages_found store fork pages None = store
-with_pages_found store fork pages (Some found) = insert store fork pages
-
-abbrev pub with_pages : Store → ForkId → ForkPages → Store
-with_pages store fork pages = with_pages_found store fork pages (get store fork)
 
 -- the store with another page at a block that is there
 abbrev pub with_set_found : Store → BlockId → List ℕ → Option ForkPages → Store
@@ -37,13 +26,3 @@ undone_step (step.Page at page) store = with_set store at page
 abbrev pub undone_steps : List Step → Store → Store
 undone_steps [] store = store
 undone_steps (s ∷ ss) store = undone_step s (undone_steps ss store)
-
-abbrev pub undone_way : Way → Store → Store
-undone_way way.Nothing store = store
-undone_way (way.Fork fork) store = remove store fork
-undone_way (way.Pages fork pages) store = with_pages store fork pages.items
-undone_way (way.Steps steps) store = undone_steps steps.items store
-
--- the store after it is undone
-abbrev pub undone : Undo → Store → Store
-undone undo store = undone_way undo.way store

@@ -1,8 +1,9 @@
 -- What the entries of a WAL mean: the store that they make from nothing.
-use Rattle.std.specs.Prelude.{ℕ, ◌/◌, ◌%◌, ◌==◌, ◌&&◌, Bool, true, false, List, [], ◌∷◌, ◌++◌, map, take, Option, None, nat_le, if◌then◌else◌}
+use Rattle.std.specs.Prelude.{ℕ, ◌/◌, ◌%◌, ◌==◌, ◌&&◌, Bool, true, false, ℤ, List, [], ◌∷◌, ◌++◌, map, take, Option, None, nat_le, if◌then◌else◌}
 use Rattle.std.specs.List.{filter, list_any}
 use Rattle.std.specs.FinMap.{empty}
 use Rattle.lsn_core.specs.declared.ids.BlockId.{BlockId}
+use Rattle.lsn_core.specs.Relation.{Relation}
 use Rattle.lsn_core.specs.Store.{Store}
 use Rattle.wal_record.specs.declared.record.Record.{Record}
 use Rattle.wal_record.specs.declared.record.Kind.{Kind}
@@ -13,7 +14,7 @@ use Rattle.wal_record.specs.declared.record.Body.TheVariants.{Image, Delta}
 use Rattle.history.specs.declared.op.Edit.{Edit}
 use Rattle.history.specs.declared.op.Edit.TheVariants.{Put, Patch}
 use Rattle.history.specs.declared.op.Item.{Item}
-use Rattle.history.specs.Entry.{Shutdown, Online, RedoMark, NoOp, BackupEnd, IdleCut, Act, Create, Truncate, Change, Mark, Entry}
+use Rattle.history.specs.Entry.{Shutdown, Online, RedoMark, NoOp, BackupEnd, IdleCut, IdleCommit, Act, Create, Truncate, Change, Drop, Mark, Entry}
 use Rattle.history.specs.Apply.{is_same_block, apply_all}
 
 abbrev pub edit_of : Body → Edit
@@ -51,6 +52,11 @@ said blocks = said_behind [] blocks
 abbrev pub cuts_main : ℕ → Bool
 cuts_main flags = flags % 2 == 1
 
+-- a commit drops the relations that it names
+abbrev pub commit_act : ℤ → List Relation → Act
+commit_act time [] = Mark (IdleCommit time)
+commit_act time (rel ∷ rels) = Drop (rel ∷ rels)
+
 -- the act that a kind of entry is, by what its block references say
 abbrev pub act_with : (List BlockRef → List Item) → Kind → Act
 act_with told (kind.Shutdown redo) = Mark (Shutdown redo.0)
@@ -63,6 +69,7 @@ act_with told (kind.Generic blocks) = Change (told blocks)
 act_with told (kind.Create fork) = Create fork
 act_with told (kind.Truncate rel count flags) =
     if cuts_main flags then Truncate rel count else Mark (IdleCut rel count (flags / 2))
+act_with told (kind.Commit time rels) = commit_act time rels
 
 abbrev pub act_of : Kind → Act
 act_of = act_with said

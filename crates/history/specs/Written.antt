@@ -1,5 +1,5 @@
 -- The records that a history's entries are written as, and where its WAL ends.
-use Rattle.std.specs.Prelude.{ℕ, ◌+◌, ◌*◌, ◌==◌, ◌||◌, Bool, true, false, List, [], ◌∷◌, map, nat_le, if◌then◌else◌}
+use Rattle.std.specs.Prelude.{ℕ, ◌+◌, ◌*◌, ◌==◌, ◌||◌, Bool, true, false, pos, List, [], ◌∷◌, map, nat_le, if◌then◌else◌}
 use Rattle.std.specs.Option.{unwrap_or}
 use Rattle.std.specs.FinMap.{empty}
 use Rattle.lsn_core.specs.Store.{Store}
@@ -16,7 +16,7 @@ use Rattle.wal_record.specs.Tips.{first_tip, record_at_tip}
 use Rattle.history.specs.declared.op.Edit.{Edit}
 use Rattle.history.specs.declared.op.Edit.TheVariants.{Put, Patch}
 use Rattle.history.specs.declared.op.Item.{Item}
-use Rattle.history.specs.Entry.{Marking, Shutdown, Online, RedoMark, NoOp, BackupEnd, IdleCut, Act, Create, Truncate, Change, Mark, Entry, is_of_run}
+use Rattle.history.specs.Entry.{Marking, Shutdown, Online, RedoMark, NoOp, BackupEnd, IdleCut, IdleCommit, Act, Create, Truncate, Change, Drop, Mark, Entry, is_of_run}
 use Rattle.history.specs.Apply.{page_at, apply}
 
 -- how an edit of a page is written, by the latest redo point: a page that is put as an image, with
@@ -43,13 +43,16 @@ mark_kind (RedoMark n) = kind.RedoMark n
 mark_kind NoOp = kind.NoOp
 mark_kind (BackupEnd start) = kind.BackupEnd (record { 0 = start })
 mark_kind (IdleCut rel count others) = kind.Truncate rel count (2 * others)
+mark_kind (IdleCommit time) = kind.Commit time []
 
 -- the kind that an act is written as, by the store before it and the latest redo point; a
--- truncation's flags name all forks that one may name: main, free space map, visibility map
+-- truncation's flags name all forks that one may name: main, free space map, visibility map; a
+-- drop is a commit at time 0
 abbrev pub kind_of : Store → ℕ → Act → Kind
 kind_of store redo (Create fork) = kind.Create fork
 kind_of store redo (Truncate rel count) = kind.Truncate rel count 7
 kind_of store redo (Change items) = kind.Generic (map (block_of_item store redo) items)
+kind_of store redo (Drop rels) = kind.Commit (pos 0) rels
 kind_of store redo (Mark marking) = mark_kind marking
 
 -- the record of an act that comes next
@@ -61,12 +64,14 @@ abbrev pub is_redo : Act → Bool
 is_redo (Create fork) = false
 is_redo (Truncate rel count) = false
 is_redo (Change items) = false
+is_redo (Drop rels) = false
 is_redo (Mark (Shutdown redo)) = false
 is_redo (Mark (Online redo)) = false
 is_redo (Mark (RedoMark n)) = true
 is_redo (Mark NoOp) = false
 is_redo (Mark (BackupEnd start)) = false
 is_redo (Mark (IdleCut rel count others)) = false
+is_redo (Mark (IdleCommit time)) = false
 
 -- the latest redo point with one more entry: the start of the first entry, or of the latest start
 -- of a checkpoint

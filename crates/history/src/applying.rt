@@ -1,19 +1,19 @@
 //! An entry of the WAL applied to a store.
 
-ghost use Rattle.std.specs.Prelude.{◌≡◌, ◌<◌, ◌≤◌, List, map, take, Some, None, Err, OnOk, OnErr, IfOk, length, if◌then◌else◌};
+ghost use Rattle.std.specs.Prelude.{◌≡◌, ◌<◌, ◌≤◌, List, map, take, Some, None, Err, OnOk, OnErr, length, if◌then◌else◌};
 ghost use Rattle.std.specs.List.{All};
 ghost use Rattle.lsn_core.specs.declared.ids.BlockId.{BlockId};
 ghost use Rattle.history.specs.declared.applying.ApplyFault.TheVariants.{BadDelta};
-ghost use Rattle.history.specs.Apply.{is_same_fork, is_same_block, apply, apply_items, apply_item, edited};
+ghost use Rattle.history.specs.Apply.{is_same_fork, is_same_block, without_rel, without_rels, apply, apply_act, apply_items, apply_item, edited};
 ghost use Rattle.history.specs.Applied.{IsApplicable, IsApplicableBlock, IsApplicableBody};
-ghost use Rattle.history.specs.Whole.{entry_of, edit_of, item_of, is_named, is_patch, said, cuts_main};
+ghost use Rattle.history.specs.Whole.{entry_of, commit_act, edit_of, item_of, is_named, is_patch, said, cuts_main};
 ghost use Rattle.history.specs.Inside.{apply_said};
-ghost use Rattle.history.specs.Undo.{undone_steps, undone};
+ghost use Rattle.history.specs.Undo.{undone_steps};
 
-use crate::op::main_fork;
+use crate::op::{init_fork, main_fork};
 use crate::page_map::PageMap;
-use crate::undo::{Step, Undo};
-use lsn_core::{BlockId, ForkId, Lsn, NoMemory};
+use crate::undo::Step;
+use lsn_core::{BlockId, ForkId, Lsn, NoMemory, Rel};
 use pg_page::{patch, set_lsn, zero_hole};
 use wal_record::{BlockRef, Body, Kind, Record};
 
@@ -44,40 +44,50 @@ pub fn apply(store: &mut PageMap, rec: &Record) -> Result<(), ApplyFault>
     ensures bad { result ≡ Err BadDelta → apply store.old (entry_of rec.now) ≡ None }
     ensures same { OnErr result (store.new ≡ store.old) }
 {
-    if let Kind::Truncate(rel, count, flags) = &rec.kind {
-        if cuts_main(*flags) {
-            store.cut(&main_fork(*rel), *count as usize);
-        }
-        return Ok(());
-    }
-    apply_undoably(store, rec)?;
-    Ok(())
-}
-
-/// The same, and what undoes it. A truncation takes memory for the blocks that are left.
-pub fn apply_undoably(store: &mut PageMap, rec: &Record) -> Result<Undo, ApplyFault>
-    requires { IsApplicable rec.now.kind }
-    ensures applied { OnOk result (apply store.old (entry_of rec.now) ≡ Some store.new) }
-    ensures undoes { IfOk result (λ undo. undone undo store.new ≡ store.old) }
-    ensures bad { result ≡ Err BadDelta → apply store.old (entry_of rec.now) ≡ None }
-    ensures same { OnErr result (store.new ≡ store.old) }
-{
     match &rec.kind {
-        Kind::Create(fork) => Ok(store.create_undoably(fork)?),
+        Kind::Create(fork) => Ok(store.create(fork)?),
         Kind::Truncate(rel, count, flags) => {
             if cuts_main(*flags) {
-                return Ok(store.cut_undoably(&main_fork(*rel), *count as usize)?);
+                store.cut(&main_fork(*rel), *count as usize);
             }
-            Ok(Undo::nothing())
+            Ok(())
+        }
+        Kind::Commit(time, rels) => {
+            apply_commit(store, *time, rels.as_slice(), rec.end);
+            Ok(())
         }
         Kind::Images(blocks) => apply_blocks(store, blocks.as_slice(), rec.end),
         Kind::Generic(blocks) => apply_blocks(store, blocks.as_slice(), rec.end),
-        Kind::Shutdown(_) => Ok(Undo::nothing()),
-        Kind::Online(_) => Ok(Undo::nothing()),
-        Kind::RedoMark(_) => Ok(Undo::nothing()),
-        Kind::NoOp => Ok(Undo::nothing()),
-        Kind::BackupEnd(_) => Ok(Undo::nothing()),
+        Kind::Shutdown(_) => Ok(()),
+        Kind::Online(_) => Ok(()),
+        Kind::RedoMark(_) => Ok(()),
+        Kind::NoOp => Ok(()),
+        Kind::BackupEnd(_) => Ok(()),
     }
+}
+
+/// Takes away the relations that a commit drops.
+fn apply_commit(store: &mut PageMap, time: i64, rels: &[Rel], end: Lsn)
+    ensures { apply_act end.0 store.old (commit_act time rels.now) ≡ Some store.new }
+{
+    drop_rels(store, rels);
+}
+
+/// Takes away relations, with all their forks.
+fn drop_rels(store: &mut PageMap, rels: &[Rel])
+    ensures { store.new ≡ without_rels store.old rels.now }
+{
+    for rel in rels {
+        drop_rel(store, *rel);
+    }
+}
+
+/// Takes away a relation, with all its forks.
+fn drop_rel(store: &mut PageMap, rel: Rel)
+    ensures { store.new ≡ without_rel store.old rel }
+{
+    store.unmake(&main_fork(rel));
+    store.unmake(&init_fork(rel));
 }
 
 /// Whether a truncation's flags name the main fork.
@@ -89,10 +99,9 @@ pub fn cuts_main(flags: u32) -> bool
 
 /// Applies what the block references of an entry say, in turn. Where one can't be applied, those
 /// before it are undone.
-fn apply_blocks(store: &mut PageMap, blocks: &[BlockRef], end: Lsn) -> Result<Undo, ApplyFault>
+fn apply_blocks(store: &mut PageMap, blocks: &[BlockRef], end: Lsn) -> Result<(), ApplyFault>
     requires { All IsApplicableBlock blocks.now }
     ensures applied { OnOk result (apply_items end.0 store.old (said blocks.now) ≡ Some store.new) }
-    ensures undoes { IfOk result (λ undo. undone undo store.new ≡ store.old) }
     ensures bad { result ≡ Err BadDelta → apply_items end.0 store.old (said blocks.now) ≡ None }
     ensures same { OnErr result (store.new ≡ store.old) }
 {
@@ -103,7 +112,7 @@ fn apply_blocks(store: &mut PageMap, blocks: &[BlockRef], end: Lsn) -> Result<Un
             return Err(fault);
         }
     }
-    Ok(Undo::steps(done))
+    Ok(())
 }
 
 /// Applies what a block reference says behind others, and notes what undoes it.

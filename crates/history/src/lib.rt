@@ -20,11 +20,10 @@ mod page_map;
 mod pages;
 mod undo;
 
-pub use applying::{ApplyFault, apply, apply_undoably, cuts_main, is_same_block, is_same_fork};
+pub use applying::{ApplyFault, apply, cuts_main, is_same_block, is_same_fork};
 pub use laws::{
     commands_are_said, entries_may_be_applied, histories_are_written_on, tests_change_nothing,
     written_is_applied,
 };
-pub use op::{Edit, Item, Items, Op, main_fork};
+pub use op::{Edit, Item, Items, Op, init_fork, main_fork};
 pub use page_map::PageMap;
-pub use undo::Undo;

@@ -1,7 +1,7 @@
 //! A command that changes the store.
 
 ghost use Rattle.std.specs.Prelude.{◌≡◌};
-ghost use Rattle.history.specs.Apply.{main_fork};
+ghost use Rattle.history.specs.Apply.{main_fork, init_fork};
 
 use lsn_core::{BlockId, ForkId, ForkKind, Rel};
 use pg_page::{Frags, Page};
@@ -16,6 +16,8 @@ pub enum Op {
     Truncate(Rel, u32),
     /// Changes blocks, in turn.
     Change(Items),
+    /// Takes away all forks of a relation.
+    Drop(Rel),
 }
 
 /// The items of a command, in order. Contracts see the list.
@@ -72,5 +74,15 @@ pub fn main_fork(rel: Rel) -> ForkId
     ForkId {
         rel,
         kind: ForkKind::Main,
+    }
+}
+
+/// The init fork of a relation.
+pub fn init_fork(rel: Rel) -> ForkId
+    ensures { result ≡ init_fork rel }
+{
+    ForkId {
+        rel,
+        kind: ForkKind::Init,
     }
 }

@@ -4,15 +4,16 @@ use Rattle.std.proofs.lemmas.Bool.{or_parts}
 use Rattle.std.specs.List.{filter, list_any}
 use Rattle.byte_words.specs.Numbers.{◌>>=◌}
 use Rattle.byte_words.proofs.Fields.{bind_some}
+use Rattle.lsn_core.specs.Relation.{Relation}
 use Rattle.lsn_core.specs.Store.{Store}
 use Rattle.lsn_core.specs.Blocks.{pages_of, with_block, page_put, with_fork, with_cut}
 use Rattle.history.specs.declared.op.Item.{Item}
-use Rattle.history.specs.Entry.{Act, Create, Truncate, Change, Mark, NoOp, Entry}
-use Rattle.history.specs.Apply.{main_fork, page_at, edited, apply_item, apply_items, apply_act, apply, apply_all}
+use Rattle.history.specs.Entry.{Act, Create, Truncate, Change, Drop, Mark, NoOp, Entry}
+use Rattle.history.specs.Apply.{main_fork, without_rels, page_at, edited, apply_item, apply_items, apply_act, apply, apply_all}
 use Rattle.history.proofs.Stores.{by_test}
-use Rattle.partitions.specs.Parts.{is_of, is_item_of, act_part, part_of, IsPart, act_concerns, concerns}
+use Rattle.partitions.specs.Parts.{is_of, is_item_of, is_rel_of, act_part, part_of, IsPart, act_concerns, concerns}
 use Rattle.partitions.specs.Laws.{PartsFoldAlike, OtherEntriesLeaveParts, OthersMayBePassedOver}
-use Rattle.partitions.proofs.Puts.{page_own, page_at_own, put_other, made_own, made_other, cut_own, cut_other}
+use Rattle.partitions.proofs.Puts.{page_own, page_at_own, put_other, made_own, made_other, cut_own, cut_other, rels_own}
 
 abbrev items_of : ℕ → List Item → List Item
 items_of q items = filter (is_item_of q) items
@@ -53,6 +54,9 @@ act_folds q end store last part (Truncate rel n) is e =
     (λ mine. (with_cut part fork n, ap (λ c. apply_act end part (cond c (Truncate rel n) (Mark NoOp))) mine, subst (λ (s : Store). IsPart q s (with_cut part fork n)) done (cut_own q store part fork n is mine)))
     (λ other. (part, ap (λ c. apply_act end part (cond c (Truncate rel n) (Mark NoOp))) other, subst (λ (s : Store). IsPart q s part) done (cut_other q store part fork n is other)))
 act_folds q end store last part (Change items) is e = items_fold q end store last part items is e
+act_folds q end store last part (Drop rels) is e =
+    let done : without_rels store rels ≡ last = cc in
+    (without_rels part (filter (is_rel_of q) rels), refl, subst (λ (s : Store). IsPart q s (without_rels part (filter (is_rel_of q) rels))) done (rels_own q store part rels is))
 act_folds q end store last part (Mark marking) is e =
     let same : store ≡ last = cc in
     (part, refl, subst (λ (s : Store). IsPart q s part) same is)
@@ -78,6 +82,7 @@ act_passed : (q end : ℕ) (part : Store) (act : Act) → act_concerns q act ≡
 act_passed q end part (Create fork) other = ap (λ c. apply_act end part (cond c (Create fork) (Mark NoOp))) other
 act_passed q end part (Truncate rel n) other = ap (λ c. apply_act end part (cond c (Truncate rel n) (Mark NoOp))) other
 act_passed q end part (Change items) other = ap (apply_items end part) (none_kept (is_item_of q) items other)
+act_passed q end part (Drop rels) other = ap (λ (l : List Relation). apply_act end part (Drop l)) (none_kept (is_rel_of q) rels other)
 act_passed q end part (Mark marking) other = refl
 
 pub passed_over : OthersMayBePassedOver

@@ -1,3 +1,4 @@
 pub mod Puts
 pub mod Folds
 pub mod OwnActs
+pub mod Removed

@@ -1,19 +1,20 @@
 -- An act that concerns one partition alone, on the store and on the part.
-use Rattle.std.proofs.Common.{◌≡◌, ℕ, true, false, List, [], ◌∷◌, Option, Some, None, option_map, refl, ap, sym, subst, ◌∙◌, true≢false}
+use Rattle.std.proofs.Common.{◌≡◌, ℕ, true, false, cond, filter, List, [], ◌∷◌, Option, Some, None, option_map, refl, ap, sym, subst, ◌∙◌, true≢false}
 use Rattle.std.proofs.lemmas.Bool.{or_parts, eq-eqb, eqb-false}
 use Rattle.std.specs.List.{list_any}
 use Rattle.byte_words.specs.Numbers.{◌>>=◌}
 use Rattle.lsn_core.specs.declared.ids.ForkId.{ForkId}
+use Rattle.lsn_core.specs.Relation.{Relation}
 use Rattle.lsn_core.specs.Store.{Store}
 use Rattle.lsn_core.specs.Blocks.{page_put, with_fork, with_cut}
 use Rattle.history.specs.declared.op.Item.{Item}
-use Rattle.history.specs.Entry.{Create, Truncate, Change, Mark}
-use Rattle.history.specs.Apply.{main_fork, page_at, edited, apply_item, apply_items}
+use Rattle.history.specs.Entry.{Create, Truncate, Change, Drop, Mark}
+use Rattle.history.specs.Apply.{main_fork, without_rels, page_at, edited, apply_item, apply_items}
 use Rattle.history.specs.Op.{AreTidyItems}
 use Rattle.history.proofs.Stores.{by_test}
-use Rattle.partitions.specs.Parts.{partition_of, is_of, is_item_of, IsPart}
+use Rattle.partitions.specs.Parts.{partition_of, is_of, is_item_of, is_rel_of, IsPart}
 use Rattle.partitions.specs.Laws.{OwnActsAreDone, OwnActsAreTidy}
-use Rattle.partitions.proofs.Puts.{own, page_own, page_at_own, made_own, cut_own}
+use Rattle.partitions.proofs.Puts.{own, page_own, page_at_own, made_own, cut_own, rels_own}
 use Rattle.partitions.proofs.Folds.{mapped_some}
 
 -- a fork that is of no other partition is of this one
@@ -47,6 +48,18 @@ items_done q end store part next (item ∷ items) is none e =
     let rest = items_done q end (page_put item.at page store) (put page) next items (page_own q store part item.at page is mine) (others_own q item items none) found.2 in
     (rest.0, ap (λ (o : Option Store). o >>= λ s. apply_items end s items) (step end part store item page (sym (page_at_own q store part item.at is mine)) found.1) ∙ rest.1, rest.2)
 
+-- relations that are of no other partition are of this one
+pub own_rel : (q : ℕ) (rel : Relation) → ((other : ℕ) → (other ≡ q → ⊥) → is_rel_of other rel ≡ false) → is_rel_of q rel ≡ true
+own_rel q rel none =
+    by_test (is_rel_of q rel) (λ mine. mine) (λ other. absurd (true≢false (sym (eq-eqb (partition_of rel) (partition_of rel) refl) ∙ none (partition_of rel) (eqb-false (partition_of rel) q other))))
+
+pub all_kept : (q : ℕ) (rels : List Relation) → ((other : ℕ) → (other ≡ q → ⊥) → list_any (is_rel_of other) rels ≡ false) → filter (is_rel_of q) rels ≡ rels
+all_kept q [] none = refl
+all_kept q (rel ∷ rels) none =
+    let mine = own_rel q rel (λ other k. (or_parts (is_rel_of other rel) (list_any (is_rel_of other) rels) (none other k)).0) in
+    ap (λ c. cond c (rel ∷ filter (is_rel_of q) rels) (filter (is_rel_of q) rels)) mine
+    ∙ ap (λ (l : List Relation). rel ∷ l) (all_kept q rels (λ other k. (or_parts (is_rel_of other rel) (list_any (is_rel_of other) rels) (none other k)).1))
+
 pub own_done : OwnActsAreDone
 own_done q end store part next (Create fork) is none e =
     let done : with_fork part fork ≡ next = cc in
@@ -56,6 +69,9 @@ own_done q end store part next (Truncate rel count) is none e =
     let done : with_cut part fork count ≡ next = cc in
     (with_cut store fork count, refl, subst (λ (s : Store). IsPart q (with_cut store fork count) s) done (cut_own q store part fork count is (own_fork q fork none)))
 own_done q end store part next (Change items) is none e = items_done q end store part next items is none e
+own_done q end store part next (Drop rels) is none e =
+    let done : without_rels part rels ≡ next = cc in
+    (without_rels store rels, refl, subst (λ (s : Store). IsPart q (without_rels store rels) s) done (subst (λ (l : List Relation). IsPart q (without_rels store rels) (without_rels part l)) (all_kept q rels none) (rels_own q store part rels is)))
 own_done q end store part next (Mark marking) is none e =
     let same : part ≡ next = cc in
     (store, refl, subst (λ (s : Store). IsPart q store s) same is)
@@ -83,4 +99,5 @@ own_tidy q store part (Create fork) is none tidy = sym (own q store part fork is
 own_tidy q store part (Truncate rel count) is none tidy =
     record { pages = tidy.pages; there = sym (own q store part (main_fork rel) is (own_fork q (main_fork rel) none)) ∙ tidy.there; within = tidy.within }
 own_tidy q store part (Change items) is none tidy = items_tidy q store part items is none tidy
+own_tidy q store part (Drop rels) is none tidy = tt
 own_tidy q store part (Mark marking) is none tidy = tt

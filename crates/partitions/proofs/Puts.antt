@@ -1,6 +1,8 @@
 -- A fork changed in a store and in a part of it.
-use Rattle.std.proofs.Common.{◌≡◌, ℕ, Bool, true, false, cond, List, [], take, get_or, Option, Some, None, unwrap_or, is_some, refl, ap, sym, subst, ◌∙◌, arith, true≢false}
-use Rattle.std.proofs.lemmas.Bool.{eq-eqb}
+use Rattle.std.proofs.Common.{◌≡◌, ℕ, Bool, true, false, cond, ◌||◌, List, [], ◌∷◌, take, get_or, Option, Some, None, unwrap_or, is_some, refl, ap, sym, subst, ◌∙◌, arith, true≢false}
+use Rattle.std.proofs.lemmas.Bool.{eq-eqb, or_from, false_from_ne_true}
+use Rattle.std.specs.List.{filter}
+use Rattle.lsn_core.specs.Relation.{Relation}
 use Rattle.std.specs.FinMap.{get, insert, contains_key, same_map}
 use Rattle.byte_words.specs.Pieces.{zero_page}
 use Rattle.lsn_core.specs.declared.ids.ForkId.{ForkId}
@@ -8,9 +10,9 @@ use Rattle.lsn_core.specs.declared.ids.BlockId.{BlockId}
 use Rattle.lsn_core.specs.Store.{Store, ForkPages}
 use Rattle.lsn_core.specs.Blocks.{pages_of, with_block, page_put, with_fork, with_cut_pages, with_cut}
 use Rattle.lsn_core.proofs.ForkOrder.{fork_cmp_total, fork_cmp-IsAntisymmetric}
-use Rattle.history.specs.Apply.{is_same_fork, page_at}
-use Rattle.history.proofs.Stores.{by_test, fork_is, get_here, get_there}
-use Rattle.partitions.specs.Parts.{partition_of, is_of, IsPart}
+use Rattle.history.specs.Apply.{main_fork, init_fork, is_same_fork, is_fork_of, is_of_any, without_rels, page_at}
+use Rattle.history.proofs.Stores.{by_test, fork_is, get_here, get_there, get_without_rels}
+use Rattle.partitions.specs.Parts.{partition_of, is_of, is_rel_of, IsPart}
 use Rattle.partitions.specs.Laws.{StoresAreTheirParts, PartsAreUnique}
 
 -- the part has a fork of its own as the store has it
@@ -75,6 +77,40 @@ cut_other q store part fork n is other = go (get store fork)
     go : (x : Option ForkPages) → IsPart q (with_cut_pages store fork n x) part
     go None = is
     go (Some pages) = put_other q store part fork (take n pages) is other
+
+-- relations that are dropped: of a partition's fork those of the partition tell all
+not_of : (q : ℕ) (fork : ForkId) (rel : Relation) → is_of q fork ≡ true → is_rel_of q rel ≡ false → is_fork_of fork rel ≡ false
+not_of q fork rel mine other =
+    or_from (is_same_fork fork (main_fork rel)) (is_same_fork fork (init_fork rel))
+    (false_from_ne_true (is_same_fork fork (main_fork rel)) (λ k. true≢false (sym mine ∙ ap (is_of q) (fork_is fork (main_fork rel) k) ∙ other)))
+    (false_from_ne_true (is_same_fork fork (init_fork rel)) (λ k. true≢false (sym mine ∙ ap (is_of q) (fork_is fork (init_fork rel) k) ∙ other)))
+
+own_tell : (q : ℕ) (fork : ForkId) (rels : List Relation) → is_of q fork ≡ true → is_of_any fork (filter (is_rel_of q) rels) ≡ is_of_any fork rels
+own_tell q fork [] mine = refl
+own_tell q fork (rel ∷ rels) mine =
+    by_test (is_rel_of q rel)
+    (λ own. ap (λ c. is_of_any fork (cond c (rel ∷ filter (is_rel_of q) rels) (filter (is_rel_of q) rels))) own ∙ ap (λ b. is_fork_of fork rel || b) (own_tell q fork rels mine))
+    (λ other. ap (λ c. is_of_any fork (cond c (rel ∷ filter (is_rel_of q) rels) (filter (is_rel_of q) rels))) other ∙ own_tell q fork rels mine ∙ ap (λ b. b || is_of_any fork rels) (sym (not_of q fork rel mine other)))
+
+none_left : (b : Bool) → ◌≡◌ {A = Option ForkPages} (cond b None None) None
+none_left true = refl
+none_left false = refl
+
+pub rels_own : (q : ℕ) (store part : Store) (rels : List Relation) → IsPart q store part → IsPart q (without_rels store rels) (without_rels part (filter (is_rel_of q) rels))
+rels_own q store part rels is fork =
+    let few = filter (is_rel_of q) rels in
+    get_without_rels part few fork
+    ∙ ap (λ (o : Option ForkPages). cond (is_of_any fork few) None o) (is fork)
+    ∙ by_test (is_of q fork)
+    (λ mine.
+    ap (λ c. cond (is_of_any fork few) None (cond c (get store fork) None)) mine
+    ∙ ap (λ b. cond b None (get store fork)) (own_tell q fork rels mine)
+    ∙ sym (get_without_rels store rels fork)
+    ∙ sym (ap (λ c. cond c (get (without_rels store rels) fork) None) mine))
+    (λ other.
+    ap (λ c. cond (is_of_any fork few) None (cond c (get store fork) None)) other
+    ∙ none_left (is_of_any fork few)
+    ∙ sym (ap (λ c. cond c (get (without_rels store rels) fork) None) other))
 
 -- a store, of its parts
 pub made_of_parts : StoresAreTheirParts

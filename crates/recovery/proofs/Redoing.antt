@@ -1,20 +1,23 @@
 -- Entries redone over pages, in turn, and as many forks and pages as there are.
-use Rattle.std.proofs.Common.{◌≡◌, ℕ, ◌+◌, ◌<◌, ◌≤◌, List, [], ◌∷◌, ◌++◌, length, take, drop, map, get_or, IfSome, Option, Some, None, Result, Ok, Err, refl, sym, ap, subst, ◌∙◌}
+use Rattle.std.proofs.Common.{◌≡◌, ℕ, ◌+◌, ◌<◌, ◌≤◌, ℤ, List, [], ◌∷◌, ◌++◌, length, take, drop, map, get_or, IfSome, Option, Some, None, Result, Ok, Err, refl, sym, ap, subst, ◌∙◌}
 use Rattle.std.specs.Result.{IsErrAnd}
 use Rattle.std.specs.Prelude.{slice_get}
-use Rattle.std.proofs.lemmas.List.{map-append, take-append-drop}
+use Rattle.std.proofs.lemmas.List.{map-append, take-append-drop, take_more, take_all}
 use Rattle.std.proofs.lemmas.Option.{slice_get-get_or}
 use Rattle.byte_words.specs.Numbers.{◌>>=◌}
+use Rattle.lsn_core.specs.Relation.{Relation}
+use Rattle.lsn_core.specs.Shown.{Turns}
 use Rattle.lsn_core.specs.declared.ids.ForkId.{ForkId}
 use Rattle.lsn_core.specs.Store.{Store}
-use Rattle.lsn_core.specs.Blocks.{block_count}
+use Rattle.lsn_core.specs.Blocks.{block_count, without_fork}
 use Rattle.lsn_core.specs.declared.pages.Pages.{Ghosts as PagesGhosts}
 use Rattle.wal_record.specs.declared.record.Record.{Record}
 use Rattle.wal_record.specs.declared.record.BlockRef.{BlockRef}
 use Rattle.wal_record.specs.declared.record.Kind.{Kind}
+use Rattle.wal_record.specs.declared.record.Kind.TheVariants.{Commit}
 use Rattle.wal_record.specs.Spelling.{blocks_of}
-use Rattle.history.specs.Apply.{Rule, act_by, item_by, items_by}
-use Rattle.history.specs.Whole.{item_of, act_with}
+use Rattle.history.specs.Apply.{Rule, main_fork, init_fork, without_rel, without_rels, act_by, item_by, items_by}
+use Rattle.history.specs.Whole.{item_of, commit_act, act_with}
 use Rattle.history.specs.declared.op.Item.{Item}
 use Rattle.std.proofs.Math.Seq.{take-length}
 use Rattle.history.specs.Redo.{Redoes, redone, redo, redo_all}
@@ -23,7 +26,7 @@ use Rattle.generic_redo.proofs.Folds.{refs_redone, refs_more}
 use Rattle.recovery.specs.declared.tally.Tally.{Tally}
 use Rattle.recovery.specs.Tally.{fork_tally, IsRecounted, IsTallyOf}
 use Rattle.recovery.specs.Inside.{IsRedone, RedoesCounted, RedoesNone, IsRefOf, IsChange}
-use Rattle.recovery.proofs.Tallies.{recounted, IsMoved}
+use Rattle.recovery.proofs.Tallies.{recounted, IsMoved, moved_removed}
 
 -- the fault that a function hands on is the one that it was handed
 pub fault_again : {T E : Type 0} (r : Result T E) (fault other : E) → IsErrAnd r (λ e. e ≡ fault) → r ≡ Err other → ◌≡◌ {A = Result T E} (Err fault) (Err other)
@@ -73,6 +76,17 @@ module _ {P : Type 0} (shows : P → Store → Type 0) where
       }
 
 -- ---- the block references of an entry
+
+only_some : (s t : Store) → ◌≡◌ {A = Option Store} (Some s) (Some t) → s ≡ t
+only_some s t e = cc
+
+commit_by : (end : ℕ) (s : Store) (time : ℤ) (rels : List Relation) → act_by redone end s (commit_act time rels) ≡ Some (without_rels s rels)
+commit_by end s time [] = refl
+commit_by end s time (rel ∷ rels) = refl
+
+rels_push : (s : Store) (rels : List Relation) (rel : Relation) → without_rels s (rels ++ (rel ∷ [])) ≡ without_rel (without_rels s rels) rel
+rels_push s [] rel = refl
+rels_push s (x ∷ rels) rel = rels_push (without_rel s x) rels rel
 
 -- with all of them the entry is redone
 pub change_is : (r : Record) (blocks : List BlockRef) (s : Store) → IsChange r blocks → redo s r ≡ refs_redone r (length blocks) s
@@ -126,6 +140,41 @@ module _ {P : Type 0} (shows : P → Store → Type 0) where
     shown = shown;
     counted = λ t. t;
   }
+
+  -- ---- relations that are dropped
+
+  pub dropped_fork : (a b c d : P) (before now : Option ℕ) (old new : Tally) (fork : ForkId) → ((s : Store) → shows a s → before ≡ block_count s fork) → ((s : Store) → shows a s → shows b s)
+      → Turns shows b c (λ s. without_fork s fork)
+      → ((s : Store) → shows c s → now ≡ block_count s fork) → ((s : Store) → shows c s → shows d s)
+      → IsRecounted (fork_tally before) (fork_tally now) old new → RedoesCounted shows a d old new (λ s. Some (without_fork s fork))
+  dropped_fork a b c d before now old new fork counts same turns recounts stays told =
+      fork_redone shows a b c d before now old new fork (λ s. Some (without_fork s fork))
+      (λ s next e. subst (λ (t : Store). IsMoved s t fork) (only_some (without_fork s fork) next e) (moved_removed s fork)) counts same (λ s shown. (without_fork s fork, (refl, turns s shown))) recounts stays told
+
+  -- both forks of the next relation
+  pub one_more_rel : (a b c d : P) (old mid then new : Tally) (rels : List Relation) (i : ℕ) (rel : Relation) (main init : ForkId) → i < length rels → rel ≡ get_or rels i rel → main ≡ main_fork rel → init ≡ init_fork rel
+      → RedoesCounted shows a b old mid (λ s. Some (without_rels s (take i rels)))
+      → RedoesCounted shows b c mid then (λ s. Some (without_fork s main)) → RedoesCounted shows c d then new (λ s. Some (without_fork s init))
+      → RedoesCounted shows a d old new (λ s. Some (without_rels s (take (i + 1) rels)))
+  one_more_rel a b c d old mid then new rels i rel main init lt is is_main is_init before first second =
+      both_redone shows a c d old then new (λ s. Some (without_fork (without_rels s (take i rels)) main)) (λ s. Some (without_fork s init)) (λ s. Some (without_rels s (take (i + 1) rels)))
+      (λ s. ap (λ (l : List Relation). Some (without_rels s l)) (take_more rels i rel lt ∙ ap (λ (x : Relation). take i rels ++ (x ∷ [])) (sym is)) ∙ ap (λ (t : Store). Some t) (rels_push s (take i rels) rel)
+      ∙ sym (ap (λ (m : ForkId). Some (without_fork (without_fork (without_rels s (take i rels)) m) init)) is_main ∙ ap (λ (n : ForkId). Some (without_fork (without_fork (without_rels s (take i rels)) (main_fork rel)) n)) is_init))
+      (both_redone shows a b c old mid then (λ s. Some (without_rels s (take i rels))) (λ s. Some (without_fork s main)) (λ s. Some (without_fork (without_rels s (take i rels)) main)) (λ s. refl) before first)
+      second
+
+  pub all_rels : (a b : P) (old new : Tally) (rels : List Relation) (i : ℕ) → length rels ≤ i → RedoesCounted shows a b old new (λ s. Some (without_rels s (take i rels))) → RedoesCounted shows a b old new (λ s. Some (without_rels s rels))
+  all_rels a b old new rels i all gone s shown = subst (λ (l : List Relation). IsRedone (shows b) old new s (Some (without_rels s l))) (take_all i rels all) (gone s shown)
+
+  pub commit_counted : (a b : P) (old new : Tally) (r : Record) (time : ℤ) (rels : List Relation) → r.kind ≡ Commit time rels → RedoesCounted shows a b old new (λ s. Some (without_rels s rels)) → RedoesCounted shows a b old new (λ s. redo s r)
+  commit_counted a b old new r time rels is gone s shown =
+      subst (IsRedone (shows b) old new s) (sym (ap (λ (k : Kind). act_by redone r.end.0 s (act_with (map item_of) k)) is ∙ commit_by r.end.0 s time rels)) (gone s shown)
+
+-- so many relations were dropped
+pub record RelsDropped {P : Type 0} (p : PagesGhosts P) (before behind : P) (old new : Tally) (rels : List Relation) (count : ℕ) : Type 0 where
+  pub redone : RedoesCounted p.shows before behind old new (λ s. Some (without_rels s (take count rels)))
+  pub kept : p.keeps before behind
+  pub later : p.faults before ≤ p.faults behind
 
 -- so many of them were redone
 pub record RefsKept {P : Type 0} (p : PagesGhosts P) (before behind : P) (old new : Tally) (r : Record) (count : ℕ) : Type 0 where

@@ -5,7 +5,7 @@ use Rattle.byte_words.specs.Numbers.{◌>>=◌}
 use Rattle.lsn_core.specs.declared.ids.ForkId.{ForkId}
 use Rattle.lsn_core.specs.declared.ids.BlockId.{BlockId}
 use Rattle.lsn_core.specs.Store.{Store, ForkPages, fork_cmp}
-use Rattle.lsn_core.specs.Blocks.{block_count, pages_of, page_put, with_block, with_fork, with_cut, with_cut_pages}
+use Rattle.lsn_core.specs.Blocks.{block_count, pages_of, page_put, with_block, with_fork, with_cut, with_cut_pages, without_fork}
 use Rattle.lsn_core.proofs.ForkOrder.{fork_cmp_total}
 use Rattle.wal_record.specs.declared.record.Record.{Record}
 use Rattle.wal_record.specs.declared.record.BlockRef.{BlockRef}
@@ -17,7 +17,7 @@ use Rattle.history.specs.Redo.{redone}
 use Rattle.history.specs.Whole.{act_with, cuts_main, edit_of}
 use Rattle.history.specs.Entry.{Mark, Truncate, IdleCut}
 use Rattle.history.specs.declared.op.Item.{Item}
-use Rattle.history.proofs.Counts.{page_count-insert, page_count-empty}
+use Rattle.history.proofs.Counts.{page_count-insert, page_count-empty, none_removed, put_back}
 use Rattle.history.proofs.Stores.{get_here, fork_self}
 use Rattle.generic_redo.specs.Redo.{block_ref, block_redone, ref_redone}
 use Rattle.recovery.specs.declared.tally.Tally.{Tally}
@@ -74,6 +74,20 @@ moved_cut s fork count = go (get s fork)
     go None = moved_same s fork
     go (Some pages) = moved_insert s fork _
 
+pub moved_removed : (s : Store) (fork : ForkId) → IsMoved s (without_fork s fork) fork
+moved_removed s fork = go (get s fork) refl
+  where
+    go : (o : Option ForkPages) → get s fork ≡ o → IsMoved s (without_fork s fork) fork
+    go None none = subst (λ (t : Store). IsMoved s t fork) (sym (none_removed s fork none)) (moved_same s fork)
+    go (Some pages) found =
+        let t = without_fork s fork in
+        let moved = moved_insert t fork pages in
+        let back = put_back s fork pages found in
+        record {
+          forks = sym (subst (λ (u : Store). len u + (fork_counts t fork).forks ≡ len t + (fork_counts u fork).forks) back moved.forks);
+          pages = sym (subst (λ (u : Store). page_count u + (fork_counts t fork).pages ≡ page_count t + (fork_counts u fork).pages) back moved.pages);
+        }
+
 -- ---- by what an entry does
 
 put_moved : (s next : Store) (at : BlockId) (o : Option (List ℕ)) → option_map (λ page. page_put at page s) o ≡ Some next → IsMoved s next at.fork
@@ -99,6 +113,7 @@ act_moved end s next told (kind.BackupEnd at) fork of e = absurd of
 act_moved end s next told (kind.Images blocks) fork of e = absurd of
 act_moved end s next told (kind.Generic blocks) fork of e = absurd of
 act_moved end s next told (kind.Create made) fork of e = from_some s next (with_fork s made) fork e (subst (IsMoved s (with_fork s made)) of (moved_made s made))
+act_moved end s next told (kind.Commit time rels) fork of e = absurd of
 act_moved end s next told (kind.Truncate rel count flags) fork of e = go (cuts_main flags) e
   where
     go : (t : Bool) → act_by redone end s (cond t (Truncate rel count) (Mark (IdleCut rel count (flags / 2)))) ≡ Some next → IsMoved s next fork

@@ -116,6 +116,7 @@ IsOfFork (kind.Images blocks) fork = ⊥
 IsOfFork (kind.Generic blocks) fork = ⊥
 IsOfFork (kind.Create made) fork = made ≡ fork
 IsOfFork (kind.Truncate rel count flags) fork = main_fork rel ≡ fork
+IsOfFork (kind.Commit time rels) fork = ⊥
 
 -- ---- entries replayed
 

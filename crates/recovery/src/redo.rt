@@ -1,6 +1,9 @@
 //! One entry redone into pages, whose number is kept.
 
-ghost use Rattle.std.specs.Prelude.{◌≡◌, ◌<◌, Err, OnOk};
+ghost use Rattle.std.specs.Prelude.{◌≡◌, ◌<◌, Err, OnOk, Some};
+ghost use Rattle.lsn_core.specs.Blocks.{without_fork};
+ghost use Rattle.wal_record.specs.declared.record.Kind.TheVariants.{Commit};
+ghost use Rattle.history.specs.Apply.{without_rels};
 ghost use Rattle.lsn_core.specs.Causes.{HasCause};
 ghost use Rattle.history.specs.Applied.{IsApplicable};
 ghost use Rattle.history.specs.Redo.{redo};
@@ -11,8 +14,8 @@ ghost use Rattle.recovery.specs.Inside.{RedoesCounted, RedoesNone, IsRefOf, IsCh
 
 use crate::tally::Tally;
 use generic_redo::{RedoFault, redo_block};
-use history::main_fork;
-use lsn_core::{AreaFault, ForkId, Pages};
+use history::{init_fork, main_fork};
+use lsn_core::{AreaFault, ForkId, Pages, Rel};
 use smgr_redo::redo_storage;
 use wal_record::{BlockRef, Kind, Record};
 
@@ -82,6 +85,51 @@ fn redo_fork<P: Pages>(
     Ok(())
 }
 
+/// Redoes a commit that drops these relations.
+fn redo_commit<P: Pages>(
+    target: &mut P,
+    entry: &Record,
+    time: i64,
+    rels: &[Rel],
+    tally: &mut Tally,
+) -> Result<(), AreaFault>
+    requires { entry.now.kind ≡ Commit time rels.now }
+    ensures done { OnOk result
+        (RedoesCounted P.shows target.old target.new tally.old tally.new (λ s. redo s entry.now)) }
+    ensures kept { P.keeps target.old target.new }
+    ensures cause { HasCause (P.faults target.old) (P.faults target.new) result }
+{
+    drop_rels(target, rels, tally)
+}
+
+/// Removes all forks of relations, in turn.
+fn drop_rels<P: Pages>(target: &mut P, rels: &[Rel], tally: &mut Tally) -> Result<(), AreaFault>
+    ensures done { OnOk result (RedoesCounted P.shows target.old target.new tally.old tally.new
+        (λ s. Some (without_rels s rels.now))) }
+    ensures kept { P.keeps target.old target.new }
+    ensures cause { HasCause (P.faults target.old) (P.faults target.new) result }
+{
+    for rel in rels {
+        drop_fork(target, &main_fork(*rel), tally)?;
+        drop_fork(target, &init_fork(*rel), tally)?;
+    }
+    Ok(())
+}
+
+/// Removes a fork, where it is there.
+fn drop_fork<P: Pages>(target: &mut P, fork: &ForkId, tally: &mut Tally) -> Result<(), AreaFault>
+    ensures done { OnOk result (RedoesCounted P.shows target.old target.new tally.old tally.new
+        (λ s. Some (without_fork s fork.now))) }
+    ensures kept { P.keeps target.old target.new }
+    ensures cause { HasCause (P.faults target.old) (P.faults target.new) result }
+{
+    let before = target.blocks(*fork)?;
+    target.remove(*fork)?;
+    let now = target.blocks(*fork)?;
+    tally.recount(before, now)?;
+    Ok(())
+}
+
 /// Redoes an entry. `BadDelta` exactly where a delta would leave a page with a bad header; those
 /// block references that come before it were redone then.
 pub fn redo_entry<P: Pages>(
@@ -107,5 +155,6 @@ pub fn redo_entry<P: Pages>(
         Kind::RedoMark(_) => Ok(()),
         Kind::NoOp => Ok(()),
         Kind::BackupEnd(_) => Ok(()),
+        Kind::Commit(time, rels) => Ok(redo_commit(target, entry, *time, rels.as_slice(), tally)?),
     }
 }

@@ -50,6 +50,7 @@ pub good_edits : (entries : ℕ) (store : Store) (command : Op) → judged_op en
 good_edits entries store (op.Create fork) e = tt
 good_edits entries store (op.Truncate rel count) e = tt
 good_edits entries store (op.Change items) e = (formed entries store items e).edits
+good_edits entries store (op.Drop rel) e = tt
 
 refused_as : (m : Machine) (s : State) (worker : ℕ) (command : Op) (why : Refusal) → Shows m s → judged s command ≡ Some why → HasStepped m (inserted s worker command (judged s command)) (reply.Refused why)
 refused_as m s worker command why shown is = subst (λ (o : Option Refusal). HasStepped m (inserted s worker command o) (reply.Refused why)) (sym is) (shown, refl)
@@ -102,6 +103,7 @@ items_done end store next (item ∷ items) e =
 op_done : (entries end : ℕ) (store : Store) (command : Op) → judged_op entries store command ≡ None → done_op end store command ≡ unwrap_or (apply_op end store command) store
 op_done entries end store (op.Create fork) e = refl
 op_done entries end store (op.Truncate rel count) e = refl
+op_done entries end store (op.Drop rel) e = refl
 op_done entries end store (op.Change items) e =
     let done = commands_done end store (op.Change items) (judged-fit entries store (op.Change items) e) (judged-fresh entries store (op.Change items) e) in
     items_done end store done.0 items done.1 ∙ sym (some_of (apply_op end store (op.Change items)) store done.0 done.1)
@@ -120,7 +122,7 @@ count_is m s at part d pages shown l away = ap (λ (p : Part). page_count p.fram
 
 part_same : (end entries : ℕ) (command : Op) (part : Part) → judged_op entries part.frames command ≡ None → part_behind end command part ≡ part_after end (act_of_op command) part
 part_same end entries command part e =
-    ap (λ (x : Store). record { frames = x; disk = part.disk; dirty = dirty_after part.dirty (act_of_op command); works = works_after part.works (act_of_op command); point = part.point }) (op_done entries end part.frames command e)
+    ap (λ (x : Store). record { frames = x; disk = part.disk; dirty = dirty_after part.dirty (act_of_op command); works = works_after part.frames part.works (act_of_op command); point = part.point }) (op_done entries end part.frames command e)
 
 -- an accepted command
 pub accept_step : (m a : Machine) (crew : Crew) (s : State) (worker q entries seq : ℕ) (d e f new : Pool) (command : Op) (full : Bool) (kind : Kind) (place : Place) → IsReached s → Shows m s → q ≡ part_of_op command → q < 4 → entries ≡ m.tip.count

@@ -26,8 +26,8 @@ use Rattle.fuzzy_copies.proofs.Completed.{or_second}
 use Rattle.fuzzy_copies.proofs.Covering.{answers}
 use Rattle.store_core.specs.State.{Part, Published, Prior, Backup, first_record, part_numbers}
 use Rattle.store_core.specs.Steps.{new_backup, is_listed, unread, with_forks, with_listing, is_within, with_copied, fork_blocks, blocks_of, sends, is_settled, is_complete}
-use Rattle.store_core.proofs.Behind.{has_before, page_block}
-use Rattle.store_core.proofs.Caused.{any_weaker, tidy_from, covers_of}
+use Rattle.store_core.proofs.Behind.{unsettled, has_before, page_block}
+use Rattle.store_core.proofs.Caused.{any_weaker, settles_own, tidy_from, covers_of}
 use Rattle.store_core.proofs.Judged.{blocks_put}
 use Rattle.store_core.proofs.Runs.{IsRun}
 use Rattle.store_core.proofs.Follows.{Follows}
@@ -183,7 +183,7 @@ no_pages (Some pages) e = absurd (true≢false e)
 disk_apart : (q mib : ℕ) (history : List Entry) (store : Store) (part : Part) (fork : ForkId) → Follows q mib history store part → is_of q fork ≡ false → contains_key part.disk fork ≡ false
 disk_apart q mib history store part fork f other =
     let frames : contains_key part.frames fork ≡ false = ap (λ (o : Option ForkPages). is_some o) (f.frames fork ∙ ap (λ c. cond c (get store fork) None) other) in
-    f.unwritten.forks fork (by_test _ (λ make. absurd (true≢false (sym (f.unwritten.made fork make) ∙ frames))) (λ no. no)) ∙ frames
+    sym (unsettled part.works fork (contains_key part.disk fork) (settles_own q part.works fork f.own other)) ∙ f.unwritten.forks fork ∙ frames
 
 listing_apart : (q mib : ℕ) (history : List Entry) (store : Store) (part : Part) (copy : Store) (fork : ForkId) → Follows q mib history store part → is_of q fork ≡ false → get (with_forks unread part.disk copy (keys part.disk)) fork ≡ get copy fork
 listing_apart q mib history store part copy fork f other =

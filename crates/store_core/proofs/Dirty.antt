@@ -1,24 +1,26 @@
 -- The dirty blocks of a partition after an act.
-use Rattle.std.proofs.Common.{◌≡◌, ℕ, Bool, true, false, cond, ◌||◌, List, [], ◌∷◌, inl, inr, refl, ap, sym, ◌∙◌, true≢false}
-use Rattle.std.specs.Prelude.{◌⊎◌, not}
+use Rattle.std.proofs.Common.{◌≡◌, ℕ, Bool, true, false, cond, ◌&&◌, ◌||◌, List, [], ◌∷◌, inl, inr, refl, ap, sym, ◌∙◌, arith, true≢false}
+use Rattle.std.specs.Prelude.{◌⊎◌, nat_le, not}
 use Rattle.std.specs.List.{list_any, filter}
 use Rattle.std.specs.Ordering.{nat_cmp, ordering_then}
 use Rattle.std.specs.FinMap.{nat_cmp-IsAntisymmetric}
 use Rattle.std.specs.declared.cmp.Ordering.{Ordering}
 use Rattle.std.specs.declared.cmp.Ordering.TheVariants.{Less, Equal, Greater}
-use Rattle.std.proofs.lemmas.Bool.{or_parts}
+use Rattle.std.proofs.lemmas.Bool.{or_parts, le-leb}
+use Rattle.lsn_core.specs.Relation.{Relation}
 use Rattle.lsn_core.specs.declared.ids.ForkId.{ForkId}
 use Rattle.lsn_core.specs.declared.ids.BlockId.{BlockId}
 use Rattle.lsn_core.specs.Store.{fork_cmp}
 use Rattle.lsn_core.proofs.ForkOrder.{fork_cmp-IsAntisymmetric}
 use Rattle.history.specs.declared.op.Item.{Item}
-use Rattle.history.specs.Entry.{Act, Create, Truncate, Change, Mark}
-use Rattle.history.specs.Apply.{is_same_block}
+use Rattle.history.specs.Entry.{Act, Create, Truncate, Change, Drop, Mark}
+use Rattle.history.specs.Apply.{main_fork, init_fork, is_same_fork, is_same_block}
 use Rattle.history.specs.Whole.{is_named}
 use Rattle.history.proofs.Stores.{by_test, block_is}
 use Rattle.fuzzy_copies.specs.Touches.{is_at, act_touches, act_cuts}
 use Rattle.store_core.specs.Parts.{block_cmp, placed_by, with_dirty, items_dirty, dirty_after}
 use Rattle.store_core.specs.Facts.{is_dirty}
+use Rattle.store_core.specs.Inside.{uncut}
 
 -- blocks that tie are one
 then_equal : (a b : Ordering) → ordering_then a b ≡ Equal → (a ≡ Equal) × (b ≡ Equal)
@@ -98,6 +100,8 @@ clean_before dirty (Create made) fork b clean uncut = (refl, clean)
 clean_before dirty (Truncate rel count) fork b clean uncut =
     (refl, sym (kept_named (λ at. not (act_cuts at.fork at.block (Truncate rel count))) (record { fork = fork; block = b }) dirty (kept_not (act_cuts fork b (Truncate rel count)) uncut)) ∙ clean)
 clean_before dirty (Change items) fork b clean uncut = or_parts (list_any (is_at fork b) items) (is_dirty dirty fork b) (sym (items_named dirty items fork b) ∙ clean)
+clean_before dirty (Drop rels) fork b clean uncut =
+    (refl, sym (kept_named (λ at. not (act_cuts at.fork at.block (Drop rels))) (record { fork = fork; block = b }) dirty (kept_not (act_cuts fork b (Drop rels)) uncut)) ∙ clean)
 clean_before dirty (Mark marking) fork b clean uncut = (refl, clean)
 
 either : (a b : Bool) → (a || b) ≡ true → (a ≡ true) ⊎ (b ≡ true)
@@ -109,6 +113,7 @@ pub dirty_before : (dirty : List BlockId) (act : Act) (fork : ForkId) (b : ℕ) 
 dirty_before dirty (Create made) fork b e = inr e
 dirty_before dirty (Truncate rel count) fork b e = inr (some_named (λ at. not (act_cuts at.fork at.block (Truncate rel count))) (record { fork = fork; block = b }) dirty e)
 dirty_before dirty (Change items) fork b e = either (list_any (is_at fork b) items) (is_dirty dirty fork b) (sym (items_named dirty items fork b) ∙ e)
+dirty_before dirty (Drop rels) fork b e = inr (some_named (λ at. not (act_cuts at.fork at.block (Drop rels))) (record { fork = fork; block = b }) dirty e)
 dirty_before dirty (Mark marking) fork b e = inr e
 
 kept_keeps : (keep : BlockId → Bool) (q : BlockId) (dirty : List BlockId) → is_named q (filter keep dirty) ≡ true → keep q ≡ true
@@ -131,4 +136,32 @@ uncut_dirty dirty (Create made) fork b e = refl
 uncut_dirty dirty (Truncate rel count) fork b e =
     not_true (act_cuts fork b (Truncate rel count)) (kept_keeps (λ at. not (act_cuts at.fork at.block (Truncate rel count))) (record { fork = fork; block = b }) dirty e)
 uncut_dirty dirty (Change items) fork b e = refl
+uncut_dirty dirty (Drop rels) fork b e = not_true (act_cuts fork b (Drop rels)) (kept_keeps (λ at. not (act_cuts at.fork at.block (Drop rels))) (record { fork = fork; block = b }) dirty e)
 uncut_dirty dirty (Mark marking) fork b e = refl
+
+-- ---- a dropped relation
+
+-- what two tests keep in turn
+kept_twice : (p q both : BlockId → Bool) (dirty : List BlockId) → ((at : BlockId) → (p at && q at) ≡ both at) → filter q (filter p dirty) ≡ filter both dirty
+kept_twice p q both [] same = refl
+kept_twice p q both (at ∷ dirty) same =
+    let few = filter p dirty in
+    let rest = filter both dirty in
+    let more = kept_twice p q both dirty same in
+    by_test (p at)
+    (λ kept.
+    ap (λ c. filter q (cond c (at ∷ few) few)) kept ∙ ap (λ (xs : List BlockId). cond (q at) (at ∷ xs) xs) more
+    ∙ ap (λ c. cond c (at ∷ rest) rest) (sym (ap (λ c. c && q at) kept) ∙ same at))
+    (λ out. ap (λ c. filter q (cond c (at ∷ few) few)) out ∙ more ∙ sym (ap (λ c. cond c (at ∷ rest) rest) (sym (same at) ∙ ap (λ c. c && q at) out)))
+
+of_neither : (main init past : Bool) → past ≡ true → (not (main && past) && not (init && past)) ≡ not ((main || init) || false)
+of_neither true init past e = ap (λ c. not c && not (init && c)) e
+of_neither false true past e = ap not e
+of_neither false false past e = refl
+
+-- its forks are cut off one after the other
+pub dropped_dirty : (rel : Relation) (dirty : List BlockId) → uncut (init_fork rel) 0 (uncut (main_fork rel) 0 dirty) ≡ dirty_after dirty (Drop (rel ∷ []))
+dropped_dirty rel dirty =
+    kept_twice (λ at. not (is_same_fork at.fork (main_fork rel) && nat_le 0 at.block)) (λ at. not (is_same_fork at.fork (init_fork rel) && nat_le 0 at.block))
+    (λ at. not (act_cuts at.fork at.block (Drop (rel ∷ [])))) dirty
+    (λ at. of_neither (is_same_fork at.fork (main_fork rel)) (is_same_fork at.fork (init_fork rel)) (nat_le 0 at.block) (le-leb 0 at.block (omega arith)))

@@ -259,6 +259,7 @@ pub judged-tidy : (n : ℕ) (store : Store) (command : Op) → judged_op n store
 judged-tidy n store (op.Create fork) e = not_there (get store fork) (no_refusal (is_some (get store fork)) (ForkExists n) None e).0
 judged-tidy n store (op.Truncate rel count) e = (may_be_cut n store (main_fork rel) count e).tidy
 judged-tidy n store (op.Change items) e = tidy_items n 0 store store items (λ q. refl) (formed n store items e).found
+judged-tidy n store (op.Drop rel) e = tt
 
 -- it can be written
 pub judged-fit : (n : ℕ) (store : Store) (command : Op) → judged_op n store command ≡ None → IsFit store command
@@ -267,6 +268,7 @@ judged-fit n store (op.Truncate rel count) e = omega (arith, (may_be_cut n store
 judged-fit n store (op.Change items) e =
     let form = formed n store items e in
     record { some = form.some; most = omega (arith, form.most); each = each_fit n 0 0 0 store store [] items (λ q none. refl) form.blocks form.edits form.found }
+judged-fit n store (op.Drop rel) e = tt
 
 -- no patch of it is of a block that an earlier item names
 fresh_items : (i : ℕ) (named : List BlockId) (items : List Item) → judged_blocks i named items ≡ None → AreFresh named items
@@ -279,6 +281,7 @@ pub judged-fresh : (n : ℕ) (store : Store) (command : Op) → judged_op n stor
 judged-fresh n store (op.Create fork) e = tt
 judged-fresh n store (op.Truncate rel count) e = tt
 judged-fresh n store (op.Change items) e = fresh_items 0 [] items (formed n store items e).blocks
+judged-fresh n store (op.Drop rel) e = tt
 
 -- ---- its partition
 
@@ -302,9 +305,11 @@ pub judged-own : (n : ℕ) (store : Store) (command : Op) → judged_op n store 
 judged-own n store (op.Create fork) e other apart = ne_eqb (partition_of fork.rel) other (λ k. apart (sym k))
 judged-own n store (op.Truncate rel count) e other apart = ne_eqb (partition_of rel) other (λ k. apart (sym k))
 judged-own n store (op.Change items) e other apart = items_apart items other apart (formed n store items e).one
+judged-own n store (op.Drop rel) e other apart = ap (λ b. b || false) (ne_eqb (partition_of rel) other (λ k. apart (sym k)))
 
 pub part_below : (command : Op) → part_of_op command < 4
 part_below (op.Create fork) = omega arith
 part_below (op.Truncate rel count) = omega arith
 part_below (op.Change []) = omega arith
 part_below (op.Change (item ∷ items)) = omega arith
+part_below (op.Drop rel) = omega arith

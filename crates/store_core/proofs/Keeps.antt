@@ -16,7 +16,7 @@ use Rattle.wal_record.specs.declared.record.BlockRef.{BlockRef}
 use Rattle.wal_record.specs.Tips.{wal_limit, record_at_tip}
 use Rattle.history.specs.declared.op.Op.{Op}
 use Rattle.history.specs.declared.op.Item.{Item}
-use Rattle.history.specs.Entry.{Act, Create, Truncate, Change, Mark, Marking, RedoMark, Online, BackupEnd, Entry, is_of_run}
+use Rattle.history.specs.Entry.{Act, Create, Truncate, Change, Drop, Mark, Marking, RedoMark, Online, BackupEnd, Entry, is_of_run}
 use Rattle.history.specs.Laws.{HasGoodPages}
 use Rattle.history.specs.Op.{act_of_op}
 use Rattle.history.specs.Whole.{is_named}
@@ -194,6 +194,7 @@ pub kinds_same : (q redo : ℕ) (store part : Store) (act : Act) → IsPart q st
 kinds_same q redo store part (Create fork) is none = refl
 kinds_same q redo store part (Truncate rel count) is none = refl
 kinds_same q redo store part (Change items) is none = ap (λ (bs : List BlockRef). kind.Generic bs) (blocks_same q redo store part items is none)
+kinds_same q redo store part (Drop rels) is none = refl
 kinds_same q redo store part (Mark marking) is none = refl
 
 not_refused : (t : Bool) (why : Refusal) → cond t (Some why) None ≡ None → t ≡ false
@@ -236,7 +237,7 @@ machine_accepts s worker command is good e =
       run = run;
       parts = λ p l. choose (Follows p s.mib (s.history ++ (entry ∷ [])) run.store) (p == q) after (s.parts p)
           (λ here. subst (λ k. Follows k s.mib (s.history ++ (entry ∷ [])) run.store after) (sym (eqb-true p q here))
-          (follows_own q s.mib s.history is.run.store run.store done.0 part act r worker seq stand tidy done.1 (subst (λ (x : Store). IsPart q x done.0) (sym pushed.makes) both.2) f))
+          (follows_own q s.mib s.history is.run.store run.store done.0 part act r worker seq stand own tidy done.1 (subst (λ (x : Store). IsPart q x done.0) (sym pushed.makes) both.2) f))
           (λ away. follows_others p s.mib s.history is.run.store run.store (s.parts p) act r worker seq stand (own p (λ k. true≢false (sym (eq-eqb p q k) ∙ away))) (both.1 ∙ ap (λ (x : Store). Some x) (sym pushed.makes)) (is.parts p l));
       published = published_push s.history (first_record s.mib).start.0 s.published entry run.orderly is.published;
       workers = λ w. worker_moved s.mib (s.history ++ (entry ∷ [])) s.parts (with_part s q after).parts (s.workers w)

@@ -11,7 +11,7 @@ use Rattle.lsn_core.specs.Tip.{Tip, tip_with}
 use Rattle.wal_record.specs.declared.record.Record.{Record}
 use Rattle.wal_record.specs.declared.record.Kind.{Kind}
 use Rattle.wal_record.specs.Tips.{wal_limit, record_at_tip, tip_after, is_redo_mark, first_tip}
-use Rattle.history.specs.Entry.{Act, Create, Truncate, Change, Mark, Marking, Shutdown, Online, RedoMark, NoOp, BackupEnd, IdleCut, Entry, is_of_run}
+use Rattle.history.specs.Entry.{Act, Create, Truncate, Change, Drop, Mark, Marking, Shutdown, Online, RedoMark, NoOp, BackupEnd, IdleCut, IdleCommit, Entry, is_of_run}
 use Rattle.history.specs.Whole.{entry_of}
 use Rattle.history.specs.Laws.{AreWrittenInPlace}
 use Rattle.history.specs.Written.{Before, behind, behind_all, at_first, kind_of, mark_kind, record_of, next_record, is_redo, tip_past, tip_over, written, wal_of}
@@ -63,12 +63,14 @@ redo_same : (store : Store) (redo : ℕ) (act : Act) → is_redo act ≡ is_redo
 redo_same store redo (Create fork) = refl
 redo_same store redo (Truncate rel count) = refl
 redo_same store redo (Change items) = refl
+redo_same store redo (Drop rels) = refl
 redo_same store redo (Mark (Shutdown at)) = refl
 redo_same store redo (Mark (Online at)) = refl
 redo_same store redo (Mark (RedoMark n)) = refl
 redo_same store redo (Mark NoOp) = refl
 redo_same store redo (Mark (BackupEnd at)) = refl
 redo_same store redo (Mark (IdleCut rel count others)) = refl
+redo_same store redo (Mark (IdleCommit time)) = refl
 
 tips_move : (tip : Tip) (act : Act) (worker : ℕ) (seq : Option ℕ) (r : Record) → is_redo act ≡ is_redo_mark r.kind → tip_past tip (entry_at r act worker seq) ≡ tip_after tip r
 tips_move tip act worker seq r same = ap (λ (b : Bool). tip_with r.end.0 r.start.0 (cond ((tip.count == 0) || b) r.start.0 tip.redo) (tip.count + 1)) same

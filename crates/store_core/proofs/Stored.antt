@@ -1,7 +1,7 @@
 -- Stores that are written fork by fork and page by page.
 use Rattle.std.proofs.Common.{◌≡◌, ℕ, zero, suc, ◌+◌, ◌-◌, ◌<◌, ◌≤◌, Bool, true, false, cond, ◌&&◌, List, [], ◌∷◌, ◌++◌, map, take, length, replicate, get_or, slice_set, Option, Some, None, unwrap_or, is_some, refl, ap, sym, ◌∙◌, arith}
 use Rattle.std.specs.List.{list_all, range_with_len}
-use Rattle.std.specs.FinMap.{get, insert, remove, empty, keys, contains_key, same_map, get-remove, get-empty}
+use Rattle.std.specs.FinMap.{get, insert, remove, empty, keys, contains_key, same_map, get-empty}
 use Rattle.std.proofs.lemmas.List.{take_more, take_all, length-take-le}
 use Rattle.lsn_core.specs.declared.ids.ForkId.{ForkId}
 use Rattle.lsn_core.specs.declared.ids.BlockId.{BlockId}
@@ -13,6 +13,7 @@ use Rattle.history.specs.Apply.{is_same_fork}
 use Rattle.history.proofs.Stores.{by_test, fork_self, get_here, get_there}
 use Rattle.fuzzy_copies.proofs.Pages.{got}
 use Rattle.store_core.specs.Steps.{unread, with_forks}
+use Rattle.store_core.proofs.Behind.{removed}
 use Rattle.store_core.proofs.Copies.{forks_got, keys_named}
 
 same_stores : (a b : Store) → ((fork : ForkId) → get a fork ≡ get b fork) → a ≡ b
@@ -24,10 +25,6 @@ put_again store fork a b = same_stores (insert (insert store fork a) fork b) (in
     got (insert store fork a) fork b f ∙ by_test (is_same_fork f fork)
     (λ here. ap (λ c. cond c (Some b) (get (insert store fork a) f)) here ∙ sym (got store fork b f ∙ ap (λ c. cond c (Some b) (get store f)) here))
     (λ away. ap (λ c. cond c (Some b) (get (insert store fork a) f)) away ∙ get_there store fork f a away ∙ sym (got store fork b f ∙ ap (λ c. cond c (Some b) (get store f)) away)))
-
-removed : (store : Store) (fork f : ForkId) → get (remove store fork) f ≡ cond (is_same_fork f fork) None (get store f)
-unfolding is_same_fork
-removed store fork f = get-remove fork_cmp_total store fork f
 
 -- a fork that was removed and made
 pub emptied : (store : Store) (fork : ForkId) → with_fork (without_fork store fork) fork ≡ insert store fork []

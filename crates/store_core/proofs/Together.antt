@@ -1,5 +1,5 @@
 -- What published summaries say together, one summary after the other.
-use Rattle.std.proofs.Common.{◌≡◌, ℕ, ◌+◌, ◌<◌, Bool, true, false, cond, not, ◌&&◌, ◌||◌, List, [], ◌∷◌, ◌++◌, map, take, length, get_or, Option, Some, None, refl, sym, ap, ◌∙◌}
+use Rattle.std.proofs.Common.{◌≡◌, ℕ, ◌+◌, ◌<◌, Bool, true, false, cond, not, ◌&&◌, ◌||◌, List, [], ◌∷◌, ◌++◌, map, take, length, get_or, Option, refl, sym, ap, ◌∙◌}
 use Rattle.std.specs.List.{filter}
 use Rattle.std.proofs.lemmas.List.{take_more, map-append}
 use Rattle.std.proofs.lemmas.List.Elements.{filter-append}

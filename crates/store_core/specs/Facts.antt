@@ -1,5 +1,5 @@
 -- What each partition keeps, whatever steps come.
-use Rattle.std.specs.Prelude.{◌≡◌, ℕ, ◌<◌, ◌==◌, ◌&&◌, Bool, true, false, List, Some, None, nat_le}
+use Rattle.std.specs.Prelude.{◌≡◌, ℕ, ◌<◌, ◌==◌, ◌&&◌, ◌||◌, Bool, true, false, not, List, [], ◌∷◌, Some, None, nat_le}
 use Rattle.std.specs.List.{All, list_any}
 use Rattle.std.specs.Option.{is_some}
 use Rattle.std.specs.FinMap.{empty, contains_key}
@@ -7,8 +7,8 @@ use Rattle.lsn_core.specs.declared.ids.ForkId.{ForkId}
 use Rattle.lsn_core.specs.declared.ids.BlockId.{BlockId}
 use Rattle.lsn_core.specs.Store.{Store}
 use Rattle.lsn_core.specs.Blocks.{block_of}
-use Rattle.history.specs.Entry.{Act, Create, Truncate, Change, Mark, Entry}
-use Rattle.history.specs.Apply.{main_fork, is_same_fork, apply_all}
+use Rattle.history.specs.Entry.{Act, Create, Truncate, Change, Drop, Mark, Entry}
+use Rattle.history.specs.Apply.{main_fork, is_same_fork, is_of_any, apply_all}
 use Rattle.history.specs.Whole.{is_named}
 use Rattle.partitions.specs.Parts.{is_of, IsPart}
 use Rattle.fuzzy_copies.specs.Touches.{touches}
@@ -16,27 +16,45 @@ use Rattle.fuzzy_copies.specs.Sound.{Agree}
 use Rattle.fuzzy_copies.specs.Taken.{since}
 use Rattle.fuzzy_copies.specs.Covers.{Covers}
 use Rattle.store_core.specs.declared.step.Work.{Work}
-use Rattle.store_core.specs.declared.step.Work.TheVariants.{Make, Cut}
+use Rattle.store_core.specs.declared.step.Work.TheVariants.{Make, Cut, Remove}
 use Rattle.store_core.specs.State.{Part, State}
 
 abbrev pub is_dirty : List BlockId → ForkId → ℕ → Bool
 is_dirty dirty fork block = is_named (record { fork = fork; block = block }) dirty
 
--- a work makes the fork; it cuts the block off
-abbrev pub work_makes : ForkId → Work → Bool
-work_makes fork (Make made) = is_same_fork fork made
-work_makes fork (Cut cut count) = false
+-- a work settles whether the fork is there, since it makes or removes it; it cuts the block off
+abbrev pub work_settles : ForkId → Work → Bool
+work_settles fork (Make made) = is_same_fork fork made
+work_settles fork (Cut cut count) = false
+work_settles fork (Remove gone) = is_same_fork fork gone
 
 abbrev pub work_cuts : ForkId → ℕ → Work → Bool
 work_cuts fork block (Make made) = false
 work_cuts fork block (Cut cut count) = is_same_fork fork cut && nat_le count block
+work_cuts fork block (Remove gone) = is_same_fork fork gone
 
--- one of the pending works makes the fork; one cuts the block off
-abbrev pub is_to_make : List Work → ForkId → Bool
-is_to_make works fork = list_any (work_makes fork) works
+-- the fork that a work is of
+abbrev pub work_fork : Work → ForkId
+work_fork (Make made) = made
+work_fork (Cut cut count) = cut
+work_fork (Remove gone) = gone
+
+-- one of the pending works makes the fork or removes it; one cuts the block off
+abbrev pub is_to_settle : List Work → ForkId → Bool
+is_to_settle works fork = list_any (work_settles fork) works
 
 abbrev pub is_to_cut : List Work → ForkId → ℕ → Bool
 is_to_cut works fork block = list_any (work_cuts fork block) works
+
+-- whether a fork is there once a work is done, by whether it was before, and once all are
+abbrev pub there_after : ForkId → Bool → Work → Bool
+there_after fork there (Make made) = there || is_same_fork fork made
+there_after fork there (Cut cut count) = there
+there_after fork there (Remove gone) = there && not (is_same_fork fork gone)
+
+abbrev pub there_behind : List Work → ForkId → Bool → Bool
+there_behind [] fork there = there
+there_behind (w ∷ works) fork there = there_behind works fork (there_after fork there w)
 
 -- a disk lacks of the frames what is dirty or pending, and nothing else
 pub record LacksUnwritten (disk frames : Store) (dirty : List BlockId) (works : List Work)
@@ -47,26 +65,32 @@ pub record LacksUnwritten (disk frames : Store) (dirty : List BlockId) (works : 
   -- a clean block that a pending work cuts isn't there any more
   pub gone : (fork : ForkId) (block : ℕ) → is_dirty dirty fork block ≡ false
       → is_to_cut works fork block ≡ true → block_of frames fork block ≡ None
-  -- it has the forks that there are, unless a pending work makes one
-  pub forks : (fork : ForkId) → is_to_make works fork ≡ false
-      → contains_key disk fork ≡ contains_key frames fork
-  -- a fork that a pending work makes is there
-  pub made : (fork : ForkId) → is_to_make works fork ≡ true → contains_key frames fork ≡ true
+  -- once the pending works are done it has the forks that there are
+  pub forks : (fork : ForkId)
+      → there_behind works fork (contains_key disk fork) ≡ contains_key frames fork
   -- a dirty block is there
   pub there : (fork : ForkId) (block : ℕ) → is_dirty dirty fork block ≡ true
       → is_some (block_of frames fork block) ≡ true
 
--- an act enters a work: a creation the making of its fork, a truncation the cut of its main fork
+-- an act enters a work: a creation the making of its fork, a truncation the cut of its main fork, a
+-- drop the removal of a fork of its relations
 abbrev pub enters : Work → Act → Bool
 enters (Make made) (Create fork) = is_same_fork made fork
 enters (Make made) (Truncate rel count) = false
 enters (Make made) (Change items) = false
+enters (Make made) (Drop rels) = false
 enters (Make made) (Mark marking) = false
 enters (Cut cut blocks) (Create fork) = false
 enters (Cut cut blocks) (Truncate rel count) =
     is_same_fork cut (main_fork rel) && (blocks == count)
 enters (Cut cut blocks) (Change items) = false
+enters (Cut cut blocks) (Drop rels) = false
 enters (Cut cut blocks) (Mark marking) = false
+enters (Remove gone) (Create fork) = false
+enters (Remove gone) (Truncate rel count) = false
+enters (Remove gone) (Change items) = false
+enters (Remove gone) (Drop rels) = is_of_any gone rels
+enters (Remove gone) (Mark marking) = false
 
 -- one of some entries entered a work
 abbrev pub is_entered : List Entry → Work → Bool
@@ -88,7 +112,9 @@ pub record KeepsFacts (q : ℕ) (history : List Entry) (store : Store) (part : P
   pub frames : IsPart q store part.frames
   -- its disk differs from them only where something is dirty or pending
   pub unwritten : LacksUnwritten part.disk part.frames part.dirty part.works
-  -- which entries that start at its point or past it caused
+  -- what is pending is of its own forks
+  pub own : All (λ work. is_of q (work_fork work) ≡ true) part.works
+  -- entries that start at its point or past it caused what is dirty or pending
   pub caused : ComesFrom (since part.point history) part.dirty part.works
   -- so the disk covers the history from that point on
   pub covers : Covers (is_of q) part.disk history part.point

@@ -11,9 +11,9 @@ use Rattle.history.specs.declared.op.Edit.TheVariants.{Put, Patch}
 use Rattle.history.specs.declared.op.Item.{Item}
 use Rattle.history.specs.declared.op.Op.{Op}
 use Rattle.history.specs.declared.op.Op.TheVariants as op
-use Rattle.history.specs.Apply.{main_fork, is_same_fork, apply_item}
+use Rattle.history.specs.Apply.{main_fork, is_same_fork, without_rel, apply_item}
 use Rattle.history.specs.Op.{act_of_op}
-use Rattle.lsn_core.specs.Blocks.{pages_of, with_fork, with_cut}
+use Rattle.lsn_core.specs.Blocks.{pages_of, with_fork, with_cut, without_fork}
 use Rattle.lsn_core.specs.Tip.{Tip}
 use Rattle.wal_record.specs.declared.record.Record.{Record}
 use Rattle.wal_record.specs.declared.record.Kind.{Kind}
@@ -35,7 +35,7 @@ use Rattle.store_core.specs.Refusals.{judged_edits, judged_op}
 use Rattle.store_core.specs.declared.increment.PriorBackup.{PriorBackup}
 use Rattle.store_core.specs.State.{Part, Published, Prior, Backup, Worker, idle_worker}
 use Rattle.store_core.specs.Increments.{overlaps}
-use Rattle.store_core.specs.Parts.{dirty_after, works_after, next_write}
+use Rattle.store_core.specs.Parts.{dirty_after, works_after, with_removal, next_write}
 
 -- no fragment of an edit is bad
 abbrev pub HasGoodFrags : Edit → Type 0
@@ -74,12 +74,14 @@ abbrev pub done_op : ℕ → Store → Op → Store
 done_op end store (op.Create fork) = with_fork store fork
 done_op end store (op.Truncate rel count) = with_cut store (main_fork rel) count
 done_op end store (op.Change items) = done_items end store items
+done_op end store (op.Drop rel) = without_rel store rel
 
 -- no fragment of a command is bad
 abbrev pub HasGoodEdits : Op → Type 0
 HasGoodEdits (op.Create fork) = Unit {0}
 HasGoodEdits (op.Truncate rel count) = Unit {0}
 HasGoodEdits (op.Change items) = judged_edits 0 items ≡ None
+HasGoodEdits (op.Drop rel) = Unit {0}
 
 -- a partition behind a command
 abbrev pub part_behind : ℕ → Op → Part → Part
@@ -87,7 +89,18 @@ part_behind end command part = record {
   frames = done_op end part.frames command;
   disk = part.disk;
   dirty = dirty_after part.dirty (act_of_op command);
-  works = works_after part.works (act_of_op command);
+  works = works_after part.frames part.works (act_of_op command);
+  point = part.point;
+}
+
+-- a partition without a fork in its frames: nothing of the fork is dirty, and its removal is entered
+-- where it was there
+abbrev pub part_without : ForkId → Part → Part
+part_without fork part = record {
+  frames = without_fork part.frames fork;
+  disk = part.disk;
+  dirty = uncut fork 0 part.dirty;
+  works = with_removal part.frames part.works fork;
   point = part.point;
 }
 

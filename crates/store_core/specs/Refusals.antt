@@ -17,7 +17,7 @@ use Rattle.history.specs.declared.op.Op.TheVariants as op
 use Rattle.history.specs.declared.op.Item.{Item}
 use Rattle.history.specs.declared.op.Edit.{Edit}
 use Rattle.history.specs.declared.op.Edit.TheVariants.{Put, Patch}
-use Rattle.history.specs.Apply.{main_fork, apply_item}
+use Rattle.history.specs.Apply.{main_fork, init_fork, apply_item}
 use Rattle.history.specs.Op.{act_of_op, apply_op}
 use Rattle.history.specs.Pages.{page_count}
 use Rattle.history.specs.Whole.{is_named}
@@ -118,6 +118,9 @@ judged_op n store (op.Change items) =
     option_or (judged_form items)
     (option_or (judged_blocks 0 [] items)
     (option_or (judged_edits 0 items) (judged_items n 0 store items)))
+judged_op n store (op.Drop rel) =
+    if is_some (get store (main_fork rel)) || is_some (get store (init_fork rel)) then None
+    else Some (NoFork n)
 
 -- ---- by the whole machine
 
@@ -131,6 +134,7 @@ abbrev pub part_of_op : Op → ℕ
 part_of_op (op.Create fork) = partition_of fork.rel
 part_of_op (op.Truncate rel count) = partition_of rel
 part_of_op (op.Change items) = part_of_items items
+part_of_op (op.Drop rel) = partition_of rel
 
 -- its pages
 abbrev pub frames_for : State → Op → Store
@@ -150,6 +154,7 @@ frames_behind s command =
 abbrev pub judged_total : State → Op → Option Refusal
 judged_total s (op.Create fork) = None
 judged_total s (op.Truncate rel count) = None
+judged_total s (op.Drop rel) = None
 judged_total s (op.Change items) =
     if nat_lt most_pages
     (page_total s (part_of_op (op.Change items)) (frames_behind s (op.Change items)))

@@ -77,6 +77,7 @@ impl Machine {
         match command {
             Op::Create(_) => Ok(false),
             Op::Truncate(_, _) => Ok(false),
+            Op::Drop(_) => Ok(false),
             Op::Change(items) => {
                 let mut pages = copied(alloc, &self.parts[part as usize].frames)?;
                 do_items(&mut pages, items.as_slice(), 0)?;
@@ -145,6 +146,7 @@ fn part_of(command: &Op) -> u32
     match command {
         Op::Create(fork) => partition_of(fork.rel),
         Op::Truncate(rel, _) => partition_of(*rel),
+        Op::Drop(rel) => partition_of(*rel),
         Op::Change(items) => part_of_items(items.as_slice()),
     }
 }

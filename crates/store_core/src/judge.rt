@@ -13,7 +13,7 @@ ghost use Rattle.store_core.specs.Inside.{HasGoodFrags, done_items};
 use crate::form::{judge_blocks, judge_edits, judge_form};
 use crate::reply::Refusal;
 use crate::stores::{copied, put_page};
-use history::{Edit, Item, Op, PageMap, main_fork};
+use history::{Edit, Item, Op, PageMap, init_fork, main_fork};
 use lsn_core::{BlockId, ForkId, MOST_BLOCKS, NoMemory, Rel};
 use pg_page::{patch, set_lsn, zero_hole};
 use std::alloc::Global;
@@ -31,6 +31,7 @@ pub(crate) fn judge(
     match op {
         Op::Create(fork) => Ok(judge_creation(frames, entries, fork)),
         Op::Truncate(rel, blocks) => Ok(judge_cut(frames, entries, *rel, *blocks)),
+        Op::Drop(rel) => Ok(judge_drop(frames, entries, *rel)),
         Op::Change(items) => judge_change(alloc, frames, entries, items.as_slice()),
     }
 }
@@ -56,6 +57,16 @@ fn judge_cut(frames: &PageMap, entries: u64, rel: Rel, blocks: u32) -> Option<Re
         }
         Some(_) => None,
     }
+}
+
+/// Whether a relation may be dropped.
+fn judge_drop(frames: &PageMap, entries: u64, rel: Rel) -> Option<Refusal>
+    ensures { result ≡ judged_op entries frames.now (op.Drop rel) }
+{
+    if frames.blocks(&main_fork(rel)).is_none() && frames.blocks(&init_fork(rel)).is_none() {
+        return Some(Refusal::NoFork(entries));
+    }
+    None
 }
 
 /// Whether blocks may be changed. Items are done in turn on a copy of the pages, so that each is

@@ -6,7 +6,7 @@ ghost use Rattle.history.specs.Op.{act_of_op, IsFit, AreFit};
 ghost use Rattle.history.specs.Written.{kind_of};
 ghost use Rattle.checkpointer.specs.Laws.{pages_before};
 
-use checkpointer::{change_kind, creation_kind, truncation_kind};
+use checkpointer::{change_kind, creation_kind, drop_kind, truncation_kind};
 use history::{Item, Op, PageMap};
 use lsn_core::{Lsn, NoMemory};
 use std::alloc::Global;
@@ -22,6 +22,7 @@ pub(crate) fn op_kind(alloc: Global, frames: &PageMap, op: &Op, redo: Lsn) -> Re
     match op {
         Op::Create(fork) => Ok(creation_kind(*fork)),
         Op::Truncate(rel, count) => Ok(truncation_kind(*rel, *count)),
+        Op::Drop(rel) => drop_kind(alloc, *rel),
         Op::Change(items) => {
             let before = pages_of(alloc, frames, items.as_slice())?;
             change_kind(alloc, items.as_slice(), &before, redo)

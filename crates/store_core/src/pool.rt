@@ -2,17 +2,17 @@
 
 ghost use Rattle.std.specs.Prelude.{◌≡◌, ◌<◌, ℕ, [], IfOk, OnOk, Some, None, length};
 ghost use Rattle.history.specs.declared.op.Op.TheVariants as op;
-ghost use Rattle.history.specs.Apply.{main_fork};
+ghost use Rattle.history.specs.Apply.{main_fork, init_fork};
 ghost use Rattle.store_core.specs.State.{empty_part};
 ghost use Rattle.store_core.specs.Parts.{work_done, wrote_work, cleaned};
-ghost use Rattle.store_core.specs.Inside.{part_in, part_behind, HasTurned, HasGoodEdits};
+ghost use Rattle.store_core.specs.Inside.{part_in, part_behind, part_without, HasTurned, HasGoodEdits};
 
 use crate::judge::do_items;
 use crate::reply::Wrote;
 use crate::step::Work;
-use crate::stores::{copied, cut_fork, make_fork, put_page};
+use crate::stores::{copied, cut_fork, make_fork, put_page, remove_fork};
 use crate::touching::{left, touch_items};
-use history::{Item, Op, PageMap, main_fork};
+use history::{Item, Op, PageMap, init_fork, main_fork};
 use lsn_core::{BlockId, ForkId, Lsn, NoMemory, Rel};
 use std::alloc::Global;
 
@@ -97,6 +97,7 @@ impl Pool {
             Op::Create(fork) => self.enter_creation(fork),
             Op::Truncate(rel, count) => self.enter_cut(alloc, *rel, *count),
             Op::Change(items) => self.enter_items(items.as_slice(), end),
+            Op::Drop(rel) => self.enter_drop(alloc, *rel),
         }
     }
 
@@ -122,6 +123,28 @@ impl Pool {
         Ok(())
     }
 
+    /// A drop is done.
+    fn enter_drop(&mut self, alloc: Global, rel: Rel) -> Result<(), NoMemory>
+        ensures { (end : ℕ) → OnOk result
+            (part_in self.new ≡ part_behind end (op.Drop rel) (part_in self.old)) }
+    {
+        self.drop_fork(alloc, main_fork(rel))?;
+        self.drop_fork(alloc, init_fork(rel))?;
+        Ok(())
+    }
+
+    /// A fork is taken away, where it is there.
+    fn drop_fork(&mut self, alloc: Global, fork: ForkId) -> Result<(), NoMemory>
+        ensures { OnOk result (part_in self.new ≡ part_without fork (part_in self.old)) }
+    {
+        if self.frames.blocks(&fork).is_some() {
+            self.works.push(Work::Remove(fork))?;
+        }
+        remove_fork(&mut self.frames, fork)?;
+        self.dirty = left(alloc, &self.dirty, &fork, 0)?;
+        Ok(())
+    }
+
     /// Changes of blocks are done.
     fn enter_items(&mut self, items: &[Item], end: Lsn) -> Result<(), NoMemory>
         requires { HasGoodEdits (op.Change items.now) }
@@ -141,6 +164,7 @@ fn do_work(disk: &mut PageMap, work: &Work) -> Result<(), NoMemory>
     match work {
         Work::Make(fork) => make_fork(disk, *fork),
         Work::Cut(fork, count) => cut_fork(disk, *fork, *count),
+        Work::Remove(fork) => remove_fork(disk, *fork),
     }
 }
 
@@ -151,5 +175,6 @@ fn wrote_work(work: &Work) -> Wrote
     match work {
         Work::Make(fork) => Wrote::Made(*fork),
         Work::Cut(fork, count) => Wrote::Cut(*fork, *count),
+        Work::Remove(fork) => Wrote::Removed(*fork),
     }
 }

@@ -50,6 +50,8 @@ pub enum Wrote {
     Made(ForkId),
     /// A fork was cut to so many blocks.
     Cut(ForkId, u32),
+    /// A fork was removed.
+    Removed(ForkId),
     /// A page was written at its block.
     Page(BlockId),
 }
@@ -58,7 +60,8 @@ pub enum Wrote {
 /// judged against, a `u32` the number of an item or of its fragment, counted from 0.
 #[derive(Clone, Copy, Debug, PartialEq, Eq)]
 pub enum Refusal {
-    /// The fork isn't there; of a truncation, the main fork of the relation.
+    /// The fork isn't there; of a truncation, the main fork of the relation; of a drop, no fork of
+    /// it.
     NoFork(u64),
     /// The fork that is to be created is there.
     ForkExists(u64),

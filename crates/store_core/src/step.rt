@@ -47,4 +47,6 @@ pub enum Work {
     Make(ForkId),
     /// To cut a fork to so many blocks.
     Cut(ForkId, u32),
+    /// To remove a fork.
+    Remove(ForkId),
 }

@@ -108,7 +108,7 @@ pub(crate) fn empty_fork(store: &mut PageMap, fork: &ForkId) -> Result<(), NoMem
 }
 
 /// Removes a fork, where there is one.
-fn remove_fork(store: &mut PageMap, fork: ForkId) -> Result<(), NoMemory>
+pub(crate) fn remove_fork(store: &mut PageMap, fork: ForkId) -> Result<(), NoMemory>
     ensures { OnOk result (store.new ≡ without_fork store.old fork) }
 {
     store.remove(fork).map_err(|_| NoMemory)?;

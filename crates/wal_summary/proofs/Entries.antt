@@ -1,5 +1,5 @@
 -- What records say, as block reference tables.
-use Rattle.std.proofs.Common.{◌≡◌, ℕ, ◌+◌, ◌<◌, ◌/◌, Bool, true, false, cond, ◌||◌, List, [], ◌∷◌, ◌++◌, map, length, take, get_or, Some, refl, sym, ap, subst, ◌∙◌, true≢false}
+use Rattle.std.proofs.Common.{◌≡◌, ℕ, ◌+◌, ◌<◌, ◌/◌, ℤ, Bool, true, false, cond, ◌||◌, List, [], ◌∷◌, ◌++◌, map, length, take, get_or, Option, Some, None, refl, sym, ap, subst, ◌∙◌, true≢false}
 use Rattle.std.specs.List.{list_any}
 use Rattle.std.proofs.Math.Bool.{or-false}
 use Rattle.std.proofs.lemmas.Bool.{and_parts}
@@ -13,13 +13,13 @@ use Rattle.wal_record.specs.declared.record.Kind.{Kind}
 use Rattle.wal_record.specs.declared.record.Kind.TheVariants as kind
 use Rattle.wal_record.specs.declared.record.BlockRef.{BlockRef}
 use Rattle.history.specs.Entry.{Act, Truncate, Mark, IdleCut, Entry}
-use Rattle.history.specs.Apply.{is_same_block, main_fork}
-use Rattle.history.specs.Whole.{item_of, is_named, is_patch, is_repeat, said_behind, said, cuts_main, act_of, entry_of}
+use Rattle.history.specs.Apply.{is_same_block, is_same_fork, main_fork, init_fork, is_fork_of, is_of_any}
+use Rattle.history.specs.Whole.{item_of, is_named, is_patch, is_repeat, said_behind, said, cuts_main, commit_act, act_of, entry_of}
 use Rattle.history.proofs.Names.{named_more, named_again}
 use Rattle.fuzzy_copies.specs.Touches.{is_at, act_touches, limit_of}
 use Rattle.fuzzy_copies.specs.Sound.{is_in, window}
-use Rattle.fuzzy_copies.specs.Summary.{BlockRefTable, table_of, summed, both_summed, summary_of}
-use Rattle.wal_summary.specs.Inside.{table_of_ref, limit_table}
+use Rattle.fuzzy_copies.specs.Summary.{BlockRefTable, least, limit_in, is_listed, table_of, summed, both_summed, summary_of}
+use Rattle.wal_summary.specs.Inside.{table_of_ref, limit_table, rel_table}
 use Rattle.wal_summary.proofs.Tables.{same_table, one_summed, lists_summed, added_more}
 use Rattle.wal_summary.proofs.Sums.{blocks_summed}
 
@@ -84,6 +84,39 @@ cut_said rel count flags e = ap (λ t. table_of_act (flagged rel count flags t))
 
 pub idle_said : (rel : Relation) (count flags : ℕ) → cuts_main flags ≡ false → summed [] ≡ table_of_kind (kind.Truncate rel count flags)
 idle_said rel count flags e = ap (λ t. table_of_act (flagged rel count flags t)) (sym e)
+
+-- a relation's forks, and those of several
+two_dropped : (a b : Bool) → least (cond a (Some 0) None) (cond b (Some 0) None) ≡ cond (a || b) (Some 0) None
+two_dropped true true = refl
+two_dropped true false = refl
+two_dropped false b = refl
+
+rel_limited : (rel : Relation) → both_summed (limit_table (main_fork rel) (Some 0)) (limit_table (init_fork rel) (Some 0)) ≡ rel_table rel
+rel_limited rel = same_table (both_summed (limit_table (main_fork rel) (Some 0)) (limit_table (init_fork rel) (Some 0))) (rel_table rel) record {
+  limit = λ f. two_dropped (is_same_fork f (main_fork rel)) (is_same_fork f (init_fork rel));
+  listed = λ f b. refl;
+}
+
+pub rel_added : (old mid new : BlockRefTable) (rel : Relation) (main init : ForkId) → main ≡ main_fork rel → init ≡ init_fork rel → mid ≡ both_summed old (limit_table main (Some 0)) → new ≡ both_summed mid (limit_table init (Some 0)) → new ≡ both_summed old (rel_table rel)
+rel_added old mid new rel main init is_main is_init e f =
+    added_more old mid new (limit_table (main_fork rel) (Some 0)) (limit_table (init_fork rel) (Some 0)) (e ∙ ap (λ (x : ForkId). both_summed old (limit_table x (Some 0))) is_main) (f ∙ ap (λ (x : ForkId). both_summed mid (limit_table x (Some 0))) is_init)
+    ∙ ap (both_summed old) (rel_limited rel)
+
+all_dropped : (f : ForkId) (rels : List Relation) → limit_in f (map rel_table rels) ≡ cond (is_of_any f rels) (Some 0) None
+all_dropped f [] = refl
+all_dropped f (rel ∷ rels) = ap (least (cond (is_fork_of f rel) (Some 0) None)) (all_dropped f rels) ∙ two_dropped (is_fork_of f rel) (is_of_any f rels)
+
+none_listed : (f : ForkId) (b : ℕ) (rels : List Relation) → is_listed f b (map rel_table rels) ≡ false
+none_listed f b [] = refl
+none_listed f b (rel ∷ rels) = none_listed f b rels
+
+-- relations that a commit drops
+pub commit_said : (time : ℤ) (rels : List Relation) → summed (map rel_table rels) ≡ table_of_kind (kind.Commit time rels)
+commit_said time [] = same_table (summed []) (table_of_kind (kind.Commit time [])) record { limit = λ f. refl; listed = λ f b. refl }
+commit_said time (rel ∷ rels) = same_table (summed (map rel_table (rel ∷ rels))) (table_of_kind (kind.Commit time (rel ∷ rels))) record {
+  limit = λ f. all_dropped f (rel ∷ rels);
+  listed = λ f b. none_listed f b (rel ∷ rels);
+}
 
 -- an entry that starts in a range, and one that doesn't
 pub entry_in : (from to : ℕ) (e : Entry) → is_in from to e ≡ true → table_of e ≡ summary_of (e ∷ []) from to

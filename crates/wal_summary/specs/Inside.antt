@@ -1,8 +1,9 @@
 -- What the crate's private functions do: no public contract cites these.
-use Rattle.std.specs.Prelude.{ℕ, ◌==◌, ◌&&◌, false, List, [], ◌∷◌, Option, None, if◌then◌else◌}
+use Rattle.std.specs.Prelude.{ℕ, ◌==◌, ◌&&◌, false, List, [], ◌∷◌, Option, Some, None, if◌then◌else◌}
+use Rattle.lsn_core.specs.Relation.{Relation}
 use Rattle.lsn_core.specs.declared.ids.ForkId.{ForkId}
 use Rattle.wal_record.specs.declared.record.BlockRef.{BlockRef}
-use Rattle.history.specs.Apply.{is_same_fork}
+use Rattle.history.specs.Apply.{is_same_fork, is_fork_of}
 use Rattle.fuzzy_copies.specs.Summary.{BlockRefTable}
 use Rattle.wal_summary.specs.declared.fork_marks.ForkMarks.{ForkMarks}
 use Rattle.wal_summary.specs.declared.summary.ForkSummary.{ForkSummary}
@@ -24,6 +25,13 @@ table_of_ref block = block_table block.at.fork block.at.block
 abbrev pub limit_table : ForkId → Option ℕ → BlockRefTable
 limit_table fork limit = record {
   limit = λ f. if is_same_fork f fork then limit else None;
+  listed = λ f b. false;
+}
+
+-- a table that limits all forks of a relation to 0
+abbrev pub rel_table : Relation → BlockRefTable
+rel_table rel = record {
+  limit = λ f. if is_fork_of f rel then Some 0 else None;
   listed = λ f b. false;
 }
 

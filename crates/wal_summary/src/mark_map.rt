@@ -7,12 +7,12 @@ ghost use Rattle.history.specs.Whole.{entry_of};
 ghost use Rattle.fuzzy_copies.specs.Summary.{table_of, both_summed, summed, summary_of};
 ghost use Rattle.wal_summary.specs.Summary.{AreSorted, IsSummary, table_of_forks, table_of_summary};
 ghost use Rattle.wal_summary.specs.Marks.{table_in, table_of_marks};
-ghost use Rattle.wal_summary.specs.Inside.{block_table, table_of_ref, limit_table, forks_of};
+ghost use Rattle.wal_summary.specs.Inside.{block_table, table_of_ref, limit_table, rel_table, forks_of};
 
 use crate::fork_marks::ForkMarks;
 use crate::summary::{BlockNumbers, ForkSummaries, ForkSummary, Summary};
-use history::{cuts_main, main_fork};
-use lsn_core::{BlockId, ForkId, Lsn, NoMemory};
+use history::{cuts_main, init_fork, main_fork};
+use lsn_core::{BlockId, ForkId, Lsn, NoMemory, Rel};
 use std::alloc::Global;
 use std::collections::BTreeMap;
 use wal_record::{BlockRef, Kind, Record};
@@ -56,6 +56,7 @@ impl MarkMap {
             Kind::RedoMark(_) => Ok(()),
             Kind::NoOp => Ok(()),
             Kind::BackupEnd(_) => Ok(()),
+            Kind::Commit(_, rels) => self.cut_rels(rels.as_slice()),
         }
     }
 
@@ -119,6 +120,26 @@ impl MarkMap {
     {
         self.cut_maybe(&sum.fork, sum.limit)?;
         self.touch_blocks(&sum.fork, sum.blocks.as_slice())
+    }
+
+    /// Adds limits of 0 for all forks of relations, in turn.
+    fn cut_rels(&mut self, rels: &[Rel]) -> Result<(), NoMemory>
+        ensures { OnOk result (table_of_marks self.new
+            ≡ both_summed (table_of_marks self.old) (summed (map rel_table rels.now))) }
+    {
+        for rel in rels {
+            self.cut_rel(*rel)?;
+        }
+        Ok(())
+    }
+
+    /// Adds limits of 0 for all forks of a relation.
+    fn cut_rel(&mut self, rel: Rel) -> Result<(), NoMemory>
+        ensures { OnOk result (table_of_marks self.new
+            ≡ both_summed (table_of_marks self.old) (rel_table rel)) }
+    {
+        self.cut(&main_fork(rel), 0)?;
+        self.cut(&init_fork(rel), 0)
     }
 
     /// Adds a limit, where there is one.

@@ -36,6 +36,12 @@ loop-record-preserved-in_ok-take-2 g c =
     c.loop-record.progress c.take.new.self c.in-Some.record c.loop-record.invariant (rw (← c.segment-size.ensures.value, ← c.in-Some.is) c.in_ok-record.ensures.answer) c.in_ok-record.ensures.reads c.in_ok-take.ensures.takes
     (g.met.P.Pages.keeps_trans c.args.target.now c.loop-record.target c.take.new.target c.loop-record.invariant.done.kept c.in_ok-take.ensures.kept) c.in_ok-take.ensures.cause.later c.in_ok-take.ensures.heard
 
+pub loop-record-preserved-in_ok-take-3 : goal.loop-record-preserved-in_ok-take-3
+loop-record-preserved-in_ok-take-3 g c =
+    next_heard g.V.Vault g.P.Pages g.L.Listener c.args.settings.now c.args.begin c.args.upto c.args.counted c.args.wal.now c.loop-record.wal c.next_to.new.wal c.args.target.now c.loop-record.target c.take.new.target c.args.listener.now c.loop-record.listener c.take.new.listener c.loop-record.cursor c.next_to.new.cursor
+    c.loop-record.progress c.take.new.self c.in-Some.record c.loop-record.invariant (rw (← c.segment-size.ensures.value, ← c.in-Some.is) c.in_ok-record.ensures.answer) c.in_ok-record.ensures.reads c.in_ok-take.ensures.takes
+    (g.met.P.Pages.keeps_trans c.args.target.now c.loop-record.target c.take.new.target c.loop-record.invariant.done.kept c.in_ok-take.ensures.kept) c.in_ok-take.ensures.cause.later c.in_ok-take.ensures.heard
+
 pub loop-record-preserved : goal.loop-record-preserved
 loop-record-preserved g c =
     next_heard g.V.Vault g.P.Pages g.L.Listener c.args.settings.now c.args.begin c.args.upto c.args.counted c.args.wal.now c.loop-record.wal c.next_to.new.wal c.args.target.now c.loop-record.target c.take.new.target c.args.listener.now c.loop-record.listener c.take.new.listener c.loop-record.cursor c.next_to.new.cursor

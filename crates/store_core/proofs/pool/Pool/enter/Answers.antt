@@ -10,3 +10,7 @@ returns-in-Create c =
 pub returns-in-Truncate : goal.returns-in-Truncate
 returns-in-Truncate c =
     subst (λ (o : Op). OnOk c.enter_cut.result (part_in c.enter_cut.new.self ≡ part_behind c.args.end.0 o (part_in c.args.self.now))) (sym c.in-Truncate.is) (c.enter_cut.ensures c.args.end.0)
+
+pub returns-in-Drop : goal.returns-in-Drop
+returns-in-Drop c =
+    subst (λ (o : Op). OnOk c.enter_drop.result (part_in c.enter_drop.new.self ≡ part_behind c.args.end.0 o (part_in c.args.self.now))) (sym c.in-Drop.is) (c.enter_drop.ensures c.args.end.0)
