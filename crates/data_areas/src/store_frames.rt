@@ -94,10 +94,10 @@ impl Pages for StoreFrames {
 
     fn remove(&mut self, fork: ForkId) -> Result<(), AreaFault> {
         match partition_of(fork.rel) {
-            0 => self.part0.remove(fork),
-            1 => self.part1.remove(fork),
-            2 => self.part2.remove(fork),
-            _ => self.part3.remove(fork),
+            0 => Pages::remove(&mut self.part0, fork),
+            1 => Pages::remove(&mut self.part1, fork),
+            2 => Pages::remove(&mut self.part2, fork),
+            _ => Pages::remove(&mut self.part3, fork),
         }
     }
 }

@@ -11,14 +11,15 @@ use Rattle.wal_record.specs.declared.record.Kind.TheVariants as kind
 use Rattle.wal_record.specs.declared.record.BlockRef.{BlockRef}
 use Rattle.wal_record.specs.Tips.{is_redo_mark}
 use Rattle.history.specs.declared.op.Item.{Item}
-use Rattle.history.specs.Entry.{Act, Create, Truncate, Change, Mark, Shutdown, Online, RedoMark, NoOp, BackupEnd, IdleCut}
-use Rattle.history.specs.Apply.{main_fork, page_at, edited, apply_item, apply_items, apply_act}
+use Rattle.history.specs.Entry.{Act, Create, Truncate, Change, Drop, Mark, Shutdown, Online, RedoMark, NoOp, BackupEnd, IdleCut, IdleCommit}
+use Rattle.history.specs.Apply.{main_fork, without_rels, page_at, edited, apply_item, apply_items, apply_act}
 use Rattle.history.specs.Pages.{page_count}
 use Rattle.history.proofs.Counts.{IsMoved, moved_insert, moved_cut, page_count-with_fork}
 use Rattle.history.specs.Written.{block_over, block_of_item, kind_of, is_redo}
 use Rattle.partitions.specs.Parts.{is_item_of, IsPart, ConcernsNoOther}
 use Rattle.partitions.proofs.Puts.{pages_own, page_own, page_at_own, cut_own}
 use Rattle.partitions.proofs.Folds.{mapped_some}
+use Rattle.partitions.proofs.Removed.{rels_count}
 use Rattle.partitions.proofs.OwnActs.{OfNoOther, own_fork, first_own, others_own, own_done, own_tidy}
 use Rattle.journal.specs.Laws.{PartsTellKinds, OwnActsMayComeNext}
 
@@ -33,6 +34,7 @@ pub kinds_told : PartsTellKinds
 kinds_told q redo store part (Create fork) is none = refl
 kinds_told q redo store part (Truncate rel count) is none = refl
 kinds_told q redo store part (Change items) is none = ap (λ (bs : List BlockRef). kind.Generic bs) (blocks_same q redo store part items is none)
+kinds_told q redo store part (Drop rels) is none = refl
 kinds_told q redo store part (Mark marking) is none = refl
 
 -- an act starts a checkpoint where what it is written as does
@@ -40,12 +42,14 @@ pub redo_same : (store : Store) (redo : ℕ) (act : Act) → is_redo act ≡ is_
 redo_same store redo (Create fork) = refl
 redo_same store redo (Truncate rel count) = refl
 redo_same store redo (Change items) = refl
+redo_same store redo (Drop rels) = refl
 redo_same store redo (Mark (Shutdown at)) = refl
 redo_same store redo (Mark (Online at)) = refl
 redo_same store redo (Mark (RedoMark n)) = refl
 redo_same store redo (Mark NoOp) = refl
 redo_same store redo (Mark (BackupEnd at)) = refl
 redo_same store redo (Mark (IdleCut rel count others)) = refl
+redo_same store redo (Mark (IdleCommit time)) = refl
 
 -- ---- pages that are added
 
@@ -99,6 +103,10 @@ own_counted q end store part last next (Truncate rel count) is none e f =
     (pages_own q (with_cut store fork count) (with_cut part fork count) fork (cut_own q store part fork count is mine) mine) in
     omega (arith, ap page_count same, ap page_count whole, cut)
 own_counted q end store part last next (Change items) is none e f = items_counted q end store part last next items is none e f
+own_counted q end store part last next (Drop rels) is none e f =
+    let same : without_rels part rels ≡ next = cc in
+    let whole : without_rels store rels ≡ last = cc in
+    omega (arith, ap page_count same, ap page_count whole, rels_count q store part rels is none)
 own_counted q end store part last next (Mark marking) is none e f =
     let same : part ≡ next = cc in
     let whole : store ≡ last = cc in

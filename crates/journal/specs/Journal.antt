@@ -5,6 +5,7 @@ use Rattle.std.specs.FinMap.{empty}
 use Rattle.lsn_core.specs.Files.{Files}
 use Rattle.lsn_core.specs.Store.{Store}
 use Rattle.lsn_core.specs.Tip.{Tip}
+use Rattle.vault.specs.Frame.{IsDurable}
 use Rattle.vault.specs.declared.area.Vault.{Ghosts}
 use Rattle.wal_record.specs.declared.record.Record.{Record}
 use Rattle.wal_record.specs.declared.record.Kind.{Kind}
@@ -56,6 +57,10 @@ pub record IsTold (log : Log) (told : Option Files) (history : List Entry) (page
 -- so the log and the files of a WAL that is written
 abbrev pub IsJournal : {V : Type 0} → Ghosts V → WalState V → List Entry → ℕ → Type 0
 IsJournal g wal history pages = IsTold wal.tail (g.files wal.area) history pages
+
+-- where no flush failed since the last one that succeeded, a stop leaves the area's files
+abbrev pub IsAtRest : {V : Type 0} → Ghosts V → WalState V → Type 0
+IsAtRest g wal = wal.tail.touched ≤ wal.tail.flushed → IsDurable (g.files wal.area) (g.past wal.area)
 
 -- a journal, as contracts see it
 pub record Written (V : Type 0) : Type 0 where

@@ -11,7 +11,7 @@ ghost use Rattle.wal_writer.specs.Answers.{ReadsFlushed};
 ghost use Rattle.history.specs.Entry.{Mark, RedoMark, Online, BackupEnd};
 ghost use Rattle.history.specs.Op.{act_of_op};
 ghost use Rattle.history.specs.Written.{mark_kind};
-ghost use Rattle.journal.specs.Journal.{EndsWith, IsJournal, IsEndOf, MayFollow, entry_at};
+ghost use Rattle.journal.specs.Journal.{EndsWith, IsJournal, IsAtRest, IsEndOf, MayFollow, entry_at};
 ghost use Rattle.journal.specs.Marks.{marking_of};
 
 use crate::entry::HistoryEntry;
@@ -38,14 +38,15 @@ pub struct Journal<J: OfStore, V: Vault> {
 
 impl<J: OfStore, V: Vault> Model for Journal<J, V> {
     ghost use Rattle.std.specs.Prelude.{◌≡◌, true};
-    ghost use Rattle.journal.specs.Journal.{EndsWith, IsJournal, Written};
+    ghost use Rattle.journal.specs.Journal.{EndsWith, IsJournal, IsAtRest, Written};
 
     ghost Value = { Written V };
 
     ghost view = { λ j. record { wal = j.wal; pen = j.pen; pages = j.pages } };
 
-    ghost invariant = { λ j. EndsWith j.wal.tail j.pen
-        × (J.tells ≡ true → IsJournal V.Vault j.wal j.pen j.pages) };
+    ghost invariant = { λ j. (EndsWith j.wal.tail j.pen
+        × (J.tells ≡ true → IsJournal V.Vault j.wal j.pen j.pages))
+        × IsAtRest V.Vault j.wal };
 }
 
 impl<J: OfStore, V: Vault> Journal<J, V> {
@@ -53,6 +54,7 @@ impl<J: OfStore, V: Vault> Journal<J, V> {
     pub fn new(wal: WalState<V>, pen: Pen<HistoryEntry, J>, pages: u64) -> Journal<J, V>
         requires ended { EndsWith wal.tail pen }
         requires kept { J.tells ≡ true → IsJournal V.Vault wal pen pages }
+        requires rest { IsAtRest V.Vault wal }
         ensures wal { result.wal ≡ wal }
         ensures pen { result.pen ≡ pen }
         ensures pages { result.pages ≡ pages }
@@ -66,6 +68,7 @@ impl<J: OfStore, V: Vault> Journal<J, V> {
         ensures known { IsLog self.now.wal.tail }
         ensures last { J.tells ≡ true → IsEndOf self.now.pen self.now.wal.tail.tip.end }
         ensures ended { EndsWith self.now.wal.tail self.now.pen }
+        ensures rest { IsAtRest V.Vault self.now.wal }
     {
         self.wal.tip()
     }
@@ -206,7 +209,7 @@ impl<J: OfStore, V: Vault> Journal<J, V> {
             ≡ touched_to self.old.wal.tail (flush_end self.old.wal.tail to.0)) }
         ensures left { Tears V.Vault to.0 self.old.wal self.new.wal }
         ensures moments { Keeps V.Vault self.old.wal self.new.wal }
-        ensures frame { FlushWrites V.Vault self.old.wal self.new.wal }
+        ensures frame { FlushWrites V.Vault to.0 self.old.wal self.new.wal }
         ensures cause { HasCause (V.faults self.old.wal.area) (V.faults self.new.wal.area) result }
         ensures pen { self.new.pen ≡ self.old.pen }
         ensures pages { self.new.pages ≡ self.old.pages }

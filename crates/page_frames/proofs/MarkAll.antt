@@ -3,9 +3,9 @@ use Rattle.std.proofs.Common.{◌≡◌, ℕ, zero, suc, ◌+◌, ◌-◌, ◌<�
 use Rattle.std.specs.Prelude.{slice_get, vec_len, vec_capacity}
 use Rattle.page_frames.specs.declared.frames.Frame.{Frame}
 use Rattle.page_frames.specs.declared.frames.Slot.{Slot}
-use Rattle.std.specs.List.{All, AllZip, flat_map, cons_option}
+use Rattle.std.specs.List.{All, AllZip}
 use Rattle.std.specs.Map.Calls.{RetainsPairs}
-use Rattle.std.specs.BTreeMap.{IsOrdered, is_at, UpdatesBy}
+use Rattle.std.specs.BTreeMap.{is_at, UpdatesBy}
 use Rattle.std.specs.BTreeMap as tree
 use Rattle.std.specs.FinMap.{get, insert}
 use Rattle.std.proofs.lemmas.List.{length-map}
@@ -16,12 +16,12 @@ use Rattle.lsn_core.specs.declared.ids.BlockId.{BlockId}
 use Rattle.lsn_core.specs.Store.{Store, ForkPages}
 use Rattle.lsn_core.specs.Blocks.{block_of}
 use Rattle.lsn_core.proofs.ForkOrder.{derived_cmp}
-use Rattle.page_frames.specs.Marks.{fork_marks, with_mark, IsAllMarked, all_dirty_ends}
+use Rattle.page_frames.specs.Marks.{fork_marks, with_mark, IsAllMarked}
 use Rattle.page_frames.specs.Framed.{AreFramed}
 use Rattle.page_frames.specs.Slots.{framed_in, with_seen, seen_in, seen_by, slot_pages, slot_marks, slot_room, frames_pages, frames_marks}
-use Rattle.page_frames.specs.Dirty.{slot_frames, frames_ends, IsMarked, IsMarkedAt}
+use Rattle.page_frames.specs.Dirty.{slot_frames, IsMarked, IsMarkedAt}
 use Rattle.page_frames.proofs.SeenBy.{Slots, seen, get_seen, seen_kept, seen_put}
-use Rattle.page_frames.proofs.DirtyEnds.{option_frames, marks_at, entry_ends, all_ends}
+use Rattle.page_frames.proofs.DirtyEnds.{option_frames, marks_at}
 
 -- ---- one frame
 

@@ -3,7 +3,7 @@
 ghost use Rattle.std.specs.Prelude.{◌≡◌, ◌≤◌, ◌+◌, ◌^◌, [], true, false, None, Some, IsSome, IfSome, OnOk, IfOk, box_value, length, take};
 ghost use Rattle.std.specs.FinMap.{empty, get, insert, remove, keys};
 ghost use Rattle.std.specs.Option.{option_map};
-ghost use Rattle.lsn_core.specs.Blocks.{block_of, block_count, page_put, with_block, with_fork, with_cut};
+ghost use Rattle.lsn_core.specs.Blocks.{block_of, block_count, page_put, with_block, with_fork, with_cut, without_fork};
 ghost use Rattle.history.specs.Apply.{page_at};
 ghost use Rattle.history.specs.Pages.{page_count};
 ghost use Rattle.page_frames.specs.Marks.{fork_marks, touched, with_mark};
@@ -167,6 +167,14 @@ impl Frames {
         ensures room { KeepsRoom self.old.room self.new.room }
     {
         cut_in(&mut self.slots, fork, count);
+    }
+
+    /// Takes a fork away, with its room. Takes no memory.
+    pub fn remove(&mut self, fork: &ForkId)
+        ensures pages { self.new.pages ≡ without_fork self.old.pages fork.now }
+        ensures marks { self.new.marks ≡ remove self.old.marks fork.now }
+    {
+        remove_in(&mut self.slots, fork);
     }
 
     /// That each page has 8192 bytes and a mark, and that no fork has more pages than a block's

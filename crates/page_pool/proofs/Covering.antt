@@ -2,7 +2,7 @@
 use Rattle.std.proofs.Common.{◌≡◌, ℕ, Bool, true, false, cond, ◌||◌, List, map, Option, Some, None, is_some, refl, ap, sym, subst, ◌∙◌, true≢false}
 use Rattle.std.specs.Prelude.{◌==◌, slice_get}
 use Rattle.std.specs.List.{list_any}
-use Rattle.std.specs.FinMap.{get, empty, get-empty}
+use Rattle.std.specs.FinMap.{get, empty, contains_key, get-empty}
 use Rattle.std.proofs.lemmas.Bool.{and_parts}
 use Rattle.std.proofs.lemmas.List.Elements.{recursion_from_All}
 use Rattle.byte_words.specs.Numbers.{◌>>=◌}
@@ -14,23 +14,24 @@ use Rattle.history.proofs.Stores.{by_test}
 use Rattle.partitions.specs.Parts.{is_of, part_of, IsPart}
 use Rattle.partitions.proofs.Puts.{own}
 use Rattle.partitions.proofs.Folds.{parts_fold}
-use Rattle.fuzzy_copies.specs.Touches.{act_cuts, touches, resets, creates}
+use Rattle.fuzzy_copies.specs.Touches.{act_cuts, touches, resets, settles}
 use Rattle.fuzzy_copies.specs.Taken.{since}
 use Rattle.fuzzy_copies.proofs.Covering.{lagging}
 use Rattle.page_frames.specs.Marks.{DirtyMarks, touch_end, is_dirty}
 use Rattle.page_pool.specs.declared.work.Pending.{Pending}
-use Rattle.page_pool.specs.Part.{is_to_make, is_to_cut}
+use Rattle.page_pool.specs.Part.{is_to_settle, is_to_cut}
 use Rattle.page_pool.specs.Facts.{is_entered, IsSince}
 use Rattle.page_pool.specs.Laws.{FollowersCover}
-use Rattle.page_pool.proofs.Windows.{any_part, part_touches, touches_to, touch_in, entered_cuts, entered_makes}
+use Rattle.page_pool.proofs.Windows.{any_part, part_touches, touches_to, touch_in, entered_cuts, entered_settles}
+use Rattle.page_pool.proofs.Behind.{unsettled}
 use Rattle.page_pool.proofs.Followed.{told}
 
 -- what pending works cut off and make, the entries of the history from the place on do
 window_cuts : (q : ℕ) (es : List Entry) (marks : DirtyMarks) (works : List Pending) (fork : ForkId) (b : ℕ) → IsSince (map (part_of q) es) marks works → is_to_cut works fork b ≡ true → list_any (resets fork b) es ≡ true
 window_cuts q es marks works fork b s cut = entered_cuts q fork b es works (recursion_from_All (λ (w : Pending). is_entered (map (part_of q) es) w ≡ true) works s.entered) cut
 
-window_makes : (q : ℕ) (es : List Entry) (marks : DirtyMarks) (works : List Pending) (fork : ForkId) → IsSince (map (part_of q) es) marks works → is_to_make works fork ≡ true → list_any (creates fork) es ≡ true
-window_makes q es marks works fork s make = entered_makes q fork es works (recursion_from_All (λ (w : Pending). is_entered (map (part_of q) es) w ≡ true) works s.entered) make
+window_makes : (q : ℕ) (es : List Entry) (marks : DirtyMarks) (works : List Pending) (fork : ForkId) → IsSince (map (part_of q) es) marks works → is_to_settle works fork ≡ true → list_any (settles fork) es ≡ true
+window_makes q es marks works fork s make = entered_settles q fork es works (recursion_from_All (λ (w : Pending). is_entered (map (part_of q) es) w ≡ true) works s.entered) make
 
 -- what the entries leave is neither dirty nor pending
 clean_of : (q : ℕ) (es : List Entry) (marks : DirtyMarks) (works : List Pending) (fork : ForkId) (b : ℕ) → IsSince (map (part_of q) es) marks works → list_any (resets fork b) es ≡ false → is_dirty marks fork b ≡ false
@@ -47,8 +48,8 @@ clean_of q es marks works fork b s none =
 uncut_of : (q : ℕ) (es : List Entry) (marks : DirtyMarks) (works : List Pending) (fork : ForkId) (b : ℕ) → IsSince (map (part_of q) es) marks works → list_any (resets fork b) es ≡ false → is_to_cut works fork b ≡ false
 uncut_of q es marks works fork b s none = by_test (is_to_cut works fork b) (λ cut. absurd (true≢false (sym (window_cuts q es marks works fork b s cut) ∙ none))) (λ uncut. uncut)
 
-unmade_of : (q : ℕ) (es : List Entry) (marks : DirtyMarks) (works : List Pending) (fork : ForkId) → IsSince (map (part_of q) es) marks works → list_any (creates fork) es ≡ false → is_to_make works fork ≡ false
-unmade_of q es marks works fork s none = by_test (is_to_make works fork) (λ make. absurd (true≢false (sym (window_makes q es marks works fork s make) ∙ none))) (λ unmade. unmade)
+unmade_of : (q : ℕ) (es : List Entry) (marks : DirtyMarks) (works : List Pending) (fork : ForkId) → IsSince (map (part_of q) es) marks works → list_any (settles fork) es ≡ false → is_to_settle works fork ≡ false
+unmade_of q es marks works fork s none = by_test (is_to_settle works fork) (λ make. absurd (true≢false (sym (window_makes q es marks works fork s make) ∙ none))) (λ unmade. unmade)
 
 -- nothing has an empty part
 none_of_nothing : (q : ℕ) → IsPart q empty empty
@@ -72,5 +73,5 @@ followers_cover q history part disk now makes some f h =
     (record {
       blocks = λ fork b mine none. h.same fork b (clean_of q es part.marks part.works fork b s none) (uncut_of q es part.marks part.works fork b s none)
           ∙ ap (λ (o : Option ForkPages). o >>= λ pages. slice_get pages b) (own q now part.frames fork is mine);
-      forks = λ fork mine none. h.forks fork (unmade_of q es part.marks part.works fork s none) ∙ ap (λ (o : Option ForkPages). is_some o) (own q now part.frames fork is mine);
+      forks = λ fork mine none. sym (unsettled part.works fork (contains_key disk fork) (unmade_of q es part.marks part.works fork s none)) ∙ h.forks fork ∙ ap (λ (o : Option ForkPages). is_some o) (own q now part.frames fork is mine);
     })

@@ -92,7 +92,9 @@ may_be_done end part command ready made is fits e = go command made (subst (λ (
     go (op.Truncate rel count) made named room tidy same = subst (MayBeDone end part) (sym named) (is_some_of (get part.frames (main_fork rel)) tidy.pages tidy.there, subst (HasRoomFor part) named room)
     go (op.Change items) (done.Created fork) named room tidy same = absurd named
     go (op.Change items) (done.Cut rel count) named room tidy same = absurd named
+    go (op.Change items) (done.Dropped rel) named room tidy same = absurd named
     go (op.Change items) (done.Put pages) named room tidy same = (places end part.frames part.frames _ items pages.items (λ q. refl) tidy same named, room)
+    go (op.Drop rel) made named room tidy same = subst (MayBeDone end part) (sym named) (subst (HasRoomFor part) named room)
 
 pub ready_may_be_done : (end : ℕ) (part : Part) (command : Op) (ready : Ready) → IsReady part command ready → end < 2 ^ 64 → MayBeDone end part ready.done
 ready_may_be_done end part command ready is fits = may_be_done end part command ready ready.done is fits refl
@@ -107,27 +109,31 @@ marks_put end marks (item ∷ items) (new ∷ pages) ats =
     let at : item.at ≡ new.at = ap (λ (xs : List BlockId). get_or xs 0 item.at) ats in
     ap (λ (a : BlockId). pages_touched end (touched end marks a) pages) (sym at) ∙ marks_put end (touched end marks item.at) items pages (ap (drop 1) ats)
 
-marks_as : (end : ℕ) (marks : DirtyMarks) (command : Op) (made : Done) → IsOfOp command made → marks_done end marks made ≡ marks_after end marks (act_of_op command)
-marks_as end marks (op.Create fork) made named = ap (marks_done end marks) named
-marks_as end marks (op.Truncate rel count) made named = ap (marks_done end marks) named
-marks_as end marks (op.Change items) (done.Created fork) named = absurd named
-marks_as end marks (op.Change items) (done.Cut rel count) named = absurd named
-marks_as end marks (op.Change items) (done.Put pages) named = marks_put end marks items pages.items named
+marks_as : (end : ℕ) (frames : Store) (marks : DirtyMarks) (command : Op) (made : Done) → IsOfOp command made → marks_done end frames marks made ≡ marks_after end frames marks (act_of_op command)
+marks_as end frames marks (op.Create fork) made named = ap (marks_done end frames marks) named
+marks_as end frames marks (op.Truncate rel count) made named = ap (marks_done end frames marks) named
+marks_as end frames marks (op.Change items) (done.Created fork) named = absurd named
+marks_as end frames marks (op.Change items) (done.Cut rel count) named = absurd named
+marks_as end frames marks (op.Change items) (done.Dropped rel) named = absurd named
+marks_as end frames marks (op.Drop rel) made named = ap (marks_done end frames marks) named
+marks_as end frames marks (op.Change items) (done.Put pages) named = marks_put end marks items pages.items named
 
-works_as : (end : ℕ) (works : List Pending) (command : Op) (made : Done) → IsOfOp command made → works_done end works made ≡ works_after end works (act_of_op command)
-works_as end works (op.Create fork) made named = ap (works_done end works) named
-works_as end works (op.Truncate rel count) made named = ap (works_done end works) named
-works_as end works (op.Change items) (done.Created fork) named = absurd named
-works_as end works (op.Change items) (done.Cut rel count) named = absurd named
-works_as end works (op.Change items) (done.Put pages) named = refl
+works_as : (end : ℕ) (frames : Store) (works : List Pending) (command : Op) (made : Done) → IsOfOp command made → works_done end frames works made ≡ works_after end frames works (act_of_op command)
+works_as end frames works (op.Create fork) made named = ap (works_done end frames works) named
+works_as end frames works (op.Truncate rel count) made named = ap (works_done end frames works) named
+works_as end frames works (op.Change items) (done.Created fork) named = absurd named
+works_as end frames works (op.Change items) (done.Cut rel count) named = absurd named
+works_as end frames works (op.Change items) (done.Dropped rel) named = absurd named
+works_as end frames works (op.Drop rel) made named = ap (works_done end frames works) named
+works_as end frames works (op.Change items) (done.Put pages) named = refl
 
 pub ready_is_applied : (end : ℕ) (old new : Part) (command : Op) (ready : Ready) → IsReady old command ready → end < 2 ^ 64
-    → new.frames ≡ done_at end ready.done old.frames → new.marks ≡ marks_done end old.marks ready.done → new.works ≡ works_done end old.works ready.done → new.point ≡ old.point → new.disk ≡ old.disk
+    → new.frames ≡ done_at end ready.done old.frames → new.marks ≡ marks_done end old.frames old.marks ready.done → new.works ≡ works_done end old.frames old.works ready.done → new.point ≡ old.point → new.disk ≡ old.disk
     → HasApplied end (act_of_op command) old new
 ready_is_applied end old new command ready is fits frames marks works point disk = record {
   frames = is.same end fits ∙ ap (λ (s : Store). Some s) (sym frames);
-  marks = marks ∙ marks_as end old.marks command ready.done is.named;
-  works = works ∙ works_as end old.works command ready.done is.named;
+  marks = marks ∙ marks_as end old.frames old.marks command ready.done is.named;
+  works = works ∙ works_as end old.frames old.works command ready.done is.named;
   point = point;
   disk = disk;
 }

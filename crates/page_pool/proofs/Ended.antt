@@ -1,5 +1,5 @@
 -- The greatest of the ends of what isn't written; works that are entered for forks; and pages that are put in the place of none.
-use Rattle.std.proofs.Common.{◌≡◌, ℕ, ◌≤◌, max, false, ◌||◌, List, [], ◌∷◌, ◌++◌, map, fold, Option, Some, None, IsSome, IfSome, is_some, refl, ap, sym, ◌∙◌, arith, append-nil, true≢false}
+use Rattle.std.proofs.Common.{◌≡◌, ℕ, ◌≤◌, max, Bool, true, false, ◌||◌, List, [], ◌∷◌, ◌++◌, map, fold, Option, Some, None, IsSome, IfSome, is_some, refl, ap, sym, ◌∙◌, arith, append-nil, true≢false}
 use Rattle.std.specs.Prelude.{slice_get}
 use Rattle.std.specs.List.{AllByRecursion, list_any, flat_map, reduce}
 use Rattle.std.specs.FinMap.{empty, keys, contains_key, contains_key-keys, get-empty}
@@ -12,7 +12,7 @@ use Rattle.history.specs.Apply.{is_same_fork}
 use Rattle.page_frames.specs.Marks.{DirtyMarks, touch_end, is_dirty, fork_marks, dirty_ends, all_dirty_ends, IsAllMarked}
 use Rattle.page_frames.proofs.Ends.{both_all, marks_all, forks_all}
 use Rattle.page_pool.specs.declared.work.Pending.{Pending}
-use Rattle.page_pool.specs.Part.{Part, LacksUnwritten, is_to_make, is_to_cut, newest_end}
+use Rattle.page_pool.specs.Part.{Part, LacksUnwritten, there_behind, is_to_cut, newest_end}
 use Rattle.page_pool.specs.Writing.{later_end, works_making}
 use Rattle.page_pool.proofs.Behind.{clean_disks}
 use Rattle.page_pool.proofs.Ends.{newest_all}
@@ -34,9 +34,17 @@ later_append (x ∷ xs) (y ∷ ys) = ap (λ (k : ℕ). Some k) (fold_split x xs 
 
 -- ---- pages in the place of none
 
-making_makes : (end : Lsn) (forks : List ForkId) (fork : ForkId) → is_to_make (works_making end forks) fork ≡ list_any (is_same_fork fork) forks
-making_makes end [] fork = refl
-making_makes end (f ∷ forks) fork = ap (λ c. is_same_fork fork f || c) (making_makes end forks fork)
+making_makes : (end : Lsn) (forks : List ForkId) (fork : ForkId) (there : Bool) → there_behind (works_making end forks) fork there ≡ (there || list_any (is_same_fork fork) forks)
+making_makes end [] fork there = kept there
+  where
+    kept : (a : Bool) → a ≡ (a || false)
+    kept true = refl
+    kept false = refl
+making_makes end (f ∷ forks) fork there = making_makes end forks fork (there || is_same_fork fork f) ∙ grouped there (is_same_fork fork f) (list_any (is_same_fork fork) forks)
+  where
+    grouped : (a b c : Bool) → ((a || b) || c) ≡ (a || (b || c))
+    grouped true b c = refl
+    grouped false b c = refl
 
 making_cuts : (end : Lsn) (forks : List ForkId) (fork : ForkId) (b : ℕ) → is_to_cut (works_making end forks) fork b ≡ false
 making_cuts end [] fork b = refl
@@ -52,8 +60,7 @@ loaded_lacks raw old frames before marks end none lacks clean marked =
     record {
       same = λ fork b undirty uncut. no_block fork b ∙ sym (not_there fork b undirty);
       gone = λ fork b undirty cut. absurd (true≢false (sym cut ∙ making_cuts end (keys frames) fork b));
-      forks = λ fork unmade. no_fork fork ∙ sym (sym (listed_key frames fork) ∙ sym (making_makes end (keys frames) fork) ∙ unmade);
-      made = λ fork made. sym (listed_key frames fork) ∙ sym (making_makes end (keys frames) fork) ∙ made;
+      forks = λ fork. ap (there_behind (works_making end (keys frames)) fork) (no_fork fork) ∙ making_makes end (keys frames) fork false ∙ listed_key frames fork;
     }
   where
     is : raw ≡ empty

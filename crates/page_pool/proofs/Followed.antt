@@ -2,7 +2,11 @@
 use Rattle.std.proofs.Common.{◌≡◌, ℕ, ◌≤◌, Bool, true, false, cond, ◌&&◌, ◌||◌, List, [], ◌∷◌, ◌++◌, map, drop, Option, Some, None, is_some, IsSome, IfSome, refl, ap, sym, subst, ◌∙◌, arith, true≢false}
 use Rattle.std.specs.Prelude.{◌==◌, nat_le}
 use Rattle.std.specs.List.{All, list_any, filter}
-use Rattle.std.specs.FinMap.{empty}
+use Rattle.std.specs.FinMap.{empty, contains_key}
+use Rattle.std.proofs.Math.Bool.{or-true}
+use Rattle.lsn_core.specs.Relation.{Relation}
+use Rattle.lsn_core.specs.Blocks.{without_fork}
+use Rattle.lsn_core.specs.declared.ids.ForkId.{ForkId}
 use Rattle.std.proofs.Math.Nat.{max-le}
 use Rattle.std.proofs.lemmas.Bool.{le-leb, eq-eqb}
 use Rattle.std.proofs.lemmas.List.{map-append}
@@ -13,28 +17,28 @@ use Rattle.byte_words.specs.Numbers.{◌>>=◌}
 use Rattle.lsn_core.specs.Store.{Store}
 use Rattle.lsn_core.specs.Tip.{Tip, tip_with}
 use Rattle.history.specs.declared.op.Item.{Item}
-use Rattle.history.specs.Entry.{Act, Create, Truncate, Change, Mark, NoOp, Entry}
-use Rattle.history.specs.Apply.{main_fork, is_same_block, apply, apply_act, apply_all}
+use Rattle.history.specs.Entry.{Act, Create, Truncate, Change, Drop, Mark, NoOp, Entry}
+use Rattle.history.specs.Apply.{main_fork, init_fork, without_rel, is_same_fork, is_fork_of, is_of_any, is_same_block, apply, apply_act, apply_all}
 use Rattle.history.proofs.Stores.{by_test, fork_self}
 use Rattle.history.proofs.Histories.{tip_over-append}
 use Rattle.partitions.specs.Parts.{is_item_of, act_part, part_of, concerns, ConcernsNoOther}
 use Rattle.partitions.proofs.Folds.{none_kept, passed_over}
-use Rattle.partitions.proofs.OwnActs.{own_fork, OfNoOther, first_own, others_own}
+use Rattle.partitions.proofs.OwnActs.{all_kept, own_fork, OfNoOther, first_own, others_own}
 use Rattle.fuzzy_copies.specs.Touches.{act_touches, act_cuts}
 use Rattle.fuzzy_copies.specs.Taken.{since}
 use Rattle.fuzzy_copies.proofs.Replay.{applied_in_two}
 use Rattle.page_frames.specs.Marks.{DirtyMarks, touch_end}
 use Rattle.page_frames.proofs.Marks.{mark_set}
 use Rattle.page_pool.specs.declared.work.Work.{Work}
-use Rattle.page_pool.specs.declared.work.Work.TheVariants.{Make, Cut}
+use Rattle.page_pool.specs.declared.work.Work.TheVariants.{Make, Cut, Remove}
 use Rattle.page_pool.specs.declared.turn.Wrote.TheVariants as wrote
 use Rattle.page_pool.specs.declared.work.Pending.{Pending}
 use Rattle.page_pool.specs.Part.{Part}
-use Rattle.page_pool.specs.Steps.{marks_after, works_after, HasApplied, HasWritten, IsClean}
+use Rattle.page_pool.specs.Steps.{with_removal, works_dropped, marks_after, works_after, HasApplied, HasWritten, IsClean}
 use Rattle.page_pool.specs.Facts.{history_end, touch_over, last_touch, enters, is_entered, IsSince, own_since}
 use Rattle.page_pool.specs.Calls.{HasDone}
 use Rattle.page_pool.specs.Laws.{OwnEntriesAreFollowed, OtherEntriesAreFollowed, OneWrittenIsWritten, WritesAreFollowed, CleaningIsFollowed, CleanPartsFollow}
-use Rattle.page_pool.proofs.Marks.{mark_after}
+use Rattle.page_pool.proofs.Marks.{mark_after, dropped_mark}
 use Rattle.page_pool.proofs.Windows.{or_true, any_filtered, others_touch, entered_by}
 
 -- where a history ends that has one entry more
@@ -66,26 +70,50 @@ IsEnteredIn window w = is_entered window w ≡ true
 longer_window : (xs ys : List Entry) (works : List Pending) → All (IsEnteredIn xs) works → All (IsEnteredIn (xs ++ ys)) works
 longer_window xs ys works all = All-weaker (IsEnteredIn xs) (IsEnteredIn (xs ++ ys)) (λ w h. list_any-append (entered_by w) xs ys ∙ ap (λ c. c || list_any (entered_by w) ys) h) works all
 
-new_works : (P : Pending → Type 0) (end : ℕ) (works : List Pending) (act : Act) → All P works → ((w : Pending) → enters act w.work ≡ true → end ≡ w.end.0 → P w) → All P (works_after end works act)
-new_works P end works (Create fork) all new =
+removed_works : (P : Pending → Type 0) (end : ℕ) (frames : Store) (works : List Pending) (fork : ForkId) → All P works → P (record { work = Remove fork; end = record { 0 = end } }) → All P (with_removal end frames works fork)
+removed_works P end frames works fork all new = go (contains_key frames fork)
+  where
+    go : (c : Bool) → All P (cond c (works ++ (record { work = Remove fork; end = record { 0 = end } } ∷ [])) works)
+    go true = All-push P works (record { work = Remove fork; end = record { 0 = end } }) all new
+    go false = all
+
+dropped_works : (P : Pending → Type 0) (end : ℕ) (frames : Store) (works : List Pending) (rels : List Relation) → All P works → ((fork : ForkId) → is_of_any fork rels ≡ true → P (record { work = Remove fork; end = record { 0 = end } })) → All P (works_dropped end frames works rels)
+dropped_works P end frames works [] all new = all
+dropped_works P end frames works (rel ∷ rels) all new =
+    let main = main_fork rel in
+    let init = init_fork rel in
+    let first = removed_works P end frames works main all (new main (ap (λ c. (c || is_same_fork main init) || is_of_any main rels) (fork_self main))) in
+    let second = removed_works P end (without_fork frames main) (with_removal end frames works main) init first (new init (ap (λ c. (is_same_fork init main || c) || is_of_any init rels) (fork_self init) ∙ ap (λ c. c || is_of_any init rels) (or-true (is_same_fork init main)))) in
+    dropped_works P end (without_rel frames rel) (with_removal end (without_fork frames main) (with_removal end frames works main) init) rels second (λ fork of. new fork (or_true (is_fork_of fork rel) (is_of_any fork rels) of))
+
+new_works : (P : Pending → Type 0) (end : ℕ) (frames : Store) (works : List Pending) (act : Act) → All P works → ((w : Pending) → enters act w.work ≡ true → end ≡ w.end.0 → P w) → All P (works_after end frames works act)
+new_works P end frames works (Create fork) all new =
     let w : Pending = record { work = Make fork; end = record { 0 = end } } in
     All-push P works w all (new w (fork_self fork) refl)
-new_works P end works (Truncate rel count) all new =
+new_works P end frames works (Truncate rel count) all new =
     let w : Pending = record { work = Cut (main_fork rel) count; end = record { 0 = end } } in
     All-push P works w all (new w (ap (λ c. c && (count == count)) (fork_self (main_fork rel)) ∙ eq-eqb count count refl) refl)
-new_works P end works (Change items) all new = all
-new_works P end works (Mark marking) all new = all
+new_works P end frames works (Change items) all new = all
+new_works P end frames works (Drop rels) all new = dropped_works P end frames works rels all (λ fork of. new (record { work = Remove fork; end = record { 0 = end } }) of refl)
+new_works P end frames works (Mark marking) all new = all
 
 last_entered : (xs : List Entry) (e : Entry) (w : Pending) → enters e.act w.work ≡ true → e.end ≡ w.end.0 → IsEnteredIn (xs ++ (e ∷ [])) w
 last_entered xs e w entered end =
     let now : entered_by w e ≡ true = ap (λ c. c && (e.end == w.end.0)) entered ∙ eq-eqb e.end w.end.0 end in
     list_any-append (entered_by w) xs (e ∷ []) ∙ or_true (list_any (entered_by w) xs) (list_any (entered_by w) (e ∷ [])) (ap (λ c. c || false) now)
 
-since_last : (xs : List Entry) (e : Entry) (marks : DirtyMarks) (works : List Pending) → IsSince xs marks works → IsSince (xs ++ (e ∷ [])) (marks_after e.end marks e.act) (works_after e.end works e.act)
-since_last xs e marks works s = record {
+marked_before : (end : ℕ) (frames : Store) (marks : DirtyMarks) (act : Act) (fork : ForkId) (b last : ℕ) (before : Option ℕ) → touch_end (marks_after end frames marks act) fork b ≡ Some last → (touch_end marks fork b ≡ Some last → before ≡ Some last) → cond (act_touches fork b act) (Some end) before ≡ Some last
+marked_before end frames marks (Create made) fork b last before m k = touched_last (act_cuts fork b (Create made)) false end last (touch_end marks fork b) before (sym (mark_after end frames marks (Create made) fork b tt) ∙ m) k
+marked_before end frames marks (Truncate rel count) fork b last before m k = touched_last (act_cuts fork b (Truncate rel count)) false end last (touch_end marks fork b) before (sym (mark_after end frames marks (Truncate rel count) fork b tt) ∙ m) k
+marked_before end frames marks (Change items) fork b last before m k = touched_last false (act_touches fork b (Change items)) end last (touch_end marks fork b) before (sym (mark_after end frames marks (Change items) fork b tt) ∙ m) k
+marked_before end frames marks (Drop rels) fork b last before m k = k (dropped_mark frames marks rels fork b last m)
+marked_before end frames marks (Mark marking) fork b last before m k = k m
+
+since_last : (xs : List Entry) (e : Entry) (frames : Store) (marks : DirtyMarks) (works : List Pending) → IsSince xs marks works → IsSince (xs ++ (e ∷ [])) (marks_after e.end frames marks e.act) (works_after e.end frames works e.act)
+since_last xs e frames marks works s = record {
   touched = λ fork b end m. fold-append (touch_over fork b) None xs (e ∷ [])
-      ∙ touched_last (act_cuts fork b e.act) (act_touches fork b e.act) e.end end (touch_end marks fork b) (last_touch fork b xs) (sym (mark_after e.end marks e.act fork b) ∙ m) (s.touched fork b end);
-  entered = new_works (IsEnteredIn (xs ++ (e ∷ []))) e.end works e.act (longer_window xs (e ∷ []) works s.entered) (last_entered xs e);
+      ∙ marked_before e.end frames marks e.act fork b end (last_touch fork b xs) m (s.touched fork b end);
+  entered = new_works (IsEnteredIn (xs ++ (e ∷ []))) e.end frames works e.act (longer_window xs (e ∷ []) works s.entered) (last_entered xs e);
 }
 
 -- entries of others more
@@ -105,6 +133,7 @@ act_own : (q : ℕ) (act : Act) → ConcernsNoOther q act → act_part q act ≡
 act_own q (Create fork) none = ap (λ c. cond c (Create fork) (Mark NoOp)) (own_fork q fork none)
 act_own q (Truncate rel count) none = ap (λ c. cond c (Truncate rel count) (Mark NoOp)) (own_fork q (main_fork rel) none)
 act_own q (Change items) none = ap (λ (is : List Item). Change is) (items_own q items none)
+act_own q (Drop rels) none = ap (λ (l : List Relation). Drop l) (all_kept q rels none)
 act_own q (Mark marking) none = refl
 
 -- the fold of a history's part that goes on
@@ -135,9 +164,9 @@ own_unwritten q history e old new none late a u =
     let before = own_since q old.point history in
     let window : own_since q new.point (history ++ (e ∷ [])) ≡ before ++ (e ∷ []) =
     ap (λ (n : ℕ). own_since q n (history ++ (e ∷ []))) a.point ∙ own_more q old.point history (e ∷ []) ∙ ap (λ (es : List Entry). before ++ es) (own_last q old.point e none late) in
-    let s = since_last before e old.marks old.works u in
+    let s = since_last before e old.frames old.marks old.works u in
     subst (λ (w : List Entry). IsSince w new.marks new.works) (sym window)
-    (subst (λ (m : DirtyMarks). IsSince (before ++ (e ∷ [])) m new.works) (sym a.marks) (subst (λ (ws : List Pending). IsSince (before ++ (e ∷ [])) (marks_after e.end old.marks e.act) ws) (sym a.works) s))
+    (subst (λ (m : DirtyMarks). IsSince (before ++ (e ∷ [])) m new.works) (sym a.marks) (subst (λ (ws : List Pending). IsSince (before ++ (e ∷ [])) (marks_after e.end old.frames old.marks e.act) ws) (sym a.works) s))
 
 pub own_followed : OwnEntriesAreFollowed
 own_followed q history e old new start end none a f =
@@ -194,6 +223,7 @@ one_written None old new w disk = record {
 }
 one_written (Some (wrote.Made fork)) old new w disk = done_first (Make fork) old new w.frames w.point w.next disk
 one_written (Some (wrote.Cut fork count)) old new w disk = done_first (Cut fork count) old new w.frames w.point w.next disk
+one_written (Some (wrote.Removed fork)) old new w disk = done_first (Remove fork) old new w.frames w.point w.next disk
 one_written (Some (wrote.Wrote at)) old new w disk = record {
   frames = w.frames;
   marks = λ fork b end m.

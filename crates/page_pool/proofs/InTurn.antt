@@ -113,6 +113,7 @@ work_written first a b works marks frames point area = record {
 pub one_written : (what : Wrote) (a b : Part) → IsOneWritten (Some what) a b → ChangesForks a b → HasWritten a b
 one_written (wrote.Made fork) a b one area = work_written one.next.first a b one.next.works one.next.marks one.frames one.point area
 one_written (wrote.Cut fork count) a b one area = work_written one.next.first a b one.next.works one.next.marks one.frames one.point area
+one_written (wrote.Removed fork) a b one area = work_written one.next.first a b one.next.works one.next.marks one.frames one.point area
 one_written (wrote.Wrote at) a b one area = page_written at a b one.next.none (record { frames = one.frames; works = one.next.works; marks = one.next.marks; point = one.point }) area
 
 -- ---- what is clean stays clean

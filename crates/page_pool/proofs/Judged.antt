@@ -150,6 +150,7 @@ judged-tidy store (op.Truncate rel count) e = (may_be_cut store (main_fork rel) 
 judged-tidy store (op.Change items) e =
     let blocks = first_none (judged_blocks 0 [] items) (option_or (judged_edits 0 items) (judged_items 0 store items)) e in
     tidy_items 0 store store items (λ q. refl) (first_none (judged_edits 0 items) (judged_items 0 store items) blocks.1).1
+judged-tidy store (op.Drop rel) e = tt
 
 -- it can be written
 pub judged-fit : (store : Store) (command : Op) → HasItems command → judged_op store command ≡ None → IsFit store command
@@ -159,3 +160,4 @@ judged-fit store (op.Change items) number e =
     let parts = formed store items number e in
     let form = parts.0 in
     record { some = form.some; most = omega (arith, form.most); each = each_fit 0 0 0 store store [] items (λ q n. refl) form.blocks form.edits parts.1 }
+judged-fit store (op.Drop rel) number e = tt

@@ -7,19 +7,19 @@ use Rattle.lsn_core.specs.declared.ids.ForkId.{ForkId}
 use Rattle.lsn_core.specs.declared.ids.BlockId.{BlockId}
 use Rattle.lsn_core.specs.Files.{Files}
 use Rattle.lsn_core.specs.Store.{Store}
-use Rattle.lsn_core.specs.Blocks.{block_of, with_fork, with_cut}
+use Rattle.lsn_core.specs.Blocks.{block_of, with_fork, with_cut, without_fork}
 use Rattle.lsn_core.specs.Shown.{Turns}
 use Rattle.vault.specs.declared.area.Vault.{Ghosts}
 use Rattle.vault.specs.Area.{Related}
 use Rattle.vault.specs.Stops.{Event, synced, noted}
 use Rattle.vault.specs.Frame.{LeavesNow}
-use Rattle.rel_files.specs.Forks.{Holds, mended, page_over, IsTornPut, IsTornCut}
+use Rattle.rel_files.specs.Forks.{Holds, mended, page_over, IsTornPut, IsTornCut, IsTornRemoval}
 use Rattle.rel_files.specs.Shown.{HoldsStore, KeepsOthers, Leaves, IsTornMake}
 use Rattle.rel_files.specs.declared.forks.Forks.{Forks}
 use Rattle.page_frames.specs.Marks.{DirtyMarks, is_dirty, cleaned, NoneDirtyBefore}
 use Rattle.page_frames.specs.Framed.{Framed, AreFramed}
 use Rattle.page_pool.specs.declared.work.Work.{Work}
-use Rattle.page_pool.specs.declared.work.Work.TheVariants.{Make, Cut}
+use Rattle.page_pool.specs.declared.work.Work.TheVariants.{Make, Cut, Remove}
 use Rattle.page_pool.specs.declared.work.Pending.{Pending}
 use Rattle.page_pool.specs.declared.partition.Partition.TheInside.{Inside}
 use Rattle.page_pool.specs.Part.{Part, LacksUnwritten}
@@ -28,7 +28,7 @@ use Rattle.page_pool.specs.Calls.{HoldsFrames}
 use Rattle.page_pool.specs.Partition.{part_in, HoldsLacking, IsPartition}
 use Rattle.page_pool.specs.Writing.{IsFirstWork, IsNextPage}
 use Rattle.page_pool.proofs.Behind.{clean_disks}
-use Rattle.page_pool.proofs.Torn.{made_lacks, cut_lacks, put_lacks, torn_make_lacks, torn_cut_lacks, torn_put_lacks}
+use Rattle.page_pool.proofs.Torn.{made_lacks, cut_lacks, removed_lacks, put_lacks, torn_make_lacks, torn_cut_lacks, torn_removal_lacks, torn_put_lacks}
 
 -- ---- the disk was written
 
@@ -85,6 +85,18 @@ module _ {V : Type 0} {Q : ℕ} (g : Ghosts V) (p : Inside V Q) (now : Part) (is
         held = turns h.raw h.held;
         lacks = rest_lacks (Cut fork to) f raw left e (cut_lacks h.raw p.frames.pages p.frames.marks f.first f.rest fork to f.is h.held.files.hold.held framed.whole (lacks_first (Cut fork to) f h.raw h.lacks));
       }
+
+  pub removal_failed : (fork : ForkId) → IsFirstWork (Remove fork) now → Leaves (HoldsStore g) p.disk new (IsTornRemoval fork) → IsPartition {V = V} {Q = Q} g (record { disk = new; frames = p.frames; works = p.works; point = p.point })
+  removal_failed fork f left told =
+      let h = before told in
+      let t = left h.raw h.held in
+      record { raw = t.0; held = t.1.0; lacks = first_lacks (Remove fork) f t.0 (torn_removal_lacks h.raw t.0 p.frames.pages p.frames.marks f.first f.rest fork f.is t.1.1 (lacks_first (Remove fork) f h.raw h.lacks)) }
+
+  pub removal_done : (fork : ForkId) → IsFirstWork (Remove fork) now → Turns (HoldsStore g) p.disk new (λ s. without_fork s fork) → (left : Vec Pending) → left.items ≡ remove p.works.items 0
+      → IsPartition {V = V} {Q = Q} g (record { disk = new; frames = p.frames; works = left; point = p.point })
+  removal_done fork f turns left e told =
+      let h = before told in
+      record { raw = without_fork h.raw fork; held = turns h.raw h.held; lacks = rest_lacks (Remove fork) f (without_fork h.raw fork) left e (removed_lacks h.raw p.frames.pages p.frames.marks f.first f.rest fork f.is (lacks_first (Remove fork) f h.raw h.lacks)) }
 
   no_works : (at : BlockId) → IsNextPage at now → p.works.items ≡ []
   no_works at next = ap (λ (x : Part). x.works) is ∙ next.none

@@ -1,23 +1,25 @@
 -- A command of one partition alone, on the part and on the whole store.
-use Rattle.std.proofs.Common.{◌≡◌, ℕ, ◌+◌, true, cond, List, [], ◌∷◌, Option, Some, None, option_map, unwrap_or, is_some, length, refl, ap, sym, subst, ◌∙◌, arith}
+use Rattle.std.proofs.Common.{◌≡◌, ℕ, ◌+◌, ◌||◌, true, false, cond, List, [], ◌∷◌, Option, Some, None, option_map, unwrap_or, is_some, length, refl, ap, sym, subst, ◌∙◌, arith}
 use Rattle.std.specs.Option.{option_or}
 use Rattle.std.specs.FinMap.{get}
+use Rattle.std.proofs.lemmas.Bool.{or_parts}
 use Rattle.byte_words.specs.Numbers.{◌>>=◌}
 use Rattle.lsn_core.specs.declared.ids.ForkId.{ForkId}
 use Rattle.lsn_core.specs.Store.{Store, ForkPages}
 use Rattle.lsn_core.specs.Blocks.{pages_of, with_block, page_put, with_fork, with_cut}
 use Rattle.history.specs.declared.op.Op.TheVariants as op
 use Rattle.history.specs.declared.op.Item.{Item}
-use Rattle.history.specs.Entry.{Create, Truncate, Change, Mark}
-use Rattle.history.specs.Apply.{main_fork, page_at, edited, apply_item, apply_items}
+use Rattle.history.specs.Entry.{Create, Truncate, Change, Drop, Mark}
+use Rattle.history.specs.Apply.{main_fork, init_fork, without_rels, page_at, edited, apply_item, apply_items}
 use Rattle.history.specs.Pages.{page_count}
 use Rattle.history.proofs.Counts.{IsMoved, moved_insert, moved_cut, page_count-with_fork}
-use Rattle.partitions.specs.Parts.{is_of, IsPart}
+use Rattle.partitions.specs.Parts.{is_of, is_rel_of, IsPart}
 use Rattle.partitions.proofs.Puts.{own, pages_own, page_own, page_at_own, cut_own}
 use Rattle.partitions.proofs.Folds.{mapped_some}
+use Rattle.partitions.proofs.Removed.{rels_count}
 use Rattle.partitions.proofs.OwnActs.{own_fork, OfNoOther, first_own, others_own}
 use Rattle.page_pool.specs.declared.fault.OpFault.{OpFault}
-use Rattle.page_pool.specs.declared.fault.OpFault.TheVariants.{ForkExists}
+use Rattle.page_pool.specs.declared.fault.OpFault.TheVariants.{ForkExists, NoFork}
 use Rattle.page_pool.specs.Refusals.{judged_blocks, judged_edits, judged_found, behind_item, judged_items, judged_cut}
 use Rattle.page_pool.specs.Laws.{PartsJudgeAlike, PartsCountAlike}
 
@@ -43,6 +45,10 @@ items_alike q i store part (item ∷ items) is none =
 pub judged_alike : PartsJudgeAlike
 judged_alike q store part (op.Create fork) is none = ap (λ (o : Option ForkPages). cond (is_some o) (Some ForkExists) None) (own q store part fork is (own_fork q fork none))
 judged_alike q store part (op.Truncate rel count) is none = ap (judged_cut count) (own q store part (main_fork rel) is (own_fork q (main_fork rel) none))
+judged_alike q store part (op.Drop rel) is none =
+    let mine = own_fork q (main_fork rel) (λ other k. (or_parts (is_rel_of other rel) false (none other k)).0) in
+    ap (λ (o : Option ForkPages). cond (is_some o || is_some (get part (init_fork rel))) None (Some NoFork)) (own q store part (main_fork rel) is mine)
+    ∙ ap (λ (o : Option ForkPages). cond (is_some (get store (main_fork rel)) || is_some o) None (Some NoFork)) (own q store part (init_fork rel) is mine)
 judged_alike q store part (op.Change items) is none = ap (λ (r : Option OpFault). option_or (judged_blocks 0 [] items) (option_or (judged_edits 0 items) r)) (items_alike q 0 store part items is none)
 
 -- ---- how it counts
@@ -84,6 +90,11 @@ counted_alike q end store part next last (Truncate rel count) is none e f =
     subst (λ (s : Store). page_count s + page_count part ≡ page_count store + page_count next) cut_store
     (subst (λ (p : Store). page_count (with_cut store fork count) + page_count part ≡ page_count store + page_count p) cut_part
     (moved_alike q store part (with_cut part fork count) (with_cut store fork count) fork is (cut_own q store part fork count is mine) mine (moved_cut part fork count) (moved_cut store fork count)))
+counted_alike q end store part next last (Drop rels) is none e f =
+    let done_part : without_rels part rels ≡ next = cc in
+    let done_store : without_rels store rels ≡ last = cc in
+    subst (λ (s : Store). page_count s + page_count part ≡ page_count store + page_count next) done_store
+    (subst (λ (p : Store). page_count (without_rels store rels) + page_count part ≡ page_count store + page_count p) done_part (rels_count q store part rels is none))
 counted_alike q end store part next last (Change items) is none e f = items_count q end store part next last items is none e f
 counted_alike q end store part next last (Mark marking) is none e f =
     let same_part : part ≡ next = cc in

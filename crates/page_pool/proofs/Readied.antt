@@ -76,6 +76,8 @@ made_same end store (op.Create fork) made number free fit is = sym (ap (λ (d : 
 made_same end store (op.Truncate rel count) made number free fit is = sym (ap (λ (d : Done). Some (done_at end d store)) is)
 made_same end store (op.Change items) (done.Created fork) number free fit is = absurd is
 made_same end store (op.Change items) (done.Cut rel count) number free fit is = absurd is
+made_same end store (op.Change items) (done.Dropped rel) number free fit is = absurd is
+made_same end store (op.Drop rel) made number free fit is = sym (ap (λ (d : Done). Some (done_at end d store)) is)
 made_same end store (op.Change items) (done.Put pages) number free fit is =
     items_made end 0 store store [] items pages.items (λ q n. refl) (formed store items number free).0.blocks fit.each is
 
@@ -92,6 +94,8 @@ made_named store (op.Create fork) made is = is
 made_named store (op.Truncate rel count) made is = is
 made_named store (op.Change items) (done.Created fork) is = is
 made_named store (op.Change items) (done.Cut rel count) is = is
+made_named store (op.Change items) (done.Dropped rel) is = is
+made_named store (op.Drop rel) made is = is
 made_named store (op.Change items) (done.Put pages) is = ats_of store items pages.items is
 
 -- so it was checked

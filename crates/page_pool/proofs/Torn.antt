@@ -1,5 +1,5 @@
 -- What writes through segment files leave of what the disk lacks: those that are done, and those that failed.
-use Rattle.std.proofs.Common.{◌≡◌, ℕ, zero, suc, ◌<◌, ◌≤◌, Bool, true, false, cond, ◌&&◌, ◌||◌, List, [], ◌∷◌, length, inl, inr, ◌⊎◌, Option, Some, None, is_some, unwrap_or, refl, ap, sym, subst, ◌∙◌, arith, true≢false, ne_eqb}
+use Rattle.std.proofs.Common.{◌≡◌, ℕ, zero, suc, ◌<◌, ◌≤◌, Bool, true, false, cond, not, ◌&&◌, ◌||◌, List, [], ◌∷◌, length, inl, inr, ◌⊎◌, Option, Some, None, is_some, unwrap_or, refl, ap, sym, subst, ◌∙◌, arith, true≢false, ne_eqb}
 use Rattle.std.specs.Prelude.{nat_le, nat_lt, slice_get, if◌then◌else◌}
 use Rattle.std.proofs.Math.Bool.{or-false}
 use Rattle.std.specs.FinMap.{get, contains_key}
@@ -9,8 +9,8 @@ use Rattle.byte_words.specs.Numbers.{◌>>=◌}
 use Rattle.lsn_core.specs.declared.ids.ForkId.{ForkId}
 use Rattle.lsn_core.specs.declared.ids.BlockId.{BlockId}
 use Rattle.lsn_core.specs.Store.{Store, ForkPages}
-use Rattle.lsn_core.specs.Blocks.{block_of, pages_of, page_put, with_fork, with_cut}
-use Rattle.rel_files.specs.Forks.{AreHeld, HasHeldPages, whole_pages, mended, page_over, IsTornPut, IsTornCut}
+use Rattle.lsn_core.specs.Blocks.{block_of, pages_of, page_put, with_fork, with_cut, without_fork}
+use Rattle.rel_files.specs.Forks.{AreHeld, HasHeldPages, whole_pages, mended, page_over, IsTornPut, IsTornCut, IsTornRemoval}
 use Rattle.rel_files.specs.Shown.{IsTornMake}
 use Rattle.rel_files.proofs.Pages.{HeldBy, held_by}
 use Rattle.rel_files.proofs.ForkStores.{by_fork, mended_missing, mended_get, mended_others, mended_block, mended_past}
@@ -20,11 +20,11 @@ use Rattle.fuzzy_copies.specs.Sound.{Agree}
 use Rattle.fuzzy_copies.proofs.Pages.{block_by_pages, fork_view, contains_key-with_fork, contains_key-with_cut}
 use Rattle.page_frames.specs.Marks.{DirtyMarks, is_dirty, NoneDirtyBefore, cleaned}
 use Rattle.page_pool.specs.declared.work.Work.{Work}
-use Rattle.page_pool.specs.declared.work.Work.TheVariants.{Make, Cut}
+use Rattle.page_pool.specs.declared.work.Work.TheVariants.{Make, Cut, Remove}
 use Rattle.page_pool.specs.declared.work.Pending.{Pending}
-use Rattle.page_pool.specs.Part.{LacksUnwritten, IsMended, if_whole, is_to_make, is_to_cut, work_cuts, work_makes}
+use Rattle.page_pool.specs.Part.{LacksUnwritten, IsMended, if_whole, is_to_settle, is_to_cut, work_cuts, work_settles}
 use Rattle.page_pool.specs.Steps.{ChangedWhereUnwritten, work_done}
-use Rattle.page_pool.proofs.Behind.{cut_block, has_before, has_fork, works_done, pages_written, torn_writes, mended as mended_lacks}
+use Rattle.page_pool.proofs.Behind.{cut_block, block_gone, contains_gone, has_before, has_fork, works_done, pages_written, torn_writes, mended as mended_lacks}
 
 -- ---- a short page is left out
 
@@ -103,6 +103,9 @@ pub cut_lacks : (raw frames : Store) (marks : DirtyMarks) (first : Pending) (res
 cut_lacks raw frames marks first rest fork to is held whole lacks =
     subst (λ (w : Work). LacksUnwritten (work_done w (mended raw fork)) frames marks rest) is (works_done (mended raw fork) frames marks first rest (lacks_mended raw frames marks (first ∷ rest) fork held whole lacks))
 
+pub removed_lacks : (raw frames : Store) (marks : DirtyMarks) (first : Pending) (rest : List Pending) (fork : ForkId) → first.work ≡ Remove fork → LacksUnwritten raw frames marks (first ∷ rest) → LacksUnwritten (without_fork raw fork) frames marks rest
+removed_lacks raw frames marks first rest fork is lacks = subst (λ (w : Work). LacksUnwritten (work_done w raw) frames marks rest) is (works_done raw frames marks first rest lacks)
+
 pub put_lacks : (raw frames : Store) (marks : DirtyMarks) (at : BlockId) (page : List ℕ) → HasHeldPages raw → HasWholeFrames frames → LacksUnwritten raw frames marks [] → block_of frames at.fork at.block ≡ Some page → NoneDirtyBefore marks at
     → LacksUnwritten (page_over at page raw) frames (cleaned marks at) []
 put_lacks raw frames marks at page held whole lacks there first = either (nat_lt at.block (length (whole_pages (pages_of raw at.fork))))
@@ -119,8 +122,8 @@ torn_make_lacks raw new frames marks first rest fork is torn lacks = elim torn [
   | inr made ↦ subst (λ (s : Store). LacksUnwritten s frames marks (first ∷ rest)) (sym made) (torn_writes raw (with_fork raw fork) frames marks (first ∷ rest) changed lacks)
 ]
   where
-    unmade : (f : ForkId) → is_to_make (first ∷ rest) f ≡ false → is_same_fork f fork ≡ false
-    unmade f none = sym (ap (λ (w : Work). work_makes f w) is) ∙ (or_parts (work_makes f first.work) (is_to_make rest f) none).0
+    unmade : (f : ForkId) → is_to_settle (first ∷ rest) f ≡ false → is_same_fork f fork ≡ false
+    unmade f none = sym (ap (λ (w : Work). work_settles f w) is) ∙ (or_parts (work_settles f first.work) (is_to_settle rest f) none).0
 
     changed : ChangedWhereUnwritten raw (with_fork raw fork) marks (first ∷ rest)
     changed = record {
@@ -158,6 +161,36 @@ torn_cut_lacks raw new frames marks first rest fork to is held whole torn lacks 
           ap (λ c. cond c None (block_of raw f b)) gone ∙ sym (off f b clean none parts.0 (leb-true torn.left b parts.1)))
           (λ stays. ap (λ c. cond c None (block_of raw f b)) stays);
       forks = λ f none. contains_key-with_cut raw fork torn.left f;
+    }
+
+-- a removal that failed took blocks, or all of the fork: each of its blocks is to be cut off
+pub torn_removal_lacks : (raw new frames : Store) (marks : DirtyMarks) (first : Pending) (rest : List Pending) (fork : ForkId) → first.work ≡ Remove fork → IsTornRemoval fork raw new → LacksUnwritten raw frames marks (first ∷ rest)
+    → LacksUnwritten new frames marks (first ∷ rest)
+torn_removal_lacks raw new frames marks first rest fork is torn lacks = elim torn [
+  | inl cut ↦ subst (λ (s : Store). LacksUnwritten s frames marks (first ∷ rest)) (sym cut.cut) (torn_writes raw (with_cut raw fork cut.left) frames marks (first ∷ rest) (fewer cut.left) lacks)
+  | inr gone ↦ subst (λ (s : Store). LacksUnwritten s frames marks (first ∷ rest)) (sym gone) (torn_writes raw (without_fork raw fork) frames marks (first ∷ rest) away lacks)
+]
+  where
+    apart : (f : ForkId) (b : ℕ) → is_to_cut (first ∷ rest) f b ≡ false → is_same_fork f fork ≡ false
+    apart f b none = sym (ap (λ (w : Work). work_cuts f b w) is) ∙ (or_parts (work_cuts f b first.work) (is_to_cut rest f b) none).0
+
+    unsettled : (f : ForkId) → is_to_settle (first ∷ rest) f ≡ false → is_same_fork f fork ≡ false
+    unsettled f none = sym (ap (λ (w : Work). work_settles f w) is) ∙ (or_parts (work_settles f first.work) (is_to_settle rest f) none).0
+
+    fewer : (left : ℕ) → ChangedWhereUnwritten raw (with_cut raw fork left) marks (first ∷ rest)
+    fewer left = record {
+      blocks = λ f b clean none. cut_block raw fork left f b ∙ ap (λ c. cond (c && nat_le left b) None (block_of raw f b)) (apart f b none);
+      forks = λ f none. contains_key-with_cut raw fork left f;
+    }
+
+    and_yes : (c : Bool) → (c && not false) ≡ c
+    and_yes true = refl
+    and_yes false = refl
+
+    away : ChangedWhereUnwritten raw (without_fork raw fork) marks (first ∷ rest)
+    away = record {
+      blocks = λ f b clean none. block_gone raw fork f b ∙ ap (λ c. cond c None (block_of raw f b)) (apart f b none);
+      forks = λ f none. contains_gone raw fork f ∙ ap (λ c. contains_key raw f && not c) (unsettled f none) ∙ and_yes (contains_key raw f);
     }
 
 pub torn_put_lacks : (raw new frames : Store) (marks : DirtyMarks) (at : BlockId) (page : List ℕ) → HasHeldPages raw → HasWholeFrames frames → is_dirty marks at.fork at.block ≡ true → block_of frames at.fork at.block ≡ Some page → IsTornPut at raw new → LacksUnwritten raw frames marks []
@@ -204,7 +237,7 @@ torn_put_lacks raw new frames marks at page held whole dirty there torn lacks = 
           (λ ne. ap (λ (o : Option ForkPages). o >>= λ ps. slice_get ps b) (torn.others f ne));
       forks = λ f none. by_fork f at.fork
           (λ same.
-          let old : contains_key raw at.fork ≡ true = lacks.forks at.fork refl ∙ has_fork frames at.fork at.block some in
+          let old : contains_key raw at.fork ≡ true = lacks.forks at.fork ∙ has_fork frames at.fork at.block some in
           ap (λ (x : ForkId). contains_key new x) same ∙ torn.there old ∙ sym old ∙ sym (ap (λ (x : ForkId). contains_key raw x) same))
           (λ ne. ap (λ (o : Option ForkPages). is_some o) (torn.others f ne));
     }

@@ -44,5 +44,5 @@ lacks_same raw s t m n v w st mn vw lacks =
 -- or also what a command touched
 pub lacks_applied : (raw : Store) (f next : Framed) (w more : Vec Pending) (end : ℕ) (command : Op) (ready : Ready) → IsReady (bare f w) command ready → HasApplied end (act_of_op command) (bare f w) (bare next more) → LacksUnwritten raw f.pages f.marks w.items → LacksUnwritten raw next.pages next.marks more.items
 lacks_applied raw f next w more end command ready is done lacks =
-    lacks_same raw next.pages next.pages (marks_after end f.marks (act_of_op command)) next.marks (works_after end w.items (act_of_op command)) more.items refl done.marks done.works
+    lacks_same raw next.pages next.pages (marks_after end f.pages f.marks (act_of_op command)) next.marks (works_after end f.pages w.items (act_of_op command)) more.items refl done.marks done.works
     (acts_entered raw f.pages next.pages f.marks w.items end (act_of_op command) is.tidy done.frames lacks)

@@ -4,17 +4,17 @@ use Rattle.std.specs.Prelude.{◌==◌, nat_le}
 use Rattle.std.specs.List.{AllByRecursion, list_any, filter}
 use Rattle.std.proofs.lemmas.Bool.{and_parts, or_parts, eq-eqb}
 use Rattle.lsn_core.specs.declared.ids.ForkId.{ForkId}
-use Rattle.history.specs.Entry.{Act, Create, Truncate, Change, Mark, NoOp, Entry}
-use Rattle.history.specs.Apply.{main_fork, is_same_fork}
+use Rattle.history.specs.Entry.{Act, Create, Truncate, Change, Drop, Mark, NoOp, Entry}
+use Rattle.history.specs.Apply.{main_fork, is_same_fork, is_fork_of, is_of_any}
 use Rattle.history.proofs.Stores.{by_test, fork_is}
-use Rattle.partitions.specs.Parts.{is_of, is_item_of, act_part, part_of, act_concerns, concerns}
+use Rattle.partitions.specs.Parts.{is_of, is_item_of, is_rel_of, act_part, part_of, act_concerns, concerns}
 use Rattle.partitions.proofs.Folds.{none_kept}
-use Rattle.fuzzy_copies.specs.Touches.{is_at, act_touches, act_cuts, act_creates, touches, resets, creates}
+use Rattle.fuzzy_copies.specs.Touches.{is_at, act_touches, act_cuts, act_settles, touches, resets, settles}
 use Rattle.fuzzy_copies.proofs.Completed.{or_second}
 use Rattle.page_pool.specs.declared.work.Work.{Work}
-use Rattle.page_pool.specs.declared.work.Work.TheVariants.{Make, Cut}
+use Rattle.page_pool.specs.declared.work.Work.TheVariants.{Make, Cut, Remove}
 use Rattle.page_pool.specs.declared.work.Pending.{Pending}
-use Rattle.page_pool.specs.Part.{work_makes, work_cuts, is_to_make, is_to_cut}
+use Rattle.page_pool.specs.Part.{work_settles, work_cuts, is_to_settle, is_to_cut}
 use Rattle.page_pool.specs.Facts.{touch_over, enters, is_entered}
 
 pub or_true : (a b : Bool) → b ≡ true → (a || b) ≡ true
@@ -48,6 +48,7 @@ pub part_touches : (q : ℕ) (fork : ForkId) (b : ℕ) (act : Act) → act_touch
 part_touches q fork b (Create made) h = touches_kept fork b (is_of q made) (Create made) h
 part_touches q fork b (Truncate rel count) h = touches_kept fork b (is_of q (main_fork rel)) (Truncate rel count) h
 part_touches q fork b (Change items) h = any_filtered (is_at fork b) (is_item_of q) items h
+part_touches q fork b (Drop rels) h = h
 part_touches q fork b (Mark marking) h = h
 
 -- of an act that doesn't concern the partition the part touches nothing
@@ -55,6 +56,7 @@ other_touches : (q : ℕ) (fork : ForkId) (b : ℕ) (act : Act) → act_concerns
 other_touches q fork b (Create made) none = ap (λ c. act_touches fork b (cond c (Create made) (Mark NoOp))) none
 other_touches q fork b (Truncate rel count) none = ap (λ c. act_touches fork b (cond c (Truncate rel count) (Mark NoOp))) none
 other_touches q fork b (Change items) none = ap (list_any (is_at fork b)) (none_kept (is_item_of q) items none)
+other_touches q fork b (Drop rels) none = refl
 other_touches q fork b (Mark marking) none = refl
 
 pub others_touch : (q : ℕ) (fork : ForkId) (b : ℕ) (last : Option ℕ) (es : List Entry) → list_any (concerns q) es ≡ false → fold (touch_over fork b) last (map (part_of q) es) ≡ last
@@ -100,27 +102,40 @@ part_enters : (q : ℕ) (work : Work) (act : Act) → enters (act_part q act) wo
 part_enters q work (Create made) h = enters_kept work (is_of q made) (Create made) h
 part_enters q work (Truncate rel count) h = enters_kept work (is_of q (main_fork rel)) (Truncate rel count) h
 part_enters q work (Change items) h = h
+part_enters q (Make made) (Drop rels) h = h
+part_enters q (Cut cut n) (Drop rels) h = h
+part_enters q (Remove gone) (Drop rels) h = any_filtered (is_fork_of gone) (is_rel_of q) rels h
 part_enters q work (Mark marking) h = h
 
--- an act that enters a work cuts off and creates what the work does
+-- an act that enters a work cuts off and settles what the work does
 cut_entered : (fork : ForkId) (b : ℕ) (act : Act) (work : Work) → enters act work ≡ true → work_cuts fork b work ≡ true → act_cuts fork b act ≡ true
 cut_entered fork b (Create made) (Make m) e c = absurd (true≢false (sym c))
 cut_entered fork b (Create made) (Cut cut n) e c = absurd (true≢false (sym e))
+cut_entered fork b (Create made) (Remove gone) e c = absurd (true≢false (sym e))
 cut_entered fork b (Truncate rel count) (Make m) e c = absurd (true≢false (sym e))
+cut_entered fork b (Truncate rel count) (Remove gone) e c = absurd (true≢false (sym e))
 cut_entered fork b (Truncate rel count) (Cut cut n) e c =
     let same = and_parts (is_same_fork cut (main_fork rel)) (n == count) e in
     let cuts = and_parts (is_same_fork fork cut) (nat_le n b) c in
     both (is_same_fork fork (main_fork rel)) (nat_le count b) (ap (is_same_fork fork) (sym (fork_is cut (main_fork rel) same.0)) ∙ cuts.0) (ap (λ (k : ℕ). nat_le k b) (sym (eqb-true n count same.1)) ∙ cuts.1)
 cut_entered fork b (Change items) work e c = absurd (true≢false (sym e))
+cut_entered fork b (Drop rels) (Make m) e c = absurd (true≢false (sym e))
+cut_entered fork b (Drop rels) (Cut cut n) e c = absurd (true≢false (sym e))
+cut_entered fork b (Drop rels) (Remove gone) e c = ap (λ (f : ForkId). is_of_any f rels) (fork_is fork gone c) ∙ e
 cut_entered fork b (Mark marking) work e c = absurd (true≢false (sym e))
 
-make_entered : (fork : ForkId) (act : Act) (work : Work) → enters act work ≡ true → work_makes fork work ≡ true → act_creates fork act ≡ true
-make_entered fork (Create made) (Make m) e c = ap (is_same_fork fork) (sym (fork_is m made e)) ∙ c
-make_entered fork (Create made) (Cut cut n) e c = absurd (true≢false (sym e))
-make_entered fork (Truncate rel count) (Make m) e c = absurd (true≢false (sym e))
-make_entered fork (Truncate rel count) (Cut cut n) e c = absurd (true≢false (sym c))
-make_entered fork (Change items) work e c = absurd (true≢false (sym e))
-make_entered fork (Mark marking) work e c = absurd (true≢false (sym e))
+settle_entered : (fork : ForkId) (act : Act) (work : Work) → enters act work ≡ true → work_settles fork work ≡ true → act_settles fork act ≡ true
+settle_entered fork (Create made) (Make m) e c = ap (is_same_fork fork) (sym (fork_is m made e)) ∙ c
+settle_entered fork (Create made) (Cut cut n) e c = absurd (true≢false (sym e))
+settle_entered fork (Create made) (Remove gone) e c = absurd (true≢false (sym e))
+settle_entered fork (Truncate rel count) (Make m) e c = absurd (true≢false (sym e))
+settle_entered fork (Truncate rel count) (Cut cut n) e c = absurd (true≢false (sym c))
+settle_entered fork (Truncate rel count) (Remove gone) e c = absurd (true≢false (sym e))
+settle_entered fork (Change items) work e c = absurd (true≢false (sym e))
+settle_entered fork (Drop rels) (Make m) e c = absurd (true≢false (sym e))
+settle_entered fork (Drop rels) (Cut cut n) e c = absurd (true≢false (sym e))
+settle_entered fork (Drop rels) (Remove gone) e c = ap (λ (f : ForkId). is_of_any f rels) (fork_is fork gone c) ∙ e
+settle_entered fork (Mark marking) work e c = absurd (true≢false (sym e))
 
 -- entries entered all of some works
 abbrev pub AreEntered : List Entry → List Pending → Type 0
@@ -131,16 +146,16 @@ cuts_back : (q : ℕ) (fork : ForkId) (b : ℕ) (es : List Entry) (w : Pending) 
 cuts_back q fork b es w entered cuts =
     any_part q (entered_by w) (resets fork b) es (λ e h. or_true (act_touches fork b e.act) (act_cuts fork b e.act) (cut_entered fork b e.act w.work (part_enters q w.work e.act (and_parts (enters (act_part q e.act) w.work) (e.end == w.end.0) h).0) cuts)) entered
 
-makes_back : (q : ℕ) (fork : ForkId) (es : List Entry) (w : Pending) → is_entered (map (part_of q) es) w ≡ true → work_makes fork w.work ≡ true → list_any (creates fork) es ≡ true
-makes_back q fork es w entered makes =
-    any_part q (entered_by w) (creates fork) es (λ e h. make_entered fork e.act w.work (part_enters q w.work e.act (and_parts (enters (act_part q e.act) w.work) (e.end == w.end.0) h).0) makes) entered
+settles_back : (q : ℕ) (fork : ForkId) (es : List Entry) (w : Pending) → is_entered (map (part_of q) es) w ≡ true → work_settles fork w.work ≡ true → list_any (settles fork) es ≡ true
+settles_back q fork es w entered makes =
+    any_part q (entered_by w) (settles fork) es (λ e h. settle_entered fork e.act w.work (part_enters q w.work e.act (and_parts (enters (act_part q e.act) w.work) (e.end == w.end.0) h).0) makes) entered
 
 pub entered_cuts : (q : ℕ) (fork : ForkId) (b : ℕ) (es : List Entry) (works : List Pending) → AreEntered (map (part_of q) es) works → is_to_cut works fork b ≡ true → list_any (resets fork b) es ≡ true
 entered_cuts q fork b es [] entered cut = absurd (true≢false (sym cut))
 entered_cuts q fork b es (w ∷ works) entered cut =
     by_test (work_cuts fork b w.work) (cuts_back q fork b es w entered.0) (λ not_now. entered_cuts q fork b es works entered.1 (or_second (work_cuts fork b w.work) (is_to_cut works fork b) cut not_now))
 
-pub entered_makes : (q : ℕ) (fork : ForkId) (es : List Entry) (works : List Pending) → AreEntered (map (part_of q) es) works → is_to_make works fork ≡ true → list_any (creates fork) es ≡ true
-entered_makes q fork es [] entered make = absurd (true≢false (sym make))
-entered_makes q fork es (w ∷ works) entered make =
-    by_test (work_makes fork w.work) (makes_back q fork es w entered.0) (λ not_now. entered_makes q fork es works entered.1 (or_second (work_makes fork w.work) (is_to_make works fork) make not_now))
+pub entered_settles : (q : ℕ) (fork : ForkId) (es : List Entry) (works : List Pending) → AreEntered (map (part_of q) es) works → is_to_settle works fork ≡ true → list_any (settles fork) es ≡ true
+entered_settles q fork es [] entered make = absurd (true≢false (sym make))
+entered_settles q fork es (w ∷ works) entered make =
+    by_test (work_settles fork w.work) (settles_back q fork es w entered.0) (λ not_now. entered_settles q fork es works entered.1 (or_second (work_settles fork w.work) (is_to_settle works fork) make not_now))

@@ -92,6 +92,7 @@ HasWrittenNext None old new =
     (next_end old ≡ None) × (new.marks ≡ old.marks) × (new.works ≡ old.works)
 HasWrittenNext (Some (wrote.Made fork)) old new = HasDone (work.Make fork) old new
 HasWrittenNext (Some (wrote.Cut fork count)) old new = HasDone (work.Cut fork count) old new
+HasWrittenNext (Some (wrote.Removed fork)) old new = HasDone (work.Remove fork) old new
 HasWrittenNext (Some (wrote.Wrote at)) old new = HasWrittenPage at old new
 
 -- the frames and the point stay

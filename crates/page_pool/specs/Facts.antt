@@ -4,15 +4,15 @@ use Rattle.std.specs.List.{All, fold, list_any}
 use Rattle.std.specs.FinMap.{empty}
 use Rattle.lsn_core.specs.declared.ids.ForkId.{ForkId}
 use Rattle.lsn_core.specs.Tip.{tip_with}
-use Rattle.history.specs.Entry.{Act, Create, Truncate, Change, Mark, Entry}
-use Rattle.history.specs.Apply.{main_fork, is_same_fork, apply_all}
+use Rattle.history.specs.Entry.{Act, Create, Truncate, Change, Drop, Mark, Entry}
+use Rattle.history.specs.Apply.{main_fork, is_same_fork, is_of_any, apply_all}
 use Rattle.history.specs.Written.{tip_over}
 use Rattle.partitions.specs.Parts.{part_of}
 use Rattle.fuzzy_copies.specs.Touches.{touches}
 use Rattle.fuzzy_copies.specs.Taken.{since}
 use Rattle.page_frames.specs.Marks.{DirtyMarks, touch_end}
 use Rattle.page_pool.specs.declared.work.Work.{Work}
-use Rattle.page_pool.specs.declared.work.Work.TheVariants.{Make, Cut}
+use Rattle.page_pool.specs.declared.work.Work.TheVariants.{Make, Cut, Remove}
 use Rattle.page_pool.specs.declared.work.Pending.{Pending}
 use Rattle.page_pool.specs.Part.{Part}
 
@@ -28,14 +28,20 @@ touch_over fork block last e = if touches fork block e then Some e.end else last
 abbrev pub last_touch : ForkId → ℕ → List Entry → Option ℕ
 last_touch fork block entries = fold (touch_over fork block) None entries
 
--- an act enters a work: a creation the making of its fork, a truncation the cut of its main fork
+-- an act enters a work: a creation the making of its fork, a truncation the cut of its main fork, a
+-- drop the removal of a fork of its relations
 abbrev pub enters : Act → Work → Bool
 enters (Create fork) (Make made) = is_same_fork made fork
 enters (Create fork) (Cut cut blocks) = false
+enters (Create fork) (Remove gone) = false
 enters (Truncate rel count) (Make made) = false
 enters (Truncate rel count) (Cut cut blocks) =
     is_same_fork cut (main_fork rel) && (blocks == count)
+enters (Truncate rel count) (Remove gone) = false
 enters (Change items) work = false
+enters (Drop rels) (Make made) = false
+enters (Drop rels) (Cut cut blocks) = false
+enters (Drop rels) (Remove gone) = is_of_any gone rels
 enters (Mark marking) work = false
 
 -- one of some entries entered a pending work, and ends where the work says

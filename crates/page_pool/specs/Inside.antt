@@ -27,6 +27,7 @@ use Rattle.page_pool.specs.declared.ready.NewPage.{NewPage}
 use Rattle.page_pool.specs.declared.work.Work.TheVariants as work
 use Rattle.page_pool.specs.declared.work.Pending.{Pending}
 use Rattle.page_pool.specs.Part.{Part}
+use Rattle.page_pool.specs.Steps.{marks_dropped, works_dropped}
 use Rattle.page_pool.specs.Refusals.{most_items, judged_blocks, judged_edits}
 
 -- ---- judging
@@ -88,8 +89,10 @@ IsDoneBy store (op.Create fork) made = made ≡ done.Created fork
 IsDoneBy store (op.Truncate rel count) made = made ≡ done.Cut rel count
 IsDoneBy store (op.Change items) (done.Created fork) = ⊥
 IsDoneBy store (op.Change items) (done.Cut rel count) = ⊥
+IsDoneBy store (op.Change items) (done.Dropped rel) = ⊥
 IsDoneBy store (op.Change items) (done.Put pages) =
     map seen_page pages.items ≡ map (page_of_item store) items
+IsDoneBy store (op.Drop rel) made = made ≡ done.Dropped rel
 
 -- ---- what is done
 
@@ -110,19 +113,22 @@ abbrev pub pages_touched : ℕ → DirtyMarks → List NewPage → DirtyMarks
 pages_touched end marks [] = marks
 pages_touched end marks (new ∷ pages) = pages_touched end (touched end marks new.at) pages
 
--- the marks and the pending works behind what was made ready, by an entry that ends at a place
-abbrev pub marks_done : ℕ → DirtyMarks → Done → DirtyMarks
-marks_done end marks (done.Created fork) = insert marks fork (fork_marks marks fork)
-marks_done end marks (done.Cut rel count) =
+-- the marks and the pending works behind what was made ready on these frames, by an entry that ends
+-- at a place
+abbrev pub marks_done : ℕ → Store → DirtyMarks → Done → DirtyMarks
+marks_done end frames marks (done.Created fork) = insert marks fork (fork_marks marks fork)
+marks_done end frames marks (done.Cut rel count) =
     insert marks (main_fork rel) (take count (fork_marks marks (main_fork rel)))
-marks_done end marks (done.Put pages) = pages_touched end marks pages.items
+marks_done end frames marks (done.Put pages) = pages_touched end marks pages.items
+marks_done end frames marks (done.Dropped rel) = marks_dropped frames marks (rel ∷ [])
 
-abbrev pub works_done : ℕ → List Pending → Done → List Pending
-works_done end works (done.Created fork) =
+abbrev pub works_done : ℕ → Store → List Pending → Done → List Pending
+works_done end frames works (done.Created fork) =
     works ++ (record { work = work.Make fork; end = record { 0 = end } } ∷ [])
-works_done end works (done.Cut rel count) =
+works_done end frames works (done.Cut rel count) =
     works ++ (record { work = work.Cut (main_fork rel) count; end = record { 0 = end } } ∷ [])
-works_done end works (done.Put pages) = works
+works_done end frames works (done.Put pages) = works
+works_done end frames works (done.Dropped rel) = works_dropped end frames works (rel ∷ [])
 
 -- what was made ready may be done on a partition, without memory
 abbrev pub MayBeDone : ℕ → Part → Done → Type 0
@@ -130,6 +136,7 @@ MayBeDone end part (done.Created fork) =
     HasRoom part.page_room fork 0 × (get part.frames fork ≡ None) × (1 ≤ part.work_room)
 MayBeDone end part (done.Cut rel count) =
     IsSome (get part.frames (main_fork rel)) × (1 ≤ part.work_room)
+MayBeDone end part (done.Dropped rel) = 2 ≤ part.work_room
 MayBeDone end part (done.Put pages) =
     ArePlaces end part.frames pages.items
     × All (λ p. HasRoom part.page_room p.at.fork (length pages.items)) pages.items

@@ -29,7 +29,8 @@ ActsAreEntered =
     (disk frames next : Store) (marks : DirtyMarks) (works : List Pending) (end : ℕ) (act : Act)
     → IsTidy frames act → apply_act end frames act ≡ Some next
     → LacksUnwritten disk frames marks works
-    → LacksUnwritten disk next (marks_after end marks act) (works_after end works act)
+    → LacksUnwritten disk next (marks_after end frames marks act)
+    (works_after end frames works act)
 
 -- the first pending work done on the disk isn't pending any more
 abbrev pub WorksAreDone : Type 0

@@ -1,5 +1,5 @@
 -- A partition of a store: its pages in frames, and what of them isn't written to its disk yet.
-use Rattle.std.specs.Prelude.{◌≡◌, ℕ, ◌==◌, ◌&&◌, max, Bool, true, false, List, ◌++◌, ◌⊎◌, map, length, slice_get, nat_le, Option, Some, None, if◌then◌else◌}
+use Rattle.std.specs.Prelude.{◌≡◌, ℕ, ◌==◌, ◌&&◌, max, Bool, true, false, not, ◌||◌, List, [], ◌∷◌, ◌++◌, ◌⊎◌, map, length, slice_get, nat_le, Option, Some, None, if◌then◌else◌}
 use Rattle.std.specs.List.{list_any, flat_map, reduce}
 use Rattle.std.specs.FinMap.{keys, contains_key}
 use Rattle.lsn_core.specs.declared.ids.ForkId.{ForkId}
@@ -12,7 +12,7 @@ use Rattle.fuzzy_copies.specs.Sound.{Agree}
 use Rattle.page_frames.specs.Marks.{DirtyMarks, is_dirty, dirty_ends}
 use Rattle.page_frames.specs.Framed.{PageRoom}
 use Rattle.page_pool.specs.declared.work.Work.{Work}
-use Rattle.page_pool.specs.declared.work.Work.TheVariants.{Make, Cut}
+use Rattle.page_pool.specs.declared.work.Work.TheVariants.{Make, Cut, Remove}
 use Rattle.page_pool.specs.declared.work.Pending.{Pending}
 
 -- what a partition holds
@@ -28,21 +28,33 @@ pub record Part : Type 0 where
   pub past : Option (List Event)  -- what happened to the area, where that tells it
   pub faults : ℕ  -- how often a call of the area failed
 
--- a work makes the fork; it cuts the block off
-abbrev pub work_makes : ForkId → Work → Bool
-work_makes fork (Make made) = is_same_fork fork made
-work_makes fork (Cut cut count) = false
+-- a work settles whether the fork is there, since it makes or removes it; it cuts the block off
+abbrev pub work_settles : ForkId → Work → Bool
+work_settles fork (Make made) = is_same_fork fork made
+work_settles fork (Cut cut count) = false
+work_settles fork (Remove gone) = is_same_fork fork gone
 
 abbrev pub work_cuts : ForkId → ℕ → Work → Bool
 work_cuts fork block (Make made) = false
 work_cuts fork block (Cut cut count) = is_same_fork fork cut && nat_le count block
+work_cuts fork block (Remove gone) = is_same_fork fork gone
 
--- one of the pending works makes the fork; one cuts the block off
-abbrev pub is_to_make : List Pending → ForkId → Bool
-is_to_make works fork = list_any (λ w. work_makes fork w.work) works
+-- one of the pending works makes the fork or removes it; one cuts the block off
+abbrev pub is_to_settle : List Pending → ForkId → Bool
+is_to_settle works fork = list_any (λ w. work_settles fork w.work) works
 
 abbrev pub is_to_cut : List Pending → ForkId → ℕ → Bool
 is_to_cut works fork block = list_any (λ w. work_cuts fork block w.work) works
+
+-- whether a fork is there once a work is done, by whether it was before, and once all are
+abbrev pub there_after : ForkId → Bool → Work → Bool
+there_after fork there (Make made) = there || is_same_fork fork made
+there_after fork there (Cut cut count) = there
+there_after fork there (Remove gone) = there && not (is_same_fork fork gone)
+
+abbrev pub there_behind : List Pending → ForkId → Bool → Bool
+there_behind [] fork there = there
+there_behind (w ∷ works) fork there = there_behind works fork (there_after fork there w.work)
 
 -- a disk lacks of the frames what is dirty or pending, and nothing else
 pub record LacksUnwritten (disk frames : Store) (marks : DirtyMarks) (works : List Pending)
@@ -53,11 +65,9 @@ pub record LacksUnwritten (disk frames : Store) (marks : DirtyMarks) (works : Li
   -- a clean block that a pending work cuts isn't there any more
   pub gone : (fork : ForkId) (block : ℕ) → is_dirty marks fork block ≡ false
       → is_to_cut works fork block ≡ true → block_of frames fork block ≡ None
-  -- it has the forks that there are, unless a pending work makes one
-  pub forks : (fork : ForkId) → is_to_make works fork ≡ false
-      → contains_key disk fork ≡ contains_key frames fork
-  -- a fork that a pending work makes is there
-  pub made : (fork : ForkId) → is_to_make works fork ≡ true → contains_key frames fork ≡ true
+  -- once the pending works are done it has the forks that there are
+  pub forks : (fork : ForkId)
+      → there_behind works fork (contains_key disk fork) ≡ contains_key frames fork
 
 -- a page of 8192 bytes; a short one, as a write that failed may leave at a fork's end, is none
 abbrev pub if_whole : Option (List ℕ) → Option (List ℕ)

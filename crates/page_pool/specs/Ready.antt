@@ -7,7 +7,7 @@ use Rattle.pg_page.specs.Header.{with_lsn}
 use Rattle.wal_record.specs.Spelling.{IsWritable}
 use Rattle.history.specs.declared.op.Op.{Op}
 use Rattle.history.specs.declared.op.Op.TheVariants as op
-use Rattle.history.specs.Apply.{main_fork, apply_act}
+use Rattle.history.specs.Apply.{main_fork, without_rel, apply_act}
 use Rattle.history.specs.Op.{act_of_op, IsTidy}
 use Rattle.history.specs.Pages.{page_count}
 use Rattle.history.specs.Written.{kind_of}
@@ -15,7 +15,7 @@ use Rattle.page_frames.specs.Framed.{HasRoom}
 use Rattle.page_pool.specs.declared.fault.OpFault.{OpFault}
 use Rattle.page_pool.specs.declared.ready.Ready.{Ready}
 use Rattle.page_pool.specs.declared.ready.Done.{Done}
-use Rattle.page_pool.specs.declared.ready.Done.TheVariants.{Created, Cut, Put}
+use Rattle.page_pool.specs.declared.ready.Done.TheVariants.{Created, Cut, Put, Dropped}
 use Rattle.page_pool.specs.declared.ready.NewPage.{NewPage}
 use Rattle.page_pool.specs.Part.{Part}
 use Rattle.page_pool.specs.Refusals.{judged_op, IsRefusedOp, most_items}
@@ -31,6 +31,7 @@ abbrev pub done_at : ℕ → Done → Store → Store
 done_at end (Created fork) store = with_fork store fork
 done_at end (Cut rel count) store = with_cut store (main_fork rel) count
 done_at end (Put pages) store = pages_put end pages.items store
+done_at end (Dropped rel) store = without_rel store rel
 
 -- what was made ready is of the forks and blocks that the command names
 abbrev pub IsOfOp : Op → Done → Type 0
@@ -38,12 +39,15 @@ IsOfOp (op.Create fork) done = done ≡ Created fork
 IsOfOp (op.Truncate rel count) done = done ≡ Cut rel count
 IsOfOp (op.Change items) (Created fork) = ⊥
 IsOfOp (op.Change items) (Cut rel count) = ⊥
+IsOfOp (op.Change items) (Dropped rel) = ⊥
 IsOfOp (op.Change items) (Put pages) = map (λ i. i.at) items ≡ map (λ p. p.at) pages.items
+IsOfOp (op.Drop rel) done = done ≡ Dropped rel
 
--- it takes no memory: there is room for a fork, for a work, and for as many pages as there are
+-- it takes no memory: there is room for a fork, for a work (for a drop two), and for as many pages as there are
 abbrev pub HasRoomFor : Part → Done → Type 0
 HasRoomFor part (Created fork) = HasRoom part.page_room fork 0 × (1 ≤ part.work_room)
 HasRoomFor part (Cut rel count) = 1 ≤ part.work_room
+HasRoomFor part (Dropped rel) = 2 ≤ part.work_room
 HasRoomFor part (Put pages) =
     All (λ p. HasRoom part.page_room p.at.fork (length pages.items)) pages.items
 
@@ -74,3 +78,4 @@ abbrev pub HasItems : Op → Type 0
 HasItems (op.Create fork) = Unit {0}
 HasItems (op.Truncate rel count) = Unit {0}
 HasItems (op.Change items) = (1 ≤ length items) × (length items ≤ most_items)
+HasItems (op.Drop rel) = Unit {0}

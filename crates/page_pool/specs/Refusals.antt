@@ -13,7 +13,7 @@ use Rattle.history.specs.declared.op.Op.TheVariants as op
 use Rattle.history.specs.declared.op.Item.{Item}
 use Rattle.history.specs.declared.op.Edit.{Edit}
 use Rattle.history.specs.declared.op.Edit.TheVariants.{Put, Patch}
-use Rattle.history.specs.Apply.{main_fork, apply_item}
+use Rattle.history.specs.Apply.{main_fork, init_fork, apply_item}
 use Rattle.history.specs.Whole.{is_named}
 use Rattle.page_pool.specs.declared.fault.OpFault.{OpFault}
 use Rattle.page_pool.specs.declared.fault.OpFault.TheVariants.{NoFork, ForkExists, PastEnd, NoBlock, BadPage, BadFragment, ForkFull, CutPastEnd, NoMemory, SameBlock}
@@ -89,6 +89,9 @@ judged_op store (op.Truncate rel count) = judged_cut count (get store (main_fork
 judged_op store (op.Change items) =
     option_or (judged_blocks 0 [] items)
     (option_or (judged_edits 0 items) (judged_items 0 store items))
+judged_op store (op.Drop rel) =
+    if is_some (get store (main_fork rel)) || is_some (get store (init_fork rel)) then None
+    else Some NoFork
 
 -- a refusal is the first one; want of memory may come at any time
 abbrev pub IsRefusedOp : Store → Op → OpFault → Type 0

@@ -1,15 +1,15 @@
 //! Commands judged and made ready, and done.
 
-ghost use Rattle.std.specs.Prelude.{◌≡◌, ◌<◌, [], ◌∷◌, ◌++◌, OnOk, length, box_value, vec_len, vec_capacity};
+ghost use Rattle.std.specs.Prelude.{◌≡◌, ◌+◌, ◌-◌, ◌<◌, ◌≤◌, [], ◌∷◌, ◌++◌, OnOk, length, box_value, vec_len, vec_capacity};
 ghost use Rattle.std.specs.List.{All};
 ghost use Rattle.history.specs.declared.op.Op.{Op};
 ghost use Rattle.history.specs.Op.{act_of_op};
-ghost use Rattle.lsn_core.specs.Blocks.{page_put};
+ghost use Rattle.lsn_core.specs.Blocks.{page_put, without_fork};
 ghost use Rattle.pg_page.specs.Header.{with_lsn};
 ghost use Rattle.page_frames.specs.Framed.{HasRoom, HasPlace, TakesRoom};
 ghost use Rattle.page_frames.specs.Marks.{touched};
 ghost use Rattle.page_pool.specs.Ready.{HasItems, HasRoomFor, CheckAnswer, IsReady, pages_put, done_at};
-ghost use Rattle.page_pool.specs.Steps.{HasApplied};
+ghost use Rattle.page_pool.specs.Steps.{HasApplied, marks_without, with_removal};
 ghost use Rattle.page_pool.specs.Calls.{SameUnwritten, SameDisk};
 ghost use Rattle.page_pool.specs.Inside.{bare, MayBeDone, marks_done, works_done, ArePlaces, pages_touched};
 
@@ -19,8 +19,8 @@ use crate::kinds::make;
 use crate::partition::Partition;
 use crate::ready::{Done, NewPage, Ready};
 use crate::work::{Pending, Work};
-use history::{Op, main_fork};
-use lsn_core::{Lsn, NoMemory};
+use history::{Op, init_fork, main_fork};
+use lsn_core::{ForkId, Lsn, NoMemory};
 use page_frames::Frames;
 use pg_page::set_lsn;
 use std::alloc::Global;
@@ -92,6 +92,10 @@ fn reserve(frames: &mut Frames, works: &mut Vec<Pending>, done: &Done) -> Result
             Ok(())
         }
         Done::Put(pages) => reserve_pages(frames, pages),
+        Done::Dropped(_) => {
+            works.reserve(2)?;
+            Ok(())
+        }
     }
 }
 
@@ -123,8 +127,8 @@ pub(crate) fn apply(frames: &mut Frames, works: &mut Vec<Pending>, ready: Ready,
 fn finish(frames: &mut Frames, works: &mut Vec<Pending>, done: Done, end: Lsn)
     requires { MayBeDone end.0 (bare frames.old works.old) done }
     ensures pages { frames.new.pages ≡ done_at end.0 done frames.old.pages }
-    ensures marks { frames.new.marks ≡ marks_done end.0 frames.old.marks done }
-    ensures works { works.new.items ≡ works_done end.0 works.old.items done }
+    ensures marks { frames.new.marks ≡ marks_done end.0 frames.old.pages frames.old.marks done }
+    ensures works { works.new.items ≡ works_done end.0 frames.old.pages works.old.items done }
 {
     match done {
         Done::Created(fork) => {
@@ -137,13 +141,37 @@ fn finish(frames: &mut Frames, works: &mut Vec<Pending>, done: Done, end: Lsn)
             enter(works, Work::Cut(fork, count), end);
         }
         Done::Put(pages) => put_pages(frames, pages, end),
+        Done::Dropped(rel) => {
+            drop_fork(frames, works, &main_fork(rel), end);
+            drop_fork(frames, works, &init_fork(rel), end);
+        }
+    }
+}
+
+/// Takes a fork away, where it is there, and enters its removal, where there is room for it.
+fn drop_fork(frames: &mut Frames, works: &mut Vec<Pending>, fork: &ForkId, end: Lsn)
+    requires { vec_len works.old < vec_capacity works.old }
+    ensures pages { frames.new.pages ≡ without_fork frames.old.pages fork.now }
+    ensures marks { frames.new.marks
+        ≡ marks_without frames.old.pages frames.old.marks fork.now }
+    ensures works { works.new.items
+        ≡ with_removal end.0 frames.old.pages works.old.items fork.now }
+    ensures room { vec_capacity works.old - vec_len works.old
+        ≤ vec_capacity works.new - vec_len works.new + 1 }
+{
+    if frames.blocks(fork).is_some() {
+        frames.remove(fork);
+        enter(works, Work::Remove(*fork), end);
     }
 }
 
 /// Enters a pending work, where there is room for one more.
 fn enter(works: &mut Vec<Pending>, work: Work, end: Lsn)
     requires { vec_len works.old < vec_capacity works.old }
-    ensures { works.new.items ≡ works.old.items ++ (record { work = work; end = end } ∷ []) }
+    ensures items { works.new.items
+        ≡ works.old.items ++ (record { work = work; end = end } ∷ []) }
+    ensures room { vec_capacity works.old - vec_len works.old
+        ≤ vec_capacity works.new - vec_len works.new + 1 }
 {
     works.push_reserved(Pending { work, end });
 }

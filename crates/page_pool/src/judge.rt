@@ -1,8 +1,10 @@
 //! Whether a command may be done on a partition's pages.
 
-ghost use Rattle.std.specs.Prelude.{◌≡◌, ◌<◌, false, [], map, length, get_or, None, IfOk};
+ghost use Rattle.std.specs.Prelude.{◌≡◌, ◌<◌, ◌≤◌, ◌^◌, false, [], map, length, get_or, None, IfOk};
 ghost use Rattle.std.specs.FinMap.{get};
 ghost use Rattle.std.specs.Result.{result_err};
+ghost use Rattle.std.specs.Option.{is_some};
+ghost use Rattle.lsn_core.specs.Blocks.{pages_of};
 ghost use Rattle.lsn_core.specs.Store.{Store, ForkPages};
 ghost use Rattle.pg_page.specs.Header.{zero_page};
 ghost use Rattle.pg_page.specs.Frags.{bad_frag, written_frags, is_good};
@@ -15,7 +17,7 @@ ghost use Rattle.page_pool.specs.Inside.{grown, IsBehind, HasGoodFrags, IsFormed
 
 use crate::fault::OpFault;
 use crate::form::{judge_blocks, judge_edits};
-use history::{Edit, Item, Op, is_same_fork, main_fork};
+use history::{Edit, Item, Op, init_fork, is_same_fork, main_fork};
 use lsn_core::{BlockId, ForkId, MOST_BLOCKS, Rel};
 use page_frames::{Frames, keeps_header};
 use pg_page::{Frag, zero_page};
@@ -37,6 +39,7 @@ pub(crate) fn judge(frames: &Frames, op: &Op) -> Result<Counts, OpFault>
         Op::Create(fork) => judge_creation(frames, fork),
         Op::Truncate(rel, blocks) => judge_cut(frames, *rel, *blocks),
         Op::Change(items) => judge_change(frames, items.as_slice()),
+        Op::Drop(rel) => judge_drop(frames, *rel),
     }
 }
 
@@ -67,6 +70,38 @@ fn judge_cut(frames: &Frames, rel: Rel, blocks: u32) -> Result<Counts, OpFault>
             let gone = (length - blocks as usize) as u64;
             Ok(Counts { added: 0, gone })
         }
+    }
+}
+
+/// Whether a relation may be dropped.
+fn judge_drop(frames: &Frames, rel: Rel) -> Result<Counts, OpFault>
+    ensures judged { result_err result ≡ judged_op frames.now.pages (op.Drop rel) }
+    ensures counted { IfOk result
+        (λ c. IsCounted frames.now.pages (op.Drop rel) c.added c.gone) }
+{
+    if !is_there(frames, &main_fork(rel)) && !is_there(frames, &init_fork(rel)) {
+        return Err(OpFault::NoFork);
+    }
+    let gone = pages_in(frames, &main_fork(rel)) + pages_in(frames, &init_fork(rel));
+    Ok(Counts { added: 0, gone })
+}
+
+/// Whether a fork is there.
+fn is_there(frames: &Frames, fork: &ForkId) -> bool
+    ensures { result ≡ is_some (get frames.now.pages fork.now) }
+{
+    frames.blocks(fork).is_some()
+}
+
+/// How many pages a fork has; a missing fork has none.
+fn pages_in(frames: &Frames, fork: &ForkId) -> u64
+    ensures count { result ≡ length (pages_of frames.now.pages fork.now) }
+    ensures few { result ≤ 2 ^ 32 }
+{
+    frames.know();
+    match frames.blocks(fork) {
+        Some(count) => count as u64,
+        None => 0,
     }
 }
 

@@ -12,7 +12,7 @@ ghost use Rattle.history.specs.Written.{kind_of, body_of, block_of_item};
 ghost use Rattle.page_pool.specs.Inside.{page_of_edit, IsDoneBy};
 
 use crate::ready::{Done, NewPage};
-use checkpointer::{creation_kind, needs_image, truncation_kind};
+use checkpointer::{creation_kind, drop_kind, needs_image, truncation_kind};
 use history::{Edit, Item, Op};
 use lsn_core::{BlockId, Lsn, NoMemory, Rel};
 use page_frames::Frames;
@@ -49,6 +49,11 @@ pub(crate) fn make(alloc: Global, frames: &Frames, op: &Op, redo: Lsn) -> Result
             Ok(Made { kind, done })
         }
         Op::Change(items) => make_change(alloc, frames, items.as_slice(), redo),
+        Op::Drop(rel) => {
+            let kind = drop_kind(alloc, *rel)?;
+            let done = Done::Dropped(*rel);
+            Ok(Made { kind, done })
+        }
     }
 }
 

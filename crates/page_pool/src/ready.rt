@@ -22,6 +22,8 @@ pub(crate) enum Done {
     Cut(Rel, u32),
     /// It puts pages.
     Put(Vec<NewPage>),
+    /// It takes away all forks of a relation.
+    Dropped(Rel),
 }
 
 /// A command that may be done on a partition, as `Partition::check_op` found it: the kind of its WAL

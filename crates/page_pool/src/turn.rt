@@ -11,6 +11,8 @@ pub enum Wrote {
     Made(ForkId),
     /// A fork was cut to so many blocks.
     Cut(ForkId, u32),
+    /// A fork was removed.
+    Removed(ForkId),
     /// A page was written at its block.
     Wrote(BlockId),
 }

@@ -9,6 +9,8 @@ pub enum Work {
     Make(ForkId),
     /// To cut a fork to so many blocks.
     Cut(ForkId, u32),
+    /// To remove a fork.
+    Remove(ForkId),
 }
 
 /// A work that is still to be done.

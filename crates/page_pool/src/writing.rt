@@ -187,6 +187,10 @@ impl<V: Vault, const Q: u32> Partition<V, Q> {
                 self.cut_fork(&fork, count)?;
                 Ok(Wrote::Cut(fork, count))
             }
+            Work::Remove(fork) => {
+                self.remove_fork(&fork)?;
+                Ok(Wrote::Removed(fork))
+            }
         }
     }
 
@@ -214,6 +218,21 @@ impl<V: Vault, const Q: u32> Partition<V, Q> {
     {
         self.frames.know();
         self.disk.cut(*fork, count)?;
+        self.works.remove(0);
+        Ok(())
+    }
+
+    /// Removes a fork from the disk, which is the first pending work.
+    fn remove_fork(&mut self, fork: &ForkId) -> Result<(), AreaFault>
+        requires { IsFirstWork (work.Remove fork.now) self.old }
+        ensures gone { OnOk result
+            (IsOneWritten (Some (wrote.Removed fork.now)) self.old self.new) }
+        ensures kept { OnErr result (SameUnwritten self.old self.new) }
+        ensures area { ChangesForks self.old self.new }
+        ensures cause { HasCause self.old.faults self.new.faults result }
+    {
+        self.frames.know();
+        self.disk.remove(*fork)?;
         self.works.remove(0);
         Ok(())
     }

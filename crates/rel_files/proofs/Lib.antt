@@ -12,6 +12,7 @@ pub mod WholeStores
 pub mod ForkLists
 pub mod KnownLengths
 pub mod ForkFrames
+pub mod Events
 pub mod FileCalls
 pub mod Lengths
 pub mod Filling

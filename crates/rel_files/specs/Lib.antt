@@ -1,4 +1,5 @@
 pub mod Forks
+pub mod Events
 pub mod Shown
 pub mod Inside
 pub mod Kept

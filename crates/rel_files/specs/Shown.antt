@@ -1,5 +1,5 @@
 -- What a store in segment files holds and shows, and what calls on it keep and leave.
-use Rattle.std.specs.Prelude.{◌≡◌, ℕ, ◌⊎◌, Bool, List, length, Option, Some}
+use Rattle.std.specs.Prelude.{◌≡◌, ℕ, ◌⊎◌, min, Bool, List, length, Option, Some}
 use Rattle.std.specs.Option.{option_map}
 use Rattle.std.specs.FinMap.{get}
 use Rattle.std.specs.BTreeMap.{BTreeMap}
@@ -9,9 +9,10 @@ use Rattle.lsn_core.specs.declared.ids.BlockId.{BlockId}
 use Rattle.lsn_core.specs.declared.ids.ForkLen.{ForkLen}
 use Rattle.lsn_core.specs.Files.{Files}
 use Rattle.lsn_core.specs.Store.{Store, fork_cmp}
-use Rattle.lsn_core.specs.Blocks.{block_count, with_fork}
+use Rattle.lsn_core.specs.Blocks.{block_count, pages_of, with_fork}
 use Rattle.lsn_core.specs.Shown.{BlockAnswer}
-use Rattle.vault.specs.Frame.{ChangesOnly}
+use Rattle.vault.specs.Frame.{Adds, ChangesOnly}
+use Rattle.rel_files.specs.Events.{IsPut, IsMake, IsFileRemoval, IsForkCut}
 use Rattle.vault.specs.declared.area.Vault.{Ghosts}
 use Rattle.rel_files.specs.Forks.{Holds, HasWholePages, whole_pages, mended, IsForkPath}
 use Rattle.rel_files.specs.Forks.{fork_lengths}
@@ -77,3 +78,27 @@ Leaves holds before behind left =
 -- a fork whose making failed is there, or isn't
 abbrev pub IsTornMake : ForkId → Store → Store → Type 0
 IsTornMake fork old new = (new ≡ old) ⊎ (new ≡ with_fork old fork)
+
+-- ---- what calls add to what happened to the area
+
+-- a put of a page: pages at the block, and before it behind the whole ones of each held store
+abbrev pub AddsPut : {V : Type 0} → Ghosts V → BlockId → Forks V → Forks V → Type 0
+AddsPut g at old new =
+    (s : Store) → HoldsStore g old s
+    → Adds (IsPut old.relseg (length (whole_pages (pages_of s at.fork))) at)
+    (g.past old.area) (g.past new.area)
+
+-- the making of a fork
+abbrev pub AddsMake : {V : Type 0} → Ghosts V → ForkId → Forks V → Forks V → Type 0
+AddsMake g fork old new = Adds (IsMake fork) (g.past old.area) (g.past new.area)
+
+-- the removal of a fork: of its files
+abbrev pub AddsRemoval : {V : Type 0} → Ghosts V → ForkId → Forks V → Forks V → Type 0
+AddsRemoval g fork old new = Adds (IsFileRemoval fork 0) (g.past old.area) (g.past new.area)
+
+-- a cut of a fork: behind its whole pages, or behind as many as are to stay
+abbrev pub AddsCut : {V : Type 0} → Ghosts V → ForkId → ℕ → Forks V → Forks V → Type 0
+AddsCut g fork to old new =
+    (s : Store) → HoldsStore g old s
+    → Adds (IsForkCut old.relseg fork (min (length (whole_pages (pages_of s fork))) to))
+    (g.past old.area) (g.past new.area)

@@ -1,8 +1,9 @@
 //! Forks cut and removed, from the last file down.
 
-ghost use Rattle.std.specs.Prelude.{◌≤◌, OnOk, OnErr};
+ghost use Rattle.std.specs.Prelude.{◌≤◌, min, OnOk, OnErr};
 ghost use Rattle.lsn_core.specs.Causes.{HasCause};
-ghost use Rattle.vault.specs.Frame.{ChangesOnly};
+ghost use Rattle.vault.specs.Frame.{ChangesOnly, Adds};
+ghost use Rattle.rel_files.specs.Events.{IsFileRemoval, IsForkCut};
 ghost use Rattle.rel_files.specs.Forks.{IsForkPath};
 ghost use Rattle.rel_files.specs.Inside.{RemovesFrom, TearsFrom, Cuts, TearsCut, Removes};
 ghost use Rattle.rel_files.specs.Inside.{TearsRemoval};
@@ -59,6 +60,8 @@ impl<V: Vault> Cutting for V {
         ensures cut { OnOk result (Cuts V.Vault relseg count fork.now to self.old self.new) }
         ensures torn { OnErr result (TearsCut V.Vault relseg count fork.now to self.old self.new) }
         ensures frame { ChangesOnly V.Vault IsForkPath self.old self.new }
+        ensures events { Adds (IsForkCut relseg fork.now (min count to))
+            (V.past self.old) (V.past self.new) }
         ensures cause { HasCause (V.faults self.old) (V.faults self.new) result }
     {
         let left = count.min(to);
@@ -77,6 +80,7 @@ impl<V: Vault> Cutting for V {
         ensures gone { OnOk result (Removes V.Vault relseg count fork.now self.old self.new) }
         ensures torn { OnErr result (TearsRemoval V.Vault relseg count fork.now self.old self.new) }
         ensures frame { ChangesOnly V.Vault IsForkPath self.old self.new }
+        ensures events { Adds (IsFileRemoval fork.now 0) (V.past self.old) (V.past self.new) }
         ensures cause { HasCause (V.faults self.old) (V.faults self.new) result }
     {
         let end = relseg.file_of(count).saturating_add(1);
@@ -99,6 +103,7 @@ impl<V: Vault> Cutting for V {
         ensures torn { OnErr result
             (TearsFrom V.Vault relseg fork.now first end self.old self.new) }
         ensures frame { ChangesOnly V.Vault IsForkPath self.old self.new }
+        ensures events { Adds (IsFileRemoval fork.now first) (V.past self.old) (V.past self.new) }
         ensures cause { HasCause (V.faults self.old) (V.faults self.new) result }
     {
         let mut end = end;

@@ -11,6 +11,7 @@ ghost use Rattle.vault.specs.Stops.{synced, Notes};
 ghost use Rattle.rel_files.specs.Forks.{mended, page_over, IsTornPut, IsTornCut, IsTornRemoval};
 ghost use Rattle.rel_files.specs.Shown.{AreFilesOf, HoldsStore, ShowsStore, KeepsOthers, Leaves};
 ghost use Rattle.rel_files.specs.Shown.{CountsWhole, ReadsWhole, IsTornMake, HoldAlike};
+ghost use Rattle.rel_files.specs.Shown.{AddsPut, AddsMake, AddsCut, AddsRemoval};
 ghost use Rattle.rel_files.specs.Kept.{keeps_none, keeps_on};
 
 use crate::raw_calls::RawCalls;
@@ -129,6 +130,7 @@ impl<V: Vault> Pages for Forks<V> {
             (Turns (HoldsStore V.Vault) self.old self.new (page_over at from.now)) }
         ensures torn { OnErr result
             (Leaves (HoldsStore V.Vault) self.old self.new (IsTornPut at)) }
+        ensures events { AddsPut V.Vault at self.old self.new }
     {
         self.put(&at, from)
     }
@@ -143,6 +145,7 @@ impl<V: Vault> Pages for Forks<V> {
             (Turns (HoldsStore V.Vault) self.old self.new (λ s. with_fork s fork)) }
         ensures torn { OnErr result
             (Leaves (HoldsStore V.Vault) self.old self.new (IsTornMake fork)) }
+        ensures events { AddsMake V.Vault fork self.old self.new }
     {
         self.make_empty(&fork)
     }
@@ -158,6 +161,7 @@ impl<V: Vault> Pages for Forks<V> {
             (λ s. with_cut (mended s fork) fork to)) }
         ensures torn { OnErr result
             (Leaves (HoldsStore V.Vault) self.old self.new (IsTornCut fork to)) }
+        ensures events { AddsCut V.Vault fork to self.old self.new }
     {
         self.cut_to(&fork, to)
     }
@@ -172,6 +176,7 @@ impl<V: Vault> Pages for Forks<V> {
             (Turns (HoldsStore V.Vault) self.old self.new (λ s. without_fork s fork)) }
         ensures torn { OnErr result
             (Leaves (HoldsStore V.Vault) self.old self.new (IsTornRemoval fork)) }
+        ensures events { AddsRemoval V.Vault fork self.old self.new }
     {
         self.take_away(&fork)
     }

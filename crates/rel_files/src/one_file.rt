@@ -4,7 +4,8 @@ ghost use Rattle.std.specs.Prelude.{◌≡◌, ◌+◌, ◌-◌, ◌^◌, ◌<�
 ghost use Rattle.lsn_core.specs.Causes.{HasCause};
 ghost use Rattle.lsn_core.specs.Names.{fork_path_bytes, IsNamed};
 ghost use Rattle.vault.specs.Area.{IsSizeIn};
-ghost use Rattle.vault.specs.Frame.{OnlyReads, ChangesOnly};
+ghost use Rattle.vault.specs.Frame.{OnlyReads, ChangesOnly, Adds};
+ghost use Rattle.rel_files.specs.Events.{IsPageWrite, IsMake, IsFileRemoval, IsFileCut};
 ghost use Rattle.rel_files.specs.Forks.{IsForkPath};
 ghost use Rattle.rel_files.specs.Inside.{ReadsPage, PutsNext, TearsNext, Makes, TearsMake};
 ghost use Rattle.rel_files.specs.Inside.{RemovesFrom, TearsFrom, RemovesFirst, LeavesFirst};
@@ -129,6 +130,8 @@ impl<V: Vault> OneFile for V {
         ensures put { OnOk result (PutsNext V.Vault relseg at.now from.now self.old self.new) }
         ensures torn { OnErr result (TearsNext V.Vault relseg at.now self.old self.new) }
         ensures frame { ChangesOnly V.Vault IsForkPath self.old self.new }
+        ensures events { Adds (IsPageWrite relseg at.now.fork at.now.block)
+            (V.past self.old) (V.past self.new) }
         ensures cause { HasCause (V.faults self.old) (V.faults self.new) result }
     {
         let path = segment_path(alloc, &at.fork, relseg.file_of(at.block))?;
@@ -139,6 +142,7 @@ impl<V: Vault> OneFile for V {
         ensures made { OnOk result (Makes V.Vault relseg fork.now self.old self.new) }
         ensures torn { OnErr result (TearsMake V.Vault relseg fork.now self.old self.new) }
         ensures frame { ChangesOnly V.Vault IsForkPath self.old self.new }
+        ensures events { Adds (IsMake fork.now) (V.past self.old) (V.past self.new) }
         ensures cause { HasCause (V.faults self.old) (V.faults self.new) result }
     {
         // known: a file has some blocks
@@ -160,6 +164,7 @@ impl<V: Vault> OneFile for V {
         ensures torn { OnErr result
             (TearsFrom V.Vault relseg fork.now seg (seg + 1) self.old self.new) }
         ensures frame { ChangesOnly V.Vault IsForkPath self.old self.new }
+        ensures events { Adds (IsFileRemoval fork.now seg) (V.past self.old) (V.past self.new) }
         ensures cause { HasCause (V.faults self.old) (V.faults self.new) result }
     {
         // known: a file has some blocks
@@ -177,6 +182,7 @@ impl<V: Vault> OneFile for V {
         ensures gone { OnOk result (RemovesFirst V.Vault relseg fork.now self.old self.new) }
         ensures torn { OnErr result (LeavesFirst V.Vault relseg fork.now self.old self.new) }
         ensures frame { ChangesOnly V.Vault IsForkPath self.old self.new }
+        ensures events { Adds (IsFileRemoval fork.now 0) (V.past self.old) (V.past self.new) }
         ensures cause { HasCause (V.faults self.old) (V.faults self.new) result }
     {
         // known: a file has some blocks
@@ -195,6 +201,7 @@ impl<V: Vault> OneFile for V {
         ensures cut { OnOk result (CutsLast V.Vault relseg fork.now left self.old self.new) }
         ensures torn { OnErr result (LeavesLast V.Vault relseg fork.now left self.old self.new) }
         ensures frame { ChangesOnly V.Vault IsForkPath self.old self.new }
+        ensures events { Adds (IsFileCut relseg fork.now left) (V.past self.old) (V.past self.new) }
         ensures cause { HasCause (V.faults self.old) (V.faults self.new) result }
     {
         let seg = relseg.last_file(left);

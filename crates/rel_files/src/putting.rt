@@ -3,7 +3,8 @@
 ghost use Rattle.std.specs.Prelude.{◌≡◌, ◌-◌, ◌<◌, ◌^◌, OnOk, OnErr};
 ghost use Rattle.byte_words.specs.Pieces.{zero_page};
 ghost use Rattle.lsn_core.specs.Causes.{HasCause};
-ghost use Rattle.vault.specs.Frame.{ChangesOnly};
+ghost use Rattle.vault.specs.Frame.{ChangesOnly, Adds};
+ghost use Rattle.rel_files.specs.Events.{IsPut};
 ghost use Rattle.rel_files.specs.Forks.{IsForkPath};
 ghost use Rattle.rel_files.specs.Inside.{Puts, TearsPut};
 
@@ -41,6 +42,7 @@ impl<V: Vault> Putting for V {
         ensures put { OnOk result (Puts V.Vault relseg count at.now from.now self.old self.new) }
         ensures torn { OnErr result (TearsPut V.Vault relseg count at.now self.old self.new) }
         ensures frame { ChangesOnly V.Vault IsForkPath self.old self.new }
+        ensures events { Adds (IsPut relseg count at.now) (V.past self.old) (V.past self.new) }
         ensures cause { HasCause (V.faults self.old) (V.faults self.new) result }
     {
         for block in count..at.block {

@@ -5,6 +5,7 @@ ghost use Rattle.lsn_core.specs.Causes.{HasCause};
 ghost use Rattle.lsn_core.specs.Blocks.{with_fork, with_cut, without_fork};
 ghost use Rattle.lsn_core.specs.Shown.{Turns};
 ghost use Rattle.vault.specs.Frame.{OnlyReads};
+ghost use Rattle.rel_files.specs.Shown.{AddsPut, AddsMake, AddsCut, AddsRemoval};
 ghost use Rattle.rel_files.specs.Forks.{mended, page_over, IsTornPut, IsTornCut, IsTornRemoval};
 ghost use Rattle.rel_files.specs.Shown.{HoldsStore, KeepsOthers, Leaves, IsTornMake};
 ghost use Rattle.rel_files.specs.Shown.{CountsWhole, ReadsWhole};
@@ -81,6 +82,7 @@ impl<V: Vault> RawCalls for Forks<V> {
             (Turns (HoldsStore V.Vault) self.old self.new (page_over at.now from.now)) }
         ensures torn { OnErr result
             (Leaves (HoldsStore V.Vault) self.old self.new (IsTornPut at.now)) }
+        ensures events { AddsPut V.Vault at.now self.old self.new }
         ensures kept { KeepsOthers V.Vault self.old self.new }
         ensures cause { HasCause (V.faults self.old.area) (V.faults self.new.area) result }
     {
@@ -98,6 +100,7 @@ impl<V: Vault> RawCalls for Forks<V> {
             (Turns (HoldsStore V.Vault) self.old self.new (λ s. with_fork s fork.now)) }
         ensures torn { OnErr result
             (Leaves (HoldsStore V.Vault) self.old self.new (IsTornMake fork.now)) }
+        ensures events { AddsMake V.Vault fork.now self.old self.new }
         ensures kept { KeepsOthers V.Vault self.old self.new }
         ensures cause { HasCause (V.faults self.old.area) (V.faults self.new.area) result }
     {
@@ -117,6 +120,7 @@ impl<V: Vault> RawCalls for Forks<V> {
             (λ s. with_cut (mended s fork.now) fork.now to)) }
         ensures torn { OnErr result
             (Leaves (HoldsStore V.Vault) self.old self.new (IsTornCut fork.now to)) }
+        ensures events { AddsCut V.Vault fork.now to self.old self.new }
         ensures kept { KeepsOthers V.Vault self.old self.new }
         ensures cause { HasCause (V.faults self.old.area) (V.faults self.new.area) result }
     {
@@ -136,6 +140,7 @@ impl<V: Vault> RawCalls for Forks<V> {
             (Turns (HoldsStore V.Vault) self.old self.new (λ s. without_fork s fork.now)) }
         ensures torn { OnErr result
             (Leaves (HoldsStore V.Vault) self.old self.new (IsTornRemoval fork.now)) }
+        ensures events { AddsRemoval V.Vault fork.now self.old self.new }
         ensures kept { KeepsOthers V.Vault self.old self.new }
         ensures cause { HasCause (V.faults self.old.area) (V.faults self.new.area) result }
     {

@@ -8,7 +8,7 @@ use Rattle.lsn_core.specs.Files.{Files}
 use Rattle.lsn_core.specs.declared.ids.ForkId.{ForkId}
 use Rattle.lsn_core.specs.declared.ids.BlockId.{BlockId}
 use Rattle.lsn_core.specs.Store.{Store, ForkPages}
-use Rattle.lsn_core.specs.Blocks.{with_cut_pages}
+use Rattle.lsn_core.specs.Blocks.{with_cut_pages, without_fork}
 use Rattle.lsn_core.specs.Tip.{Tip}
 use Rattle.wal_record.specs.Tips.{wal_limit, record_at_tip}
 use Rattle.wal_record.specs.declared.record.Kind.{Kind}
@@ -17,7 +17,7 @@ use Rattle.history.specs.declared.op.Op.{Op}
 use Rattle.history.specs.declared.op.Op.TheVariants as op
 use Rattle.history.specs.declared.op.Item.{Item}
 use Rattle.history.specs.Entry.{Entry}
-use Rattle.history.specs.Apply.{main_fork, apply_act, apply_all}
+use Rattle.history.specs.Apply.{main_fork, init_fork, apply_act, apply_all}
 use Rattle.history.specs.Op.{act_of_op, apply_op, IsTidy}
 use Rattle.history.specs.Whole.{is_named, is_patch}
 use Rattle.history.specs.Laws.{IsFresh, AreFresh, HasGoodPages}
@@ -36,6 +36,7 @@ use Rattle.page_pool.specs.declared.ready.Ready.{Ready}
 use Rattle.page_pool.specs.Part.{Part}
 use Rattle.page_pool.specs.Refusals.{judged_blocks, judged_edits, judged_items, judged_op, IsRefusedOp}
 use Rattle.page_pool.specs.Ready.{IsChecked, done_at}
+use Rattle.page_pool.proofs.Counted.{gone_pages}
 use Rattle.page_pool.proofs.Items.{first_none}
 use Rattle.page_pool.proofs.Judged.{blocks_on}
 use Rattle.page_pool.proofs.PartsAlike.{judged_alike, counted_alike}
@@ -172,6 +173,7 @@ pub total_is : (n : ℕ) (store : Store) (command : Op) (pages added gone : ℕ)
     → judged_total n store command ≡ cond (is_over command (pages_behind pages added gone)) (Some (fault.StoreFull n)) None
 total_is n store (op.Create fork) pages added gone b = refl
 total_is n store (op.Truncate rel count) pages added gone b = refl
+total_is n store (op.Drop rel) pages added gone b = refl
 total_is n store (op.Change items) pages added gone b =
     let there : page_count (unwrap_or (apply_op 0 store (op.Change items)) store) ≡ pages + added - gone =
     ap (λ (o : Option Store). page_count (unwrap_or o store)) b.done ∙ (let c = b.counted in omega (arith, c)) in
@@ -191,6 +193,8 @@ exact store (op.Create fork) pages added gone b fits over =
     exact_less (page_count b.last) pages added gone (omega (arith, page_count-with_fork store fork, ap page_count (some_is _ b.last b.done), b.before)) fits b.counted
 exact store (op.Truncate rel count) pages added gone b fits over =
     exact_less (page_count b.last) pages added gone (omega (arith, cut_less store (main_fork rel) count (get store (main_fork rel)) refl, ap page_count (some_is _ b.last b.done), b.before)) fits b.counted
+exact store (op.Drop rel) pages added gone b fits over =
+    exact_less (page_count b.last) pages added gone (omega (arith, gone_pages store (main_fork rel), gone_pages (without_fork store (main_fork rel)) (init_fork rel), ap page_count (some_is _ b.last b.done), b.before)) fits b.counted
 exact store (op.Change items) pages added gone b fits over = exact_most (page_count b.last) pages added gone b.counted (ltb-false most_pages (pages_behind pages added gone) over)
 
 third_is : (a : Option InsertFault) (b : Option OpFault) (c d : Option InsertFault) (g : OpFault → InsertFault) (f : InsertFault) → a ≡ None → b ≡ None → c ≡ Some f → option_or a (option_or (option_map g b) (option_or c d)) ≡ Some f
@@ -239,6 +243,7 @@ fresh_items i named (item ∷ items) e =
 fresh_act : (store : Store) (command : Op) → judged_op store command ≡ None → IsFresh (act_of_op command)
 fresh_act store (op.Create fork) e = tt
 fresh_act store (op.Truncate rel count) e = tt
+fresh_act store (op.Drop rel) e = tt
 fresh_act store (op.Change items) e = fresh_items 0 [] items (first_none (judged_blocks 0 [] items) (option_or (judged_edits 0 items) (judged_items 0 store items)) e).0
 
 pub may_follow : (q : ℕ) (log : Log) (o : Option Files) (history : List Entry) (pages : ℕ) (old new : Part) (command : Op) (ready : Ready) → IsTold log o history pages → (k : Known q log history pages old.frames)

@@ -12,7 +12,8 @@ use Rattle.lsn_core.specs.declared.fault.StoreArea.{StoreArea}
 use Rattle.lsn_core.specs.declared.fault.StoreArea.TheVariants.{Wal, Data, Sums}
 use Rattle.lsn_core.specs.declared.fault.StoreFault.{StoreFault}
 use Rattle.lsn_core.specs.declared.fault.StoreFault.TheVariants as store
-use Rattle.vault.specs.Frame.{AgreeBut}
+use Rattle.vault.specs.Stops.{Event}
+use Rattle.vault.specs.Frame.{AgreeBut, IsDurable}
 use Rattle.vault.specs.declared.area.Vault.{Ghosts}
 use Rattle.wal_record.specs.declared.record.Record.{Record}
 use Rattle.wal_record.specs.Decoding.{record_at}
@@ -47,8 +48,8 @@ use Rattle.shared_store.specs.declared.areas.StoreAreas.{StoreAreas}
 use Rattle.shared_store.specs.Opened.{Opened, Faults, NoneFell, StoreCause, IsPartOf, IsWalOf, IsOpen, count_of, opened_of}
 use Rattle.shared_store.specs.Calls.{MayWriteWal}
 use Rattle.shared_store.specs.Begin.{data_area, faults_of}
-use Rattle.shared_store.specs.Close.{HoldsPart, HoldsHistory, CloseAnswer, IsClosed}
-use Rattle.shared_store.specs.Inside.{AreaCause, IsAllFlushed, PartAnswer, place_of}
+use Rattle.shared_store.specs.Close.{HoldsPart, AreDurable, HoldsHistory, CloseAnswer, IsClosed}
+use Rattle.shared_store.specs.Inside.{AreaCause, IsAllFlushed, HoldsWhole, PartAnswer, place_of}
 use Rattle.shared_store.proofs.Kept.{end_within, some_on, forks_kept}
 use Rattle.shared_store.proofs.Behind.{part_made}
 
@@ -154,35 +155,36 @@ area_cause which old new store.NoMemory cause = tt
 
 -- ---- one step of closing behind another
 
-pub caused : (q relseg : ℕ) (tells : Type 0) (part : Part) (files : Option Files) (faults : ℕ) (old new : Faults) (r s : Result Flushed StoreFault) → ((why : StoreFault) → AreaCause (Data q) part.faults faults why → StoreCause old new why)
-    → PartAnswer q relseg tells part files faults r s → IfErr r (StoreCause old new) → IfErr s (StoreCause old new)
-caused q relseg tells part files faults old new (Err why) s cause answer before = subst (λ x. IfErr x (StoreCause old new)) (sym answer) before
-caused q relseg tells part files faults old new (Ok mark) (Ok same) cause answer before = tt
-caused q relseg tells part files faults old new (Ok mark) (Err why) cause answer before = cause why answer
+pub caused : (q relseg : ℕ) (tells : Type 0) (part : Part) (files : Option Files) (past : Option (List Event)) (faults : ℕ) (old new : Faults) (r s : Result Flushed StoreFault) → ((why : StoreFault) → AreaCause (Data q) part.faults faults why → StoreCause old new why)
+    → PartAnswer q relseg tells part files past faults r s → IfErr r (StoreCause old new) → IfErr s (StoreCause old new)
+caused q relseg tells part files past faults old new (Err why) s cause answer before = subst (λ x. IfErr x (StoreCause old new)) (sym answer) before
+caused q relseg tells part files past faults old new (Ok mark) (Ok same) cause answer before = tt
+caused q relseg tells part files past faults old new (Ok mark) (Err why) cause answer before = cause why answer
 
-pub passed : (q relseg : ℕ) (tells : Type 0) (part : Part) (files : Option Files) (faults : ℕ) (P : Flushed → Type 0) (r s : Result Flushed StoreFault) → PartAnswer q relseg tells part files faults r s → IfOk r P
-    → IfOk s (λ mark. P mark × (tells → files ≡ Some (files_of relseg part.frames)))
-passed q relseg tells part files faults P (Err why) s answer before = subst (λ x. IfOk x (λ mark. P mark × (tells → files ≡ Some (files_of relseg part.frames)))) (sym answer) tt
-passed q relseg tells part files faults P (Ok mark) (Ok same) answer before = (subst P (sym answer.0) before, answer.1)
-passed q relseg tells part files faults P (Ok mark) (Err why) answer before = tt
+pub passed : (q relseg : ℕ) (tells : Type 0) (part : Part) (files : Option Files) (past : Option (List Event)) (faults : ℕ) (P : Flushed → Type 0) (r s : Result Flushed StoreFault) → PartAnswer q relseg tells part files past faults r s → IfOk r P
+    → IfOk s (λ mark. P mark × HoldsWhole relseg tells part files past)
+passed q relseg tells part files past faults P (Err why) s answer before = subst (λ x. IfOk x (λ mark. P mark × HoldsWhole relseg tells part files past)) (sym answer) tt
+passed q relseg tells part files past faults P (Ok mark) (Ok same) answer before = (subst P (sym answer.0) before, answer.1)
+passed q relseg tells part files past faults P (Ok mark) (Err why) answer before = tt
 
 -- ---- the answer
 
 history_of : {V : Type 0} (g : Ghosts V) (store : Opened) (areas : StoreAreas V) (files : Files) → (h : IsHeld store.settings.segment store.settings.system store.history files) → g.files areas.wal ≡ Some files
-    → ((q : ℕ) → q < 4 → HoldsPart store.settings.relseg q h.lawful.store (g.files (data_area areas q))) → HoldsHistory g store areas
-history_of g store areas files h e parts = record {
+    → ((q : ℕ) → q < 4 → HoldsPart store.settings.relseg q h.lawful.store (g.files (data_area areas q))) → AreDurable g areas → HoldsHistory g store areas
+history_of g store areas files h e parts durable = record {
   lawful = h.lawful;
   files = files;
   wal = e;
   records = record { tip = h.held.tip; at = h.held.at; read = h.held.walk; whole = h.held.whole };
   parts = parts;
+  durable = durable;
 }
 
 pub some_of : (o : Option Files) → IsSome o → (files : Files) × (o ≡ Some files)
 some_of (Some files) some = (files, refl)
 some_of None some = absurd cc
 
-held_at : {V : Type 0} (g : Ghosts V) (settings : StoreSettings) (tells : Type 0) (old new : Written V) (mark at : ℕ) (files : Files) (flushed : Flushed) → IsWalOf g settings tells old.wal at → IsAllFlushed old new flushed → new.pen ≡ old.pen
+held_at : {V : Type 0} (g : Ghosts V) (settings : StoreSettings) (tells : Type 0) (old new : Written V) (mark at : ℕ) (files : Files) (flushed : Flushed) → IsWalOf g settings tells old.wal at → IsAllFlushed g old new flushed → new.pen ≡ old.pen
     → IsJournal g new.wal new.pen new.pages → g.files new.wal.area ≡ Some files → IsHeld settings.segment settings.system old.pen files
 held_at g settings tells old new mark at files flushed w f pen told e =
     let h = history_held new.wal.tail (g.files new.wal.area) files new.pen new.pages f.known e told f.all in
@@ -190,15 +192,15 @@ held_at g settings tells old new mark at files flushed w f pen told e =
     (subst (λ n. IsHeld settings.segment n new.pen files) (f.system ∙ w.system)
     (subst (λ n. IsHeld n new.wal.tail.system new.pen files) (f.segment ∙ w.segment) h))
 
-top_at : {V : Type 0} (segment : ℕ) (old new : Written V) (flushed : Flushed) → old.wal.tail.mib ≡ segment → IsAllFlushed old new flushed → new.pen ≡ old.pen → flushed.to.0 ≡ (tip_of segment old.pen).end
-top_at segment old new flushed same f pen =
+top_at : {V : Type 0} (g : Ghosts V) (segment : ℕ) (old new : Written V) (flushed : Flushed) → old.wal.tail.mib ≡ segment → IsAllFlushed g old new flushed → new.pen ≡ old.pen → flushed.to.0 ≡ (tip_of segment old.pen).end
+top_at g segment old new flushed same f pen =
     f.place ∙ sym (ap (λ (n : ℕ). (tip_of n old.pen).end) (sym (f.segment ∙ same)) ∙ ap (λ (l : List Entry). (tip_of new.wal.tail.mib l).end) (sym pen) ∙ f.ended.end)
 
 -- what is known where the store was taken apart
 pub record IsApart {V : Type 0} (g : Ghosts V) (settings : StoreSettings) (tells : Type 0) (old new : Written V) (p0 p1 p2 p3 : Part) (areas : StoreAreas V) (r0 r1 r2 r3 r4 : Result Flushed StoreFault) : Type 0 where
   pub pen : new.pen ≡ old.pen
   pub written : MayWriteWal old.wal.tail.mib old.wal.tail.flushed (tip_of old.wal.tail.mib old.pen).end (g.files old.wal.area) (g.files new.wal.area)
-  pub whole : IfOk r0 (IsAllFlushed old new)
+  pub whole : IfOk r0 (IsAllFlushed g old new)
   pub later : g.faults old.wal.area ≤ g.faults new.wal.area
   pub cause : IfErr r0 (AreaCause Wal (g.faults old.wal.area) (g.faults new.wal.area))
   pub told : tells → IsJournal g new.wal new.pen new.pages
@@ -207,10 +209,10 @@ pub record IsApart {V : Type 0} (g : Ghosts V) (settings : StoreSettings) (tells
   pub later1 : p1.faults ≤ g.faults areas.data1
   pub later2 : p2.faults ≤ g.faults areas.data2
   pub later3 : p3.faults ≤ g.faults areas.data3
-  pub answer0 : PartAnswer 0 settings.relseg tells p0 (g.files areas.data0) (g.faults areas.data0) r0 r1
-  pub answer1 : PartAnswer 1 settings.relseg tells p1 (g.files areas.data1) (g.faults areas.data1) r1 r2
-  pub answer2 : PartAnswer 2 settings.relseg tells p2 (g.files areas.data2) (g.faults areas.data2) r2 r3
-  pub answer3 : PartAnswer 3 settings.relseg tells p3 (g.files areas.data3) (g.faults areas.data3) r3 r4
+  pub answer0 : PartAnswer 0 settings.relseg tells p0 (g.files areas.data0) (g.past areas.data0) (g.faults areas.data0) r0 r1
+  pub answer1 : PartAnswer 1 settings.relseg tells p1 (g.files areas.data1) (g.past areas.data1) (g.faults areas.data1) r1 r2
+  pub answer2 : PartAnswer 2 settings.relseg tells p2 (g.files areas.data2) (g.past areas.data2) (g.faults areas.data2) r2 r3
+  pub answer3 : PartAnswer 3 settings.relseg tells p3 (g.files areas.data3) (g.past areas.data3) (g.faults areas.data3) r3 r4
 
 wal_cause : (old new : Faults) (r : Result Flushed StoreFault) → IfErr r (AreaCause Wal old.wal new.wal) → IfErr r (StoreCause old new)
 wal_cause old new (Ok mark) cause = tt
@@ -236,30 +238,35 @@ closed {V} g settings tells workers old new p0 p1 p2 p3 counts at areas r0 r1 r2
     let now : Faults = faults_of g areas in
     let rs = settings.relseg in
     let e0 = wal_cause store.faults now r0 (subst (λ (v : V). IfErr r0 (AreaCause Wal (g.faults old.wal.area) (g.faults v))) (sym a.area) a.cause) in
-    let e1 = caused 0 rs tells p0 (g.files areas.data0) (g.faults areas.data0) store.faults now r0 r1 (area_cause (Data 0) store.faults now) a.answer0 e0 in
-    let e2 = caused 1 rs tells p1 (g.files areas.data1) (g.faults areas.data1) store.faults now r1 r2 (area_cause (Data 1) store.faults now) a.answer1 e1 in
-    let e3 = caused 2 rs tells p2 (g.files areas.data2) (g.faults areas.data2) store.faults now r2 r3 (area_cause (Data 2) store.faults now) a.answer2 e2 in
-    let e4 = caused 3 rs tells p3 (g.files areas.data3) (g.faults areas.data3) store.faults now r3 r4 (area_cause (Data 3) store.faults now) a.answer3 e3 in
-    let d1 = passed 0 rs tells p0 (g.files areas.data0) (g.faults areas.data0) _ r0 r1 a.answer0 a.whole in
-    let d2 = passed 1 rs tells p1 (g.files areas.data1) (g.faults areas.data1) _ r1 r2 a.answer1 d1 in
-    let d3 = passed 2 rs tells p2 (g.files areas.data2) (g.faults areas.data2) _ r2 r3 a.answer2 d2 in
-    let d4 = passed 3 rs tells p3 (g.files areas.data3) (g.faults areas.data3) _ r3 r4 a.answer3 d3 in
+    let e1 = caused 0 rs tells p0 (g.files areas.data0) (g.past areas.data0) (g.faults areas.data0) store.faults now r0 r1 (area_cause (Data 0) store.faults now) a.answer0 e0 in
+    let e2 = caused 1 rs tells p1 (g.files areas.data1) (g.past areas.data1) (g.faults areas.data1) store.faults now r1 r2 (area_cause (Data 1) store.faults now) a.answer1 e1 in
+    let e3 = caused 2 rs tells p2 (g.files areas.data2) (g.past areas.data2) (g.faults areas.data2) store.faults now r2 r3 (area_cause (Data 2) store.faults now) a.answer2 e2 in
+    let e4 = caused 3 rs tells p3 (g.files areas.data3) (g.past areas.data3) (g.faults areas.data3) store.faults now r3 r4 (area_cause (Data 3) store.faults now) a.answer3 e3 in
+    let d1 = passed 0 rs tells p0 (g.files areas.data0) (g.past areas.data0) (g.faults areas.data0) _ r0 r1 a.answer0 a.whole in
+    let d2 = passed 1 rs tells p1 (g.files areas.data1) (g.past areas.data1) (g.faults areas.data1) _ r1 r2 a.answer1 d1 in
+    let d3 = passed 2 rs tells p2 (g.files areas.data2) (g.past areas.data2) (g.faults areas.data2) _ r2 r3 a.answer2 d2 in
+    let d4 = passed 3 rs tells p3 (g.files areas.data3) (g.past areas.data3) (g.faults areas.data3) _ r3 r4 a.answer3 d3 in
     record {
       wal = subst (λ (v : V). MayWriteWal settings.segment old.wal.tail.flushed (tip_of settings.segment old.pen).end (g.files old.wal.area) (g.files v)) (sym a.area)
           (subst (λ n. MayWriteWal n old.wal.tail.flushed (tip_of n old.pen).end (g.files old.wal.area) (g.files new.wal.area)) is.wal.segment a.written);
       later = fell_each store.faults now (at_area (g.faults old.wal.area) g.faults areas.wal new.wal.area a.area a.later) a.later0 a.later1 a.later2 a.later3;
       answer = answered g store tells areas r4
-          (ok_turned _ _ r4 (λ mark d. (top_at settings.segment old new mark is.wal.segment d.0.0.0.0 a.pen, λ t. kept mark d.0.0.0.0 (d.0.0.0.1 t) (d.0.0.1 t) (d.0.1 t) (d.1 t) t)) d4) e4;
+          (ok_turned _ _ r4 (λ mark d. (top_at g settings.segment old new mark is.wal.segment d.0.0.0.0 a.pen, λ t. kept mark d.0.0.0.0 d.0.0.0.1 d.0.0.1 d.0.1 d.1 t)) d4) e4;
     }
   where
-    kept : (mark : Flushed) → IsAllFlushed old new mark → g.files areas.data0 ≡ Some (files_of settings.relseg p0.frames) → g.files areas.data1 ≡ Some (files_of settings.relseg p1.frames)
-        → g.files areas.data2 ≡ Some (files_of settings.relseg p2.frames) → g.files areas.data3 ≡ Some (files_of settings.relseg p3.frames) → tells → HoldsHistory g (opened_of g settings old p0 p1 p2 p3) areas
+    kept : (mark : Flushed) → IsAllFlushed g old new mark → HoldsWhole settings.relseg tells p0 (g.files areas.data0) (g.past areas.data0) → HoldsWhole settings.relseg tells p1 (g.files areas.data1) (g.past areas.data1)
+        → HoldsWhole settings.relseg tells p2 (g.files areas.data2) (g.past areas.data2) → HoldsWhole settings.relseg tells p3 (g.files areas.data3) (g.past areas.data3) → tells → HoldsHistory g (opened_of g settings old p0 p1 p2 p3) areas
     kept mark f w0 w1 w2 w3 t =
-        let found = some_of (g.files new.wal.area) (some_on (AgreeBut (IsSegmentFile old.wal.tail.mib old.wal.tail.flushed)) (g.files old.wal.area) (g.files new.wal.area) a.written.files (is.wal.told t)) in
+        let found = some_of (g.files new.wal.area) (some_on (AgreeBut (IsSegmentFile old.wal.tail.mib old.wal.tail.flushed (tip_of old.wal.tail.mib old.pen).end)) (g.files old.wal.area) (g.files new.wal.area) a.written.files (is.wal.told t)) in
         let h = held_at g settings tells old new 0 at found.0 mark is.wal f a.pen (a.told t) found.1 in
+        let rest = f.rest (omega (arith, f.known.touched, f.all)) in
         history_of g (opened_of g settings old p0 p1 p2 p3) areas found.0 h (subst (λ (v : V). g.files v ≡ Some found.0) (sym a.area) found.1)
         (each (λ q. HoldsPart settings.relseg q h.lawful.store (g.files (data_area areas q)))
-        (holds_part settings.segment 0 settings.relseg tells old.pen p0 (g.files areas.data0) h.lawful is.first t w0)
-        (holds_part settings.segment 1 settings.relseg tells old.pen p1 (g.files areas.data1) h.lawful is.second t w1)
-        (holds_part settings.segment 2 settings.relseg tells old.pen p2 (g.files areas.data2) h.lawful is.third t w2)
-        (holds_part settings.segment 3 settings.relseg tells old.pen p3 (g.files areas.data3) h.lawful is.fourth t w3))
+        (holds_part settings.segment 0 settings.relseg tells old.pen p0 (g.files areas.data0) h.lawful is.first t (w0.0 t))
+        (holds_part settings.segment 1 settings.relseg tells old.pen p1 (g.files areas.data1) h.lawful is.second t (w1.0 t))
+        (holds_part settings.segment 2 settings.relseg tells old.pen p2 (g.files areas.data2) h.lawful is.third t (w2.0 t))
+        (holds_part settings.segment 3 settings.relseg tells old.pen p3 (g.files areas.data3) h.lawful is.fourth t (w3.0 t)))
+        (record {
+          wal = subst (λ (v : V). IsDurable (g.files v) (g.past v)) (sym a.area) rest;
+          parts = each (λ q. IsDurable (g.files (data_area areas q)) (g.past (data_area areas q))) w0.1 w1.1 w2.1 w3.1;
+        })

@@ -1,15 +1,17 @@
 -- What a partition's area answers a copier.
 use Rattle.std.proofs.Common.{◌≡◌, ℕ, ◌≤◌, ◌&&◌, ◌||◌, Bool, true, false, T, cond, List, [], ◌∷◌, map, length, Option, Some, None, IfSome, IsSome, is_some, option_map, refl, sym, ap, subst, ◌∙◌, arith, true≢false, is_lt}
-use Rattle.std.specs.List.{list_any, find, AllByRecursion}
+use Rattle.std.specs.List.{list_any, filter, find, AllByRecursion}
+use Rattle.std.specs.Prelude.{◌==◌}
 use Rattle.std.specs.List.Sorted.{IsStrictlySortedBy}
 use Rattle.std.specs.declared.cmp.Ordering.{Ordering}
 use Rattle.std.specs.declared.cmp.Ordering.TheVariants.{Less, Equal, Greater}
 use Rattle.std.specs.FinMap.{get, entries, entries_sorted, contains_key, contains_key-keys, get-entries}
 use Rattle.std.specs.FinMap.Entries as list
-use Rattle.std.proofs.lemmas.List.Elements.{All-from_recursion}
+use Rattle.std.proofs.lemmas.List.Elements.{All-from_recursion, recursion_from_All}
 use Rattle.lsn_core.specs.declared.ids.BlockId.{BlockId}
 use Rattle.lsn_core.specs.declared.ids.ForkId.{ForkId}
 use Rattle.lsn_core.specs.declared.ids.ForkLen.{ForkLen}
+use Rattle.lsn_core.specs.Relation.{Relation}
 use Rattle.lsn_core.specs.Blocks.{block_of, block_count}
 use Rattle.lsn_core.specs.Files.{Files}
 use Rattle.lsn_core.specs.Shown.{BlockAnswer}
@@ -18,16 +20,22 @@ use Rattle.lsn_core.proofs.StoreFiles.{same_fork, fork_itself}
 use Rattle.rel_files.specs.Forks.{whole_pages, mended, fork_lengths}
 use Rattle.rel_files.specs.Shown.{AreFilesOf, ListsForks, ReadsWhole}
 use Rattle.rel_files.proofs.ForkStores.{mended_get, mended_none}
-use Rattle.history.specs.Entry.{Entry}
-use Rattle.history.specs.Apply.{is_same_fork}
-use Rattle.partitions.specs.Parts.{is_of, IsPart}
-use Rattle.fuzzy_copies.specs.Taken.{IsBlockCopied, IsListed}
+use Rattle.history.specs.Entry.{Act, Create, Truncate, Change, Drop, Mark, NoOp, Entry}
+use Rattle.history.specs.Apply.{main_fork, init_fork, is_same_fork, is_fork_of, is_of_any}
+use Rattle.history.proofs.Stores.{by_test, fork_is}
+use Rattle.partitions.specs.Parts.{is_of, is_rel_of, act_part, part_of, IsPart}
+use Rattle.fuzzy_copies.specs.Taken.{since, IsBlockCopied, IsListed}
 use Rattle.fuzzy_copies.specs.CoverLaws.{AnswersCopier}
 use Rattle.fuzzy_copies.proofs.Covering.{answers}
 use Rattle.wal_writer.specs.Log.{Log}
 use Rattle.journal.specs.Journal.{IsTold}
 use Rattle.journal.proofs.Stands.{lawful_orderly, own_is_tidy}
-use Rattle.page_pool.specs.Part.{Part, LacksUnwritten, is_to_make}
+use Rattle.page_pool.specs.declared.work.Work.{Work}
+use Rattle.page_pool.specs.declared.work.Work.TheVariants.{Make, Cut, Remove}
+use Rattle.page_pool.specs.declared.work.Pending.{Pending}
+use Rattle.page_pool.specs.Part.{Part, LacksUnwritten, is_to_settle, work_settles}
+use Rattle.page_pool.specs.Facts.{enters, is_entered, IsSince}
+use Rattle.page_pool.proofs.Behind.{unsettled}
 use Rattle.page_pool.specs.Calls.{HoldsPart, IsHeld, AreWholePages, SameUnwritten, ReadsDisk}
 use Rattle.page_pool.proofs.Covering.{followers_cover}
 use Rattle.page_pool.proofs.Torn.{lacks_mended}
@@ -124,14 +132,73 @@ of_part q now frames fork is there = by (is_of q fork) refl
         let none : get frames fork ≡ None = is fork ∙ ap (λ c. cond c (get now fork) None) e in
         absurd (true≢false (sym there ∙ ap (λ (o : Option ForkPages). is_some o) none))
 
+-- a pending work of a partition is of a fork of its own
+of_same : (q : ℕ) (fork other : ForkId) → is_same_fork fork other ≡ true → is_of q other ≡ true → is_of q fork ≡ true
+of_same q fork other same mine = ap (is_of q) (fork_is fork other same) ∙ mine
+
+or_else : (a b : Bool) → (a || b) ≡ true → a ≡ false → b ≡ true
+or_else true b h none = absurd (true≢false none)
+or_else false b h none = h
+
+rels_named : (q : ℕ) (fork : ForkId) (rels : List Relation) → is_of_any fork (filter (is_rel_of q) rels) ≡ true → is_of q fork ≡ true
+rels_named q fork [] h = absurd (true≢false (sym h))
+rels_named q fork (rel ∷ rels) h =
+    let few = filter (is_rel_of q) rels in
+    by_test (is_rel_of q rel)
+    (λ own.
+    let named : (is_fork_of fork rel || is_of_any fork few) ≡ true = sym (ap (λ c. is_of_any fork (cond c (rel ∷ few) few)) own) ∙ h in
+    by_test (is_fork_of fork rel)
+    (λ here. by_test (is_same_fork fork (main_fork rel)) (λ main. of_same q fork (main_fork rel) main own) (λ not_main. of_same q fork (init_fork rel) (or_else (is_same_fork fork (main_fork rel)) (is_same_fork fork (init_fork rel)) here not_main) own))
+    (λ not_here. rels_named q fork rels (or_else (is_fork_of fork rel) (is_of_any fork few) named not_here)))
+    (λ other. rels_named q fork rels (sym (ap (λ c. is_of_any fork (cond c (rel ∷ few) few)) other) ∙ h))
+
+entered_own : (q : ℕ) (act : Act) (work : Work) (fork : ForkId) → enters (act_part q act) work ≡ true → work_settles fork work ≡ true → is_of q fork ≡ true
+entered_own q act (Cut cut count) fork h settles = absurd (true≢false (sym settles))
+entered_own q (Create made) (Make new) fork h settles = by (is_of q made) refl h
+  where
+    by : (c : Bool) → is_of q made ≡ c → enters (cond c (Create made) (Mark NoOp)) (Make new) ≡ true → is_of q fork ≡ true
+    by true mine k = of_same q fork new settles (of_same q new made k mine)
+    by false other k = absurd (true≢false (sym k))
+entered_own q (Create made) (Remove gone) fork h settles = absurd (by (is_of q made) h)
+  where
+    by : (c : Bool) → enters (cond c (Create made) (Mark NoOp)) (Remove gone) ≡ true → ⊥
+    by true k = true≢false (sym k)
+    by false k = true≢false (sym k)
+entered_own q (Truncate rel count) (Make new) fork h settles = absurd (by (is_of q (main_fork rel)) h)
+  where
+    by : (c : Bool) → enters (cond c (Truncate rel count) (Mark NoOp)) (Make new) ≡ true → ⊥
+    by true k = true≢false (sym k)
+    by false k = true≢false (sym k)
+entered_own q (Truncate rel count) (Remove gone) fork h settles = absurd (by (is_of q (main_fork rel)) h)
+  where
+    by : (c : Bool) → enters (cond c (Truncate rel count) (Mark NoOp)) (Remove gone) ≡ true → ⊥
+    by true k = true≢false (sym k)
+    by false k = true≢false (sym k)
+entered_own q (Change items) (Make new) fork h settles = absurd (true≢false (sym h))
+entered_own q (Change items) (Remove gone) fork h settles = absurd (true≢false (sym h))
+entered_own q (Drop rels) (Make new) fork h settles = absurd (true≢false (sym h))
+entered_own q (Drop rels) (Remove gone) fork h settles = of_same q fork gone settles (rels_named q gone rels h)
+entered_own q (Mark marking) (Make new) fork h settles = absurd (true≢false (sym h))
+entered_own q (Mark marking) (Remove gone) fork h settles = absurd (true≢false (sym h))
+
+work_own : (q : ℕ) (es : List Entry) (w : Pending) (fork : ForkId) → is_entered (map (part_of q) es) w ≡ true → work_settles fork w.work ≡ true → is_of q fork ≡ true
+work_own q [] w fork h settles = absurd (true≢false (sym h))
+work_own q (e ∷ es) w fork h settles =
+    by_test (enters (act_part q e.act) w.work)
+    (λ now. entered_own q e.act w.work fork now settles)
+    (λ not_now. work_own q es w fork (or_else (enters (act_part q e.act) w.work && (e.end == w.end.0)) (is_entered (map (part_of q) es) w) h (ap (λ c. c && (e.end == w.end.0)) not_now)) settles)
+
+settled_own : (q : ℕ) (es : List Entry) (works : List Pending) (fork : ForkId) → AllByRecursion (λ (w : Pending). is_entered (map (part_of q) es) w ≡ true) works → is_to_settle works fork ≡ true → is_of q fork ≡ true
+settled_own q es [] fork all h = absurd (true≢false (sym h))
+settled_own q es (w ∷ works) fork all h =
+    by_test (work_settles fork w.work) (λ now. work_own q es w fork all.0 now) (λ not_now. settled_own q es works fork all.1 (or_else (work_settles fork w.work) (is_to_settle works fork) h not_now))
+
 -- a partition's area has no forks but its own
-disk_of : (q : ℕ) (now raw : Store) (part : Part) (fork : ForkId) → IsPart q now part.frames → LacksUnwritten raw part.frames part.marks part.works → contains_key raw fork ≡ true → is_of q fork ≡ true
-disk_of q now raw part fork is lacks there =
-    of_part q now part.frames fork is
-    (elim (is_to_make part.works fork) as (λ b. is_to_make part.works fork ≡ b → contains_key part.frames fork ≡ true) [
-      | true ↦ λ make. lacks.made fork make
-      | false ↦ λ none. sym (lacks.forks fork none) ∙ there
-    ] refl)
+disk_of : (q : ℕ) (es : List Entry) (now raw : Store) (part : Part) (fork : ForkId) → IsPart q now part.frames → LacksUnwritten raw part.frames part.marks part.works → IsSince (map (part_of q) es) part.marks part.works → contains_key raw fork ≡ true → is_of q fork ≡ true
+disk_of q es now raw part fork is lacks since_then there =
+    by_test (is_to_settle part.works fork)
+    (λ settled. settled_own q es part.works fork (recursion_from_All (λ (w : Pending). is_entered (map (part_of q) es) w ≡ true) part.works since_then.entered) settled)
+    (λ none. of_part q now part.frames fork is (sym (lacks.forks fork) ∙ unsettled part.works fork (contains_key raw fork) none ∙ there))
 
 -- a partition, whose area was read, follows a history in which its point is at a redo point or past it
 pub record IsRead (q from : ℕ) (tells : Type 0) (log : Log) (told : Option Files) (history : List Entry) (pages : ℕ) (old new : Part) : Type 0 where
@@ -183,7 +250,7 @@ module _ (q from : ℕ) (tells : Type 0) (log : Log) (told : Option Files) (hist
       record {
         order = sorted (entries raw) (entries_sorted raw);
         ours = All-from_recursion (λ (l : ForkLen). is_of q l.fork ≡ true) (fork_lengths raw)
-            (ours_in q (entries raw) (λ fork there. disk_of q known.store raw new fork known.is held_raw.lacks (contains_key-keys raw fork ∙ there)));
+            (ours_in q (entries raw) (λ fork there. disk_of q (since new.point history) known.store raw new fork known.is held_raw.lacks r.part.follows.unwritten (contains_key-keys raw fork ∙ there)));
         listed = λ fork mine. subst (IsListed history from fork) (sym (counted raw fork)) (answered fork mine).listed;
       }
 

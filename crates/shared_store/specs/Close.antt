@@ -6,6 +6,7 @@ use Rattle.lsn_core.specs.Store.{Store, files_of}
 use Rattle.lsn_core.specs.Tip.{Tip}
 use Rattle.lsn_core.specs.declared.lsn.Lsn.{Lsn}
 use Rattle.lsn_core.specs.declared.fault.StoreFault.{StoreFault}
+use Rattle.vault.specs.Frame.{IsDurable}
 use Rattle.vault.specs.declared.area.Vault.{Ghosts}
 use Rattle.wal_record.specs.declared.record.Record.{Record}
 use Rattle.wal_record.specs.Tips.{first_tip}
@@ -35,7 +36,12 @@ pub record HoldsPart (relseg q : ℕ) (store : Store) (files : Option Files) : T
   pub is : IsPart q store part
   pub files_are : files ≡ Some (files_of relseg part)
 
--- the areas hold a history: the WAL the records of its entries, up to where it ends, each data area
+-- a stop leaves the files of each area
+pub record AreDurable {V : Type 0} (g : Ghosts V) (areas : StoreAreas V) : Type 0 where
+  pub wal : IsDurable (g.files areas.wal) (g.past areas.wal)
+  pub parts : (q : ℕ) → q < 4 → IsDurable (g.files (data_area areas q)) (g.past (data_area areas q))
+
+-- the areas hold a history, durably: the WAL the records of its entries, up to where it ends, each data area
 -- the files of its partition's part of the store that the history makes
 pub record HoldsHistory {V : Type 0} (g : Ghosts V) (store : Opened) (areas : StoreAreas V)
     : Type 0 where
@@ -47,6 +53,7 @@ pub record HoldsHistory {V : Type 0} (g : Ghosts V) (store : Opened) (areas : St
       (wal_top store) files
   pub parts : (q : ℕ) → q < 4
       → HoldsPart store.settings.relseg q lawful.store (g.files (data_area areas q))
+  pub durable : AreDurable g areas
 
 -- what closing answers: where the WAL ends, and then, where areas tell, they hold the history; or
 -- why not all of it is known to be written

@@ -1,6 +1,7 @@
 //! A store begun on its areas.
 
-ghost use Rattle.std.specs.Prelude.{◌≡◌, ◌≤◌, true, IfOk, IfErr, IsSome, replicate};
+ghost use Rattle.std.specs.Prelude.{◌≡◌, ◌≤◌, true, IfOk, IfErr, OnOk, IsSome, replicate};
+ghost use Rattle.vault.specs.Frame.{IsDurable};
 ghost use Rattle.wal_writer.specs.Log.{IsLog, log_at};
 ghost use Rattle.shared_store.specs.Begin.{AllTell, IsBegun, IsUnbegun, BeginCause, fresh_passes};
 ghost use Rattle.shared_store.specs.Opened.{IsLawfulOf};
@@ -63,6 +64,7 @@ fn prepare<J: OfCrew, V: Vault>(
     ensures refused { IfErr result
         (BeginCause (V.files wal.old) (V.faults wal.old) (V.faults wal.new)) }
     ensures same { V.files wal.new ≡ V.files wal.old }
+    ensures durable { OnOk result (IsDurable (V.files wal.new) (V.past wal.new)) }
     ensures later { V.faults wal.old ≤ V.faults wal.new }
 {
     let mut found = find(alloc, opened, wal)?;
@@ -81,6 +83,7 @@ fn attach<J: OfCrew, V: Vault>(
 ) -> (Journal<J, V>, Flushed)
     requires found { IsFound (V.files area) settings pen pages tip }
     requires told { J.tells ≡ true → IsSome (V.files area) }
+    requires durable { IsDurable (V.files area) (V.past area) }
     ensures area { result.0.wal.area ≡ area }
     ensures log { result.0.wal.tail ≡ log_at settings tip }
     ensures pen { result.0.pen ≡ pen }
@@ -107,6 +110,7 @@ fn open<J: OfCrew, V: Vault>(
     requires passes { crew.passes.items ≡ fresh_passes J.workers found.pen }
     requires counts { crew.counts.items ≡ replicate J.workers 0 }
     requires told { J.tells ≡ true → AllTell V.Vault (areas_with areas.wal areas.pages) }
+    requires durable { IsDurable (V.files areas.wal) (V.past areas.wal) }
     ensures begun { IfOk result (λ began. IsBegun V.Vault (areas_with areas.wal areas.pages)
         J.workers began.store began.crew.items began.tip) }
     ensures lawful { IfOk result (λ began. IsLawfulOf (J.tells ≡ true) began.store) }

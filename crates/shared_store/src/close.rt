@@ -56,7 +56,7 @@ fn flush_whole<J: OfStore, V: Vault>(
     ensures written { MayWriteWal journal.old.wal.tail.mib journal.old.wal.tail.flushed
         (tip_of journal.old.wal.tail.mib journal.old.pen).end
         (V.files journal.old.wal.area) (V.files journal.new.wal.area) }
-    ensures whole { IfOk result (IsAllFlushed journal.old journal.new) }
+    ensures whole { IfOk result (IsAllFlushed V.Vault journal.old journal.new) }
     ensures later { V.faults journal.old.wal.area ≤ V.faults journal.new.wal.area }
     ensures cause { IfErr result (AreaCause Wal (V.faults journal.old.wal.area)
         (V.faults journal.new.wal.area)) }
@@ -82,7 +82,7 @@ fn close_part<J: OfStore, V: Vault, const Q: u32>(
     requires flushed { IfOk earlier (λ mark. journal.now.wal.tail.tip.end ≤ mark.to.0) }
     ensures later { part.faults ≤ V.faults result.0 }
     ensures answer { PartAnswer Q settings.relseg (J.tells ≡ true) part
-        (V.files result.0) (V.faults result.0) earlier result.1 }
+        (V.files result.0) (V.past result.0) (V.faults result.0) earlier result.1 }
 {
     let mut part = part;
     let written = write_whole(alloc, settings, journal, &mut part, earlier);
@@ -103,7 +103,7 @@ fn write_whole<J: OfStore, V: Vault, W: Vault, const Q: u32>(
     requires flushed { IfOk earlier (λ mark. journal.now.wal.tail.tip.end ≤ mark.to.0) }
     ensures later { part.old.faults ≤ part.new.faults }
     ensures answer { PartAnswer Q settings.relseg (J.tells ≡ true) part.old
-        part.new.disk part.new.faults earlier result }
+        part.new.disk part.new.past part.new.faults earlier result }
 {
     // known: a file has some blocks, and all entries end where the WAL does
     let _relseg = settings.relseg();

@@ -1,7 +1,7 @@
 //! The WAL of a store as it is found: read whole into memory, with the history that it tells.
 
-ghost use Rattle.std.specs.Prelude.{◌≡◌, ◌<◌, ◌≤◌, [], Some, IfOk, IfErr};
-ghost use Rattle.vault.specs.Frame.{OnlyReads};
+ghost use Rattle.std.specs.Prelude.{◌≡◌, ◌<◌, ◌≤◌, [], Some, IfOk, IfErr, OnOk};
+ghost use Rattle.vault.specs.Frame.{OnlyReads, IsDurable};
 ghost use Rattle.shared_store.specs.Begin.{BeginCause};
 ghost use Rattle.shared_store.specs.Found.{HasRead, ShowsHistory, ReplayCause, IsFound};
 
@@ -93,6 +93,7 @@ pub(crate) fn find<J: OfTimeline, V: Vault>(
     ensures refused { IfErr result
         (BeginCause (V.files wal.old) (V.faults wal.old) (V.faults wal.new)) }
     ensures same { V.files wal.new ≡ V.files wal.old }
+    ensures durable { OnOk result (IsDurable (V.files wal.new) (V.past wal.new)) }
     ensures later { V.faults wal.old ≤ V.faults wal.new }
 {
     let settings = settings_of(alloc, wal)?;

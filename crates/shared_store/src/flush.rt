@@ -5,7 +5,7 @@ ghost use Rattle.lsn_core.specs.declared.fault.StoreArea.TheVariants.{Wal, Data}
 ghost use Rattle.journal.specs.Journal.{IsEndOf};
 ghost use Rattle.page_pool.specs.Calls.{MayWriteNext};
 ghost use Rattle.shared_store.specs.Opened.{IsPartOf};
-ghost use Rattle.shared_store.specs.Inside.{AreaCause, WriteCause, KeepsWal};
+ghost use Rattle.shared_store.specs.Inside.{AreaCause, WriteCause, KeepsWal, written_end};
 
 use crate::fault::fault_of;
 use journal::{Journal, OfStore};
@@ -40,7 +40,56 @@ pub(crate) fn flush<J: OfStore, V: Vault>(
     }
 }
 
-/// Flushes the WAL up to the entry of what a partition writes next, where there is anything.
+/// Flushes the WAL up to its end, and keeps how far it is flushed.
+pub(crate) fn flush_whole<J: OfStore, V: Vault>(
+    alloc: Global,
+    journal: &mut Journal<J, V>,
+    mark: &mut Flushed,
+) -> Result<(), StoreFault>
+    requires { mark.old.to.0 ≤ journal.old.wal.tail.flushed }
+    ensures wal { KeepsWal V.Vault journal.old journal.new }
+    ensures marked { mark.new.to.0 ≤ journal.new.wal.tail.flushed }
+    ensures whole { OnOk result (journal.new.wal.tail.flushed ≡ written_end journal.new) }
+    ensures reached { OnOk result (written_end journal.old ≤ mark.new.to.0) }
+    ensures cause { IfErr result (AreaCause Wal (V.faults journal.old.wal.area)
+        (V.faults journal.new.wal.area)) }
+{
+    let tip = journal.tip();
+    let flushed = journal.flush_to(alloc, tip.end);
+    let _tip = journal.tip();
+    match flushed {
+        Ok(done) => {
+            *mark = done;
+            Ok(())
+        }
+        Err(fault) => Err(fault_of(StoreArea::Wal, fault)),
+    }
+}
+
+/// Flushes the WAL up to its end, where it isn't flushed up to where an entry of the history ends:
+/// what was appended behind that entry goes along, so that it costs no flush of its own.
+pub(crate) fn flush_past<J: OfStore, V: Vault>(
+    alloc: Global,
+    journal: &mut Journal<J, V>,
+    mark: &mut Flushed,
+    to: Lsn,
+) -> Result<(), StoreFault>
+    requires place { IsEndOf journal.old.pen to.0 }
+    requires marked { mark.old.to.0 ≤ journal.old.wal.tail.flushed }
+    ensures wal { KeepsWal V.Vault journal.old journal.new }
+    ensures marked { mark.new.to.0 ≤ journal.new.wal.tail.flushed }
+    ensures reached { OnOk result (to.0 ≤ mark.new.to.0) }
+    ensures cause { IfErr result (AreaCause Wal (V.faults journal.old.wal.area)
+        (V.faults journal.new.wal.area)) }
+{
+    let _tip = journal.tip();
+    if to <= mark.to() {
+        return Ok(());
+    }
+    flush_whole(alloc, journal, mark)
+}
+
+/// Flushes the WAL past the entry of what a partition writes next, where there is anything.
 fn flush_next<J: OfStore, V: Vault, W: Vault, const Q: u32>(
     alloc: Global,
     journal: &mut Journal<J, V>,
@@ -57,7 +106,7 @@ fn flush_next<J: OfStore, V: Vault, W: Vault, const Q: u32>(
 {
     let _tip = journal.tip();
     match part.next_lsn() {
-        Some(to) => flush(alloc, journal, mark, to),
+        Some(to) => flush_past(alloc, journal, mark, to),
         None => Ok(()),
     }
 }

@@ -153,6 +153,7 @@ fn is_over(op: &Op, pages: u64) -> bool
     match op {
         Op::Create(_) => false,
         Op::Truncate(_, _) => false,
+        Op::Drop(_) => false,
         Op::Change(_) => MOST_PAGES < pages,
     }
 }

@@ -9,6 +9,7 @@ ghost use Rattle.shared_store.specs.Records.{IsPlaceOf, ArePartOf, HasRecords, A
 ghost use Rattle.shared_store.specs.Inside.{AreaCause, KeepsWal, EndsAtDamage, written_end};
 
 use crate::fault::fault_of;
+use crate::flush::flush_whole;
 use crate::naming::OfCrew;
 use crate::pass::Pass;
 use crate::store::Store;
@@ -19,7 +20,6 @@ use vault::Vault;
 use wal_pages::Layout;
 use wal_reader::WalFault;
 use wal_record::Record;
-use wal_writer::Flushed;
 
 impl<J: OfCrew, V: Vault> Store<J, V> {
     /// Flushes the WAL, and answers the first `most` records of it that start at a place or past it,
@@ -98,31 +98,6 @@ impl<J: OfCrew, V: Vault> Store<J, V> {
     {
         let settings = self.settings;
         read_behind(alloc, &mut self.journal, &settings, from, most)
-    }
-}
-
-/// Flushes the WAL up to its end, and keeps how far it is flushed.
-fn flush_whole<J: OfStore, V: Vault>(
-    alloc: Global,
-    journal: &mut Journal<J, V>,
-    mark: &mut Flushed,
-) -> Result<(), StoreFault>
-    requires { mark.old.to.0 ≤ journal.old.wal.tail.flushed }
-    ensures wal { KeepsWal V.Vault journal.old journal.new }
-    ensures marked { mark.new.to.0 ≤ journal.new.wal.tail.flushed }
-    ensures whole { OnOk result (journal.new.wal.tail.flushed ≡ written_end journal.new) }
-    ensures cause { IfErr result (AreaCause Wal (V.faults journal.old.wal.area)
-        (V.faults journal.new.wal.area)) }
-{
-    let tip = journal.tip();
-    let flushed = journal.flush_to(alloc, tip.end);
-    let _tip = journal.tip();
-    match flushed {
-        Ok(done) => {
-            *mark = done;
-            Ok(())
-        }
-        Err(fault) => Err(fault_of(StoreArea::Wal, fault)),
     }
 }
 

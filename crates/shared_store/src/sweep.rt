@@ -8,7 +8,7 @@ ghost use Rattle.shared_store.specs.Opened.{IsPartOf};
 ghost use Rattle.shared_store.specs.Inside.{AreaCause, WriteCause, KeepsWal, IsCleaned};
 
 use crate::fault::fault_of;
-use crate::flush::flush;
+use crate::flush::flush_past;
 use journal::{Journal, OfStore};
 use lsn_core::{Lsn, StoreArea, StoreFault};
 use page_pool::{Cleaned, Partition};
@@ -16,7 +16,7 @@ use std::alloc::Global;
 use vault::Vault;
 use wal_writer::Flushed;
 
-/// Flushes the WAL up to the newest entry of what a partition hasn't written, where there is any.
+/// Flushes the WAL past the newest entry of what a partition hasn't written, where there is any.
 fn flush_newest<J: OfStore, V: Vault, W: Vault, const Q: u32>(
     alloc: Global,
     journal: &mut Journal<J, V>,
@@ -33,7 +33,7 @@ fn flush_newest<J: OfStore, V: Vault, W: Vault, const Q: u32>(
 {
     let _tip = journal.tip();
     match part.newest_lsn() {
-        Some(to) => flush(alloc, journal, mark, to),
+        Some(to) => flush_past(alloc, journal, mark, to),
         None => Ok(()),
     }
 }

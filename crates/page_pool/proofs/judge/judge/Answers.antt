@@ -12,3 +12,7 @@ returns-in-Create-clause-counted c =
 pub returns-in-Truncate-clause-counted : goal.returns-in-Truncate-clause-counted
 returns-in-Truncate-clause-counted c =
     subst (λ (o : Op). IfOk c.judge_cut.result (λ x. IsCounted c.args.frames.now.pages o x.added x.gone)) (sym c.in-Truncate.is) c.judge_cut.ensures.counted
+
+pub returns-in-Drop-clause-counted : goal.returns-in-Drop-clause-counted
+returns-in-Drop-clause-counted c =
+    subst (λ (o : Op). IfOk c.judge_drop.result (λ x. IsCounted c.args.frames.now.pages o x.added x.gone)) (sym c.in-Drop.is) c.judge_drop.ensures.counted

@@ -1,5 +1,5 @@
 -- A page that can be written can be so with another LSN.
-use Rattle.std.proofs.Common.{◌≡◌, ◌∙◌, ap}
+use Rattle.std.proofs.Common.{◌∙◌, ap}
 use Rattle.pg_page.specs.Header.{with_lsn}
 use Rattle.page_pool.proofs.Making.{page_with_lsn}
 use Rattle.page_pool.proofs.kinds.image.Goals as goal

@@ -12,5 +12,5 @@ clean_all-requires-after_bounds g c κs within = (
 
 pub returns-in-Ok-clean_all-clause-answer : goal.returns-in-Ok-clean_all-clause-answer
 returns-in-Ok-clean_all-clause-answer g c =
-    subst (λ r. PartAnswer g.row.Q c.args.settings.relseg _ c.args.part.now c.clean_all.new.self.disk c.clean_all.new.self.faults r (Ok c.in-Ok.mark)) (sym c.in-Ok.is)
-    (refl, λ t. part_whole g.row.Q c.args.settings.relseg _ _ c.args.journal.now.pen c.args.part.now c.clean_all.new.self (subst (λ n. 1 ≤ n) c.relseg-relseg.ensures.value c.relseg-relseg.ensures.least) c.in-Ok-clean_all.ensures.written c.in-Ok-clean_all.ensures.area c.requires.part t)
+    subst (λ r. PartAnswer g.row.Q c.args.settings.relseg _ c.args.part.now c.clean_all.new.self.disk c.clean_all.new.self.past c.clean_all.new.self.faults r (Ok c.in-Ok.mark)) (sym c.in-Ok.is)
+    (refl, ((λ t. part_whole g.row.Q c.args.settings.relseg _ _ c.args.journal.now.pen c.args.part.now c.clean_all.new.self (subst (λ n. 1 ≤ n) c.relseg-relseg.ensures.value c.relseg-relseg.ensures.least) c.in-Ok-clean_all.ensures.written c.in-Ok-clean_all.ensures.area c.requires.part t), c.in-Ok-clean_all.ensures.written.settled))

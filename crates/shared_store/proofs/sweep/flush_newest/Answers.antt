@@ -5,8 +5,8 @@ use Rattle.page_pool.proofs.Ends.{unwritten_of_history}
 use Rattle.shared_store.proofs.Goes.{keeps_none}
 use Rattle.shared_store.proofs.sweep.flush_newest.Goals as goal
 
-pub flush-requires-clause-place : goal.flush-requires-clause-place
-flush-requires-clause-place g c κs within =
+pub flush_past-requires-clause-place : goal.flush_past-requires-clause-place
+flush_past-requires-clause-place g c κs within =
     subst (λ o. IfSome o (IsEndOf c.args.journal.now.pen)) (sym c.in-Some.ensures) (unwritten_of_history g.row.Q c.args.journal.now.pen c.args.part.now c.requires.part.follows).1
 
 pub returns-in-None-clause-wal : goal.returns-in-None-clause-wal

@@ -1,4 +1,4 @@
-use Rattle.std.proofs.Common.{◌≡◌, ℕ, ◌+◌, ◌*◌, ◌/◌, min, subst, arith}
+use Rattle.std.proofs.Common.{ap, sym, ◌∙◌, ◌≡◌, ℕ, ◌+◌, ◌*◌, ◌/◌, min, subst, arith}
 use Rattle.std.proofs.lemmas.Result.{on_ok_weaker, on_err_weaker}
 use Rattle.vault.proofs.Changed.{changes_on}
 use Rattle.lsn_core.specs.Blocks.{with_cut}
@@ -6,6 +6,10 @@ use Rattle.rel_files.specs.Forks.{IsForkPath}
 use Rattle.rel_files.specs.Inside.{Held, TearsCut}
 use Rattle.rel_files.proofs.FileCalls.{err_is}
 use Rattle.rel_files.proofs.Removing.{LeavesFrom, has_files, cut_torn_before, cut_done, cut_torn_last}
+use Rattle.vault.proofs.Through.{adds_on}
+use Rattle.rel_files.specs.Inside.{last_file}
+use Rattle.rel_files.specs.Events.{IsForkCut}
+use Rattle.rel_files.proofs.Events.{removed_in_cut, cut_in_cut}
 use Rattle.rel_files.proofs.cutting.AnyCutting.cut_pages.Goals as goal
 
 pub returns-in_err-remove_files-clause-torn : goal.returns-in_err-remove_files-clause-torn
@@ -47,3 +51,19 @@ returns-clause-torn g c =
 
 pub returns-clause-frame : goal.returns-clause-frame
 returns-clause-frame g c = changes_on g.V.Vault IsForkPath c.args.self.now c.remove_files.new.self c.cut_last.new.self c.in_ok-remove_files.ensures.frame c.cut_last.ensures.frame
+
+pub returns-in_err-remove_files-clause-events : goal.returns-in_err-remove_files-clause-events
+returns-in_err-remove_files-clause-events g c =
+    let relseg = c.args.relseg in
+    let left : c.min-left.result ≡ min c.args.count c.args.to = omega (arith, c.min-left.ensures) in
+    let file : last_file relseg (min c.args.count c.args.to) ≡ c.last_file.result = ap (last_file relseg) (sym left) ∙ sym c.last_file.ensures in
+    removed_in_cut relseg c.args.fork.now (c.last_file.result + 1) (min c.args.count c.args.to) (g.V.Vault.past c.args.self.now) (g.V.Vault.past c.remove_files.new.self) (ap (λ (n : ℕ). n + 1) file) c.in_err-remove_files.ensures.events
+
+pub returns-clause-events : goal.returns-clause-events
+returns-clause-events g c =
+    let relseg = c.args.relseg in
+    let left : c.min-left.result ≡ min c.args.count c.args.to = omega (arith, c.min-left.ensures) in
+    let file : last_file relseg (min c.args.count c.args.to) ≡ c.last_file.result = ap (last_file relseg) (sym left) ∙ sym c.last_file.ensures in
+    adds_on (IsForkCut relseg c.args.fork.now (min c.args.count c.args.to)) (g.V.Vault.past c.args.self.now) (g.V.Vault.past c.remove_files.new.self) (g.V.Vault.past c.cut_last.new.self)
+    (removed_in_cut relseg c.args.fork.now (c.last_file.result + 1) (min c.args.count c.args.to) (g.V.Vault.past c.args.self.now) (g.V.Vault.past c.remove_files.new.self) (ap (λ (n : ℕ). n + 1) file) c.in_ok-remove_files.ensures.events)
+    (cut_in_cut relseg c.args.fork.now c.min-left.result (min c.args.count c.args.to) (g.V.Vault.past c.remove_files.new.self) (g.V.Vault.past c.cut_last.new.self) left c.cut_last.ensures.events)

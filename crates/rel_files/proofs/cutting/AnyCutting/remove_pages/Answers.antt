@@ -1,6 +1,9 @@
 use Rattle.std.proofs.Common.{◌≡◌, ◌+◌, ◌/◌, min, arith}
 use Rattle.std.proofs.lemmas.Result.{on_ok_weaker, on_err_weaker}
 use Rattle.vault.proofs.Changed.{changes_on}
+use Rattle.vault.proofs.Through.{adds_on}
+use Rattle.rel_files.specs.Events.{IsFileRemoval}
+use Rattle.rel_files.proofs.Events.{from_earlier}
 use Rattle.rel_files.specs.Forks.{IsForkPath}
 use Rattle.rel_files.specs.Inside.{TearsRemoval}
 use Rattle.rel_files.proofs.FileCalls.{err_is}
@@ -40,3 +43,13 @@ returns-clause-torn g c =
 
 pub returns-clause-frame : goal.returns-clause-frame
 returns-clause-frame g c = changes_on g.V.Vault IsForkPath c.args.self.now c.remove_files.new.self c.remove_first.new.self c.in_ok-remove_files.ensures.frame c.remove_first.ensures.frame
+
+pub returns-in_err-remove_files-clause-events : goal.returns-in_err-remove_files-clause-events
+returns-in_err-remove_files-clause-events g c =
+    from_earlier c.args.fork.now 0 1 (g.V.Vault.past c.args.self.now) (g.V.Vault.past c.remove_files.new.self) (omega arith) c.in_err-remove_files.ensures.events
+
+pub returns-clause-events : goal.returns-clause-events
+returns-clause-events g c =
+    adds_on (IsFileRemoval c.args.fork.now 0) (g.V.Vault.past c.args.self.now) (g.V.Vault.past c.remove_files.new.self) (g.V.Vault.past c.remove_first.new.self)
+    (from_earlier c.args.fork.now 0 1 (g.V.Vault.past c.args.self.now) (g.V.Vault.past c.remove_files.new.self) (omega arith) c.in_ok-remove_files.ensures.events)
+    c.remove_first.ensures.events

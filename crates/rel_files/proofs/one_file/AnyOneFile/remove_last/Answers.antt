@@ -1,9 +1,12 @@
-use Rattle.std.proofs.Common.{◌+◌, ◌*◌, sym, subst, ◌∙◌, arith}
+use Rattle.std.proofs.Common.{refl, ◌+◌, ◌*◌, sym, subst, ◌∙◌, arith}
 use Rattle.lsn_core.specs.Store.{Store}
 use Rattle.rel_files.specs.Inside.{Held}
 use Rattle.rel_files.proofs.ForkCuts.{uncut}
 use Rattle.rel_files.proofs.FileCalls.{file_removed, removal_left, err_is}
 use Rattle.rel_files.proofs.ForkFrames.{removal_changes}
+use Rattle.vault.proofs.Through.{adds_none}
+use Rattle.rel_files.specs.Events.{IsFileRemoval}
+use Rattle.rel_files.proofs.Events.{removal_added}
 use Rattle.rel_files.proofs.one_file.AnyOneFile.remove_last.Goals as goal
 
 pub returns-in_err-path-clause-torn : goal.returns-in_err-path-clause-torn
@@ -29,3 +32,11 @@ returns-clause-frame g c =
     removal_changes g.V.Vault c.as_bytes.result.now c.args.self.now c.remove.new.self c.remove.result
     (record { fork = c.args.fork.now; seg = c.args.seg; named = c.segment_path.ensures.named; path_is = c.as_bytes.ensures ∙ c.in_ok-path.ensures.path })
     e.removed e.memory e.failed e.noted e.tried e.cause.later
+
+pub returns-in_err-path-clause-events : goal.returns-in_err-path-clause-events
+returns-in_err-path-clause-events g c = adds_none (IsFileRemoval c.args.fork.now c.args.seg) (g.V.Vault.past c.args.self.now) (g.V.Vault.past c.args.self.now) refl
+
+pub returns-clause-events : goal.returns-clause-events
+returns-clause-events g c =
+    removal_added c.args.fork.now c.args.seg c.as_bytes.result.now (g.V.Vault.past c.args.self.now) (g.V.Vault.past c.remove.new.self) c.remove.result
+    c.segment_path.ensures.named (c.as_bytes.ensures ∙ c.in_ok-path.ensures.path) c.remove.ensures.noted c.remove.ensures.tried

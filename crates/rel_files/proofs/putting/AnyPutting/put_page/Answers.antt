@@ -1,4 +1,4 @@
-use Rattle.std.proofs.Common.{refl, ap, arith}
+use Rattle.std.proofs.Common.{inl, inr, refl, ap, arith}
 use Rattle.std.proofs.lemmas.Result.{on_ok_weaker, on_err_weaker}
 use Rattle.vault.proofs.Changed.{changes_on}
 use Rattle.rel_files.specs.Forks.{IsForkPath}
@@ -6,6 +6,9 @@ use Rattle.rel_files.specs.Inside.{TearsPut}
 use Rattle.rel_files.proofs.FileCalls.{err_is}
 use Rattle.rel_files.proofs.ForkFrames.{changes_none}
 use Rattle.rel_files.proofs.Filling.{fill_start, fill_next, fill_torn, put_last, torn_last}
+use Rattle.vault.proofs.Through.{adds_none, adds_on}
+use Rattle.rel_files.specs.Events.{IsPut}
+use Rattle.rel_files.proofs.Events.{put_part}
 use Rattle.rel_files.proofs.putting.AnyPutting.put_page.Goals as goal
 
 pub loop-block-init : goal.loop-block-init
@@ -13,6 +16,7 @@ loop-block-init g c = record {
   filled = λ le s held e. fill_start c.args.relseg (g.V.Vault.files c.args.self.now) s c.args.at.now.fork c.args.count c.args.at.now.block held e;
   idle = λ less. refl;
   frame = changes_none g.V.Vault IsForkPath c.args.self.now;
+  events = adds_none (IsPut c.args.relseg c.args.count c.args.at.now) (g.V.Vault.past c.args.self.now) (g.V.Vault.past c.args.self.now) refl;
   later = omega arith;
 }
 
@@ -23,6 +27,8 @@ loop-block-preserved g c = record {
       c.in_ok-write_page.ensures.put (c.loop-block.invariant.filled le s held e);
   idle = λ less. absurd (omega (arith, less, c.loop-block-test.true, c.loop-block.auto.block));
   frame = changes_on g.V.Vault IsForkPath c.args.self.now c.loop-block.self c.write_page.new.self c.loop-block.invariant.frame c.in_ok-write_page.ensures.frame;
+  events = adds_on (IsPut c.args.relseg c.args.count c.args.at.now) (g.V.Vault.past c.args.self.now) (g.V.Vault.past c.loop-block.self) (g.V.Vault.past c.write_page.new.self) c.loop-block.invariant.events
+      (put_part c.args.relseg c.args.count c.args.at.now c.loop-block.block (g.V.Vault.past c.loop-block.self) (g.V.Vault.past c.write_page.new.self) (omega (arith, c.loop-block-test.true)) (inl c.loop-block.auto.block) c.in_ok-write_page.ensures.events);
   later = omega (arith, c.loop-block.invariant.later, c.in_ok-write_page.ensures.cause.later);
 }
 
@@ -53,3 +59,13 @@ returns-clause-torn g c =
 
 pub returns-clause-frame : goal.returns-clause-frame
 returns-clause-frame g c = changes_on g.V.Vault IsForkPath c.args.self.now c.loop-block.self c.write_page-2.new.self c.loop-block.invariant.frame c.write_page-2.ensures.frame
+
+pub returns-in_err-write_page-clause-events : goal.returns-in_err-write_page-clause-events
+returns-in_err-write_page-clause-events g c =
+    adds_on (IsPut c.args.relseg c.args.count c.args.at.now) (g.V.Vault.past c.args.self.now) (g.V.Vault.past c.loop-block.self) (g.V.Vault.past c.write_page.new.self) c.loop-block.invariant.events
+    (put_part c.args.relseg c.args.count c.args.at.now c.loop-block.block (g.V.Vault.past c.loop-block.self) (g.V.Vault.past c.write_page.new.self) (omega (arith, c.loop-block-test.true)) (inl c.loop-block.auto.block) c.in_err-write_page.ensures.events)
+
+pub returns-clause-events : goal.returns-clause-events
+returns-clause-events g c =
+    adds_on (IsPut c.args.relseg c.args.count c.args.at.now) (g.V.Vault.past c.args.self.now) (g.V.Vault.past c.loop-block.self) (g.V.Vault.past c.write_page-2.new.self) c.loop-block.invariant.events
+    (put_part c.args.relseg c.args.count c.args.at.now c.args.at.now.block (g.V.Vault.past c.loop-block.self) (g.V.Vault.past c.write_page-2.new.self) (omega arith) (inr refl) c.write_page-2.ensures.events)

@@ -1,4 +1,4 @@
-use Rattle.std.proofs.Common.{ℕ, Option, is_some, sym, ap, subst, arith}
+use Rattle.std.proofs.Common.{ℕ, min, Option, is_some, sym, ap, subst, arith}
 use Rattle.vault.proofs.Changed.{changes_on}
 use Rattle.lsn_core.specs.Store.{Store}
 use Rattle.lsn_core.specs.Blocks.{with_cut}
@@ -6,6 +6,11 @@ use Rattle.rel_files.specs.Forks.{IsForkPath, mended}
 use Rattle.rel_files.specs.Shown.{HoldsStore}
 use Rattle.rel_files.proofs.FileCalls.{err_is}
 use Rattle.rel_files.proofs.RawCalls.{count_found, fork_absent, cut_idle, cut_absent, cut_counted, cut_torn_others}
+use Rattle.std.specs.FinMap.{get}
+use Rattle.vault.proofs.Through.{adds_none}
+use Rattle.rel_files.specs.Events.{IsForkCut}
+use Rattle.rel_files.specs.Inside.{whole_length}
+use Rattle.rel_files.proofs.Events.{cut_behind, whole_found}
 use Rattle.rel_files.proofs.raw_calls.ForksRawCalls.cut_to.Goals as goal
 
 pub returns-in_err-count-clause-torn : goal.returns-in_err-count-clause-torn
@@ -49,3 +54,25 @@ returns-clause-kept g c = record {
   relseg = c.in_ok-count.ensures.kept.relseg;
   area = changes_on g.V.Vault IsForkPath c.args.self.now.area c.count.new.self.area c.cut_pages.new.self c.in_ok-count.ensures.kept.area c.in_ok-cut_pages.ensures.frame;
 }
+
+pub returns-in_err-count-clause-events : goal.returns-in_err-count-clause-events
+returns-in_err-count-clause-events g c s h =
+    adds_none (IsForkCut c.args.self.now.relseg c.args.fork.now (min (whole_length s c.args.fork.now) c.args.to)) (g.V.Vault.past c.args.self.now.area) (g.V.Vault.past c.count.new.self.area) c.in_err-count.ensures.reads.past
+
+pub returns-in_default-clause-events : goal.returns-in_default-clause-events
+returns-in_default-clause-events g c s h =
+    adds_none (IsForkCut c.args.self.now.relseg c.args.fork.now (min (whole_length s c.args.fork.now) c.args.to)) (g.V.Vault.past c.args.self.now.area) (g.V.Vault.past c.count.new.self.area) c.in_ok-count.ensures.reads.past
+
+pub returns-in_err-cut_pages-clause-events : goal.returns-in_err-cut_pages-clause-events
+returns-in_err-cut_pages-clause-events g c s h =
+    let fork = c.args.fork.now in
+    let found = whole_found (get s fork) c.in-Some.count (count_found s fork c.in_ok-count.field-0 c.in-Some.count (c.in_ok-count.ensures.whole s h) c.in-Some.is) in
+    cut_behind c.args.self.now.relseg c.count.new.self.relseg fork (min c.in-Some.count c.args.to) (min (whole_length s fork) c.args.to) (g.V.Vault.past c.args.self.now.area) (g.V.Vault.past c.count.new.self.area) (g.V.Vault.past c.cut_pages.new.self)
+    c.in_ok-count.ensures.kept.relseg (ap (λ (n : ℕ). min n c.args.to) found) c.in_ok-count.ensures.reads.past c.in_err-cut_pages.ensures.events
+
+pub returns-clause-events : goal.returns-clause-events
+returns-clause-events g c s h =
+    let fork = c.args.fork.now in
+    let found = whole_found (get s fork) c.in-Some.count (count_found s fork c.in_ok-count.field-0 c.in-Some.count (c.in_ok-count.ensures.whole s h) c.in-Some.is) in
+    cut_behind c.args.self.now.relseg c.count.new.self.relseg fork (min c.in-Some.count c.args.to) (min (whole_length s fork) c.args.to) (g.V.Vault.past c.args.self.now.area) (g.V.Vault.past c.count.new.self.area) (g.V.Vault.past c.cut_pages.new.self)
+    c.in_ok-count.ensures.kept.relseg (ap (λ (n : ℕ). min n c.args.to) found) c.in_ok-count.ensures.reads.past c.in_ok-cut_pages.ensures.events

@@ -6,6 +6,9 @@ use Rattle.rel_files.specs.Shown.{HoldsStore}
 use Rattle.lsn_core.specs.Blocks.{with_fork}
 use Rattle.rel_files.proofs.FileCalls.{err_is}
 use Rattle.rel_files.proofs.RawCalls.{fork_absent, fork_there, made_same, made_others, made_count, make_torn_others}
+use Rattle.vault.proofs.Through.{adds_none}
+use Rattle.rel_files.specs.Events.{IsMake}
+use Rattle.rel_files.proofs.Events.{make_behind}
 use Rattle.rel_files.proofs.raw_calls.ForksRawCalls.make_empty.Goals as goal
 
 pub returns-in_err-count-clause-torn : goal.returns-in_err-count-clause-torn
@@ -45,3 +48,17 @@ returns-clause-kept g c = record {
   relseg = c.in_ok-count.ensures.kept.relseg;
   area = changes_on g.V.Vault IsForkPath c.args.self.now.area c.count.new.self.area c.make_first.new.self c.in_ok-count.ensures.kept.area c.in_ok-make_first.ensures.frame;
 }
+
+pub returns-in_err-count-clause-events : goal.returns-in_err-count-clause-events
+returns-in_err-count-clause-events g c = adds_none (IsMake c.args.fork.now) (g.V.Vault.past c.args.self.now.area) (g.V.Vault.past c.count.new.self.area) c.in_err-count.ensures.reads.past
+
+pub returns-then-is_some-clause-events : goal.returns-then-is_some-clause-events
+returns-then-is_some-clause-events g c = adds_none (IsMake c.args.fork.now) (g.V.Vault.past c.args.self.now.area) (g.V.Vault.past c.count.new.self.area) c.in_ok-count.ensures.reads.past
+
+pub returns-in_err-make_first-clause-events : goal.returns-in_err-make_first-clause-events
+returns-in_err-make_first-clause-events g c =
+    make_behind c.args.fork.now (g.V.Vault.past c.args.self.now.area) (g.V.Vault.past c.count.new.self.area) (g.V.Vault.past c.make_first.new.self) c.in_ok-count.ensures.reads.past c.in_err-make_first.ensures.events
+
+pub returns-clause-events : goal.returns-clause-events
+returns-clause-events g c =
+    make_behind c.args.fork.now (g.V.Vault.past c.args.self.now.area) (g.V.Vault.past c.count.new.self.area) (g.V.Vault.past c.make_first.new.self) c.in_ok-count.ensures.reads.past c.in_ok-make_first.ensures.events

@@ -5,6 +5,9 @@ use Rattle.rel_files.specs.Inside.{whole_length}
 use Rattle.rel_files.proofs.TornPuts.{none_is_torn}
 use Rattle.rel_files.proofs.FileCalls.{err_is}
 use Rattle.rel_files.proofs.RawCalls.{count_or_none, over_counted}
+use Rattle.vault.proofs.Through.{adds_none}
+use Rattle.rel_files.specs.Events.{IsPut}
+use Rattle.rel_files.proofs.Events.{put_behind}
 use Rattle.rel_files.proofs.raw_calls.ForksRawCalls.put.Goals as goal
 
 pub returns-in_err-count-clause-torn : goal.returns-in_err-count-clause-torn
@@ -45,3 +48,21 @@ returns-clause-kept g c = record {
   relseg = c.in_ok-count.ensures.kept.relseg;
   area = changes_on g.V.Vault IsForkPath c.args.self.now.area c.count.new.self.area c.put_page.new.self c.in_ok-count.ensures.kept.area c.in_ok-put_page.ensures.frame;
 }
+
+pub returns-in_err-count-clause-events : goal.returns-in_err-count-clause-events
+returns-in_err-count-clause-events g c s h =
+    adds_none (IsPut c.args.self.now.relseg (whole_length s c.args.at.now.fork) c.args.at.now) (g.V.Vault.past c.args.self.now.area) (g.V.Vault.past c.count.new.self.area) c.in_err-count.ensures.reads.past
+
+pub returns-in_err-put_page-clause-events : goal.returns-in_err-put_page-clause-events
+returns-in_err-put_page-clause-events g c s h =
+    let fork = c.args.at.now.fork in
+    let e : c.unwrap_or-count.result ≡ whole_length s fork = c.unwrap_or-count.ensures ∙ count_or_none s fork c.in_ok-count.field-0 (c.in_ok-count.ensures.whole s h) in
+    put_behind c.args.self.now.relseg c.count.new.self.relseg c.unwrap_or-count.result (whole_length s fork) c.args.at.now (g.V.Vault.past c.args.self.now.area) (g.V.Vault.past c.count.new.self.area) (g.V.Vault.past c.put_page.new.self)
+    c.in_ok-count.ensures.kept.relseg e c.in_ok-count.ensures.reads.past c.in_err-put_page.ensures.events
+
+pub returns-clause-events : goal.returns-clause-events
+returns-clause-events g c s h =
+    let fork = c.args.at.now.fork in
+    let e : c.unwrap_or-count.result ≡ whole_length s fork = c.unwrap_or-count.ensures ∙ count_or_none s fork c.in_ok-count.field-0 (c.in_ok-count.ensures.whole s h) in
+    put_behind c.args.self.now.relseg c.count.new.self.relseg c.unwrap_or-count.result (whole_length s fork) c.args.at.now (g.V.Vault.past c.args.self.now.area) (g.V.Vault.past c.count.new.self.area) (g.V.Vault.past c.put_page.new.self)
+    c.in_ok-count.ensures.kept.relseg e c.in_ok-count.ensures.reads.past c.in_ok-put_page.ensures.events

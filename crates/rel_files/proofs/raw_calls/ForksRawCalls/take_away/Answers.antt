@@ -1,6 +1,9 @@
 use Rattle.std.proofs.Common.{ℕ, Option, is_some, inl, sym, ap, subst}
 use Rattle.std.proofs.lemmas.Result.{on_ok_weaker, on_err_weaker}
 use Rattle.vault.proofs.Changed.{changes_on}
+use Rattle.vault.proofs.Through.{adds_none}
+use Rattle.rel_files.specs.Events.{IsFileRemoval}
+use Rattle.rel_files.proofs.Events.{removal_behind}
 use Rattle.lsn_core.specs.Store.{Store}
 use Rattle.lsn_core.specs.Blocks.{without_fork}
 use Rattle.rel_files.specs.Forks.{IsForkPath}
@@ -44,3 +47,13 @@ returns-clause-kept g c = record {
   relseg = c.in_ok-count.ensures.kept.relseg;
   area = changes_on g.V.Vault IsForkPath c.args.self.now.area c.count.new.self.area c.remove_pages.new.self c.in_ok-count.ensures.kept.area c.remove_pages.ensures.frame;
 }
+
+pub returns-in_err-count-clause-events : goal.returns-in_err-count-clause-events
+returns-in_err-count-clause-events g c = adds_none (IsFileRemoval c.args.fork.now 0) (g.V.Vault.past c.args.self.now.area) (g.V.Vault.past c.count.new.self.area) c.in_err-count.ensures.reads.past
+
+pub returns-in_default-clause-events : goal.returns-in_default-clause-events
+returns-in_default-clause-events g c = adds_none (IsFileRemoval c.args.fork.now 0) (g.V.Vault.past c.args.self.now.area) (g.V.Vault.past c.count.new.self.area) c.in_ok-count.ensures.reads.past
+
+pub returns-clause-events : goal.returns-clause-events
+returns-clause-events g c =
+    removal_behind c.args.fork.now (g.V.Vault.past c.args.self.now.area) (g.V.Vault.past c.count.new.self.area) (g.V.Vault.past c.remove_pages.new.self) c.in_ok-count.ensures.reads.past c.remove_pages.ensures.events

@@ -1,0 +1,15 @@
+use Rattle.std.proofs.Common.{◌≤◌, arith}
+use Rattle.std.proofs.lemmas.Result.{on_ok_weaker}
+use Rattle.shared_store.specs.Inside.{written_end}
+use Rattle.shared_store.proofs.Kept.{end_within}
+use Rattle.shared_store.proofs.Goes.{keeps_none}
+use Rattle.shared_store.proofs.flush.flush_past.Goals as goal
+
+pub returns-then-le-clause-wal : goal.returns-then-le-clause-wal
+returns-then-le-clause-wal g c = keeps_none g.V.Vault c.args.journal.now c.tip-tip.ensures.known c.tip-tip.ensures.ended
+
+pub returns-clause-reached : goal.returns-clause-reached
+returns-clause-reached g c =
+    let ended = c.tip-tip.ensures.ended in
+    let within : c.args.to.0 ≤ written_end c.args.journal.now = (let e = end_within c.args.journal.now.pen c.args.to.0 _ ended.within c.requires.place in omega (arith, e, ended.end)) in
+    on_ok_weaker c.flush_whole.result (λ past. omega (arith, within, past)) c.flush_whole.ensures.reached
