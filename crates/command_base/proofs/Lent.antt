@@ -3,7 +3,8 @@ use Rattle.std.proofs.Common.{◌≡◌, ℕ, ◌≤◌, List, [], ◌∷◌, re
 use Rattle.vault.specs.declared.area.Vault.{Ghosts as Vaults}
 use Rattle.vault.specs.declared.site.Site.{Ghosts as Sites}
 use Rattle.vault.specs.declared.lending.Held.{Held}
-use Rattle.vault.specs.Site.{Areas, AllHome, state_in}
+use Rattle.vault.specs.Frame.{OnlyReads}
+use Rattle.vault.specs.Site.{Areas, AreaState, AllHome, IsStill, state_in}
 use Rattle.vault.specs.Lending.{Names, WritesAmong, AreTaken, GivesBack, all_away}
 use Rattle.vault.proofs.LentAreas.{writes_fewer}
 
@@ -44,20 +45,20 @@ two_back s g a b old mid new n m p q p_now q_now home taken gives =
     }
 
 -- one of them was only read
-pub first_writes : (a b : List ℕ) (old new : Areas) → WritesAmong (a ∷ (b ∷ [])) old new → (new b).files ≡ (old b).files → WritesAmong (a ∷ []) old new
+pub first_writes : (a b : List ℕ) (old new : Areas) → WritesAmong (a ∷ (b ∷ [])) old new → IsStill (old b) (new b) → WritesAmong (a ∷ []) old new
 first_writes a b old new site same =
     writes_fewer (a ∷ (b ∷ [])) (a ∷ []) old new site (λ n one none. elim one [
       | inl is ↦ absurd (none.0 is)
       | inr more ↦ elim more [
-        | inl is ↦ subst (λ (x : List ℕ). (new x).files ≡ (old x).files) (sym is) same
+        | inl is ↦ subst (λ (x : List ℕ). IsStill (old x) (new x)) (sym is) same
         | inr other ↦ absurd other
       ]
     ])
 
-pub second_writes : (a b : List ℕ) (old new : Areas) → WritesAmong (a ∷ (b ∷ [])) old new → (new a).files ≡ (old a).files → WritesAmong (b ∷ []) old new
+pub second_writes : (a b : List ℕ) (old new : Areas) → WritesAmong (a ∷ (b ∷ [])) old new → IsStill (old a) (new a) → WritesAmong (b ∷ []) old new
 second_writes a b old new site same =
     writes_fewer (a ∷ (b ∷ [])) (b ∷ []) old new site (λ n one none. elim one [
-      | inl is ↦ subst (λ (x : List ℕ). (new x).files ≡ (old x).files) (sym is) same
+      | inl is ↦ subst (λ (x : List ℕ). IsStill (old x) (new x)) (sym is) same
       | inr more ↦ elim more [
         | inl is ↦ absurd (none.0 is)
         | inr other ↦ absurd other
@@ -86,15 +87,28 @@ one_back s g a old mid new n p p_now home taken gives =
     }
 
 -- it was only read
-pub none_writes : (a : List ℕ) (old new : Areas) → WritesAmong (a ∷ []) old new → (new a).files ≡ (old a).files → WritesAmong [] old new
+pub none_writes : (a : List ℕ) (old new : Areas) → WritesAmong (a ∷ []) old new → IsStill (old a) (new a) → WritesAmong [] old new
 none_writes a old new site same =
     writes_fewer (a ∷ []) [] old new site (λ n one none. elim one [
-      | inl is ↦ subst (λ (x : List ℕ). (new x).files ≡ (old x).files) (sym is) same
+      | inl is ↦ subst (λ (x : List ℕ). IsStill (old x) (new x)) (sym is) same
       | inr other ↦ absurd other
     ])
+
+-- ---- areas that were only read
+
+pub reads_still : {A : Type 0} (g : Vaults A) (p q : A) → OnlyReads g p q → IsStill (state_in g p) (state_in g q)
+reads_still g p q reads = record { files = reads.files; past = reads.past }
+
+pub still_at : (x y p q : AreaState) → x ≡ p → y ≡ q → IsStill p q → IsStill x y
+still_at x y p q was is still = rw (was, is) still
 
 -- ---- none
 
 -- a site that wasn't touched
 pub none_written : (names : Names) (areas : Areas) → AllHome areas → WritesAmong names areas areas
-none_written names areas home = record { home = home; later = λ n. omega arith; others = λ n none. refl }
+none_written names areas home = record {
+  home = home;
+  later = λ n. omega arith;
+  others = λ n none. refl;
+  quiet = λ n none. refl;
+}

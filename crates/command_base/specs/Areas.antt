@@ -7,6 +7,7 @@ use Rattle.lsn_core.specs.declared.fault.AreaFault.{AreaFault}
 use Rattle.lsn_core.specs.declared.fault.AreaFault.TheVariants.{Failed, NoMemory}
 use Rattle.lsn_core.specs.declared.fault.StoreArea.{StoreArea}
 use Rattle.lsn_core.specs.declared.fault.StoreArea.TheVariants.{Wal, Data, Sums}
+use Rattle.vault.specs.Frame.{IsDurable}
 use Rattle.vault.specs.Site.{AreaState}
 
 -- the area of the WAL
@@ -50,6 +51,10 @@ TellsClear files clear = IfSome files (λ m. IsTrue clear ↔ (m ≡ empty))
 -- an area's files are as they were
 abbrev pub Keeps : AreaState → AreaState → Type 0
 Keeps old new = new.files ≡ old.files
+
+-- a stop leaves an area's files
+abbrev pub AreaIsDurable : AreaState → Type 0
+AreaIsDurable area = IsDurable area.files area.past
 
 -- why a call failed: the count of faults rose, or memory ran out
 abbrev pub AreaCause : ℕ → ℕ → AreaFault → Type 0

@@ -79,6 +79,7 @@ broken_text broken.Place = codes "Place"
 
 -- why what an entry says is refused
 abbrev pub content_text : Why → List ℕ
+content_text content.CommitBits = codes "CommitBits"
 content_text content.Compressed = codes "Compressed"
 content_text content.NotApplied = codes "NotApplied"
 content_text content.Tablespace = codes "Tablespace"

@@ -14,6 +14,7 @@ use vault::Vault;
 pub fn is_clear<V: Vault>(alloc: Global, area: &mut V) -> Result<bool, AreaFault>
     ensures clear { IfOk result (TellsClear (V.files area.old)) }
     ensures same { V.files area.new ≡ V.files area.old }
+    ensures quiet { V.past area.new ≡ V.past area.old }
     ensures cause { HasCause (V.faults area.old) (V.faults area.new) result }
 {
     let names = area.names(alloc)?;

@@ -120,6 +120,7 @@ fn content_text(why: Why) -> &'static [u8]
     ensures { result.now ≡ content_text why }
 {
     match why {
+        Why::CommitBits => b"CommitBits",
         Why::Compressed => b"Compressed",
         Why::NotApplied => b"NotApplied",
         Why::Tablespace => b"Tablespace",

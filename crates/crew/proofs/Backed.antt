@@ -10,7 +10,7 @@ use Rattle.lsn_core.specs.Segment.{StoreSettings}
 use Rattle.lsn_core.specs.declared.fault.StoreArea.{StoreArea}
 use Rattle.lsn_core.specs.declared.fault.StoreFault.TheVariants as store
 use Rattle.vault.specs.declared.area.Vault.{Ghosts}
-use Rattle.vault.specs.Site.{AreaState, state_in}
+use Rattle.vault.specs.Site.{AreaState, IsStill, state_in}
 use Rattle.history.specs.Entry.{Entry}
 use Rattle.fuzzy_copies.specs.Taken.{IsTaken}
 use Rattle.shared_store.specs.Seen.{Seen, StaysBy}
@@ -19,14 +19,15 @@ use Rattle.shared_store.specs.Calls.{GoesOn}
 use Rattle.base_backup.specs.declared.done.Done.{Done}
 use Rattle.base_backup.specs.declared.fault.BackupFault.{BackupFault}
 use Rattle.base_backup.specs.declared.fault.BackupFault.TheVariants as backup
-use Rattle.backup_files.specs.Area.{HoldsNothing}
+use Rattle.backup_files.specs.Area.{EndsSynced, HoldsNothing}
+use Rattle.backup_files.proofs.Synced.{synced_is_durable}
 use Rattle.base_backup.specs.Backup.{AreOfBackup, HasBackup, MayHaveBackup, IsTakenFull, IsTakenWhole, BackupCause, GoesPast, LeavesManifest, KeepsFull, IsUntouched, Proceeds, FindsNoRoomFor, site_of}
 use Rattle.base_backup.specs.Directory.{IsFullBackup}
-use Rattle.command_base.specs.Areas.{backup_name}
+use Rattle.command_base.specs.Areas.{backup_name, AreaIsDurable}
 use Rattle.crew.specs.declared.script.Command.TheVariants as command
 use Rattle.crew.specs.declared.answer.Answer.TheVariants.{Backup, BackupRefused}
 use Rattle.crew.specs.declared.answer.Stop.TheVariants as stop
-use Rattle.crew.specs.Run.{IsOfWorker, HasBackupAt, HoldsBackup, KeepsFiles, MeetsFullWal, IsBackupRefused, backup_stop, basis_of}
+use Rattle.crew.specs.Run.{IsOfWorker, HasBackupAt, HoldsBackup, StaysFull, MeetsFullWal, IsBackupRefused, backup_stop, basis_of}
 use Rattle.crew.specs.Running.{Knows, WentOn, BackupRuns}
 use Rattle.crew.proofs.Held.{files_at, only_at}
 use Rattle.crew.proofs.Lists.{up_to_here}
@@ -102,9 +103,9 @@ holds tells when name old new before behind files done k whole same t = record {
 }
 
 pub taken : {V : Type 0} (g : Ghosts V) (tells : Type 0) (when : ℕ) (name : List ℕ) (old new : Seen) (before behind : Opened) (area now : V) (done : Done) → Knows old before
-    → IsTakenFull tells old.worker name when before behind (g.files now) done → new.list ≡ behind.history → HoldsNothing (g.files area) → Proceeds g (site_of before old area) (site_of behind new now)
+    → IsTakenFull tells old.worker name when before behind (g.files now) done → EndsSynced g now → new.list ≡ behind.history → HoldsNothing (g.files area) → Proceeds g (site_of before old area) (site_of behind new now)
     → BackupRuns g tells when name old new before behind area now (Backup done.start done.end)
-taken g tells when name old new before behind area now done k t whole empty p = λ held mid was is others. record {
+taken g tells when name old new before behind area now done k t synced whole empty p = λ held mid was is others. record {
   made = [];
   went = backed old new before behind t.entries.first t.entries.last t.entries.stop 3 k t.entries.entries t.entries.grown p.seen whole p.accepted p.store;
   answered = (
@@ -116,6 +117,7 @@ taken g tells when name old new before behind area now done k t whole empty p = 
       only_at g area now (backup_name name) held mid was is others p.faults,
       subst (λ (f : Option Files). HoldsBackup tells (basis_of before.settings when) old.worker (length old.list) new.list name done.start done.end f) (sym (files_at g now (mid (backup_name name)) is))
           (holds tells when name old new before behind (g.files now) done k whole p.store.settings t),
+      subst AreaIsDurable (sym is) (synced_is_durable g now synced),
     ),
   );
   risen = λ area t. absurd cc;
@@ -161,9 +163,9 @@ pub weaker : (o : Option Files) (P Q : Files → Type 0) → ((m : Files) → P 
 weaker None P Q step holds = tt
 weaker (Some m) P Q step holds = step m holds
 
-keeps_files : {V : Type 0} (g : Ghosts V) (old seen : Seen) (before behind : Opened) (area now : V) → KeepsFull g (site_of before old area) (site_of behind seen now) → KeepsFiles (g.files area) (g.files now)
-keeps_files g old seen before behind area now kept =
-    weaker (g.files area) (λ m. m ≢ empty → IsUntouched g (site_of before old area) (site_of behind seen now)) (λ m. m ≢ empty → g.files now ≡ g.files area) (λ m whole some. (whole some).files) kept
+stays_full : {V : Type 0} (g : Ghosts V) (old seen : Seen) (before behind : Opened) (area now : V) → KeepsFull g (site_of before old area) (site_of behind seen now) → StaysFull (state_in g area) (state_in g now)
+stays_full g old seen before behind area now kept =
+    weaker (g.files area) (λ m. m ≢ empty → IsUntouched g (site_of before old area) (site_of behind seen now)) (λ m. m ≢ empty → IsStill (state_in g area) (state_in g now)) (λ m whole some. record { files = (whole some).files; past = (whole some).past }) kept
 
 -- the pass saw this at first, and then the whole history
 pub refused : {V : Type 0} (g : Ghosts V) (tells : Type 0) (when : ℕ) (name : List ℕ) (old seen new : Seen) (before behind : Opened) (area now : V) (why : BackupFault) → Knows old before → MayHaveBackup old.worker before.history behind.history
@@ -177,7 +179,7 @@ refused g tells when name old seen new before behind area now why k m past kept 
     refl,
     refl,
     only_at g area now (backup_name name) held mid was is others p.faults,
-    subst (λ (x : AreaState). KeepsFiles x.files (mid (backup_name name)).files) (sym was) (subst (λ (x : AreaState). KeepsFiles (g.files area) x.files) (sym is) (keeps_files g old seen before behind area now kept)),
+    subst (λ (x : AreaState). StaysFull x (mid (backup_name name))) (sym was) (subst (λ (x : AreaState). StaysFull (state_in g area) x) (sym is) (stays_full g old seen before behind area now kept)),
     subst (λ (x : AreaState). IsBackupRefused tells (basis_of before.settings when) old.worker (length old.list) new.list name x (mid (backup_name name)) why) (sym was)
         (subst (λ (x : AreaState). IsBackupRefused tells (basis_of before.settings when) old.worker (length old.list) new.list name (state_in g area) x why) (sym is)
         (why_not g tells when name old seen new before behind area now why k stays whole p.store.settings past left cause)),

@@ -1,45 +1,43 @@
 -- Incremental backups of a worker.
-use Rattle.std.proofs.Common.{◌≡◌, ◌≢◌, ℕ, suc, ◌<◌, ◌≤◌, List, [], ◌∷◌, ◌++◌, map, length, take, Some, None, Option, IfSome, Result, Ok, Err, refl, ap, sym, subst, ◌∙◌, arith, append-nil, inl, inr}
-use Rattle.std.specs.Prelude.{slice_get, ◌⊎◌}
+use Rattle.std.proofs.Common.{◌≡◌, ◌≢◌, ℕ, suc, ◌≤◌, List, [], ◌∷◌, ◌++◌, map, length, take, Some, Result, Ok, Err, refl, ap, sym, subst, ◌∙◌, arith, append-nil, inl, inr}
+use Rattle.std.specs.Prelude.{slice_get}
 use Rattle.std.specs.FinMap.{empty}
 use Rattle.std.proofs.lemmas.List.{take_all}
 use mathlib.Core.List.{IsPrefix}
-use Rattle.lsn_core.specs.Causes.{Rose}
-use Rattle.lsn_core.specs.Files.{Files}
 use Rattle.lsn_core.specs.Segment.{StoreSettings}
-use Rattle.lsn_core.specs.declared.lsn.Lsn.{Lsn}
 use Rattle.lsn_core.specs.declared.fault.StoreArea.{StoreArea}
 use Rattle.lsn_core.specs.declared.fault.StoreArea.TheVariants.{Sums}
 use Rattle.lsn_core.specs.declared.fault.StoreFault.TheVariants as store
 use Rattle.vault.specs.declared.area.Vault.{Ghosts}
-use Rattle.vault.specs.Frame.{OnlyReads, LeavesNow}
-use Rattle.vault.specs.Site.{Areas, AreaState, state_in}
-use Rattle.vault.specs.Lending.{IsOneOf, IsNoneOf}
+use Rattle.vault.specs.Frame.{OnlyReads}
+use Rattle.vault.specs.Site.{Areas, AreaState, IsStill, state_in}
+use Rattle.vault.specs.Lending.{IsNoneOf}
 use Rattle.history.specs.Entry.{Entry, Online}
 use Rattle.wal_summary.specs.declared.summary.Summary.{Summary}
 use Rattle.summary_publish.specs.Published.{Advances, AdvancesTo, AdvanceAnswers}
 use Rattle.summary_publish.specs.declared.advancing.AdvanceFault.{AdvanceFault}
 use Rattle.summary_publish.specs.declared.advancing.AdvanceFault.TheVariants as advance
 use Rattle.shared_store.specs.Seen.{Seen, StaysBy}
-use Rattle.shared_store.specs.Opened.{Opened, count_of}
+use Rattle.shared_store.specs.Opened.{Opened}
 use Rattle.shared_store.specs.Calls.{IsMarkOf}
 use Rattle.base_backup.specs.declared.done.Done.{Done}
 use Rattle.base_backup.specs.declared.incr_fault.IncrFault.{IncrFault}
 use Rattle.base_backup.specs.declared.incr_fault.IncrFault.TheVariants as incr
 use Rattle.backup_files.specs.Area.{HoldsNothing}
-use Rattle.base_backup.specs.Backup.{FindsNoRoomFor}
+use Rattle.backup_files.proofs.Synced.{synced_is_durable}
 use Rattle.base_backup.specs.Directory.{IsDirectory, incr_label}
 use Rattle.base_backup.specs.Sent.{AreListed, AreSent, file_of}
 use Rattle.base_backup.specs.Incr.{IncrSite, incr_site, BeginsAt, IsTakenIncr, IsTakenIncrWhole, IsFinishedIncr, IsRefusedIncr, IncrCause, IsJudged, LeavesBehind, LeavesIncrManifest, KeepsIncrFull, ProceedsIncr}
 use Rattle.base_backup.specs.Incr as base
-use Rattle.command_base.specs.Areas.{backup_name, sums_name}
+use Rattle.command_base.specs.Areas.{backup_name, AreaIsDurable}
+use Rattle.command_base.proofs.Lent.{reads_still, still_at}
 use Rattle.crew.specs.declared.script.Command.TheVariants as command
 use Rattle.crew.specs.declared.answer.Answer.TheVariants.{Backup, IncrRefused}
 use Rattle.crew.specs.declared.answer.Stop.TheVariants as stop
 use Rattle.crew.specs.Backups.{area_asked}
-use Rattle.crew.specs.Run.{HasBackupAt, HasCheckpointAt, HoldsIncr, SumsUp, IncrAreas, incr_areas, states, OnlyAmong, KeepsFiles, IsIncrRefused, CountRose, incr_stop, basis_of}
+use Rattle.crew.specs.Run.{HasBackupAt, HasCheckpointAt, HoldsIncr, SumsUp, IncrAreas, incr_areas, states, OnlyAmong, StaysFull, IsIncrRefused, CountRose, incr_stop, basis_of}
 use Rattle.crew.specs.Run as run
-use Rattle.crew.specs.Running.{Knows, WentOn, IncrRuns, AreIncrAreas}
+use Rattle.crew.specs.Running.{Knows, IncrRuns, AreIncrAreas}
 use Rattle.crew.proofs.Backed.{backed, stands, full_wal, weaker}
 use Rattle.crew.proofs.Lists.{next_there, second_there, prefix_length, prefix_take}
 use Rattle.crew.proofs.Steps.{store_rose}
@@ -56,17 +54,13 @@ same_areas g name prior areas site are =
     ∙ (ap (λ (p : AreaState). record { sums = state_in g site.sums; prior = p; out = areas (backup_name name) }) are.prior_is
     ∙ ap (λ (o : AreaState). record { sums = state_in g site.sums; prior = state_in g site.prior; out = o }) are.out_is)
 
-no_stops : (o : Option Files) → IfSome o (λ m. LeavesNow (λ c. c ≡ m) None)
-no_stops None = tt
-no_stops (Some m) = tt
-
 pub advanced : {V : Type 0} (g : Ghosts V) (tells : Type 0) (history : List Entry) (when : ℕ) (old new : V) (count : ℕ) → Advances g tells history when old new count → Advances states tells history when (state_in g old) (state_in g new) count
 advanced g tells history when old new count a = record {
   sums = a.sums;
   published = a.published;
   counted = a.counted;
   files = a.files;
-  stop = no_stops (g.files new);
+  durable = a.durable;
 }
 
 advanced_to : {V : Type 0} (g : Ghosts V) (tells : Type 0) (history : List Entry) (when : ℕ) (old new : V) (P : List Summary → Type 0) → AdvancesTo g tells history when old new P → AdvancesTo states tells history when (state_in g old) (state_in g new) P
@@ -153,8 +147,8 @@ only_among g name prior held mid old new was is others p reads = record {
   ];
 }
 
-prior_same : {V : Type 0} (g : Ghosts V) (name prior : List ℕ) (held mid : Areas) (old new : IncrSite V) → AreIncrAreas g name prior held old → AreIncrAreas g name prior mid new → OnlyReads g old.prior new.prior → (mid (backup_name prior)).files ≡ (held (backup_name prior)).files
-prior_same g name prior held mid old new was is reads = ap (λ (s : AreaState). s.files) is.prior_is ∙ (reads.files ∙ sym (ap (λ (s : AreaState). s.files) was.prior_is))
+prior_same : {V : Type 0} (g : Ghosts V) (name prior : List ℕ) (held mid : Areas) (old new : IncrSite V) → AreIncrAreas g name prior held old → AreIncrAreas g name prior mid new → OnlyReads g old.prior new.prior → IsStill (held (backup_name prior)) (mid (backup_name prior))
+prior_same g name prior held mid old new was is reads = still_at (held (backup_name prior)) (mid (backup_name prior)) (state_in g old.prior) (state_in g new.prior) was.prior_is is.prior_is (reads_still g old.prior new.prior reads)
 
 pub taken : {V : Type 0} (g : Ghosts V) (tells : Type 0) (when : ℕ) (name prior : List ℕ) (old new : IncrSite V) (done : Done) → Knows old.seen old.store → IsFinishedIncr g tells name when old new done → ProceedsIncr g old new → OnlyReads g old.prior new.prior
     → IncrRuns g tells when name prior old new (Backup done.start done.end)
@@ -168,7 +162,7 @@ taken g tells when name prior old new done k t p reads = λ held mid was is othe
       went = backed old.seen new.seen old.store new.store t.taken.entries.first t.taken.entries.last t.taken.entries.stop 3 k t.taken.entries.entries t.taken.entries.grown p.seen t.seen p.accepted p.store;
       answered = (
         refl,
-        inr (name, prior, refl, subst HoldsNothing (sym (ap (λ (s : AreaState). s.files) was.out_is)) t.empty, only_among g name prior held mid old new was is others p reads, prior_same g name prior held mid old new was is reads, holding),
+        inr (name, prior, refl, subst HoldsNothing (sym (ap (λ (s : AreaState). s.files) was.out_is)) t.empty, only_among g name prior held mid old new was is others p reads, prior_same g name prior held mid old new was is reads, holding, subst AreaIsDurable (sym is.out_is) (synced_is_durable g new.out t.synced)),
       );
       risen = λ area t. absurd cc;
       run = refl;
@@ -176,11 +170,14 @@ taken g tells when name prior old new done k t p reads = λ held mid was is othe
 
 -- ---- one that was refused, or failed
 
+spared : {V : Type 0} (g : Ghosts V) (old new : V) → base.IsSpared g old new → IsStill (state_in g old) (state_in g new)
+spared g old new s = record { files = s.files; past = s.past }
+
 still : {V : Type 0} (g : Ghosts V) (old new : IncrSite V) (now : List Entry) → Knows old.seen old.store → now ≡ new.store.history → base.StandsStill g old new → run.StandsStill (length old.seen.list) now (known_areas g old) (known_areas g new)
 still g old new now k whole s = record {
   history = ap (λ (xs : List Entry). length xs) (whole ∙ ap (λ (o : Opened). o.history) s.store ∙ sym k.whole);
   sums = ap (state_in g) s.sums;
-  out = s.out.files;
+  out = spared g old.out new.out s.out;
 }
 
 may_advance : {V : Type 0} (g : Ghosts V) (tells : Type 0) (when before : ℕ) (history now : List Entry) (old new : V) → now ≡ history → before ≤ length now → base.MayAdvance g tells when history old new → run.MayAdvance tells when before now (state_in g old) (state_in g new)
@@ -213,7 +210,7 @@ why_not g tells when name old new seen (incr.Overlap start end) k stays whole sa
     past = cause.5;
   },
   ap (state_in g) behind.0,
-  behind.1.files,
+  spared g old.out new.out behind.1,
 )
 why_not g tells when name old new seen (incr.Gap place) k stays whole same cause judged behind left = (
   judged,
@@ -223,7 +220,7 @@ why_not g tells when name old new seen (incr.Gap place) k stays whole same cause
     prior = record { told = cause.2.told; ours = cause.2.ours; behind = cause.2.behind };
     summed = sums_up g tells when old.seen.worker old.seen.list old.store.history new.store.history seen.list cause.1 cause.0.start old.sums new.sums (Err (advance.Gap place)) k.whole (whole_front seen.list new.store.history whole) cause.3 cause.4;
   },
-  behind.files,
+  spared g old.out new.out behind,
 )
 why_not g tells when name old new seen (incr.WalFull n) k stays whole same cause judged behind left = (
   judged,
@@ -262,8 +259,8 @@ failed_by g tells when name prior old new held mid incr.PriorFailed which was is
 failed_by g tells when name prior old new held mid incr.OutFailed which was is cause e = absurd cc
 failed_by g tells when name prior old new held mid incr.NoMemory which was is cause e = absurd cc
 
-keeps_files : {V : Type 0} (g : Ghosts V) (old new : IncrSite V) → KeepsIncrFull g old new → KeepsFiles (g.files old.out) (g.files new.out)
-keeps_files g old new kept = weaker (g.files old.out) (λ m. m ≢ empty → base.StandsStill g old new) (λ m. m ≢ empty → g.files new.out ≡ g.files old.out) (λ m whole some. (whole some).out.files) kept
+stays_full : {V : Type 0} (g : Ghosts V) (old new : IncrSite V) → KeepsIncrFull g old new → StaysFull (state_in g old.out) (state_in g new.out)
+stays_full g old new kept = weaker (g.files old.out) (λ m. m ≢ empty → base.StandsStill g old new) (λ m. m ≢ empty → IsStill (state_in g old.out) (state_in g new.out)) (λ m whole some. spared g old.out new.out (whole some).out) kept
 
 -- the pass saw this at first, and then the whole history
 pub refused : {V : Type 0} (g : Ghosts V) (tells : Type 0) (when : ℕ) (name prior : List ℕ) (old new : IncrSite V) (seen : Seen) (why : IncrFault) → Knows old.seen old.store → IsRefusedIncr g tells name when old new why → ProceedsIncr g old new → OnlyReads g old.prior new.prior
@@ -284,7 +281,7 @@ refused g tells when name prior old new seen why k r p reads stays whole accepte
         refl,
         only_among g name prior held mid old new was now others p reads,
         prior_same g name prior held mid old new was now reads,
-        subst (λ (x : AreaState). KeepsFiles x.files (mid (backup_name name)).files) (sym was.out_is) (subst (λ (x : AreaState). KeepsFiles (g.files old.out) x.files) (sym is.out_is) (keeps_files g old new r.full)),
+        subst (λ (x : AreaState). StaysFull x (mid (backup_name name))) (sym was.out_is) (subst (λ (x : AreaState). StaysFull (state_in g old.out) x) (sym is.out_is) (stays_full g old new r.full)),
         judged,
       );
       risen = λ which t. failed_by g tells when name prior old new held mid why which was now r.cause t;

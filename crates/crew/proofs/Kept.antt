@@ -5,7 +5,7 @@ use Rattle.lsn_core.specs.Files.{Files}
 use Rattle.lsn_core.specs.declared.lsn.Lsn.{Lsn}
 use Rattle.lsn_core.specs.declared.fault.MarkFault.{MarkFault}
 use Rattle.lsn_core.specs.declared.fault.MarkFault.TheVariants as mark
-use Rattle.vault.specs.Site.{Areas, AreaState}
+use Rattle.vault.specs.Site.{Areas, AreaState, IsStill}
 use Rattle.vault.specs.Lending.{Names, IsOneOf, IsNoneOf}
 use Rattle.vault.proofs.LentAreas.{one_or_none}
 use Rattle.vault.proofs.SetAreas.{same_or_not}
@@ -15,7 +15,7 @@ use Rattle.shared_store.specs.declared.fault.InsertFault.{InsertFault}
 use Rattle.shared_store.specs.declared.fault.InsertFault.TheVariants as insert
 use Rattle.base_backup.specs.declared.fault.BackupFault.TheVariants as backup
 use Rattle.base_backup.specs.declared.incr_fault.IncrFault.TheVariants as incr
-use Rattle.std.specs.Prelude.{IsSome}
+use Rattle.std.specs.Prelude.{IsSome, IfSome}
 use Rattle.std.specs.Ordering.{nat_cmp}
 use Rattle.std.specs.Cmp.Lexicographic.{slice_cmp, nat_list_cmp_total}
 use Rattle.std.specs.Cmp.{eq_by_cmp_equiv}
@@ -24,7 +24,7 @@ use Rattle.lsn_core.specs.Store.{Store, files_of}
 use Rattle.backup_files.specs.Area.{HoldsNothing}
 use Rattle.backup_files.specs.Directory.{label_name, manifest_name}
 use Rattle.base_backup.specs.Directory.{directory_of}
-use Rattle.command_base.specs.Areas.{backup_name, sums_name}
+use Rattle.command_base.specs.Areas.{backup_name, sums_name, AreaIsDurable}
 use Rattle.command_base.proofs.Told.{some_told, at_told}
 use Rattle.crew.specs.declared.script.Command.{Command}
 use Rattle.crew.specs.declared.script.Command.TheVariants as command
@@ -33,7 +33,7 @@ use Rattle.crew.specs.declared.answer.Answer.{Answer}
 use Rattle.crew.specs.declared.answer.Answer.TheVariants.{Accepted, Refused, Grown, Stopped, Redo, CheckpointRefused, Wrote, Published, CallFailed, Backup, BackupRefused, IncrRefused, NotRun}
 use Rattle.crew.specs.declared.answer.Stop.TheVariants as stop
 use Rattle.crew.specs.Backups.{area_asked, areas_asked, backup_taken, prior_taken}
-use Rattle.crew.specs.Run.{Basis, HoldsBackup, OnlyAt, OnlyAmong, KeepsFiles, LineAnswer, Answered, insert_stop, mark_stop, StandsFor, BackupsStand, FailsFor, BackupFaultsRose, AnswersTellBackups}
+use Rattle.crew.specs.Run.{Basis, HoldsBackup, OnlyAt, OnlyAmong, StaysFull, LineAnswer, Answered, insert_stop, mark_stop, StandsFor, BackupsStand, FailsFor, BackupFaultsRose, AnswersTellBackups}
 
 -- ---- names
 
@@ -141,57 +141,68 @@ never_empty m k v is =
 never_bare : (relseg : ℕ) (copy : Store) (label manifest : List ℕ) (m : Files) → m ≡ directory_of relseg copy label manifest → m ≢ empty
 never_bare relseg copy label manifest m is = λ none. never_empty (insert (files_of relseg copy) label_name label) manifest_name manifest (sym is ∙ none)
 
--- an area that holds a file and isn't the summaries', of a line whose backup's area keeps what it holds
-incr_keeps : (name prior n : List ℕ) (line : Command) (held mid : Areas) (m : Files) → line ≡ command.Incr name prior → OnlyAmong (area_asked line) held mid → (mid (backup_name prior)).files ≡ (held (backup_name prior)).files
-    → KeepsFiles (held (backup_name name)).files (mid (backup_name name)).files → n ≢ sums_name → (held n).files ≡ Some m → m ≢ empty → (mid n).files ≡ (held n).files
+-- ---- areas to which nothing happened
+
+pub still_same : (old new : AreaState) → new ≡ old → IsStill old new
+still_same old new same = record { files = ap (λ (s : AreaState). s.files) same; past = ap (λ (s : AreaState). s.past) same }
+
+pub still_on : (first second third : AreaState) → IsStill first second → IsStill second third → IsStill first third
+still_on first second third early late = record { files = late.files ∙ early.files; past = late.past ∙ early.past }
+
+-- an area that holds a file and isn't the summaries', of a line whose backup's area stays where it holds one
+incr_keeps : (name prior n : List ℕ) (line : Command) (held mid : Areas) (m : Files) → line ≡ command.Incr name prior → OnlyAmong (area_asked line) held mid → IsStill (held (backup_name prior)) (mid (backup_name prior))
+    → StaysFull (held (backup_name name)) (mid (backup_name name)) → n ≢ sums_name → (held n).files ≡ Some m → m ≢ empty → IsStill (held n) (mid n)
 incr_keeps name prior n line held mid m is only same keeps apart told some =
     elim (one_or_none n (backup_name name ∷ backup_name prior ∷ sums_name ∷ [])) [
-      | inl (inl out) ↦ at_told (held n).files m (λ f. f ≢ empty → (mid n).files ≡ (held n).files) told (subst (λ (k : List ℕ). KeepsFiles (held k).files (mid k).files) (sym out) keeps) some
-      | inl (inr (inl before)) ↦ subst (λ (k : List ℕ). (mid k).files ≡ (held k).files) (sym before) same
+      | inl (inl out) ↦ at_told (held n).files m (λ f. f ≢ empty → IsStill (held n) (mid n)) told (subst (λ (k : List ℕ). StaysFull (held k) (mid k)) (sym out) keeps) some
+      | inl (inr (inl before)) ↦ subst (λ (k : List ℕ). IsStill (held k) (mid k)) (sym before) same
       | inl (inr (inr (inl sums))) ↦ absurd (apart sums)
       | inl (inr (inr (inr never))) ↦ absurd never
-      | inr none ↦ ap (λ (s : AreaState). s.files) (only.others n (subst (λ (c : Command). IsNoneOf n (area_asked c)) (sym is) none))
+      | inr none ↦ still_same (held n) (mid n) (only.others n (subst (λ (c : Command). IsNoneOf n (area_asked c)) (sym is) none))
     ]
 
-nothing_keeps : (old new : Option Files) → HoldsNothing old → KeepsFiles old new
-nothing_keeps None new nothing = tt
-nothing_keeps (Some m) new nothing = λ some. absurd (some nothing)
+bare_stays : (files : Option Files) (old new : AreaState) → HoldsNothing files → IfSome files (λ m. m ≢ empty → IsStill old new)
+bare_stays None old new nothing = tt
+bare_stays (Some m) old new nothing = λ some. absurd (some nothing)
+
+nothing_stays : (old new : AreaState) → HoldsNothing old.files → StaysFull old new
+nothing_stays old new nothing = bare_stays old.files old new nothing
 
 line_keeps : (tells : Type 0) (b : Basis) (w from : ℕ) (now : List Entry) (line : Command) (x : Answer) (made : List Entry) (held mid : Areas) (n : List ℕ) (m : Files) → LineAnswer tells b w from now line x made held mid → n ≢ sums_name → (held n).files ≡ Some m → m ≢ empty
-    → (mid n).files ≡ (held n).files
-line_keeps tells b w from now line (Accepted place) made held mid n m a apart told some = ap (λ (s : AreaState). s.files) (at_name n held mid a.4)
-line_keeps tells b w from now line (Refused why) made held mid n m a apart told some = ap (λ (s : AreaState). s.files) (at_name n held mid a.4)
-line_keeps tells b w from now line (Grown k place) made held mid n m a apart told some = ap (λ (s : AreaState). s.files) (at_name n held mid a.5)
-line_keeps tells b w from now line (Stopped k why) made held mid n m a apart told some = ap (λ (s : AreaState). s.files) (at_name n held mid a.7)
-line_keeps tells b w from now line (Redo redo) made held mid n m a apart told some = ap (λ (s : AreaState). s.files) (at_name n held mid a.3)
-line_keeps tells b w from now line (CheckpointRefused why) made held mid n m a apart told some = ap (λ (s : AreaState). s.files) (at_name n held mid a.3)
-line_keeps tells b w from now line (Wrote k) made held mid n m a apart told some = ap (λ (s : AreaState). s.files) (at_name n held mid a.4)
-line_keeps tells b w from now line (Published k) made held mid n m a apart told some = ap (λ (s : AreaState). s.files) (a.2.others n apart)
-line_keeps tells b w from now line (CallFailed why) made held mid n m (made_is, inl a) apart told some = ap (λ (s : AreaState). s.files) (at_name n held mid a.2)
-line_keeps tells b w from now line (CallFailed why) made held mid n m (made_is, inr a) apart told some = ap (λ (s : AreaState). s.files) (a.1.others n apart)
+    → IsStill (held n) (mid n)
+line_keeps tells b w from now line (Accepted place) made held mid n m a apart told some = still_same (held n) (mid n) (at_name n held mid a.4)
+line_keeps tells b w from now line (Refused why) made held mid n m a apart told some = still_same (held n) (mid n) (at_name n held mid a.4)
+line_keeps tells b w from now line (Grown k place) made held mid n m a apart told some = still_same (held n) (mid n) (at_name n held mid a.5)
+line_keeps tells b w from now line (Stopped k why) made held mid n m a apart told some = still_same (held n) (mid n) (at_name n held mid a.7)
+line_keeps tells b w from now line (Redo redo) made held mid n m a apart told some = still_same (held n) (mid n) (at_name n held mid a.3)
+line_keeps tells b w from now line (CheckpointRefused why) made held mid n m a apart told some = still_same (held n) (mid n) (at_name n held mid a.3)
+line_keeps tells b w from now line (Wrote k) made held mid n m a apart told some = still_same (held n) (mid n) (at_name n held mid a.4)
+line_keeps tells b w from now line (Published k) made held mid n m a apart told some = still_same (held n) (mid n) (a.2.others n apart)
+line_keeps tells b w from now line (CallFailed why) made held mid n m (made_is, inl a) apart told some = still_same (held n) (mid n) (at_name n held mid a.2)
+line_keeps tells b w from now line (CallFailed why) made held mid n m (made_is, inr a) apart told some = still_same (held n) (mid n) (a.1.others n apart)
 line_keeps tells b w from now line (Backup start end) made held mid n m (made_is, inl t) apart told some =
     elim (same_or_not n (backup_name t.0)) [
       | inl is ↦ absurd (some (at_told (held n).files m (λ f. f ≡ empty) told (subst (λ (k : List ℕ). HoldsNothing (held k).files) (sym is) t.2)))
-      | inr other ↦ ap (λ (s : AreaState). s.files) (t.3.others n other)
+      | inr other ↦ still_same (held n) (mid n) (t.3.others n other)
     ]
 line_keeps tells b w from now line (Backup start end) made held mid n m (made_is, inr t) apart told some =
-    incr_keeps t.0 t.1 n line held mid m t.2 t.4 t.5 (nothing_keeps (held (backup_name t.0)).files (mid (backup_name t.0)).files t.3) apart told some
+    incr_keeps t.0 t.1 n line held mid m t.2 t.4 t.5 (nothing_stays (held (backup_name t.0)) (mid (backup_name t.0)) t.3) apart told some
 line_keeps tells b w from now line (BackupRefused why) made held mid n m a apart told some =
     elim (same_or_not n (backup_name a.0)) [
-      | inl is ↦ at_told (held n).files m (λ f. f ≢ empty → (mid n).files ≡ (held n).files) told (subst (λ (k : List ℕ). KeepsFiles (held k).files (mid k).files) (sym is) a.4) some
-      | inr other ↦ ap (λ (s : AreaState). s.files) (a.3.others n other)
+      | inl is ↦ at_told (held n).files m (λ f. f ≢ empty → IsStill (held n) (mid n)) told (subst (λ (k : List ℕ). StaysFull (held k) (mid k)) (sym is) a.4) some
+      | inr other ↦ still_same (held n) (mid n) (a.3.others n other)
     ]
 line_keeps tells b w from now line (IncrRefused why) made held mid n m a apart told some = incr_keeps a.0 a.1 n line held mid m a.2 a.4 a.5 a.6 apart told some
-line_keeps tells b w from now line NotRun made held mid n m a apart told some = ap (λ (s : AreaState). s.files) (at_name n held mid a.1)
+line_keeps tells b w from now line NotRun made held mid n m a apart told some = still_same (held n) (mid n) (at_name n held mid a.1)
 
 pub area_keeps : (tells : Type 0) (b : Basis) (w : ℕ) (h : List Entry) (from : ℕ) (lines : List Line) (answers : List Answer) (es : List Entry) (to : ℕ) (held new : Areas) (n : List ℕ) (m : Files) → Answered tells b w h from lines answers es to held new → n ≢ sums_name → (held n).files ≡ Some m → m ≢ empty
-    → (new n).files ≡ (held n).files
-area_keeps tells b w h from [] [] es to held new n m a apart told some = ap (λ (s : AreaState). s.files) (at_name n held new a.2)
+    → IsStill (held n) (new n)
+area_keeps tells b w h from [] [] es to held new n m a apart told some = still_same (held n) (new n) (at_name n held new a.2)
 area_keeps tells b w h from [] (x ∷ answers) es to held new n m a apart told some = absurd a
 area_keeps tells b w h from (l ∷ lines) [] es to held new n m a apart told some = absurd a
 area_keeps tells b w h from (l ∷ lines) (x ∷ answers) es to held new n m a apart told some =
-    let here : (a.3 n).files ≡ (held n).files = line_keeps tells b w from (take a.0 h) l.command x a.1 held a.3 n m a.7 apart told some in
-    area_keeps tells b w h a.0 lines answers a.2 to a.3 new n m a.8 apart (here ∙ told) some ∙ here
+    let here : IsStill (held n) (a.3 n) = line_keeps tells b w from (take a.0 h) l.command x a.1 held a.3 n m a.7 apart told some in
+    still_on (held n) (a.3 n) (new n) here (area_keeps tells b w h a.0 lines answers a.2 to a.3 new n m a.8 apart (here.files ∙ told) some)
 
 -- ---- backups that stand
 
@@ -226,14 +237,13 @@ sooner tells b w before now name start end files t = record {
   taken = t.taken;
 }
 
-keeps_told : (tells : Type 0) (b : Basis) (w before : ℕ) (now : List Entry) (name : List ℕ) (start end : Lsn) (files new : Option Files) → HoldsBackup tells b w before now name start end files → IsSome files → ((m : Files) → files ≡ Some m → m ≢ empty → new ≡ files)
-    → new ≡ files
-keeps_told tells b w before now name start end files new t some keeps =
+keeps_told : (tells : Type 0) (b : Basis) (w before : ℕ) (now : List Entry) (name : List ℕ) (start end : Lsn) (files : Option Files) (P : Type 0) → HoldsBackup tells b w before now name start end files → IsSome files → ((m : Files) → files ≡ Some m → m ≢ empty → P) → P
+keeps_told tells b w before now name start end files P t some keeps =
     let m = some_told files some in
     keeps m.0 m.1 (never_bare _ _ _ _ m.0 (at_told files m.0 _ m.1 t.directory.files_are))
 
 stand_for : (tells : Type 0) (b : Basis) (w : ℕ) (h : List Entry) (from next : ℕ) (line : Line) (lines : List Line) (x : Answer) (made : List Entry) (held mid new : Areas) → next ≤ length h → LineAnswer tells b w from (take next h) line.command x made held mid
-    → ((n : List ℕ) → IsNoneOf n (areas_asked lines) → new n ≡ mid n) → ((n : List ℕ) (m : Files) → n ≢ sums_name → (mid n).files ≡ Some m → m ≢ empty → (new n).files ≡ (mid n).files) → StandsFor tells b w h line lines x new
+    → ((n : List ℕ) → IsNoneOf n (areas_asked lines) → new n ≡ mid n) → ((n : List ℕ) (m : Files) → n ≢ sums_name → (mid n).files ≡ Some m → m ≢ empty → IsStill (mid n) (new n)) → StandsFor tells b w h line lines x new
 stand_for tells b w h from next line lines (Accepted place) made held mid new within a rest keeps = tt
 stand_for tells b w h from next line lines (Refused why) made held mid new within a rest keeps = tt
 stand_for tells b w h from next line lines (Grown k place) made held mid new within a rest keeps = tt
@@ -246,15 +256,16 @@ stand_for tells b w h from next line lines (CallFailed why) made held mid new wi
 stand_for tells b w h from next line lines (Backup start end) made held mid new within (made_is, inr t) rest keeps = λ name is. absurd (let e : command.Full name ≡ command.Incr t.0 t.1 = sym is ∙ t.2 in cc)
 stand_for tells b w h from next line lines (Backup start end) made held mid new within (made_is, inl t) rest keeps = λ name is.
     let same : t.0 ≡ name = same_name line.command t.0 name t.1 is in
-    let files : Option Files = (mid (backup_name name)).files in
-    let taken : HoldsBackup tells b w from (take next h) name start end files = subst (λ (m : List ℕ). HoldsBackup tells b w from (take next h) m start end (mid (backup_name m)).files) same t.4 in (
+    let area : AreaState = mid (backup_name name) in
+    let taken : HoldsBackup tells b w from (take next h) name start end (mid (backup_name name)).files = subst (λ (m : List ℕ). HoldsBackup tells b w from (take next h) m start end (mid (backup_name m)).files) same t.4 in (
       next,
-      files,
+      area,
       within,
-      sooner tells b w from (take next h) name start end files taken,
+      sooner tells b w from (take next h) name start end area.files taken,
+      subst (λ (m : List ℕ). AreaIsDurable (mid (backup_name m))) same t.5,
       λ still. elim still [
-        | inl some ↦ keeps_told tells b w from (take next h) name start end files (new (backup_name name)).files taken some (λ m told full. keeps (backup_name name) m (never_sums name) told full)
-        | inr none ↦ ap (λ (y : AreaState). y.files) (rest (backup_name name) none)
+        | inl some ↦ keeps_told tells b w from (take next h) name start end area.files (IsStill area (new (backup_name name))) taken some (λ m told full. keeps (backup_name name) m (never_sums name) told full)
+        | inr none ↦ still_same area (new (backup_name name)) (rest (backup_name name) none)
       ],
     )
 stand_for tells b w h from next line lines (BackupRefused why) made held mid new within a rest keeps = tt

@@ -1,11 +1,10 @@
 -- No backup of a script is its own prior one.
-use Rattle.std.proofs.Common.{◌≡◌, ◌≢◌, ℕ, zero, suc, ◌+◌, ◌<◌, Bool, true, false, cond, not, ◌&&◌, List, [], ◌∷◌, ◌++◌, length, get_or, Option, Some, None, refl, ap, sym, subst, ◌∙◌, arith}
+use Rattle.std.proofs.Common.{◌≡◌, ◌≢◌, ℕ, zero, suc, ◌+◌, ◌<◌, Bool, true, false, not, ◌&&◌, List, [], ◌∷◌, ◌++◌, length, get_or, Option, Some, None, refl, sym, subst, ◌∙◌, arith}
 use Rattle.std.specs.Prelude.{bytes_eq, codes, ◌==◌, if◌then◌else◌}
 use Rattle.std.specs.List.{AllByRecursion}
 use Rattle.std.specs.Option.{option_map}
 use Rattle.std.proofs.lemmas.Slice.Eq.{bytes_eq-Decides}
 use Rattle.byte_words.specs.Numbers.{◌>>=◌}
-use Rattle.crew.specs.declared.script.Command.{Command}
 use Rattle.crew.specs.declared.script.Command.TheVariants as command
 use Rattle.crew.specs.declared.script.Line.{Line}
 use Rattle.crew.specs.declared.script.Task.{Task}
@@ -13,9 +12,9 @@ use Rattle.crew.specs.declared.order.Order.TheVariants as order
 use Rattle.crew.specs.Backups.{HasOtherPrior, HaveOtherPriors}
 use Rattle.crew.specs.Cuts.{words_of, is_name, lines_of}
 use Rattle.crew.specs.Items.{fork_in, rel_in, block_in, shape_in, items_in, growth_count, flush_count}
-use Rattle.crew.specs.Meaning.{Says, Nothing, Worker, Does, meaning, words_say, only, two, three, first_of, worker_says, create_says, truncate_says, change_says, grow_says, checkpoint_says, flush_says, summarise_says, full_says, incr_says, are_two_names}
+use Rattle.crew.specs.Meaning.{Says, Nothing, Worker, Does, meaning, words_say, only, two, three, change_says, checkpoint_says, summarise_says, incr_says, are_two_names}
 use Rattle.crew.specs.Reasons.{workers_of}
-use Rattle.crew.specs.Script.{command_in, commands_from, tasks_of, script_in, IsScript}
+use Rattle.crew.specs.Script.{command_in, commands_from, tasks_of, IsScript}
 use Rattle.text_numbers.specs.Numbers.{number_of}
 
 -- ---- what a line says
@@ -70,13 +69,14 @@ fit_words (verb ∷ words) =
     fit_if (bytes_eq verb (codes "worker")) _ _ (λ e. fit_then (only words) _ (λ name. fit_if (is_name name) (Some (Worker name)) None (λ t. tt) tt))
     (fit_if (bytes_eq verb (codes "create")) _ _ (λ e. fit_then (only words) _ (λ word. fit_then (fork_in word) _ (λ fork. tt)))
     (fit_if (bytes_eq verb (codes "truncate")) _ _ (λ e. fit_then (two words) _ (λ parts. fit_then (rel_in parts.0) _ (λ rel. fit_then (number_of parts.1) _ (λ count. tt))))
+    (fit_if (bytes_eq verb (codes "drop")) _ _ (λ e. fit_then (only words) _ (λ word. fit_then (rel_in word) _ (λ rel. tt)))
     (fit_if (bytes_eq verb (codes "change")) _ _ (λ e. fit_items words)
     (fit_if (bytes_eq verb (codes "grow")) _ _ (λ e. fit_then (three words) _ (λ parts. fit_then (block_in parts.0) _ (λ at. fit_then (growth_count parts.1) _ (λ count. fit_then (shape_in parts.2) _ (λ shape. tt)))))
     (fit_if (bytes_eq verb (codes "checkpoint")) _ _ (λ e. fit_checkpoint words)
     (fit_if (bytes_eq verb (codes "flush")) _ _ (λ e. fit_then (only words) _ (λ word. fit_then (flush_count word) _ (λ count. tt)))
     (fit_if (bytes_eq verb (codes "summarise")) _ _ (λ e. fit_summarise words)
     (fit_if (bytes_eq verb (codes "full")) _ _ (λ e. fit_then (only words) _ (λ name. fit_if (is_name name) (Some (Does (command.Full name))) None (λ t. tt) tt))
-    (fit_if (bytes_eq verb (codes "incr")) _ None (λ e. fit_incr words) tt)))))))))
+    (fit_if (bytes_eq verb (codes "incr")) _ None (λ e. fit_incr words) tt))))))))))
 
 fit_meaning : (line : List ℕ) → IsFit (meaning line)
 fit_meaning [] = tt

@@ -25,7 +25,7 @@ use Rattle.shared_store.specs.Seen.{Seen, StaysBy, accepted_by}
 use Rattle.shared_store.specs.Opened.{Opened, count_of}
 use Rattle.shared_store.specs.Calls.{GoesOn}
 use Rattle.shared_store.proofs.Pieces.{places_stay}
-use Rattle.command_base.specs.Areas.{sums_name, backup_name}
+use Rattle.command_base.specs.Areas.{sums_name, backup_name, AreaIsDurable}
 use Rattle.crew.specs.declared.script.Command.{Command}
 use Rattle.crew.specs.declared.script.Command.TheVariants as command
 use Rattle.crew.specs.declared.script.Line.{Line}
@@ -34,7 +34,7 @@ use Rattle.crew.specs.declared.answer.Answer.TheVariants.{Accepted, Refused, Gro
 use Rattle.crew.specs.declared.answer.Stop.TheVariants as stop
 use Rattle.base_backup.specs.declared.incr_fault.IncrFault.{IncrFault}
 use Rattle.base_backup.specs.declared.incr_fault.IncrFault.TheVariants as incr
-use Rattle.crew.specs.Run.{Basis, HoldsSummaries, IncrAreas, incr_areas, states, HasCheckpointAt, IsIncrRefused, incr_stop, LineAnswer, Answered, CountRose, NoneStops, IsHonestFor, AnswersKeepSummariesHonest, stop_of, basis_of}
+use Rattle.crew.specs.Run.{Basis, HoldsSummaries, IncrAreas, incr_areas, states, HasCheckpointAt, IsIncrRefused, incr_stop, LineAnswer, Answered, CountRose, NoneStops, IsHonestFor, AnswersKeepSummariesHonest, stop_of}
 use Rattle.crew.specs.Running.{Knows, SummaryRuns}
 use Rattle.crew.proofs.Held.{files_at, only_at}
 use Rattle.crew.proofs.Kept.{never_sums}
@@ -47,13 +47,14 @@ place_stays old new place stays is = places_stay place old.list new.list is stay
 
 -- ---- one line
 
-holds : {V : Type 0} (g : Ghosts V) (tells : Type 0) (history now : List Entry) (when : ℕ) (area after : V) (count : ℕ) (x y : AreaState) → x ≡ state_in g area → y ≡ state_in g after → now ≡ history → Advances g tells history when area after count → HoldsSummaries tells now when x.files y.files count
+holds : {V : Type 0} (g : Ghosts V) (tells : Type 0) (history now : List Entry) (when : ℕ) (area after : V) (count : ℕ) (x y : AreaState) → x ≡ state_in g area → y ≡ state_in g after → now ≡ history → Advances g tells history when area after count → HoldsSummaries tells now when x y count
 holds g tells history now when area after count x y was is same a = record {
   sums = a.sums;
   published = λ t. subst (λ (o : Option Files). IfSome o (λ m. ArePublished now when m a.sums)) (sym (files_at g area x was))
       (subst (λ (h : List Entry). IfSome (g.files area) (λ m. ArePublished h when m a.sums)) (sym same) (a.published t));
   counted = a.counted;
   files = files_at g after y is ∙ (a.files ∙ ap (option_map (with_files a.sums)) (sym (files_at g area x was)));
+  durable = subst AreaIsDurable (sym is) a.durable;
 }
 
 pub published : {V : Type 0} (g : Ghosts V) (tells : Type 0) (when : ℕ) (old new : Seen) (before behind : Opened) (area after : V) (count : ℕ) → Knows old before → behind.history ≡ before.history → StaysBy old new → new.list ≡ behind.history → new.accepted ≡ old.accepted

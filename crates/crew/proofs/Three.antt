@@ -1,5 +1,5 @@
 -- Three of the areas that a worker holds, worked on at once.
-use Rattle.std.proofs.Common.{◌≡◌, ◌≢◌, ℕ, zero, suc, ◌+◌, ◌<◌, ◌≤◌, Bool, true, false, cond, not, ltb, length, take, drop, get_or, set, List, [], ◌∷◌, ◌++◌, Some, None, refl, sym, ap, subst, ◌∙◌, arith, inl, inr}
+use Rattle.std.proofs.Common.{◌≡◌, ◌≢◌, ℕ, zero, suc, ◌+◌, ◌<◌, ◌≤◌, Bool, cond, not, ltb, length, take, drop, get_or, set, List, [], ◌∷◌, ◌++◌, Some, None, refl, sym, ap, subst, ◌∙◌, arith}
 use Rattle.std.specs.Prelude.{bytes_eq}
 use Rattle.std.specs.List.{position, position_or_len}
 use Rattle.std.proofs.lemmas.Slice.Eq.{bytes_eq-Decides}
@@ -7,20 +7,18 @@ use Rattle.std.proofs.lemmas.List.{length-take-le}
 use Rattle.std.proofs.lemmas.List.Quantifiers.{position-Some}
 use Rattle.vault.specs.declared.area.Vault.{Ghosts}
 use Rattle.vault.specs.declared.lending.Held.{Held}
-use Rattle.vault.specs.Site.{Areas, AreaState, state_in}
-use Rattle.vault.specs.Lending.{Names, IsOneOf, IsNoneOf, AreLater, names_of}
+use Rattle.vault.specs.Site.{state_in}
+use Rattle.vault.specs.Lending.{IsNoneOf, AreLater}
 use Rattle.vault.proofs.LentAreas.{later_again}
 use Rattle.shared_store.specs.Seen.{Seen}
 use Rattle.shared_store.specs.Opened.{Opened}
-use Rattle.base_backup.specs.Incr.{incr_site}
 use Rattle.command_base.specs.Areas.{backup_name, sums_name}
 use Rattle.crew.specs.declared.script.Command.TheVariants as command
-use Rattle.crew.specs.declared.increments.Places.{Places}
 use Rattle.crew.specs.declared.increments.Turn.{Turn}
 use Rattle.crew.specs.declared.increments.Turn.TheVariants as place
-use Rattle.crew.specs.Backups.{area_asked, areas_of, AreHeld}
-use Rattle.crew.specs.Running.{AreIn, AreAt, AreIncrAreas, IsLater, sums_in, prior_in, out_in, turned_site}
-use Rattle.crew.proofs.Held.{has_name, found, changed, Changed}
+use Rattle.crew.specs.Backups.{area_asked, areas_of}
+use Rattle.crew.specs.Running.{AreIncrAreas, IsLater, sums_in, prior_in, out_in, turned_site}
+use Rattle.crew.proofs.Held.{has_name, changed, Changed}
 use Rattle.crew.proofs.Kept.{never_sums}
 
 -- ---- lists

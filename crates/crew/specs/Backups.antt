@@ -65,7 +65,7 @@ AreHeld names held = (n : List ℕ) → IsOneOf n names → IsOneOf n (names_of 
 
 -- areas that are held, by their names
 abbrev pub nowhere : Areas
-nowhere name = at_home None 0
+nowhere name = at_home None None 0
 
 abbrev pub areas_of : {V : Type 0} → Ghosts V → List (Held V) → Areas
 areas_of g held = all_back g nowhere held

@@ -4,7 +4,7 @@ use Rattle.std.specs.Option.{option_map}
 use Rattle.byte_words.specs.Numbers.{◌>>=◌}
 use Rattle.crew.specs.declared.script.Command.{Command}
 use Rattle.crew.specs.declared.script.Command.TheVariants.{Insert, Grow, Checkpoint, Flush, Summarise, Full, Incr}
-use Rattle.crew.specs.declared.order.Order.TheVariants.{Create, Truncate, Change}
+use Rattle.crew.specs.declared.order.Order.TheVariants.{Create, Truncate, Change, Drop}
 use Rattle.crew.specs.Cuts.{words_of, is_name}
 use Rattle.text_numbers.specs.Numbers.{number_of}
 use Rattle.crew.specs.Items.{fork_in, rel_in, block_in, shape_in, items_in, growth_count, flush_count}
@@ -62,6 +62,13 @@ truncate_says words = do
   count ← number_of parts.1
   Some (Does (Insert (Truncate rel count)))
 
+-- all forks of a relation are taken away
+abbrev pub drop_says : List (List ℕ) → Option Says
+drop_says words = do
+  word ← only words
+  rel ← rel_in word
+  Some (Does (Insert (Drop rel)))
+
 -- from a block on, so many pages that are made so are put, one a block
 abbrev pub grow_says : List (List ℕ) → Option Says
 grow_says words = do
@@ -106,13 +113,14 @@ words_say (verb ∷ words) =
     if bytes_eq verb (codes "worker") then worker_says words
     else (if bytes_eq verb (codes "create") then create_says words
     else (if bytes_eq verb (codes "truncate") then truncate_says words
+    else (if bytes_eq verb (codes "drop") then drop_says words
     else (if bytes_eq verb (codes "change") then change_says words
     else (if bytes_eq verb (codes "grow") then grow_says words
     else (if bytes_eq verb (codes "checkpoint") then checkpoint_says words
     else (if bytes_eq verb (codes "flush") then flush_says words
     else (if bytes_eq verb (codes "summarise") then summarise_says words
     else (if bytes_eq verb (codes "full") then full_says words
-    else (if bytes_eq verb (codes "incr") then incr_says words else None)))))))))
+    else (if bytes_eq verb (codes "incr") then incr_says words else None))))))))))
 
 -- None where a line says nothing that is taken; empty lines and comments say Nothing
 abbrev pub meaning : List ℕ → Option Says

@@ -8,7 +8,7 @@ use Rattle.history.specs.declared.op.Item.{Item}
 use Rattle.history.specs.declared.op.Edit.{Edit}
 use Rattle.history.specs.declared.op.Edit.TheVariants as edit
 use Rattle.crew.specs.declared.order.Order.{Order}
-use Rattle.crew.specs.declared.order.Order.TheVariants.{Create, Truncate, Change}
+use Rattle.crew.specs.declared.order.Order.TheVariants.{Create, Truncate, Drop, Change}
 use Rattle.crew.specs.declared.order.OrderItem.{OrderItem}
 use Rattle.crew.specs.declared.order.OrderEdit.{OrderEdit}
 use Rattle.crew.specs.declared.order.OrderEdit.TheVariants.{Put, Patch}
@@ -24,6 +24,7 @@ item_asked order = record { at = order.at; edit = edit_asked order.edit }
 abbrev pub op_asked : Order → Op
 op_asked (Create fork) = op.Create fork
 op_asked (Truncate rel count) = op.Truncate rel count
+op_asked (Drop rel) = op.Drop rel
 op_asked (Change items) = op.Change (map item_asked items)
 
 -- the block that a growth reaches after so many; behind the last number there is none

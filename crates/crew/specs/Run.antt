@@ -17,7 +17,7 @@ use Rattle.lsn_core.specs.Segment.{StoreSettings}
 use Rattle.lsn_core.specs.Store.{Store}
 use Rattle.lsn_core.specs.declared.lsn.Lsn.{Lsn}
 use Rattle.lsn_core.specs.declared.ids.ForkLen.{ForkLen}
-use Rattle.vault.specs.Site.{Areas, AreaState}
+use Rattle.vault.specs.Site.{Areas, AreaState, IsStill}
 use Rattle.vault.specs.Lending.{Names, IsOneOf, IsNoneOf}
 use Rattle.vault.specs.declared.area.Vault.{Ghosts}
 use Rattle.history.specs.declared.op.Op.{Op}
@@ -44,7 +44,7 @@ use Rattle.base_backup.specs.declared.incr_fault.IncrFault.TheVariants as incr
 use Rattle.base_backup.specs.Prior.{HasListing, IsOfStore, PriorAnswer}
 use Rattle.base_backup.specs.Sent.{SentFile, AreListed, AreSent, file_of}
 use Rattle.manifest.specs.Listing.{Listing}
-use Rattle.command_base.specs.Areas.{backup_name, sums_name}
+use Rattle.command_base.specs.Areas.{backup_name, sums_name, AreaIsDurable}
 use Rattle.crew.specs.declared.script.Command.{Command}
 use Rattle.crew.specs.declared.script.Command.TheVariants as command
 use Rattle.crew.specs.declared.script.Line.{Line}
@@ -188,9 +188,9 @@ pub record OnlyAt (name : List ℕ) (held mid : Areas) : Type 0 where
   pub others : (n : List ℕ) → n ≢ name → mid n ≡ held n
   pub later : (held name).faults ≤ (mid name).faults
 
--- an area that held a file has the files that it had
-abbrev pub KeepsFiles : Option Files → Option Files → Type 0
-KeepsFiles old new = IfSome old (λ m. m ≢ empty → new ≡ old)
+-- nothing happened to the files of an area that held one
+abbrev pub StaysFull : AreaState → AreaState → Type 0
+StaysFull old new = IfSome old.files (λ m. m ≢ empty → IsStill old new)
 
 -- the WAL had no room for the backup, behind a beginning of the history
 abbrev pub MeetsFullWal : ℕ → ℕ → ℕ → List Entry → Type 0
@@ -219,19 +219,24 @@ IsBackupRefused tells b worker before now name old new backup.NoMemory =
 -- ---- summaries
 
 -- so many summaries of a history were published at a moment behind those that were kept of an area's
--- files, which stand there beside these
+-- files, which stand there beside these, all of them durably
 pub record HoldsSummaries (tells : Type 0) (history : List Entry) (when : ℕ)
-    (old new : Option Files) (count : ℕ) : Type 0 where
+    (old new : AreaState) (count : ℕ) : Type 0 where
   pub sums : List Summary
-  pub published : tells → IfSome old (λ m. ArePublished history when m sums)
+  pub published : tells → IfSome old.files (λ m. ArePublished history when m sums)
   pub counted : count ≡ length sums
-  pub files : new ≡ option_map (with_files sums) old
+  pub files : new.files ≡ option_map (with_files sums) old.files
+  pub durable : AreaIsDurable new
 
 -- ---- incremental backups
 
--- areas as they are known at home, which tell nothing of what a stop may leave
+-- areas as they are known at home
 abbrev pub states : Ghosts AreaState
-states = record { files = λ area. area.files; faults = λ area. area.faults; past = λ area. None }
+states = record {
+  files = λ area. area.files;
+  faults = λ area. area.faults;
+  past = λ area. area.past;
+}
 
 -- the areas of an incremental backup: of the summaries, of the prior backup, and its own
 pub record IncrAreas : Type 0 where
@@ -299,7 +304,7 @@ HoldsSomeIncr tells b worker before now name old new =
 pub record StandsStill (before : ℕ) (now : List Entry) (old new : IncrAreas) : Type 0 where
   pub history : length now ≡ before
   pub sums : new.sums ≡ old.sums
-  pub out : new.out.files ≡ old.out.files
+  pub out : IsStill old.out new.out
 
 -- the backup's area held nothing, and the prior's manifest is answered so, where its area tells it
 abbrev pub RefusesPrior : Basis → IncrAreas → IncrFault → Type 0
@@ -355,10 +360,10 @@ IsIncrRefused tells b worker before now name old new (incr.SystemDiffers have ex
     RefusesPrior b old (incr.SystemDiffers have expected) × StandsStill before now old new
 IsIncrRefused tells b worker before now name old new (incr.Overlap start end) =
     TakesPrior b old × Overlaps b worker before now old start.0 end.0
-    × (new.sums ≡ old.sums) × (new.out.files ≡ old.out.files)
+    × (new.sums ≡ old.sums) × IsStill old.out new.out
 IsIncrRefused tells b worker before now name old new (incr.Gap place) =
     TakesPrior b old × LeavesGap tells b worker before now old new place
-    × (new.out.files ≡ old.out.files)
+    × IsStill old.out new.out
 IsIncrRefused tells b worker before now name old new (incr.WalFull n) =
     TakesPrior b old × (n ≡ length now) × MeetsFullWal b.settings.segment worker before now
     × MayAdvance tells b.when before now old.sums new.sums
@@ -380,23 +385,25 @@ IsIncrRefused tells b worker before now name old new incr.NoMemory =
 
 -- ---- one line
 
--- a full backup was taken into an area that held nothing
+-- a full backup was taken into an area that held nothing, and is durable there
 abbrev pub TakesFull :
     Type 0 → Basis → ℕ → ℕ → List Entry → Command → Lsn → Lsn → Areas → Areas → Type 0
 TakesFull tells b worker before now line start end held mid =
     (name : List ℕ) × (line ≡ command.Full name)
     × HoldsNothing (held (backup_name name)).files × OnlyAt (backup_name name) held mid
     × HoldsBackup tells b worker before now name start end (mid (backup_name name)).files
+    × AreaIsDurable (mid (backup_name name))
 
--- an incremental one was, on a prior backup whose files are as they were
+-- an incremental one was, on a prior backup to whose area nothing happened
 abbrev pub TakesIncr :
     Type 0 → Basis → ℕ → ℕ → List Entry → Command → Lsn → Lsn → Areas → Areas → Type 0
 TakesIncr tells b worker before now line start end held mid =
     (name : List ℕ) × (prior : List ℕ) × (line ≡ command.Incr name prior)
     × HoldsNothing (held (backup_name name)).files × OnlyAmong (area_asked line) held mid
-    × ((mid (backup_name prior)).files ≡ (held (backup_name prior)).files)
+    × IsStill (held (backup_name prior)) (mid (backup_name prior))
     × HoldsIncr tells b worker before now name start end
     (incr_areas held name prior) (incr_areas mid name prior)
+    × AreaIsDurable (mid (backup_name name))
 
 -- a line flushes pages, which leaves the areas that are held
 abbrev pub IsFlushOf : Command → Areas → Areas → Type 0
@@ -431,7 +438,7 @@ LineAnswer tells b worker before now line (Wrote k) made held mid =
     (count : ℕ) × (line ≡ command.Flush count) × (made ≡ []) × (k ≤ count) × (mid ≡ held)
 LineAnswer tells b worker before now line (Published k) made held mid =
     (line ≡ command.Summarise) × (made ≡ []) × OnlyAt sums_name held mid
-    × HoldsSummaries tells now b.when (held sums_name).files (mid sums_name).files k
+    × HoldsSummaries tells now b.when (held sums_name) (mid sums_name) k
 LineAnswer tells b worker before now line (CallFailed why) made held mid =
     (made ≡ []) × (IsFlushOf line held mid ⊎ ((line ≡ command.Summarise) × OnlyAt sums_name held mid))
 LineAnswer tells b worker before now line (Backup start end) made held mid =
@@ -440,14 +447,14 @@ LineAnswer tells b worker before now line (Backup start end) made held mid =
 LineAnswer tells b worker before now line (BackupRefused why) made held mid =
     (name : List ℕ) × (line ≡ command.Full name) × (made ≡ [])
     × OnlyAt (backup_name name) held mid
-    × KeepsFiles (held (backup_name name)).files (mid (backup_name name)).files
+    × StaysFull (held (backup_name name)) (mid (backup_name name))
     × IsBackupRefused tells b worker before now name
     (held (backup_name name)) (mid (backup_name name)) why
 LineAnswer tells b worker before now line (IncrRefused why) made held mid =
     (name : List ℕ) × (prior : List ℕ) × (line ≡ command.Incr name prior) × (made ≡ [])
     × OnlyAmong (area_asked line) held mid
-    × ((mid (backup_name prior)).files ≡ (held (backup_name prior)).files)
-    × KeepsFiles (held (backup_name name)).files (mid (backup_name name)).files
+    × IsStill (held (backup_name prior)) (mid (backup_name prior))
+    × StaysFull (held (backup_name name)) (mid (backup_name name))
     × IsIncrRefused tells b worker before now name
     (incr_areas held name prior) (incr_areas mid name prior) why
 LineAnswer tells b worker before now line NotRun made held mid = (made ≡ []) × (mid ≡ held)
@@ -608,17 +615,21 @@ pub record IsAnswered (tells : Type 0) (b : Basis) (worker : ℕ) (history : Lis
 
 -- ---- what stands of backups when all lines were run
 
+-- nothing happened since to the area of a name, which was this one: where it told its files then, or
+-- where no line behind names it too
+abbrev pub KeepsTo : List ℕ → List Line → AreaState → Areas → Type 0
+KeepsTo name lines area areas =
+    IsSome area.files ⊎ IsNoneOf name (areas_asked lines) → IsStill area (areas name)
+
 -- where a line was answered that its backup was taken, the area of its name had the directory of the
--- backup then, taken over a beginning of the history; and has it still, where it told its files then,
--- or where no line behind this one names the backup too
+-- backup then, durably, taken over a beginning of the history; and has it still
 abbrev pub StandsFor :
     Type 0 → Basis → ℕ → List Entry → Line → List Line → Answer → Areas → Type 0
 StandsFor tells b worker history line lines (Backup start end) areas =
     (name : List ℕ) → line.command ≡ command.Full name
-    → (next : ℕ) × (files : Option Files) × (next ≤ length history)
-    × HoldsBackup tells b worker 0 (take next history) name start end files
-    × (IsSome files ⊎ IsNoneOf (backup_name name) (areas_asked lines)
-    → (areas (backup_name name)).files ≡ files)
+    → (next : ℕ) × (area : AreaState) × (next ≤ length history)
+    × HoldsBackup tells b worker 0 (take next history) name start end area.files
+    × AreaIsDurable area × KeepsTo (backup_name name) lines area areas
 StandsFor tells b worker history line lines answer areas = Unit {0}
 
 abbrev pub BackupsStand :
@@ -656,15 +667,10 @@ IsHonestFor history area = IfSome area.files (IsHonest history)
 
 -- ---- what stands of incremental backups when all lines were run
 
--- the area of a name has these files still, where it told them then, or where no line behind names
--- it too
-abbrev pub KeepsTo : List ℕ → List Line → Option Files → Areas → Type 0
-KeepsTo name lines files areas =
-    IsSome files ⊎ IsNoneOf name (areas_asked lines) → (areas name).files ≡ files
-
 -- where a line was answered that its incremental backup was taken, the area of its name had the
--- directory of the backup then, taken over a beginning of the history on what the prior's area held;
--- both have it still. The area of summaries told the truth then, where it did of what was found
+-- directory of the backup then, durably, taken over a beginning of the history on what the prior's
+-- area held; both have it still. The area of summaries told the truth then, where it did of what was
+-- found
 abbrev pub IncrStandsFor :
     Type 0 → Basis → ℕ → List Entry → ℕ → AreaState → Line → List Line → Answer → Areas → Type 0
 IncrStandsFor tells b worker history found sums line lines (Backup start end) areas =
@@ -672,8 +678,9 @@ IncrStandsFor tells b worker history found sums line lines (Backup start end) ar
     → (before : ℕ) × (next : ℕ) × (old : IncrAreas) × (new : IncrAreas)
     × (found ≤ before) × (next ≤ length history)
     × HoldsIncr tells b worker before (take next history) name start end old new
-    × KeepsTo (backup_name name) lines new.out.files areas
-    × KeepsTo (backup_name prior) lines old.prior.files areas
+    × AreaIsDurable new.out
+    × KeepsTo (backup_name name) lines new.out areas
+    × KeepsTo (backup_name prior) lines old.prior areas
     × (tells → IsOrderly 0 history → IsHonestFor (take found history) sums
     → IsHonestFor (take before history) old.sums)
 IncrStandsFor tells b worker history found sums line lines answer areas = Unit {0}

@@ -4,7 +4,7 @@ ghost use Rattle.std.specs.Prelude.{◌≡◌, ◌∷◌, IfOk};
 ghost use Rattle.std.specs.Option.{option_map};
 ghost use Rattle.crew.specs.Cuts.{words_of};
 ghost use Rattle.crew.specs.Meaning.{only, two, three, words_say, meaning};
-ghost use Rattle.crew.specs.Meaning.{worker_says, create_says, truncate_says, change_says};
+ghost use Rattle.crew.specs.Meaning.{worker_says, create_says, truncate_says, drop_says, change_says};
 ghost use Rattle.crew.specs.Meaning.{grow_says, checkpoint_says, flush_says, summarise_says, full_says};
 ghost use Rattle.crew.specs.Meaning.{are_two_names, incr_says};
 ghost use Rattle.crew.specs.Inside.{said};
@@ -82,6 +82,14 @@ fn truncate_said(text: &[u8]) -> Option<Said<'_>>
     let rel = rel_in(rel)?;
     let count = digits_in(count)?;
     Some(Said::Does(Command::Insert(Order::Truncate(rel, count))))
+}
+
+/// What a line says that takes a relation away. None exactly where that is no main fork.
+fn drop_said(text: &[u8]) -> Option<Said<'_>>
+    ensures { option_map said result ≡ drop_says (words_of text.now) }
+{
+    let rel = rel_in(only_word(text)?)?;
+    Some(Said::Does(Command::Insert(Order::Drop(rel))))
 }
 
 /// What a line says that changes blocks. None exactly where that is no items.
@@ -178,6 +186,9 @@ fn words_said<'a>(alloc: Global, verb: &[u8], text: &'a [u8]) -> Result<Option<S
     }
     if verb == b"truncate".as_slice() {
         return Ok(truncate_said(text));
+    }
+    if verb == b"drop".as_slice() {
+        return Ok(drop_said(text));
     }
     if verb == b"change".as_slice() {
         return change_said(alloc, text);

@@ -19,6 +19,8 @@ pub enum Order {
     Create(ForkId),
     /// Cut the main fork of a relation to its first blocks, so many.
     Truncate(Rel, u32),
+    /// Take away all forks of a relation.
+    Drop(Rel),
     /// Change blocks, in turn.
     Change(OrderItems),
 }
@@ -78,6 +80,7 @@ impl Order {
         match self {
             Order::Create(fork) => Ok(Op::Create(*fork)),
             Order::Truncate(rel, count) => Ok(Op::Truncate(*rel, *count)),
+            Order::Drop(rel) => Ok(Op::Drop(*rel)),
             Order::Change(items) => Ok(Op::Change(items_of(alloc, items.as_slice())?)),
         }
     }

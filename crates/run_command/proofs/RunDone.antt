@@ -43,7 +43,6 @@ use Rattle.shared_store.specs.Calls.{GoesOn, MayWriteWal}
 use Rattle.shared_store.specs.Begin.{IsBegun, HasBegun, faults_of}
 use Rattle.shared_store.specs.Close.{IsClosed, CloseAnswer, HoldsHistory, HoldsRecords}
 use Rattle.shared_store.proofs.Goes.{goes_on}
-use Rattle.crew.specs.declared.script.Command.{Command}
 use Rattle.crew.specs.declared.script.Line.{Line}
 use Rattle.crew.specs.declared.answer.Answer.{Answer}
 use Rattle.crew.specs.declared.answer.Stop.{Stop}
@@ -62,7 +61,7 @@ use Rattle.run_command.specs.Report.{stop_or, first_or, first_stop, first_told}
 use Rattle.run_command.specs.Run.{AreTold, AreAsAt, backups_asked, tasks_told, found_tip, HasFound, IsOfRun, all_records, HoldsRun, LeavesWal, IsClosing, StoreFails, ToldFaultsRose, RunDone}
 use Rattle.run_command.specs.Inner.{RunsTasks, IsRunOn}
 use Rattle.command_base.proofs.Told.{some_told, at_told}
-use Rattle.run_command.proofs.StoreLent.{AreAt, wal_files, data_files, rose_between, cause_between, none_fell, rose_at, fails_at}
+use Rattle.run_command.proofs.StoreLent.{AreAt, all_durable, wal_files, data_files, rose_between, cause_between, none_fell, rose_at, fails_at}
 use Rattle.run_command.proofs.ToldLess.{SameAsked, same_behind, answered_less, stand_less, incrs_less, fail_at, one_front, one_back}
 use Rattle.run_command.proofs.OwnEntries.{AreOwn, all_own, written_own, parted, none_by, same_front, held_read, log_makes}
 
@@ -107,6 +106,7 @@ holds_run g left b old new found own base m at holds grown owns begun was given 
       replayed = ap (λ (rs : List Record). apply_all empty (map entry_of rs)) (sym log)
           ∙ log_makes s.segment law.found law.own base law.store (ap (λ (rs : List Record). apply_all empty (map entry_of rs)) is.0 ∙ begun) (ap (λ (es : List Entry). apply_all empty es) (sym law.grown) ∙ law.made) law.logged.written;
       parts = λ q lt. let part = holds.parts q lt in record { part = part.part; is = part.is; files_are = data_files g new b at q lt ∙ part.files_are };
+      durable = all_durable g new b at holds.durable;
     }
 
 -- ---- the worker's run

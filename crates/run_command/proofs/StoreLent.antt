@@ -11,6 +11,7 @@ use Rattle.lsn_core.specs.declared.fault.StoreArea.TheVariants.{Wal, Data, Sums}
 use Rattle.lsn_core.specs.declared.fault.StoreFault.{StoreFault}
 use Rattle.lsn_core.specs.declared.fault.StoreFault.TheVariants as store
 use Rattle.vault.specs.declared.area.Vault.{Ghosts as Vaults}
+use Rattle.vault.specs.Frame.{IsDurable}
 use Rattle.vault.specs.declared.site.Site.{Ghosts as Sites}
 use Rattle.vault.specs.declared.lending.Held.{Held}
 use Rattle.vault.specs.declared.lending.TakeFault.{TakeFault}
@@ -20,9 +21,10 @@ use Rattle.vault.proofs.SetAreas.{set_at-same, set_at-other, same_or_not}
 use Rattle.vault.proofs.LentAreas.{one_or_none, lent, areas_named, later_named, out_front, out_later, gives_more}
 use Rattle.shared_store.specs.declared.areas.StoreAreas.{StoreAreas}
 use Rattle.shared_store.specs.Begin.{data_area, faults_of}
+use Rattle.shared_store.specs.Close.{AreDurable}
 use Rattle.shared_store.specs.Opened.{Faults, NoneFell, StoreCause, count_of, data_count}
 use Rattle.run_command.specs.declared.lending.StoreNames.{StoreNames}
-use Rattle.command_base.specs.Areas.{wal_name, data_name}
+use Rattle.command_base.specs.Areas.{wal_name, data_name, AreaIsDurable}
 use Rattle.crew.specs.declared.script.Line.{Line}
 use Rattle.crew.specs.declared.script.Task.{Task}
 use Rattle.crew.specs.Backups.{areas_asked, areas_of, AreHeld}
@@ -58,6 +60,19 @@ data_files g areas are at (suc zero) lt = files_at g (areas (data_name 1)) are.d
 data_files g areas are at (suc (suc zero)) lt = files_at g (areas (data_name 2)) are.data2 at.data2
 data_files g areas are at (suc (suc (suc zero))) lt = files_at g (areas (data_name 3)) are.data3 at.data3
 data_files g areas are at (suc (suc (suc (suc q)))) lt = absurd (omega arith)
+
+-- ---- which are durable
+
+durable_at : {V : Type 0} (g : Vaults V) (areas : Areas) (name asked : List ℕ) (area : V) → name ≡ asked → areas asked ≡ state_in g area → IsDurable (g.files area) (g.past area) → AreaIsDurable (areas name)
+durable_at g areas name asked area same at durable = subst (λ (n : List ℕ). AreaIsDurable (areas n)) (sym same) (subst AreaIsDurable (sym at) durable)
+
+pub all_durable : {V : Type 0} (g : Vaults V) (areas : Areas) (are : StoreAreas V) → AreAt g areas are → AreDurable g are → (name : List ℕ) → IsOneOf name store_asks → AreaIsDurable (areas name)
+all_durable g areas are at durable name (inl is) = durable_at g areas name wal_name are.wal is at.wal durable.wal
+all_durable g areas are at durable name (inr (inl is)) = durable_at g areas name (data_name 0) are.data0 is at.data0 (durable.parts 0 (omega arith))
+all_durable g areas are at durable name (inr (inr (inl is))) = durable_at g areas name (data_name 1) are.data1 is at.data1 (durable.parts 1 (omega arith))
+all_durable g areas are at durable name (inr (inr (inr (inl is)))) = durable_at g areas name (data_name 2) are.data2 is at.data2 (durable.parts 2 (omega arith))
+all_durable g areas are at durable name (inr (inr (inr (inr (inl is))))) = durable_at g areas name (data_name 3) are.data3 is at.data3 (durable.parts 3 (omega arith))
+all_durable g areas are at durable name (inr (inr (inr (inr (inr never))))) = absurd never
 
 -- ---- which tell their files
 
@@ -302,6 +317,7 @@ run_back s g asked backups old mid new names held kept are now each home taken l
         home = back.site.home;
         later = back.site.later;
         others = λ n none. back.site.others n (none_fewer n (asked ++ store_asks) (backups ++ store_asks) (λ m one. one_both m backups store_asks asked each.only one) none);
+        quiet = λ n none. back.site.quiet n (none_fewer n (asked ++ store_asks) (backups ++ store_asks) (λ m one. one_both m backups store_asks asked each.only one) none);
       };
       was = are_at g (s.areas old) names are (areas_back g (s.areas old) backups store_asks held (held_of names are) held_named back.was);
       is = are_at g (s.areas new) names now (areas_back g (s.areas new) backups store_asks kept (held_of names now) (kept_named ∙ held_named) back.is);

@@ -1,17 +1,15 @@
 -- What is said of answers where areas tell their files is said where that is known for another reason.
-use Rattle.std.proofs.Common.{◌≡◌, ℕ, ◌+◌, List, [], ◌∷◌, ◌++◌, take, Option, Result, Ok, Err, refl, sym, ap, subst, ◌∙◌, arith, inl, inr}
+use Rattle.std.proofs.Common.{◌≡◌, ℕ, ◌+◌, List, [], ◌∷◌, ◌++◌, take, Option, Result, Ok, Err, refl, sym, ap, subst, arith, inl, inr}
 use Rattle.std.specs.List.{AllByRecursion}
 use Rattle.lsn_core.specs.Files.{Files}
 use Rattle.lsn_core.specs.declared.lsn.Lsn.{Lsn}
-use Rattle.vault.specs.Site.{Areas, AreaState}
+use Rattle.vault.specs.Site.{Areas, AreaState, IsStill}
 use Rattle.vault.specs.Lending.{Names, IsOneOf}
 use Rattle.base_backup.specs.declared.fault.BackupFault.{BackupFault}
 use Rattle.base_backup.specs.declared.fault.BackupFault.TheVariants as backup
-use Rattle.base_backup.specs.declared.basis.Basis.{Basis as Plan}
 use Rattle.base_backup.specs.declared.incr_fault.IncrFault.{IncrFault}
 use Rattle.base_backup.specs.declared.incr_fault.IncrFault.TheVariants as incr
-use Rattle.base_backup.specs.Sent.{SentFile, AreFor, IsCopyOf, IsSentAs, AreSent, AreListed, blocks_sent}
-use Rattle.lsn_core.specs.declared.ids.ForkLen.{ForkLen}
+use Rattle.base_backup.specs.Sent.{SentFile, AreFor, IsCopyOf, IsSentAs, blocks_sent}
 use Rattle.lsn_core.specs.Store.{ForkPages}
 use Rattle.wal_summary.specs.declared.summary.Summary.{Summary}
 use Rattle.summary_publish.specs.Published.{Advances, AdvancesTo, AdvanceAnswers}
@@ -64,7 +62,7 @@ refused_less S T b worker before now name old new backup.NoMemory leads (inr (in
 -- ---- incremental backups
 
 advances_less : (S T : Type 0) (history : List Entry) (when : ℕ) (old new : AreaState) (count : ℕ) → (T → S) → Advances states S history when old new count → Advances states T history when old new count
-advances_less S T history when old new count leads a = record { sums = a.sums; published = λ t. a.published (leads t); counted = a.counted; files = a.files; stop = a.stop }
+advances_less S T history when old new count leads a = record { sums = a.sums; published = λ t. a.published (leads t); counted = a.counted; files = a.files; durable = a.durable }
 
 advances_to_less : (S T : Type 0) (history : List Entry) (when : ℕ) (old new : AreaState) (P : List Summary → Type 0) → (T → S) → AdvancesTo states S history when old new P → AdvancesTo states T history when old new P
 advances_to_less S T history when old new P leads a = record { count = a.count; advances = advances_less S T history when old new a.count leads a.advances; kept = a.kept; held = a.held; so = a.so }
@@ -150,12 +148,12 @@ line_less S T b worker before now line (Redo redo) made held mid leads is = is
 line_less S T b worker before now line (CheckpointRefused why) made held mid leads is = is
 line_less S T b worker before now line (Wrote k) made held mid leads is = is
 line_less S T b worker before now line (Published k) made held mid leads is =
-    (is.0, is.1, is.2, record { sums = is.3.sums; published = λ t. is.3.published (leads t); counted = is.3.counted; files = is.3.files })
+    (is.0, is.1, is.2, record { sums = is.3.sums; published = λ t. is.3.published (leads t); counted = is.3.counted; files = is.3.files; durable = is.3.durable })
 line_less S T b worker before now line (CallFailed why) made held mid leads is = is
 line_less S T b worker before now line (Backup start end) made held mid leads (made_is, inl t) =
-    (made_is, inl (t.0, t.1, t.2, t.3, holds_less S T b worker before now t.0 start end (mid (backup_name t.0)).files leads t.4))
+    (made_is, inl (t.0, t.1, t.2, t.3, holds_less S T b worker before now t.0 start end (mid (backup_name t.0)).files leads t.4, t.5))
 line_less S T b worker before now line (Backup start end) made held mid leads (made_is, inr t) =
-    (made_is, inr (t.0, t.1, t.2, t.3, t.4, t.5, incr_less S T b worker before now t.0 start end (incr_areas held t.0 t.1) (incr_areas mid t.0 t.1) leads t.6))
+    (made_is, inr (t.0, t.1, t.2, t.3, t.4, t.5, incr_less S T b worker before now t.0 start end (incr_areas held t.0 t.1) (incr_areas mid t.0 t.1) leads t.6, t.7))
 line_less S T b worker before now line (BackupRefused why) made held mid leads is =
     (is.0, is.1, is.2, is.3, is.4, refused_less S T b worker before now is.0 (held (backup_name is.0)) (mid (backup_name is.0)) why leads is.5)
 line_less S T b worker before now line (IncrRefused why) made held mid leads is =
@@ -207,6 +205,9 @@ SameAsked lines kept new = (n : List ℕ) → IsOneOf n (areas_asked lines) → 
 pub same_behind : (line : Line) (lines : List Line) (kept new : Areas) → SameAsked (line ∷ lines) kept new → SameAsked lines kept new
 same_behind line lines kept new same n one = same n (one_back n (area_asked line.command) (areas_asked lines) one)
 
+keeps_at : (name : List ℕ) (lines : List Line) (area : AreaState) (kept new : Areas) → kept name ≡ new name → KeepsTo name lines area kept → KeepsTo name lines area new
+keeps_at name lines area kept new at keeps = λ still. subst (IsStill area) at (keeps still)
+
 stands_less : (S T : Type 0) (b : Basis) (worker : ℕ) (history : List Entry) (line : Line) (lines : List Line) (answer : Answer) (kept new : Areas) → (T → S) → SameAsked (line ∷ lines) kept new → StandsFor S b worker history line lines answer kept → StandsFor T b worker history line lines answer new
 stands_less S T b worker history line lines (Accepted place) kept new leads same is = tt
 stands_less S T b worker history line lines (Refused why) kept new leads same is = tt
@@ -220,7 +221,7 @@ stands_less S T b worker history line lines (CallFailed why) kept new leads same
 stands_less S T b worker history line lines (Backup start end) kept new leads same is = λ name full.
     let there = is name full in
     let at : kept (backup_name name) ≡ new (backup_name name) = same (backup_name name) (asked_here line lines name full) in
-    (there.0, there.1, there.2, holds_less S T b worker 0 (take there.0 history) name start end there.1 leads there.3, λ still. ap (λ (x : AreaState). x.files) (sym at) ∙ there.4 still)
+    (there.0, there.1, there.2, holds_less S T b worker 0 (take there.0 history) name start end there.1.files leads there.3, there.4, keeps_at (backup_name name) lines there.1 kept new at there.5)
 stands_less S T b worker history line lines (BackupRefused why) kept new leads same is = tt
 stands_less S T b worker history line lines (IncrRefused why) kept new leads same is = tt
 stands_less S T b worker history line lines NotRun kept new leads same is = tt
@@ -235,9 +236,6 @@ stand_less S T b worker history (line ∷ lines) (answer ∷ answers) kept new l
 
 incr_asked : (line : Line) (lines : List Line) (name prior n : List ℕ) → line.command ≡ command.Incr name prior → IsOneOf n (area_asked (command.Incr name prior)) → IsOneOf n (areas_asked (line ∷ lines))
 incr_asked line lines name prior n is one = one_front n (area_asked line.command) (areas_asked lines) (subst (λ (c : Command). IsOneOf n (area_asked c)) (sym is) one)
-
-keeps_at : (name : List ℕ) (lines : List Line) (files : Option Files) (kept new : Areas) → kept name ≡ new name → KeepsTo name lines files kept → KeepsTo name lines files new
-keeps_at name lines files kept new at keeps = λ still. ap (λ (x : AreaState). x.files) (sym at) ∙ keeps still
 
 incr_stands_less : (S T : Type 0) (b : Basis) (worker : ℕ) (history : List Entry) (found : ℕ) (line : Line) (lines : List Line) (answer : Answer) (held old kept new : Areas) → (T → S) → SameAsked (line ∷ lines) held old → SameAsked (line ∷ lines) kept new
     → IncrStandsFor S b worker history found (held sums_name) line lines answer kept → IncrStandsFor T b worker history found (old sums_name) line lines answer new
@@ -262,9 +260,10 @@ incr_stands_less S T b worker history found line lines (Backup start end) held o
       there.4,
       there.5,
       incr_less S T b worker there.0 (take there.1 history) name start end there.2 there.3 leads there.6,
-      keeps_at (backup_name name) lines there.3.out.files kept new out there.7,
-      keeps_at (backup_name prior) lines there.2.prior.files kept new before there.8,
-      λ t order honest. there.9 (leads t) order (subst (IsHonestFor (take found history)) (sym sums) honest),
+      there.7,
+      keeps_at (backup_name name) lines there.3.out kept new out there.8,
+      keeps_at (backup_name prior) lines there.2.prior kept new before there.9,
+      λ t order honest. there.10 (leads t) order (subst (IsHonestFor (take found history)) (sym sums) honest),
     )
 incr_stands_less S T b worker history found line lines (BackupRefused why) held old kept new leads was same is = tt
 incr_stands_less S T b worker history found line lines (IncrRefused why) held old kept new leads was same is = tt

@@ -44,7 +44,7 @@ use Rattle.run_command.specs.declared.told.Told.{Told}
 use Rattle.run_command.specs.declared.command.RunReport.{RunReport}
 use Rattle.run_command.specs.declared.command.RunFault.{RunFault}
 use Rattle.run_command.specs.declared.command.RunFault.TheVariants as run
-use Rattle.command_base.specs.Areas.{wal_name, data_name, sums_name, area_name, Keeps, AreaCause}
+use Rattle.command_base.specs.Areas.{wal_name, data_name, sums_name, area_name, Keeps, AreaCause, AreaIsDurable}
 use Rattle.command_base.specs.Outside.{Outside, Works, LeavesSite, IsUntaken}
 use Rattle.run_command.specs.Input.{IsInput, TakesAtMost}
 use Rattle.command_base.specs.Faults.{refused_line, area_text, take_text, begin_text, memory_text, area_status, store_status, begin_status}
@@ -143,9 +143,9 @@ pub record HasHistory
 abbrev pub all_records : StoreSettings → List Record → List Entry → List Record
 all_records s found history = found ++ wal_of s.segment history
 
--- the areas hold a history: the WAL's records are those that were found and those that the history
--- is written as, replay of them makes the store that the history makes, and each data area has just
--- the files of its partition's part of that store
+-- the areas hold a history, durably: the WAL's records are those that were found and those that the
+-- history is written as, replay of them makes the store that the history makes, and each data area has
+-- just the files of its partition's part of that store
 pub record HoldsRun (s : StoreSettings) (found : List Record) (history : List Entry) (new : Areas)
     : Type 0 where
   pub store : Store
@@ -155,6 +155,7 @@ pub record HoldsRun (s : StoreSettings) (found : List Record) (history : List En
   pub records : HoldsRecords s (all_records s found history) (tip_of s.segment history).end files
   pub replayed : apply_all empty (map entry_of (all_records s found history)) ≡ Some store
   pub parts : (q : ℕ) → q < 4 → HoldsPart s.relseg q store (new (data_name q)).files
+  pub durable : (name : List ℕ) → IsOneOf name store_asks → AreaIsDurable (new name)
 
 -- of the WAL only what stands between the end that was found and the history's end may have changed
 abbrev pub LeavesWal :
@@ -177,9 +178,9 @@ ToldFaultsRose old new told =
     All (λ t. All (λ answer. (area : StoreArea) → TellsFault area answer
     → StoreFails old new (store.Failed area)) t.answers) told
 
--- the directory of each backup that was answered stands at the site, where its area told it then, or
--- where no later line names the backup too: its pages were copied while a beginning of the history was
--- written
+-- the directory of each backup that was answered stands at the site, durably, where its area told it
+-- then, or where no later line names the backup too: its pages were copied while a beginning of the
+-- history was written
 abbrev pub BackupsDone :
     Type 0 → StoreSettings → ℕ → List Entry → Areas → List Told → Type 0
 BackupsDone tells s when history new told =

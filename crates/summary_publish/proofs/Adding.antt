@@ -10,7 +10,7 @@ use Rattle.wal_summary.specs.declared.kept.CoverFault.{CoverFault}
 use Rattle.wal_summary.specs.declared.kept.CoverFault.TheVariants as cover
 use Rattle.wal_summary.specs.Kept.{CoverAnswers, IsGap}
 use Rattle.summary_publish.specs.declared.advancing.AdvanceFault.{AdvanceFault}
-use Rattle.vault.specs.Frame.{OnlyReads, LeavesNow}
+use Rattle.vault.specs.Frame.{IsDurable, OnlyReads}
 use Rattle.summary_store.specs.Kept.{AreKept, end_behind}
 use Rattle.timeline.proofs.Prefixes.{prefix_trans}
 use Rattle.shared_store.specs.Seen.{Seen}
@@ -96,7 +96,7 @@ advanced g told h made from first count old mid new kept reads held from_is firs
       }) held;
       counted = p.counted;
       files = p.files ∙ ap (option_map (with_files p.sums)) reads.files;
-      stop = p.stop;
+      durable = p.durable;
     }
 
 -- and read again then
@@ -109,7 +109,7 @@ advanced_to g told h made count old mid new kept P a reads held so = record {
     published = a.published;
     counted = a.counted;
     files = reads.files ∙ a.files;
-    stop = subst (λ o. IfSome o (λ m. LeavesNow (λ c. c ≡ m) (g.past new))) (sym reads.files) (subst (λ past. IfSome (g.files mid) (λ m. LeavesNow (λ c. c ≡ m) past)) (sym reads.past) a.stop);
+    durable = subst (λ o. IsDurable o (g.past new)) (sym reads.files) (subst (λ past. IsDurable (g.files mid) past) (sym reads.past) a.durable);
   };
   kept = kept;
   held = subst (λ o. IfSome o (λ m. AreKept m kept)) (sym reads.files) held;

@@ -15,7 +15,7 @@ use Rattle.wal_record.specs.declared.record.Kind.TheVariants as kind
 use Rattle.wal_record.specs.declared.record.Record.{Record}
 use Rattle.wal_record.specs.Sound.{IsSound, IsSoundBlock}
 use Rattle.history.specs.Entry.{IdleCut, Truncate, Mark}
-use Rattle.history.specs.Apply.{main_fork, is_same_fork}
+use Rattle.history.specs.Apply.{main_fork, is_same_fork, is_of_any}
 use Rattle.history.specs.Whole.{act_of, item_of, is_repeat, said_behind, cuts_main, entry_of}
 use Rattle.history.proofs.Pushes.{all_first, all_rest}
 use Rattle.history.proofs.Stores.{by_test, fork_is, fork_self}
@@ -79,6 +79,8 @@ limit_low f (kind.Online redo) s c = tt
 limit_low f (kind.RedoMark n) s c = tt
 limit_low f kind.NoOp s c = tt
 limit_low f (kind.BackupEnd start) s c = tt
+limit_low f (kind.Commit time []) s c = tt
+limit_low f (kind.Commit time (rel ∷ rels)) s c = where_low (is_of_any f (rel ∷ rels)) 0 (omega arith)
 limit_low f (kind.Images blocks) s c = tt
 limit_low f (kind.Generic blocks) s c = tt
 limit_low f (kind.Create fork) s c = where_low (is_same_fork f fork) 0 (omega arith)
@@ -108,6 +110,8 @@ block_low f b (kind.Online redo) s h = absurd (true≢false (sym h))
 block_low f b (kind.RedoMark n) s h = absurd (true≢false (sym h))
 block_low f b kind.NoOp s h = absurd (true≢false (sym h))
 block_low f b (kind.BackupEnd start) s h = absurd (true≢false (sym h))
+block_low f b (kind.Commit time []) s h = absurd (true≢false (sym h))
+block_low f b (kind.Commit time (rel ∷ rels)) s h = absurd (true≢false (sym h))
 block_low f b (kind.Images blocks) s h = items_low f b [] blocks s.0 h
 block_low f b (kind.Generic blocks) s h = items_low f b [] blocks s h
 block_low f b (kind.Create fork) s h = absurd (true≢false (sym h))

@@ -4,7 +4,7 @@ use Rattle.std.specs.Prelude.{nat_le}
 use Rattle.lsn_core.specs.Store.{Store}
 use Rattle.wal_record.specs.declared.record.Record.{Record}
 use Rattle.wal_pieces.specs.Laws.{from_place as records_from}
-use Rattle.history.specs.Entry.{Shutdown, Online, RedoMark, NoOp, BackupEnd, IdleCut, Act, Create, Truncate, Change, Mark, Entry}
+use Rattle.history.specs.Entry.{Shutdown, Online, RedoMark, NoOp, BackupEnd, IdleCut, IdleCommit, Act, Create, Truncate, Change, Drop, Mark, Entry}
 use Rattle.history.specs.Whole.{act_of, cuts_main, entry_of}
 use Rattle.history.specs.Written.{Before, behind, next_record, written, kind_of, is_redo}
 use Rattle.history.specs.Laws.{AreWrittenInPlace}
@@ -23,6 +23,9 @@ redo_back : (store : Store) (redo : ℕ) (act : Act) → is_redo (act_of (kind_o
 redo_back store redo (Create made) = refl
 redo_back store redo (Truncate rel count) = refl
 redo_back store redo (Change items) = refl
+redo_back store redo (Drop []) = refl
+redo_back store redo (Drop (rel ∷ rels)) = refl
+redo_back store redo (Mark (IdleCommit time)) = refl
 redo_back store redo (Mark (Shutdown at)) = refl
 redo_back store redo (Mark (Online at)) = refl
 redo_back store redo (Mark (RedoMark n)) = refl

@@ -1,5 +1,5 @@
 -- What functions inside the crate answer. No public contract cites these.
-use Rattle.std.specs.Prelude.{◌≡◌, nat_le, ◌⊎◌, ℕ, ◌+◌, ◌-◌, ◌^◌, ◌<◌, ◌≤◌, List, [], ◌∷◌, length, Option, Some, None, IfSome}
+use Rattle.std.specs.Prelude.{◌≡◌, nat_le, ◌⊎◌, ℕ, ◌+◌, ◌-◌, ◌^◌, ◌<◌, ◌≤◌, List, [], ◌∷◌, length, Option, Some, None}
 use Rattle.std.specs.Option.{option_map}
 use Rattle.std.specs.List.{AllByRecursion, filter}
 use Rattle.lsn_core.specs.Causes.{Rose}
@@ -9,7 +9,7 @@ use Rattle.lsn_core.specs.declared.fault.AreaFault.TheVariants as area
 use Rattle.lsn_core.specs.declared.fault.StoreArea.TheVariants.{Sums as SumsArea}
 use Rattle.lsn_core.specs.declared.fault.StoreFault.{StoreFault}
 use Rattle.lsn_core.specs.declared.fault.StoreFault.TheVariants as store
-use Rattle.vault.specs.Frame.{LeavesNow}
+use Rattle.vault.specs.Frame.{IsDurable}
 use Rattle.vault.specs.declared.area.Vault.{Ghosts}
 use Rattle.wal_record.specs.declared.record.Record.{Record}
 use Rattle.wal_record.specs.declared.record.Kind.{Kind}
@@ -72,6 +72,7 @@ HasCount (kind.Online redo) = Unit {0}
 HasCount (kind.RedoMark n) = Unit {0}
 HasCount kind.NoOp = Unit {0}
 HasCount (kind.BackupEnd start) = Unit {0}
+HasCount (kind.Commit time rels) = Unit {0}
 HasCount (kind.Images blocks) = Unit {0}
 HasCount (kind.Generic blocks) = Unit {0}
 HasCount (kind.Create fork) = Unit {0}
@@ -128,8 +129,8 @@ pub record PublishesTo {V : Type 0} (g : Ghosts V) (told : Type 0) (history : Li
   pub fits : from + count ≤ at
   pub files : g.files new ≡ option_map (with_files sums) (g.files old)
 
--- summaries were published from a place on up to the last redo point: none lies past the last one's
--- end. What a stop leaves is what a read gives
+-- summaries were published from a place on up to the last redo point, durably: none lies past the last
+-- one's end
 pub record Publishes {V : Type 0} (g : Ghosts V) (told : Type 0) (history : List Entry)
     (from made : ℕ) (old new : V) (count : ℕ) : Type 0 where
   pub sums : List Summary
@@ -138,7 +139,7 @@ pub record Publishes {V : Type 0} (g : Ghosts V) (told : Type 0) (history : List
   pub last : told → next_redo (end_behind from sums) history ≡ None
   pub counted : count ≡ length sums
   pub files : g.files new ≡ option_map (with_files sums) (g.files old)
-  pub stop : IfSome (g.files new) (λ m. LeavesNow (λ c. c ≡ m) (g.past new))
+  pub durable : IsDurable (g.files new) (g.past new)
 
 -- the fault of the area of the summaries
 abbrev pub sums_fault : AreaFault → StoreFault

@@ -8,7 +8,7 @@ use Rattle.lsn_core.specs.Causes.{Rose}
 use Rattle.lsn_core.specs.declared.fault.StoreArea.TheVariants.{Sums as SumsArea}
 use Rattle.lsn_core.specs.declared.fault.StoreFault.{StoreFault}
 use Rattle.lsn_core.specs.declared.fault.StoreFault.TheVariants as store
-use Rattle.vault.specs.Frame.{LeavesNow}
+use Rattle.vault.specs.Frame.{IsDurable}
 use Rattle.vault.specs.declared.area.Vault.{Ghosts}
 use Rattle.history.specs.Entry.{Entry}
 use Rattle.fuzzy_copies.specs.Summary.{summary_of}
@@ -64,15 +64,15 @@ pub record ArePublished (history : List Entry) (made : ℕ) (files : Files) (sum
   pub last : next_redo (end_behind (end_behind (first_start history) kept) sums) history ≡ None
   pub whole : AllByRecursion IsWhole sums
 
--- these were published: the files of an area are those that were there, with theirs. The number is
--- theirs, and what a stop leaves is what a read gives
+-- these were published: the files of an area are those that were there, with theirs, durably. The
+-- number is theirs
 pub record Advances {V : Type 0} (g : Ghosts V) (told : Type 0) (history : List Entry)
     (made : ℕ) (old new : V) (count : ℕ) : Type 0 where
   pub sums : List Summary
   pub published : told → IfSome (g.files old) (λ m. ArePublished history made m sums)
   pub counted : count ≡ length sums
   pub files : g.files new ≡ option_map (with_files sums) (g.files old)
-  pub stop : IfSome (g.files new) (λ m. LeavesNow (λ c. c ≡ m) (g.past new))
+  pub durable : IsDurable (g.files new) (g.past new)
 
 -- so it was, and this holds of the summaries that are kept of the area then
 pub record AdvancesTo {V : Type 0} (g : Ghosts V) (told : Type 0) (history : List Entry)

@@ -10,7 +10,7 @@ use Rattle.crew.proofs.backups.backup_into.Goals as goal
 pub returns-in-Ok-clause-runs : goal.returns-in-Ok-clause-runs
 returns-in-Ok-clause-runs g c =
     taken g.V.Vault (g.J.OfStore.tells ≡ true) c.args.when c.args.name.now c.args.pass.now c.take_full.new.pass c.args.store.now c.take_full.new.store c.args.area.now c.take_full.new.out c.in-Ok.done c.requires.knows c.in-Ok.ensures.taken
-    c.in-Ok.ensures.whole c.in-Ok.ensures.empty c.take_full.ensures.proceeds
+    c.in-Ok.ensures.synced c.in-Ok.ensures.whole c.in-Ok.ensures.empty c.take_full.ensures.proceeds
 
 pub returns-in-Err-clause-runs : goal.returns-in-Err-clause-runs
 returns-in-Err-clause-runs g c =

@@ -1,9 +1,9 @@
 -- The three areas, lent at once.
-use Rattle.std.proofs.Common.{◌≡◌, ◌≢◌, List, ℕ, refl, sym, subst, ◌∙◌}
+use Rattle.std.proofs.Common.{List, ℕ, sym, subst}
 use Rattle.crew.specs.Backups.{area_asked, areas_of, AreHeld}
 use Rattle.crew.specs.declared.script.Command.TheVariants as command
-use Rattle.crew.specs.Running.{AreAt, IsLater}
-use Rattle.crew.proofs.Three.{ThreeLent, three_parts}
+use Rattle.crew.specs.Running.{AreAt}
+use Rattle.crew.proofs.Three.{three_parts}
 use Rattle.crew.proofs.increments.incr.Goals as goal
 
 pub places_of-at-requires-clause-held : goal.places_of-at-requires-clause-held

@@ -1,4 +1,4 @@
-use Rattle.std.proofs.Common.{◌≡◌, true, List, ℕ, ap, sym, subst, ◌∙◌}
+use Rattle.std.proofs.Common.{◌≡◌, true, ap, sym, subst, ◌∙◌}
 use Rattle.shared_store.specs.Seen.{StaysBy}
 use Rattle.shared_store.specs.Opened.{Opened}
 use Rattle.base_backup.specs.Incr.{incr_site}

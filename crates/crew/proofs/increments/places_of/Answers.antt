@@ -1,10 +1,10 @@
 -- The areas of the three names, which are held.
-use Rattle.std.proofs.Common.{◌≡◌, ◌≢◌, List, ℕ, Some, None, sym, refl, ◌∙◌, inl, inr, suc}
+use Rattle.std.proofs.Common.{◌≡◌, None, sym, refl, ◌∙◌, inl, inr}
 use Rattle.std.specs.List.{position}
 use Rattle.command_base.specs.Areas.{backup_name, sums_name}
 use Rattle.crew.proofs.Held.{has_name, found}
 use Rattle.crew.proofs.Kept.{never_sums}
-use Rattle.crew.proofs.Three.{places_apart, same_backup, in_held}
+use Rattle.crew.proofs.Three.{places_apart, same_backup}
 use Rattle.crew.proofs.increments.places_of.Goals as goal
 
 pub unreachable-requires : goal.unreachable-requires
