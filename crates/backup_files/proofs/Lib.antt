@@ -6,3 +6,4 @@ pub mod Manifests
 pub mod Listable
 pub mod TimeTexts
 pub mod Appended
+pub mod Synced

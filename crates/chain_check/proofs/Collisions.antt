@@ -1,10 +1,9 @@
 -- Directories whose manifests end in one sum.
-use Rattle.std.proofs.Common.{◌≡◌, ◌⊎◌, ℕ, Bool, true, false, ◌||◌, List, [], ◌∷◌, ◌++◌, Option, Some, Ok, bytes_eq, refl, sym, ap, subst, ◌∙◌, inl, inr, codes, nat_eq}
+use Rattle.std.proofs.Common.{◌≡◌, ◌≢◌, ◌⊎◌, ℕ, Bool, true, false, ◌||◌, List, [], ◌∷◌, ◌++◌, Option, Some, Ok, bytes_eq, refl, sym, ap, subst, ◌∙◌, inl, inr, codes, nat_eq}
 use Rattle.std.specs.List.{AllByRecursion, starts_with}
 use Rattle.std.specs.FinMap.{get}
 use Rattle.std.specs.Option.{unwrap_or}
 use Rattle.std.proofs.lemmas.Slice.Eq.{bytes_eq-Decides}
-use Rattle.hex.specs.Hex.{decode_of}
 use Rattle.hex.proofs.HexLemmas.{decode_of-same}
 use Rattle.sha2.specs.Sha256.{sha256}
 use Rattle.lsn_core.specs.Files.{Files}
@@ -14,6 +13,7 @@ use Rattle.backup_label.proofs.OneReading.{one_label}
 use Rattle.manifest.specs.Laws.{TextsHaveOneManifest}
 use Rattle.manifest.specs.Lines.{line_front, line_back, IsLined}
 use Rattle.manifest.specs.Listing.{Listing}
+use Rattle.manifest.specs.Reading.{ReadAnswers}
 use Rattle.manifest.specs.declared.kinds.SumKind.{SumKind}
 use Rattle.manifest.specs.declared.kinds.SumKind.TheVariants.{Sha256}
 use Rattle.manifest.specs.declared.listing.FileRow.{FileRow}
@@ -21,7 +21,7 @@ use Rattle.backup_files.specs.Directory.{manifest_name, label_name}
 use Rattle.chain_check.specs.Directory.{HasManifest, IsRowAsListed, is_listed, may_stand, HasNoOther, IsLabelFrom}
 use Rattle.chain_check.specs.Collisions.{Collision, EndsInSum, RowCollides, RowsCollide, OneSumIsOneDirectory}
 use Rattle.chain_check.specs.Sums.{sum_of}
-use Rattle.chain_check.proofs.Once.{manifest_once}
+use Rattle.chain_check.proofs.LastLine.{decoded_plain, one_listing}
 use Rattle.chain_check.proofs.OneText.{one_value, lined_once}
 
 -- texts of one sum are the same, or a collision
@@ -38,23 +38,26 @@ same_or_collision kind a b same =
 -- ---- manifests
 
 -- the last line of a manifest that is as listed says the sum of the lines before it
-says_sum : (files : Files) (m : Listing) (digits : List ℕ) → HasManifest files m → (is : EndsInSum files digits) → decode_of digits ≡ Ok (sha256 is.lines)
-says_sum files m digits has is =
+says_sum : (files : Files) (m : Listing) (lines sum : List ℕ) → HasManifest files m → EndsInSum files lines sum → sum ≡ sha256 lines
+says_sum files m lines sum has is =
     let same : has.0 ≡ is.text = one_value (get files manifest_name) has.0 is.text has.1 is.there in
     let whole : IsLined is.text has.2.0.0 (sha256 has.2.0.0) = subst (λ (t : List ℕ). IsLined t has.2.0.0 (sha256 has.2.0.0)) same has.2.0.1 in
-    let once = lined_once is.text is.lines has.2.0.0 is.sum (sha256 has.2.0.0) is.lined whole in
-    subst (λ (d : List ℕ). decode_of d ≡ Ok (sha256 is.lines)) is.spelled (is.lined.said ∙ ap (λ (s : List ℕ). Ok s) (once.1 ∙ ap sha256 (sym once.0)))
+    let once = lined_once is.text lines has.2.0.0 sum (sha256 has.2.0.0) is.lined whole in
+    once.1 ∙ ap sha256 (sym once.0)
 
--- the text by its lines and digits
-text_is : (files : Files) (digits : List ℕ) (is : EndsInSum files digits) → is.text ≡ is.lines ++ (line_front ++ (digits ++ line_back))
-text_is files digits is = subst (λ (d : List ℕ). is.text ≡ is.lines ++ (line_front ++ (d ++ line_back))) is.spelled is.lined.spelled
+lines_same : (files other : Files) (m n : Listing) (lines more sum : List ℕ) → HasManifest files m → HasManifest other n → EndsInSum files lines sum → EndsInSum other more sum → (lines ≡ more) ⊎ Collision Sha256 lines more
+lines_same files other m n lines more sum has too a b =
+    same_or_collision Sha256 lines more (sym (says_sum files m lines sum has a) ∙ says_sum other n more sum too b)
 
-manifests_same : (files other : Files) (m n : Listing) (digits : List ℕ) → HasManifest files m → HasManifest other n → (a : EndsInSum files digits) (b : EndsInSum other digits) → (get files manifest_name ≡ get other manifest_name) ⊎ Collision Sha256 a.lines b.lines
-manifests_same files other m n digits has too a b =
-    elim (same_or_collision Sha256 a.lines b.lines (decode_of-same digits (sha256 a.lines) (sha256 b.lines) (says_sum files m digits has a) (says_sum other n digits too b))) [
-      | inl same ↦ inl (a.there ∙ ap (λ (t : List ℕ). Some t) (text_is files digits a ∙ ap (λ (l : List ℕ). l ++ (line_front ++ (digits ++ line_back))) same ∙ sym (text_is other digits b)) ∙ sym b.there)
-      | inr hit ↦ inr hit
-    ]
+-- what is read of the lines and of a last line with these digits
+reads : (files : Files) (m : Listing) (lines sum : List ℕ) → HasManifest files m → (is : EndsInSum files lines sum) → ReadAnswers 2 (lines ++ (line_front ++ (is.lined.digits ++ line_back))) (Ok m)
+reads files m lines sum has is =
+    subst (λ (t : List ℕ). ReadAnswers 2 t (Ok m)) (one_value (get files manifest_name) has.0 is.text has.1 is.there ∙ is.lined.spelled) has.2
+
+listing_same : TextsHaveOneManifest → (files other : Files) (m n : Listing) (lines more sum : List ℕ) → lines ≡ more → HasManifest files m → HasManifest other n → EndsInSum files lines sum → EndsInSum other more sum → m ≡ n
+listing_same law files other m n lines more sum same has too a b =
+    let there = subst (λ (l : List ℕ). ReadAnswers 2 (l ++ (line_front ++ (b.lined.digits ++ line_back))) (Ok n)) (sym same) (reads other n more sum too b) in
+    one_listing law a.lined.digits b.lined.digits (decoded_plain a.lined.digits sum a.lined.said) (decoded_plain b.lined.digits sum b.lined.said) m n lines a.lined.ended (reads files m lines sum has a) there
 
 -- ---- listed files
 
@@ -92,7 +95,7 @@ listed_same files other (row ∷ rows) name all e =
 abbrev in_wal : List ℕ → Bool
 in_wal name = starts_with nat_eq name (codes "pg_wal/")
 
-module _ (files other : Files) (rows : List FileRow) (manifest : get files manifest_name ≡ get other manifest_name) (all : AllByRecursion (SameRow files other) rows) (none : HasNoOther files rows) (none_there : HasNoOther other rows) where
+module _ (files other : Files) (rows : List FileRow) (all : AllByRecursion (SameRow files other) rows) (none : HasNoOther files rows) (none_there : HasNoOther other rows) where
   unlisted : (name : List ℕ) → bytes_eq name manifest_name ≡ false → in_wal name ≡ false → is_listed rows name ≡ false → get files name ≡ get other name
   unlisted name a b c =
       let no : may_stand rows name ≡ false = rw (a, b, c) refl in
@@ -112,10 +115,10 @@ module _ (files other : Files) (rows : List FileRow) (manifest : get files manif
         | false ↦ λ e. beside name a e
       ] refl
 
-  any_name : (name : List ℕ) → (in_wal name ≡ true → is_listed rows name ≡ true) → get files name ≡ get other name
-  any_name name listed =
+  any_name : (name : List ℕ) → name ≢ manifest_name → (in_wal name ≡ true → is_listed rows name ≡ true) → get files name ≡ get other name
+  any_name name apart listed =
       elim (bytes_eq name manifest_name) as (λ x. bytes_eq name manifest_name ≡ x → get files name ≡ get other name) [
-        | true ↦ λ e. subst (λ (n : List ℕ). get files n ≡ get other n) (sym ((bytes_eq-Decides name manifest_name).0 e)) manifest
+        | true ↦ λ e. absurd (apart ((bytes_eq-Decides name manifest_name).0 e))
         | false ↦ λ e. not_manifest name e listed
       ] refl
 
@@ -127,21 +130,23 @@ label_same files other one start a b same is was =
     one_label (bytes_of other label_name) a b (subst (λ (t : List ℕ). IsLabelFrom one t a) held is).0 was.0
 
 pub one_directory : TextsHaveOneManifest → OneSumIsOneDirectory
-one_directory law files other member also digits ended too is was =
+one_directory law files other member also lines more sum ended too is was =
     let m : Listing = member.manifest in
-    elim (manifests_same files other m also.manifest digits is.manifest was.manifest ended too) [
+    elim (lines_same files other m also.manifest lines more sum is.manifest was.manifest ended too) [
       | inr hit ↦ inr (inl hit)
       | inl texts ↦
-          let told : HasManifest files also.manifest = (was.manifest.0, texts ∙ was.manifest.1, was.manifest.2) in
-          let one : also.manifest ≡ m = manifest_once law files also.manifest m told is.manifest in
+          let one : also.manifest ≡ m = sym (listing_same law files other m also.manifest lines more sum texts is.manifest was.manifest ended too) in
           let rows : AllByRecursion (IsRowAsListed other) m.files = subst (λ (l : Listing). AllByRecursion (IsRowAsListed other) l.files) one was.rows in
           let others : HasNoOther other m.files = subst (λ (l : Listing). HasNoOther other l.files) one was.others in
           elim (rows_same files other m.files is.rows rows) [
             | inr hit ↦ inr (inr hit)
-            | inl all ↦ inl (record {
-              manifest = sym one;
-              label = label_same files other m.start also.manifest.start member.label also.label (listed_same files other m.files label_name all is.label_row) is.label was.label;
-              same = any_name files other m.files texts all is.others others;
-            })
+            | inl all ↦ inl (
+              texts,
+              record {
+                manifest = sym one;
+                label = label_same files other m.start also.manifest.start member.label also.label (listed_same files other m.files label_name all is.label_row) is.label was.label;
+                same = any_name files other m.files all is.others others;
+              },
+            )
           ]
     ]

@@ -13,4 +13,11 @@ mod Links
 mod HeldForms
 mod Judged
 mod ListedForms
+mod Known
+mod Seen
+mod Sized
+mod LineEnds
+mod LastTokens
+mod LastMember
+mod LastLine
 mod Collisions

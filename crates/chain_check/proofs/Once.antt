@@ -34,10 +34,10 @@ use Rattle.chain_check.proofs.OneText.{one_value, refused_once}
 
 -- ---- manifests
 
-abbrev Reads : Listing → Result Listing ManifestFault → Type 0
+abbrev pub Reads : Listing → Result Listing ManifestFault → Type 0
 Reads m r = (r ≡ Ok m) ⊎ (r ≡ Err manifest.NoMemory)
 
-same_ok : (m n : Listing) → Reads m (Ok n) → m ≡ n
+pub same_ok : (m n : Listing) → Reads m (Ok n) → m ≡ n
 same_ok m n (inl e) = cc
 same_ok m n (inr e) = absurd (cc)
 

@@ -18,21 +18,19 @@ pub record Collision (kind : SumKind) (one other : List ℕ) : Type 0 where
   pub differ : one ≢ other
   pub same : sum_of kind one ≡ sum_of kind other
 
--- a directory's manifest has these lines, and behind them the last one with these digits of a sum
-pub record EndsInSum (files : Files) (digits : List ℕ) : Type 0 where
+-- a directory's manifest has these lines, and behind them the last one, whose digits, in either
+-- case, spell this sum
+pub record EndsInSum (files : Files) (lines sum : List ℕ) : Type 0 where
   pub text : List ℕ
   pub there : get files manifest_name ≡ Some text
-  pub lines : List ℕ
-  pub sum : List ℕ
   pub lined : IsLined text lines sum
-  pub spelled : lined.digits ≡ digits
 
--- two directories hold the same, as far as a manifest tells: the manifest itself and what it says,
--- what the labels say, and each file but those in the folder of the WAL that aren't listed
+-- two directories hold the same, as far as a manifest tells: what it says, what the labels say, and
+-- each file but the manifest and those in the folder of the WAL that aren't listed
 pub record HoldTheSame (files other : Files) (member also : Member) : Type 0 where
   pub manifest : member.manifest ≡ also.manifest
   pub label : member.label ≡ also.label
-  pub same : (name : List ℕ)
+  pub same : (name : List ℕ) → name ≢ manifest_name
       → (starts_with nat_eq name (codes "pg_wal/") ≡ true
       → is_listed member.manifest.files name ≡ true)
       → get files name ≡ get other name
@@ -48,13 +46,14 @@ RowsCollide files other [] = ⊥
 RowsCollide files other (row ∷ rows) =
     RowCollides files other row ⊎ RowsCollide files other rows
 
--- so a directory that is as listed, and whose manifest ends in the digits in which that of another
--- one ends, holds what the other one holds; or else sums match by chance: those of the manifests'
--- lines, or those of two files of a row
+-- so a directory that is as listed, and whose manifest ends in the sum in which that of another one
+-- ends, holds what the other one holds, and the manifests have the same lines before the last one,
+-- which may tell the sum in digits of another case; or else sums match by chance: those of the
+-- manifests' lines, or those of two files of a row
 abbrev pub OneSumIsOneDirectory : Type 0
 OneSumIsOneDirectory =
-    (files other : Files) (member also : Member) (digits : List ℕ)
-    (one : EndsInSum files digits) (more : EndsInSum other digits)
+    (files other : Files) (member also : Member) (lines more sum : List ℕ)
+    → EndsInSum files lines sum → EndsInSum other more sum
     → IsAsListed files member → IsAsListed other also
-    → HoldTheSame files other member also
-    ⊎ (Collision Sha256 one.lines more.lines ⊎ RowsCollide files other member.manifest.files)
+    → ((lines ≡ more) × HoldTheSame files other member also)
+    ⊎ (Collision Sha256 lines more ⊎ RowsCollide files other member.manifest.files)

@@ -70,7 +70,9 @@ fn listed_label<V: Vault>(
 /// gives their size, and aren't there in the plain form too. Otherwise it errs with the first fault,
 /// in the order of `ChainFault`, and with how many files were found as listed before it. `Failed`
 /// comes only where the area's count of faults rose. The area is only read, each listed file in
-/// pieces of at most 65,536 bytes, and of an incremental file the head once more.
+/// pieces of at most 262,144 bytes, and of an incremental file the head once more. All sizes are
+/// looked at before any sum, and files with sums of SHA-256 are summed four side by side, the
+/// largest first.
 pub fn check_dir<V: Vault>(alloc: Global, area: &mut V, name: &Text) -> Result<Member, Refusal>
     ensures answer { IfSome (V.files area.old) (λ m. DirAnswer m name.now result) }
     ensures reads { OnlyReads V.Vault area.old area.new }

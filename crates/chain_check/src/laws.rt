@@ -29,11 +29,12 @@ pub fn chains_have_one_answer()
     ensures first { ChainRefusalsAreOne }
 {}
 
-/// Two directories that are as listed, and whose manifests end in the same digits of a sum, hold
-/// the same: what the manifest and the label say, and each file but those in the folder of the WAL
-/// that aren't listed. Or sums match by chance: the lines of the two manifests differ and have one
-/// sum, or the two files of one row. So a directory that was changed since it was taken is refused,
-/// unless its manifest ends in other digits than it did, or sums match by chance.
+/// Two directories that are as listed, and whose manifests end in the same sum, hold the same: the
+/// manifests' lines before the last one, what they and the labels say, and each other file but those
+/// in the folder of the WAL that aren't listed. Digits of a sum may be of either case. Or sums match
+/// by chance: the lines of the two manifests differ and have one sum, or the two files of one row.
+/// So a directory that was changed since it was taken is refused, unless its manifest ends in
+/// another sum than it did, or sums match by chance.
 pub fn one_sum_is_one_directory()
     ensures { OneSumIsOneDirectory }
 {

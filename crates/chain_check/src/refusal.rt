@@ -2,10 +2,10 @@
 
 ghost use Rattle.std.specs.Prelude.{◌≡◌};
 ghost use Rattle.chain_check.specs.declared.fault.ChainFault.TheVariants as chain;
-ghost use Rattle.chain_check.specs.Refusals.{refusal_of};
+ghost use Rattle.chain_check.specs.Refusals.{refusal_of, chain_fault_of};
 
 use crate::fault::ChainFault;
-use lsn_core::NoMemory;
+use lsn_core::{AreaFault, NoMemory};
 use std::alloc::AllocError;
 
 /// The first fault of a backup's directory, and how many files were found as listed before it.
@@ -24,6 +24,14 @@ impl From<ChainFault> for Refusal {
 
     fn from(fault: ChainFault) -> Self {
         Refusal { fault, checked: 0 }
+    }
+}
+
+impl From<AreaFault> for Refusal {
+    ghost from_gives = { λ fault e. e ≡ refusal_of (chain_fault_of fault) };
+
+    fn from(fault: AreaFault) -> Self {
+        Refusal::from(ChainFault::from(fault))
     }
 }
 

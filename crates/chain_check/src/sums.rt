@@ -84,7 +84,7 @@ fn sum_file<V: Vault>(
 }
 
 /// Whether hexadecimal digits, in either case, are those of a sum.
-fn says_sum(alloc: Global, digits: &[u8], sum: &[u8]) -> Result<bool, NoMemory>
+pub(crate) fn says_sum(alloc: Global, digits: &[u8], sum: &[u8]) -> Result<bool, NoMemory>
     ensures { IfOk result (λ same. same ≡ says_sum digits.now sum.now) }
 {
     match hex::decode(alloc, digits) {
