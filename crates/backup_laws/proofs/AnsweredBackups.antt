@@ -5,7 +5,7 @@ use Rattle.std.specs.Prelude.{Ok, Err}
 use Rattle.lsn_core.specs.declared.lsn.Lsn.{Lsn}
 use Rattle.command_base.specs.Outside.{Outside}
 use Rattle.backup_label.specs.Label.{HasNoLineEnd}
-use Rattle.command_base.specs.Areas.{backup_name}
+use Rattle.command_base.specs.Areas.{backup_name, AreaIsDurable}
 use Rattle.run_command.specs.Run.{AreTold, RunDone}
 use Rattle.chain_check.specs.Laws.{DirectoriesAreOneMember, ListedIsNotRefused}
 use Rattle.chain_check.specs.Refusals.{HasRefusal}
@@ -31,7 +31,7 @@ answered_listed known before left report does name start end tells answered = by
     line : HasNoLineEnd name
     line = answered_name before.left left.left report.told does.1 name start end does.6.0 does.6.1 answered
 
-    by : IsBackedUp report.told name start end ⊎ IsIncremented report.told name start end → (files : Files) × ((left.areas (backup_name name)).files ≡ Some files) × IsListedBackup name start end files
+    by : IsBackedUp report.told name start end ⊎ IsIncremented report.told name start end → (files : Files) × ((left.areas (backup_name name)).files ≡ Some files) × IsListedBackup name start end files × AreaIsDurable (left.areas (backup_name name))
     by (inl taken) =
         let is = full_of_run does.0 before.areas left.areas report done name start end taken tells in
         let b = is.backup in (
@@ -44,6 +44,7 @@ answered_listed known before left report does name start end tells answered = by
             ends = refl;
             listed = finished_listed done.settings name does.0 is.copy start is.checkpoint end is.count is.files b done.given.blocks.least line;
           },
+          is.durable,
         )
     by (inr taken) =
         let is = incr_of_run does.0 before.areas left.areas report done name start end taken tells in
@@ -57,6 +58,7 @@ answered_listed known before left report does name start end tells answered = by
             ends = refl;
             listed = increment_listed known (AreTold before.areas) done.settings name does.0 is.history start is.checkpoint is.prior end is.count is.files b done.given.blocks line;
           },
+          is.durable,
         )
 
 -- ---- what `verify` says of them

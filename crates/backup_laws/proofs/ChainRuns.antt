@@ -15,7 +15,9 @@ use Rattle.lsn_core.specs.Files.{Files}
 use Rattle.lsn_core.specs.Segment.{IsRelseg, StoreSettings}
 use Rattle.lsn_core.specs.Store.{Store}
 use Rattle.lsn_core.specs.declared.lsn.Lsn.{Lsn}
-use Rattle.vault.specs.Site.{Areas, AreaState}
+use Rattle.vault.specs.Frame.{IsDurable}
+use Rattle.vault.specs.Site.{Areas, AreaState, IsStill}
+use Rattle.vault.specs.Stops.{Event}
 use Rattle.vault.specs.Lending.{Names, IsOneOf}
 use Rattle.wal_record.specs.declared.record.Record.{Record}
 use Rattle.history.specs.Apply.{apply_all}
@@ -44,7 +46,7 @@ use Rattle.chain_laws.specs.Chain.{IsSoundChain}
 use Rattle.chain_laws.specs.Increment.{IsIncrementOf}
 use Rattle.chain_laws.specs.Laws.{IncrementsExtendSoundChains, FullBackupsAreSoundChains, SoundChainsStaySound}
 use Rattle.chain_laws.proofs.Taken.{IsSumOf, sum_of, increment_of}
-use Rattle.command_base.specs.Areas.{backup_name, sums_name}
+use Rattle.command_base.specs.Areas.{backup_name, sums_name, AreaIsDurable}
 use Rattle.command_base.proofs.Told.{some_told, at_told}
 use Rattle.crew.specs.declared.script.Command.{Command}
 use Rattle.crew.specs.declared.script.Command.TheVariants as command
@@ -122,24 +124,31 @@ asked_among (u ∷ told) (suc worker) t n there one = one_back n (areas_asked u.
 
 -- ---- what is left of a backup
 
--- an area's files are the directory of a full backup
-pub record FullLeft (s : StoreSettings) (when : ℕ) (name : List ℕ) (start end : Lsn) (o : Option Files) : Type 0 where
+-- an area's files are the directory of a full backup, durably
+pub record FullLeft (s : StoreSettings) (when : ℕ) (name : List ℕ) (start end : Lsn) (area : AreaState) : Type 0 where
   pub files : Files
   pub copy : Store
   pub checkpoint : Lsn
   pub count : ℕ
-  pub told : o ≡ Some files
+  pub told : area.files ≡ Some files
+  pub durable : AreaIsDurable area
   pub backup : IsFullBackup s name when copy start checkpoint end count (Some files)
 
 -- and of an incremental one
-pub record IncrLeft (tells : Type 0) (s : StoreSettings) (when : ℕ) (name : List ℕ) (start end : Lsn) (o : Option Files) : Type 0 where
+pub record IncrLeft (tells : Type 0) (s : StoreSettings) (when : ℕ) (name : List ℕ) (start end : Lsn) (area : AreaState) : Type 0 where
   pub files : Files
   pub history : List Entry
   pub checkpoint : Lsn
   pub prior : Lsn
   pub count : ℕ
-  pub told : o ≡ Some files
+  pub told : area.files ≡ Some files
+  pub durable : AreaIsDurable area
   pub backup : IsIncrBackup tells s name when history start checkpoint prior end count (Some files)
+
+-- an area to which nothing happened is durable still
+durable_still : (old new : AreaState) → IsStill old new → AreaIsDurable old → AreaIsDurable new
+durable_still old new still durable =
+    subst (λ (f : Option Files). IsDurable f new.past) (sym still.files) (subst (λ (p : Option (List Event)). IsDurable old.files p) (sym still.past) durable)
 
 -- ---- one run
 
@@ -188,13 +197,19 @@ module _ (when : ℕ) (old new : Areas) (report : RunReport) (run : RunDone when
         (λ n one. subst (λ (a : AreaState). IsSome a.files) (sym (run.were n (among n one))) (tell.before n (among n one)))
         (omega arith) given.order (λ e t order honest. honest) number line behind (Backup start end) later lines answers refl
 
-    -- what the area of a backup held then it holds when the run ends
+    -- the area of a backup that held a file then is as it was when the run ends
+    still : (n : List ℕ) (m : Files) → IsOneOf n (area_asked line.command) → n ≢ sums_name → (moment.after n).files ≡ Some m → m ≢ empty → IsStill (moment.after n) (new n)
+    still n m one apart is some = subst (IsStill (moment.after n)) (run.are n (among n (asked n one))) (moment.keeps n m apart is some)
+
     stays : (n : List ℕ) (m : Files) → IsOneOf n (area_asked line.command) → n ≢ sums_name → (moment.after n).files ≡ Some m → m ≢ empty → (new n).files ≡ Some m
-    stays n m one apart is some =
-        sym (ap (λ (a : AreaState). a.files) (run.are n (among n (asked n one)))) ∙ (moment.keeps n m apart is some ∙ is)
+    stays n m one apart is some = (still n m one apart is some).files ∙ is
 
     front : IsPrefix (take moment.next h) h
     front = (drop moment.next h, take-append-drop moment.next h)
+
+    -- the area of a backup of a name is durable then
+    abbrev DurableThen : List ℕ → Type 0
+    DurableThen n = AreaIsDurable (moment.after (backup_name n))
 
     -- ---- a full backup
 
@@ -202,19 +217,24 @@ module _ (when : ℕ) (old new : Areas) (report : RunReport) (run : RunDone when
       abbrev Full : Type 0
       Full = HoldsBackup (AreTold old) basis worker moment.from (take moment.next h) name start end (moment.after (backup_name name)).files
 
-      full_of : TakesFull (AreTold old) basis worker moment.from (take moment.next h) line.command start end moment.before moment.after → Full
+      full_of : TakesFull (AreTold old) basis worker moment.from (take moment.next h) line.command start end moment.before moment.after → Full × DurableThen name
       full_of t =
-          let same : t.0 ≡ name = same_full t.0 name (sym t.1 ∙ takes) in
-          subst (λ (n : List ℕ). HoldsBackup (AreTold old) basis worker moment.from (take moment.next h) n start end (moment.after (backup_name n)).files) same t.4
+          let same : t.0 ≡ name = same_full t.0 name (sym t.1 ∙ takes) in (
+            subst (λ (n : List ℕ). HoldsBackup (AreTold old) basis worker moment.from (take moment.next h) n start end (moment.after (backup_name n)).files) same t.4,
+            subst DurableThen same t.5,
+          )
         where
           same_full : (a b : List ℕ) → command.Full a ≡ command.Full b → a ≡ b
           same_full a b e = cc
 
-      full_there : Full
-      full_there = elim moment.answered.1 [
+      full_taken : Full × DurableThen name
+      full_taken = elim moment.answered.1 [
         | inl t ↦ full_of t
         | inr t ↦ absurd (let e : command.Incr t.0 t.1 ≡ command.Full name = sym t.2 ∙ takes in cc)
       ]
+
+      full_there : Full
+      full_there = full_taken.0
 
       one_full : IsOneOf (backup_name name) (area_asked line.command)
       one_full = subst (λ (c : Command). IsOneOf (backup_name name) (area_asked c)) (sym takes) (inl refl)
@@ -230,19 +250,21 @@ module _ (when : ℕ) (old new : Areas) (report : RunReport) (run : RunDone when
       full_directory : IsFullBackup s name when full_there.copy start (record { 0 = full_there.checkpoint }) end full_there.count (Some full_told.0)
       full_directory = subst (λ (o : Option Files). IsFullBackup s name when full_there.copy start (record { 0 = full_there.checkpoint }) end full_there.count o) full_told.1 full_there.directory
 
+      full_some : full_told.0 ≢ empty
+      full_some = put_some _ (manifest_text (listing_with s.system full_directory.rows start end)) full_told.0 full_directory.files_are
+
       full_stays : (new (backup_name name)).files ≡ Some full_told.0
-      full_stays =
-          stays (backup_name name) full_told.0 one_full (never_sums name) full_told.1
-          (put_some _ (manifest_text (listing_with s.system full_directory.rows start end)) full_told.0 full_directory.files_are)
+      full_stays = stays (backup_name name) full_told.0 one_full (never_sums name) full_told.1 full_some
 
       -- what is left of it when the run ends
-      pub full_left : FullLeft s when name start end (new (backup_name name)).files
+      pub full_left : FullLeft s when name start end (new (backup_name name))
       full_left = record {
         files = full_told.0;
         copy = full_there.copy;
         checkpoint = record { 0 = full_there.checkpoint };
         count = full_there.count;
         told = full_stays;
+        durable = durable_still (moment.after (backup_name name)) (new (backup_name name)) (still (backup_name name) full_told.0 one_full (never_sums name) full_told.1 full_some) full_taken.1;
         backup = full_directory;
       }
 
@@ -267,20 +289,21 @@ module _ (when : ℕ) (old new : Areas) (report : RunReport) (run : RunDone when
       Taken = HoldsIncr (AreTold old) basis worker moment.from (take moment.next h) name start end (incr_areas moment.before name prior) (incr_areas moment.after name prior)
 
       abbrev SamePrior : Type 0
-      SamePrior = (moment.after (backup_name prior)).files ≡ (moment.before (backup_name prior)).files
+      SamePrior = IsStill (moment.before (backup_name prior)) (moment.after (backup_name prior))
 
-      incr_of : TakesIncr (AreTold old) basis worker moment.from (take moment.next h) line.command start end moment.before moment.after → Taken × SamePrior
+      incr_of : TakesIncr (AreTold old) basis worker moment.from (take moment.next h) line.command start end moment.before moment.after → Taken × SamePrior × DurableThen name
       incr_of t =
           let both = same_incr t.0 t.1 name prior (sym t.2 ∙ takes) in (
             subst (λ (n : List ℕ). HoldsIncr (AreTold old) basis worker moment.from (take moment.next h) n start end (incr_areas moment.before n prior) (incr_areas moment.after n prior)) both.0
                 (subst (λ (p : List ℕ). HoldsIncr (AreTold old) basis worker moment.from (take moment.next h) t.0 start end (incr_areas moment.before t.0 p) (incr_areas moment.after t.0 p)) both.1 t.6),
-            subst (λ (p : List ℕ). (moment.after (backup_name p)).files ≡ (moment.before (backup_name p)).files) both.1 t.5,
+            subst (λ (p : List ℕ). IsStill (moment.before (backup_name p)) (moment.after (backup_name p))) both.1 t.5,
+            subst DurableThen both.0 t.7,
           )
         where
           same_incr : (a p b q : List ℕ) → command.Incr a p ≡ command.Incr b q → (a ≡ b) × (p ≡ q)
           same_incr a p b q e = (cc, cc)
 
-      incr_there : Taken × SamePrior
+      incr_there : Taken × SamePrior × DurableThen name
       incr_there = elim moment.answered.1 [
         | inl t ↦ absurd (let e : command.Full t.0 ≡ command.Incr name prior = sym t.1 ∙ takes in cc)
         | inr t ↦ incr_of t
@@ -320,11 +343,14 @@ module _ (when : ℕ) (old new : Areas) (report : RunReport) (run : RunDone when
       directory : Directory (Some out_told.0)
       directory = subst Directory out_told.1 holds.directory
 
+      out_some : out_told.0 ≢ empty
+      out_some = put_some _ (manifest_text (listing_with s.system directory.rows start end)) out_told.0 directory.files_are
+
       incr_stays : (new (backup_name name)).files ≡ Some out_told.0
-      incr_stays = stays (backup_name name) out_told.0 one_out (never_sums name) out_told.1 (put_some _ (manifest_text (listing_with s.system directory.rows start end)) out_told.0 directory.files_are)
+      incr_stays = stays (backup_name name) out_told.0 one_out (never_sums name) out_told.1 out_some
 
       -- what is left of it when the run ends
-      pub incr_left : IncrLeft (AreTold old) s when name start end (new (backup_name name)).files
+      pub incr_left : IncrLeft (AreTold old) s when name start end (new (backup_name name))
       incr_left = record {
         files = out_told.0;
         history = now;
@@ -332,6 +358,7 @@ module _ (when : ℕ) (old new : Areas) (report : RunReport) (run : RunDone when
         prior = record { 0 = from_prior };
         count = holds.count;
         told = incr_stays;
+        durable = durable_still (moment.after (backup_name name)) (new (backup_name name)) (still (backup_name name) out_told.0 one_out (never_sums name) out_told.1 out_some) incr_there.2;
         backup = record {
           basis = holds.plan;
           relseg = holds.relseg;
@@ -429,7 +456,7 @@ module _ (when : ℕ) (old new : Areas) (report : RunReport) (run : RunDone when
         pub incr_stands : (before : Files) × ((new (backup_name prior)).files ≡ Some before) × (files : Files) × ((new (backup_name name)).files ≡ Some files) × IsSoundIncrement s when h name start end before files
         incr_stands = (
           prior_told.0,
-          stays (backup_name prior) prior_told.0 one_prior (never_sums prior) (incr_there.1 ∙ prior_told.1) (listed_some prior_told.0 holds.plan.prior prior_listed),
+          stays (backup_name prior) prior_told.0 one_prior (never_sums prior) (incr_there.1.files ∙ prior_told.1) (listed_some prior_told.0 holds.plan.prior prior_listed),
           out_told.0,
           incr_stays,
           record {
@@ -455,11 +482,11 @@ backups_begin when old new report run name start end (inr taken) tell =
 
 -- ---- what is left of them
 
-pub full_of_run : (when : ℕ) (old new : Areas) (report : RunReport) (run : RunDone when old new report) (name : List ℕ) (start end : Lsn) → IsBackedUp report.told name start end → TellsThroughout when old new report run → FullLeft run.settings when name start end (new (backup_name name)).files
+pub full_of_run : (when : ℕ) (old new : Areas) (report : RunReport) (run : RunDone when old new report) (name : List ℕ) (start end : Lsn) → IsBackedUp report.told name start end → TellsThroughout when old new report run → FullLeft run.settings when name start end (new (backup_name name))
 full_of_run when old new report run name start end taken tell =
     full_left when old new report run tell taken.worker taken.by taken.there taken.number taken.line taken.behind taken.lines start end taken.later taken.answers name taken.takes
 
-pub incr_of_run : (when : ℕ) (old new : Areas) (report : RunReport) (run : RunDone when old new report) (name : List ℕ) (start end : Lsn) → IsIncremented report.told name start end → TellsThroughout when old new report run → IncrLeft (AreTold old) run.settings when name start end (new (backup_name name)).files
+pub incr_of_run : (when : ℕ) (old new : Areas) (report : RunReport) (run : RunDone when old new report) (name : List ℕ) (start end : Lsn) → IsIncremented report.told name start end → TellsThroughout when old new report run → IncrLeft (AreTold old) run.settings when name start end (new (backup_name name))
 incr_of_run when old new report run name start end taken tell =
     incr_left when old new report run tell taken.worker taken.by taken.there taken.number taken.line taken.behind taken.lines start end taken.later taken.answers name taken.prior taken.takes
 

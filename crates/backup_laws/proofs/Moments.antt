@@ -3,7 +3,7 @@ use Rattle.std.proofs.Common.{◌≡◌, ◌≢◌, ℕ, zero, suc, ◌≤◌, �
 use Rattle.std.specs.Option.{is_some}
 use Rattle.std.specs.FinMap.{empty}
 use Rattle.lsn_core.specs.Files.{Files}
-use Rattle.vault.specs.Site.{Areas, AreaState}
+use Rattle.vault.specs.Site.{Areas, AreaState, IsStill}
 use Rattle.vault.specs.Lending.{Names, IsOneOf}
 use Rattle.history.specs.Entry.{Entry}
 use Rattle.fuzzy_copies.specs.Orderly.{IsOrderly}
@@ -19,8 +19,8 @@ use Rattle.run_command.proofs.ToldLess.{one_front, one_back}
 use Rattle.backup_laws.specs.Chains.{AllTell, TellBehindLines}
 
 -- what a line was answered, and what its worker's areas held before and behind it. The area of
--- summaries told the truth before, where it did of what was found, and what a backup's area holds
--- behind it stays
+-- summaries told the truth before, where it did of what was found, and nothing happens behind it to a
+-- backup's area that holds a file
 pub record IsMoment (names : Names) (tells : Type 0) (b : Basis) (worker : ℕ) (history : List Entry) (found : ℕ) (sums : AreaState) (line : Line) (answer : Answer) (new : Areas) : Type 0 where
   pub from : ℕ
   pub next : ℕ
@@ -33,7 +33,7 @@ pub record IsMoment (names : Names) (tells : Type 0) (b : Basis) (worker : ℕ) 
   pub told_before : AllTell names before
   pub told_after : AllTell names after
   pub honest : tells → IsOrderly 0 history → IsHonestFor (take found history) sums → IsHonestFor (take from history) (before sums_name)
-  pub keeps : (n : List ℕ) (m : Files) → n ≢ sums_name → (after n).files ≡ Some m → m ≢ empty → (new n).files ≡ (after n).files
+  pub keeps : (n : List ℕ) (m : Files) → n ≢ sums_name → (after n).files ≡ Some m → m ≢ empty → IsStill (after n) (new n)
 
 none_stopped : (b : Bool) (o : Option Stop) → (b || is_some o) ≡ false → (b ≡ false) × (o ≡ None)
 none_stopped true o e = absurd cc

@@ -20,7 +20,7 @@ use Rattle.wal_reader.specs.Settings.{IsSettingsOf}
 use Rattle.wal_reader.specs.Wal.{stands_behind}
 use Rattle.wal_reader.proofs.OneSettings.{one_settings}
 use Rattle.history.specs.Apply.{apply_all}
-use Rattle.history.specs.Entry.{Act, Create, Truncate, Change, Mark, Shutdown, Online, RedoMark, NoOp, BackupEnd, IdleCut, Entry}
+use Rattle.history.specs.Entry.{Act, Create, Truncate, Change, Drop, Mark, Shutdown, Online, RedoMark, NoOp, BackupEnd, IdleCut, IdleCommit, Entry}
 use Rattle.history.specs.Laws.{AreWrittenInPlace}
 use Rattle.history.specs.Whole.{act_of, entry_of, cuts_main}
 use Rattle.history.specs.Written.{Before, behind, is_redo, kind_of, next_record, written}
@@ -62,6 +62,9 @@ redo_back : (store : Store) (redo : ℕ) (act : Act) → is_redo (act_of (kind_o
 redo_back store redo (Create fork) = refl
 redo_back store redo (Truncate rel count) = refl
 redo_back store redo (Change items) = refl
+redo_back store redo (Drop []) = refl
+redo_back store redo (Drop (rel ∷ rels)) = refl
+redo_back store redo (Mark (IdleCommit time)) = refl
 redo_back store redo (Mark (Shutdown at)) = refl
 redo_back store redo (Mark (Online at)) = refl
 redo_back store redo (Mark (RedoMark n)) = refl

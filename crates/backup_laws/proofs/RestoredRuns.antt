@@ -21,7 +21,7 @@ use Rattle.wal_reader.specs.Wal.{ReadsOn, stands_behind}
 use Rattle.wal_writer.specs.Stops.{IsSegmentFile}
 use Rattle.history.specs.Entry.{Entry}
 use Rattle.history.specs.Whole.{entry_of, whole}
-use Rattle.history.specs.Written.{wal_of}
+use Rattle.history.specs.Written.{wal_of, tip_of}
 use Rattle.history.specs.Redo.{redo_all}
 use Rattle.fuzzy_copies.specs.Orderly.{IsOrderly}
 use Rattle.fuzzy_copies.specs.Sound.{IsSoundCopy}
@@ -137,8 +137,9 @@ run_left when before left run end done was ran told =
     let held : HoldsRecords s (all_records s done.found done.history) end.0 wal = subst (λ (n : ℕ). HoldsRecords s (all_records s done.found done.history) n wal) (sym closing.0) holds.records in
     let first = some_first s wal done.found (wal_of s.segment done.history) held.tip done.some held.read in
     let from : ℕ = (found_tip s done.found).end in
-    let agree : AgreeBut (IsSegmentFile s.segment from) was wal = related_told (AgreeBut (IsSegmentFile s.segment from)) (before.areas wal_name).files (left.areas wal_name).files was wal told holds.told done.left.files in
-    (wal, holds.told, record { held = held; settings = λ given t is. settings_stay s t was wal from first.0 given is agree first.1 })
+    let to : ℕ = (tip_of s.segment done.history).end in
+    let agree : AgreeBut (IsSegmentFile s.segment from to) was wal = related_told (AgreeBut (IsSegmentFile s.segment from to)) (before.areas wal_name).files (left.areas wal_name).files was wal told holds.told done.left.files in
+    (wal, holds.told, record { held = held; settings = λ given t is. settings_stay s t was wal from to first.0 given is agree first.1 })
 
 -- ---- a restore over such a WAL
 
@@ -176,7 +177,7 @@ module _ (known : Known) where
       let read : IsReadFrom s grown.files (AtPlace start) upto came.entries r.replayed.tip End = at_told (old.areas wal_name).files grown.files (λ m. IsReadFrom s m (AtPlace start) upto came.entries r.replayed.tip End) told came.read.archive in
       let made : MakesOf s.relseg chain came.entries (replayed_to upto r.replayed.tip) r.replayed (new.areas output).files =
       at_told (files_told was.members) chain (λ c. AllHaveForms c → MakesOf s.relseg c came.entries (replayed_to upto r.replayed.tip) r.replayed (new.areas output).files) chain_told (came.made restored.output_told) forms in
-      let far : stop.0 ≤ replayed_to upto r.replayed.tip = subst (λ (n : ℕ). n ≤ replayed_to upto r.replayed.tip) places.1 (r.reached (subst (λ (o : Option Files). IsSome o) (sym told) refl)) in
+      let far : stop.0 ≤ replayed_to upto r.replayed.tip = subst (λ (n : ℕ). n ≤ replayed_to upto r.replayed.tip) places.1 (r.reached (inl (subst (λ (o : Option Files). IsSome o) (sym told) refl))) in
       let orderly : IsOrderly 0 (map entry_of records ++ map entry_of grown.more) = subst (IsOrderly 0) (map-append entry_of records grown.more) (entries_rise 0 all (records_rise s grown.files all grown.held.tip size grown.held.read)) in
       let sound : IsSoundCopy is.copy (map entry_of all) start.0 stop.0 = subst (λ (es : List Entry). IsSoundCopy is.copy es start.0 stop.0) (sym (map-append entry_of records grown.more)) (sound_later is.copy (map entry_of records) (map entry_of grown.more) start.0 stop.0 orderly is.sound) in
       made_whole known.one s (last.areas wal_name).files grown.files chain all came.entries is.copy start stop end upto r.replayed report (new.areas output).files grown.told
@@ -231,7 +232,7 @@ pub run_backed : (when : ℕ) (before left : Outside) (run : RunReport) (end sta
     → IsSoundBackup done.settings when (all_records done.settings done.found done.history) name start stop (left.areas (backup_name name)).files
 run_backed when before left run end start stop name done taken ran last =
     let sound = runs_sound when before.areas left.areas run done name start stop taken ran.told in
-    subst (λ (o : Option Files). IsSoundBackup done.settings when (all_records done.settings done.found done.history) name start stop o) (sym (sound.2 last)) sound.1
+    subst (λ (o : Option Files). IsSoundBackup done.settings when (all_records done.settings done.found done.history) name start stop o) (sym (sound.3 last).files) sound.1
 
 -- ---- the law
 

@@ -16,7 +16,7 @@ use Rattle.crew.specs.declared.script.Task.{Task}
 use Rattle.crew.specs.Backups.{backup_taken}
 use Rattle.crew.specs.Cuts.{is_name, is_name_byte, lines_of, words_of}
 use Rattle.crew.specs.Items.{items_in, fork_in, rel_in, block_in, shape_in, growth_count, flush_count}
-use Rattle.crew.specs.Meaning.{Says, Nothing, Worker, Does, meaning, only, two, three, are_two_names, words_say, worker_says, create_says, truncate_says, change_says, grow_says, checkpoint_says, flush_says, summarise_says, full_says, incr_says}
+use Rattle.crew.specs.Meaning.{Says, Nothing, Worker, Does, meaning, only, two, three, are_two_names, words_say, worker_says, create_says, truncate_says, drop_says, change_says, grow_says, checkpoint_says, flush_says, summarise_says, full_says, incr_says}
 use Rattle.crew.specs.Script.{command_in, commands_from, tasks_of}
 use Rattle.crew.specs.Reasons.{workers_of}
 use Rattle.run_command.specs.declared.told.Told.{Told}
@@ -69,6 +69,9 @@ create_said words = then_said (only words) _ (λ word. then_said (fork_in word) 
 truncate_said : (words : List (List ℕ)) → IsOneLine (truncate_says words)
 truncate_said words = then_said (two words) _ (λ parts. then_said (rel_in parts.0) _ (λ rel. then_said (number_of parts.1) _ (λ count. tt)))
 
+drop_said : (words : List (List ℕ)) → IsOneLine (drop_says words)
+drop_said words = then_said (only words) _ (λ word. then_said (rel_in word) _ (λ rel. tt))
+
 change_said : (words : List (List ℕ)) → IsOneLine (change_says words)
 change_said words = elim (items_in words) as (λ o. IsOneLine (option_map (λ items. Does (command.Insert (Change items))) o)) [ None ↦ tt | Some items ↦ tt ]
 
@@ -98,13 +101,14 @@ words_said (verb ∷ words) =
     if_said (bytes_eq verb (codes "worker")) _ _ (λ is. worker_said words)
     (if_said (bytes_eq verb (codes "create")) _ _ (λ is. create_said words)
     (if_said (bytes_eq verb (codes "truncate")) _ _ (λ is. truncate_said words)
+    (if_said (bytes_eq verb (codes "drop")) _ _ (λ is. drop_said words)
     (if_said (bytes_eq verb (codes "change")) _ _ (λ is. change_said words)
     (if_said (bytes_eq verb (codes "grow")) _ _ (λ is. grow_said words)
     (if_said (bytes_eq verb (codes "checkpoint")) _ _ (λ is. checkpoint_said words)
     (if_said (bytes_eq verb (codes "flush")) _ _ (λ is. flush_said words)
     (if_said (bytes_eq verb (codes "summarise")) _ _ (λ is. summarise_said words)
     (if_said (bytes_eq verb (codes "full")) _ _ (λ is. full_said words)
-    (if_said (bytes_eq verb (codes "incr")) _ _ (λ is. incr_said words) tt)))))))))
+    (if_said (bytes_eq verb (codes "incr")) _ _ (λ is. incr_said words) tt))))))))))
 
 line_said : (line : List ℕ) → IsOneLine (meaning line)
 line_said [] = tt

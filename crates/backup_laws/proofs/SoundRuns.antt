@@ -110,7 +110,7 @@ runs_sound when old new report run name start end taken told =
     let law : IsLawful s.segment run.history = run.happened.lawful told in
     let stands = line_stands (AreTold old) (basis_of s when) taken.worker run.history new taken.by.task.lines taken.by.answers taken.number taken.line taken.behind (Backup start end) taken.later (run.completed taken.worker taken.by taken.there) taken.lines taken.answers name taken.takes in
     let now : List Entry = take stands.0 run.history in
-    let holds : HoldsBackup (AreTold old) (basis_of s when) taken.worker 0 now name start end stands.1 = stands.3 in
+    let holds : HoldsBackup (AreTold old) (basis_of s when) taken.worker 0 now name start end stands.1.files = stands.3 in
     let front : IsPrefix now run.history = (drop stands.0 run.history, take-append-drop stands.0 run.history) in
     let redo : HasRedoPoint run.history start.0 = begins_at taken.worker 0 now run.history start.0 holds.checkpoint end.0 front holds.entries in
     let sound : IsSoundCopy holds.copy run.history start.0 end.0 = taken_in s.segment holds.copy now run.history start.0 end.0 law redo front (holds.taken told) in (
@@ -122,5 +122,6 @@ runs_sound when old new report run name start end taken told =
         directory = holds.directory;
         sound = sound_logged s.segment holds.copy run.found run.happened.own run.history start.0 end.0 law run.happened.grown (own_entries _ run.happened.own run.happened.of_run) sound;
       },
-      λ last. stands.4 (inr last),
+      stands.4,
+      λ last. stands.5 (inr last),
     )

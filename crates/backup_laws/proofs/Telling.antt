@@ -3,7 +3,7 @@ use Rattle.std.proofs.Common.{◌≡◌, ◌≢◌, ◌⊎◌, ℕ, Bool, true, 
 use Rattle.lsn_core.specs.Files.{Files}
 use Rattle.lsn_core.specs.declared.lsn.Lsn.{Lsn}
 use Rattle.vault.specs.Area.{Related}
-use Rattle.vault.specs.Site.{Areas, AreaState}
+use Rattle.vault.specs.Site.{Areas, AreaState, IsStill}
 use Rattle.vault.specs.Lending.{Names, IsOneOf}
 use Rattle.vault.proofs.SetAreas.{same_or_not}
 use Rattle.history.specs.Entry.{Entry}
@@ -55,14 +55,14 @@ only_alike held mid n name only here = elim (same_or_not n name) [
   | inr other ↦ alike_at held mid n (only.others n other)
 ]
 
-among_alike : (held mid : Areas) (n name prior : List ℕ) (line : Command) → line ≡ command.Incr name prior → OnlyAmong (area_asked line) held mid → (mid (backup_name prior)).files ≡ (held (backup_name prior)).files → AlikeAt held mid sums_name
+among_alike : (held mid : Areas) (n name prior : List ℕ) (line : Command) → line ≡ command.Incr name prior → OnlyAmong (area_asked line) held mid → IsStill (held (backup_name prior)) (mid (backup_name prior)) → AlikeAt held mid sums_name
     → (n ≡ backup_name name) ⊎ AlikeAt held mid n
 among_alike held mid n name prior line is only kept sums =
     let those : OnlyAmong (backup_name name ∷ backup_name prior ∷ sums_name ∷ []) held mid = subst (λ (c : Command). OnlyAmong (area_asked c) held mid) is only in
     elim (same_or_not n (backup_name name)) [
       | inl out ↦ inl out
       | inr not_out ↦ elim (same_or_not n (backup_name prior)) [
-        | inl before ↦ inr (subst (AlikeAt held mid) (sym before) (alike_same (held (backup_name prior)).files (mid (backup_name prior)).files kept))
+        | inl before ↦ inr (subst (AlikeAt held mid) (sym before) (alike_same (held (backup_name prior)).files (mid (backup_name prior)).files kept.files))
         | inr not_before ↦ elim (same_or_not n sums_name) [
           | inl summed ↦ inr (subst (AlikeAt held mid) (sym summed) sums)
           | inr not_summed ↦ inr (alike_at held mid n (those.others n (not_out, (not_before, (not_summed, tt)))))
@@ -70,7 +70,7 @@ among_alike held mid n name prior line is only kept sums =
       ]
     ]
 
-three_alike : (held mid : Areas) (n name prior : List ℕ) (line : Command) → line ≡ command.Incr name prior → OnlyAmong (area_asked line) held mid → (mid (backup_name prior)).files ≡ (held (backup_name prior)).files → AlikeAt held mid sums_name
+three_alike : (held mid : Areas) (n name prior : List ℕ) (line : Command) → line ≡ command.Incr name prior → OnlyAmong (area_asked line) held mid → IsStill (held (backup_name prior)) (mid (backup_name prior)) → AlikeAt held mid sums_name
     → AlikeAt held mid (backup_name name) → AlikeAt held mid n
 three_alike held mid n name prior line is only kept sums out = elim (among_alike held mid n name prior line is only kept sums) [
   | inl same ↦ subst (AlikeAt held mid) (sym same) out
@@ -119,13 +119,13 @@ line_alike tells b w from now line (BackupRefused (backup.WalFull k)) made held 
 line_alike tells b w from now line (BackupRefused (backup.StoreFailed area)) made held mid n a on = absurd cc
 line_alike tells b w from now line (BackupRefused backup.OutFailed) made held mid n a on = absurd cc
 line_alike tells b w from now line (BackupRefused backup.NoMemory) made held mid n a on = absurd cc
-line_alike tells b w from now line (IncrRefused incr.NotEmpty) made held mid n a on = inr (three_alike held mid n a.0 a.1 line a.2 a.4 a.5 (alike_at held mid sums_name a.7.1.sums) (alike_same _ _ a.7.1.out))
-line_alike tells b w from now line (IncrRefused incr.NoManifest) made held mid n a on = inr (three_alike held mid n a.0 a.1 line a.2 a.4 a.5 (alike_at held mid sums_name a.7.1.sums) (alike_same _ _ a.7.1.out))
-line_alike tells b w from now line (IncrRefused (incr.ManifestRefused why)) made held mid n a on = inr (three_alike held mid n a.0 a.1 line a.2 a.4 a.5 (alike_at held mid sums_name a.7.1.sums) (alike_same _ _ a.7.1.out))
-line_alike tells b w from now line (IncrRefused (incr.SystemDiffers have expected)) made held mid n a on = inr (three_alike held mid n a.0 a.1 line a.2 a.4 a.5 (alike_at held mid sums_name a.7.1.sums) (alike_same _ _ a.7.1.out))
-line_alike tells b w from now line (IncrRefused (incr.Overlap begun end)) made held mid n a on = inr (three_alike held mid n a.0 a.1 line a.2 a.4 a.5 (alike_at held mid sums_name a.7.2) (alike_same _ _ a.7.3))
+line_alike tells b w from now line (IncrRefused incr.NotEmpty) made held mid n a on = inr (three_alike held mid n a.0 a.1 line a.2 a.4 a.5 (alike_at held mid sums_name a.7.1.sums) (alike_same _ _ a.7.1.out.files))
+line_alike tells b w from now line (IncrRefused incr.NoManifest) made held mid n a on = inr (three_alike held mid n a.0 a.1 line a.2 a.4 a.5 (alike_at held mid sums_name a.7.1.sums) (alike_same _ _ a.7.1.out.files))
+line_alike tells b w from now line (IncrRefused (incr.ManifestRefused why)) made held mid n a on = inr (three_alike held mid n a.0 a.1 line a.2 a.4 a.5 (alike_at held mid sums_name a.7.1.sums) (alike_same _ _ a.7.1.out.files))
+line_alike tells b w from now line (IncrRefused (incr.SystemDiffers have expected)) made held mid n a on = inr (three_alike held mid n a.0 a.1 line a.2 a.4 a.5 (alike_at held mid sums_name a.7.1.sums) (alike_same _ _ a.7.1.out.files))
+line_alike tells b w from now line (IncrRefused (incr.Overlap begun end)) made held mid n a on = inr (three_alike held mid n a.0 a.1 line a.2 a.4 a.5 (alike_at held mid sums_name a.7.2) (alike_same _ _ a.7.3.files))
 line_alike tells b w from now line (IncrRefused (incr.Gap place)) made held mid n a on =
-    inr (three_alike held mid n a.0 a.1 line a.2 a.4 a.5 (alike_by (with_files a.7.1.summed.covers.advances.sums) (held sums_name).files (mid sums_name).files a.7.1.summed.covers.advances.files) (alike_same _ _ a.7.2))
+    inr (three_alike held mid n a.0 a.1 line a.2 a.4 a.5 (alike_by (with_files a.7.1.summed.covers.advances.sums) (held sums_name).files (mid sums_name).files a.7.1.summed.covers.advances.files) (alike_same _ _ a.7.2.files))
 line_alike tells b w from now line (IncrRefused (incr.WalFull k)) made held mid n a on =
     inr (three_alike held mid n a.0 a.1 line a.2 a.4 a.5 (advanced_alike tells b.when from now (held sums_name) (mid sums_name) a.7.3) (related_alike _ (held (backup_name a.0)).files (mid (backup_name a.0)).files a.7.4))
 line_alike tells b w from now line (IncrRefused (incr.StoreFailed area)) made held mid n a on = absurd cc
@@ -159,7 +159,7 @@ stopped_alike tells b w from now line (IncrRefused why) made held mid name a sto
     let those : OnlyAmong (backup_name a.0 ∷ backup_name a.1 ∷ sums_name ∷ []) held mid = subst (λ (c : Command). OnlyAmong (area_asked c) held mid) a.2 a.4 in
     let apart : backup_name name ≢ backup_name a.0 = λ same. other stops (ap backup_taken a.2 ∙ sym (same_backup name a.0 same)) in
     elim (same_or_not (backup_name name) (backup_name a.1)) [
-      | inl before ↦ subst (AlikeAt held mid) (sym before) (alike_same (held (backup_name a.1)).files (mid (backup_name a.1)).files a.5)
+      | inl before ↦ subst (AlikeAt held mid) (sym before) (alike_same (held (backup_name a.1)).files (mid (backup_name a.1)).files a.5.files)
       | inr not_before ↦ alike_at held mid (backup_name name) (those.others (backup_name name) (apart, (not_before, (never_sums name, tt))))
     ]
 stopped_alike tells b w from now line NotRun made held mid name a stops other = all_alike held mid (backup_name name) a.1

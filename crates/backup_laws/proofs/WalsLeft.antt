@@ -166,13 +166,14 @@ done_on when before left report told d =
     let given : IsSettingsOf was.0 s = settings_in s old was.0 was.1 d.given in
     let size : IsSegmentMib s.segment = segment_size (get was.0 (codes "settings")) s.segment s.relseg given.given in
     let found : HasFound s d.found was.0 = at_told old was.0 (λ m. HasFound s d.found m) was.1 d.archive in
-    let there = related_some (AgreeBut (IsSegmentFile s.segment from)) old new was.0 was.1 d.left.files in
-    let agree : AgreeBut (IsSegmentFile s.segment from) was.0 there.0 = related_told (AgreeBut (IsSegmentFile s.segment from)) old new was.0 there.0 was.1 there.1 d.left.files in
+    let to : ℕ = (tip_of s.segment d.history).end in
+    let there = related_some (AgreeBut (IsSegmentFile s.segment from to)) old new was.0 was.1 d.left.files in
+    let agree : AgreeBut (IsSegmentFile s.segment from to) was.0 there.0 = related_told (AgreeBut (IsSegmentFile s.segment from to)) old new was.0 there.0 was.1 there.1 d.left.files in
     let kept = related_told (λ x y. IsLeft (archive_of s.segment x) (archive_of s.segment y) from ((tip_of s.segment d.history).end - from)) old new was.0 there.0 was.1 there.1 d.left.left in
     let read : ReadsOn s there.0 (first_tip s.segment) d.found (found_tip s d.found) = held_read s was.0 there.0 d.found (found_tip s d.found) ((tip_of s.segment d.history).end - from) size.least found kept in
     let first = some_first s there.0 d.found [] (found_tip s d.found) d.some (subst (λ (rs : List Record). ReadsOn s there.0 (first_tip s.segment) rs (found_tip s d.found)) (sym (append-nil d.found)) read) in
     related_is GoesOnFrom old new was.0 there.0 was.1 there.1 (λ t is.
-    let one : t ≡ s = settings_stay s t was.0 there.0 from first.0 given is agree first.1 in
+    let one : t ≡ s = settings_stay s t was.0 there.0 from to first.0 given is agree first.1 in
     subst (λ (x : StoreSettings). IsSettingsOf was.0 x × ((records : List Record) (last : Tip) → ReadsOn x was.0 (first_tip x.segment) records last → ReadsOn x there.0 (first_tip x.segment) records last)) (sym one) (
       given,
       λ records last reads.

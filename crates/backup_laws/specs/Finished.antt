@@ -16,7 +16,7 @@ use Rattle.chain_check.specs.Directory.{IsAsListed}
 use Rattle.chain_check.specs.Refusals.{IsOfFiles}
 use Rattle.chain_check.specs.declared.member.Member.{Member}
 use Rattle.manifest.specs.declared.listing.FileRow.{FileRow}
-use Rattle.command_base.specs.Areas.{backup_name}
+use Rattle.command_base.specs.Areas.{backup_name, AreaIsDurable}
 use Rattle.command_base.specs.Outside.{Outside}
 use Rattle.run_command.specs.declared.command.RunReport.{RunReport}
 use Rattle.run_command.specs.Run.{RunDoes}
@@ -100,7 +100,7 @@ pub record IsListedBackup (name : List ℕ) (start end : Lsn) (files : Files) : 
   pub listed : IsAsListed files member
 
 -- where the areas that a run asks for tell their files all the while, each backup that it answered,
--- full or incremental, is one when the run ends, however it ends
+-- full or incremental, is one when the run ends, durably, however it ends
 abbrev pub AnsweredBackupsAreListed : Type 0
 AnsweredBackupsAreListed =
     (before left : Outside) (report : RunReport) (does : RunDoes before left (Ok report))
@@ -108,7 +108,7 @@ AnsweredBackupsAreListed =
     → TellsThroughout does.0 before.areas left.areas report does.6.2
     → IsBackedUp report.told name start end ⊎ IsIncremented report.told name start end
     → (files : Files) × ((left.areas (backup_name name)).files ≡ Some files)
-    × IsListedBackup name start end files
+    × IsListedBackup name start end files × AreaIsDurable (left.areas (backup_name name))
 
 -- `verify` took a backup, and told its range; or the area wasn't handed out, its device failed or
 -- memory ran out. It refused it for nothing that the files decide

@@ -4,13 +4,13 @@ use Rattle.lsn_core.specs.Files.{Files}
 use Rattle.lsn_core.specs.Segment.{StoreSettings}
 use Rattle.lsn_core.specs.Store.{Store}
 use Rattle.lsn_core.specs.declared.lsn.Lsn.{Lsn}
-use Rattle.vault.specs.Site.{Areas}
+use Rattle.vault.specs.Site.{Areas, AreaState, IsStill}
 use Rattle.vault.specs.Lending.{IsNoneOf}
 use Rattle.wal_record.specs.declared.record.Record.{Record}
 use Rattle.history.specs.Whole.{entry_of}
 use Rattle.fuzzy_copies.specs.Sound.{IsSoundCopy}
 use Rattle.base_backup.specs.Directory.{IsFullBackup}
-use Rattle.command_base.specs.Areas.{backup_name}
+use Rattle.command_base.specs.Areas.{backup_name, AreaIsDurable}
 use Rattle.crew.specs.declared.script.Command.TheVariants.{Full}
 use Rattle.crew.specs.declared.script.Line.{Line}
 use Rattle.crew.specs.declared.answer.Answer.{Answer}
@@ -52,13 +52,14 @@ pub record IsSoundBackup
   pub sound : IsSoundCopy copy (map entry_of records) start.0 end.0
 
 -- each backup that a run answered is one, over all records of the WAL that the run came to, of the
--- files that its area had then; and has still, where no later line takes one of its name
+-- files that its area had then, durably; and has still, where no later line takes one of its name
 abbrev pub BackupsOfRunsAreSound : Type 0
 BackupsOfRunsAreSound =
     (when : ℕ) (old new : Areas) (report : RunReport) (run : RunDone when old new report)
     (name : List ℕ) (start end : Lsn) (taken : IsBackedUp report.told name start end)
     → AreTold old
-    → (files : Option Files)
+    → (area : AreaState)
     × IsSoundBackup run.settings when (all_records run.settings run.found run.history)
-    name start end files
-    × (IsLastOfName report.told name start end taken → (new (backup_name name)).files ≡ files)
+    name start end area.files
+    × AreaIsDurable area
+    × (IsLastOfName report.told name start end taken → IsStill area (new (backup_name name)))

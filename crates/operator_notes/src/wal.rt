@@ -40,6 +40,7 @@ fn broken_text(why: Broken) -> &'static [u8] {
 
 fn content_text(why: Why) -> &'static [u8] {
     match why {
+        Why::CommitBits => b"a commit tells other things than dropped relations",
         Why::Compressed => b"an image is compressed",
         Why::NotApplied => b"an image is not to be applied",
         Why::Tablespace => b"a relation is of another tablespace than pg_default (1663)",

@@ -7,8 +7,9 @@ use Rattle.vault.specs.declared.area.Vault.{Ghosts as Vaults}
 use Rattle.vault.specs.declared.site.Site.{Ghosts as Sites}
 use Rattle.vault.specs.declared.lending.Held.{Held}
 use Rattle.vault.specs.declared.lending.TakeFault.{TakeFault}
-use Rattle.vault.specs.Site.{AreaState, Areas, AllHome}
+use Rattle.vault.specs.Site.{AreaState, Areas, AllHome, IsStill, state_in}
 use Rattle.vault.specs.Lending.{Names, IsOneOf, IsNoneOf, AreDistinct, AreAreasOf, AreOut, AreLater, WritesAmong, TakeCause, AreTaken, NoneTaken, GivesBack}
+use Rattle.command_base.proofs.Lent.{reads_still, still_at}
 use Rattle.vault.proofs.LentAreas.{later_named, out_front, out_later, gives_more, lent, writes_fewer}
 use Rattle.command_base.specs.Areas.{wal_name, output_name, backup_name}
 use Rattle.chain_check.specs.Chain.{most_members}
@@ -157,15 +158,15 @@ module _ {A : Type 0} (g : Vaults A) where
   read_later (x ∷ held) [] read = absurd read
   read_later (x ∷ held) (y ∷ kept) read = (read.0, read.1.faults, read_later held kept read.2)
 
-  -- areas that were only read keep their files
-  pub read_files : (old new : Areas) (names : Names) (held kept : List (Held A)) (n : List ℕ) → AreAreasOf g old names held → AreAreasOf g new names kept → AllOnlyRead g held kept → IsOneOf n names → (new n).files ≡ (old n).files
-  read_files old new [] held kept n were are read one = absurd one
-  read_files old new (name ∷ names) [] kept n were are read one = absurd were
-  read_files old new (name ∷ names) (x ∷ held) [] n were are read one = absurd are
-  read_files old new (name ∷ names) (x ∷ held) (y ∷ kept) n were are read (inl is) =
-      ap (λ (m : List ℕ). (new m).files) is ∙ ap (λ (s : AreaState). s.files) are.1 ∙ read.1.files ∙ sym (ap (λ (s : AreaState). s.files) were.1) ∙ sym (ap (λ (m : List ℕ). (old m).files) is)
-  read_files old new (name ∷ names) (x ∷ held) (y ∷ kept) n were are read (inr later) =
-      read_files old new names held kept n were.2 are.2 read.2 later
+  -- nothing happened to areas that were only read
+  pub read_still : (old new : Areas) (names : Names) (held kept : List (Held A)) (n : List ℕ) → AreAreasOf g old names held → AreAreasOf g new names kept → AllOnlyRead g held kept → IsOneOf n names → IsStill (old n) (new n)
+  read_still old new [] held kept n were are read one = absurd one
+  read_still old new (name ∷ names) [] kept n were are read one = absurd were
+  read_still old new (name ∷ names) (x ∷ held) [] n were are read one = absurd are
+  read_still old new (name ∷ names) (x ∷ held) (y ∷ kept) n were are read (inl is) =
+      still_at (old n) (new n) (state_in g x.area) (state_in g y.area) (ap old is ∙ were.1) (ap new is ∙ are.1) (reads_still g x.area y.area read.1)
+  read_still old new (name ∷ names) (x ∷ held) (y ∷ kept) n were are read (inr later) =
+      read_still old new names held kept n were.2 are.2 read.2 later
 
   both_later : (xs ys us vs : List (Held A)) → AreLater g xs us → AreLater g ys vs → AreLater g (xs ++ ys) (us ++ vs)
   both_later [] ys [] vs first second = second
@@ -265,10 +266,10 @@ lends members areas count ps are some few counted same =
 
 -- of them only these were written
 pub chain_writes : {S A : Type 0} (s : Sites S A) (g : Vaults A) (names more fewer : Names) (old new : S) (held rest kept now : List (Held A)) → ChainBack s g names more old new held rest kept now → AllOnlyRead g held kept
-    → ((n : List ℕ) → IsOneOf n more → IsNoneOf n fewer → (s.areas new n).files ≡ (s.areas old n).files) → WritesAmong fewer (s.areas old) (s.areas new)
+    → ((n : List ℕ) → IsOneOf n more → IsNoneOf n fewer → IsStill (s.areas old n) (s.areas new n)) → WritesAmong fewer (s.areas old) (s.areas new)
 chain_writes s g names more fewer old new held rest kept now back read others =
     writes_fewer (names ++ more) fewer (s.areas old) (s.areas new) back.site (λ n one none. elim (one_either n names more one) [
-      | inl among ↦ read_files g (s.areas old) (s.areas new) names held kept n back.were back.are read among
+      | inl among ↦ read_still g (s.areas old) (s.areas new) names held kept n back.were back.are read among
       | inr beside ↦ others n beside none
     ])
 

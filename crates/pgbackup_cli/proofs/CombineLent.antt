@@ -26,7 +26,7 @@ use Rattle.pgbackup_cli.specs.declared.chain.MembersFault.{MembersFault}
 use Rattle.pgbackup_cli.specs.Chain.{backup_areas, IsMemberIn, AreMembersIn, IsChainTo, MembersRefused}
 use Rattle.pgbackup_cli.specs.Combine.{CombineSeen, CombineResult, CombineAnswer, CombineRan, combine_seen, combine_asks}
 use Rattle.pgbackup_cli.specs.Inner.{Never, AreMemberAreas, areas_at, combine_seen_in, RefusesMembers, AnswersCombine}
-use Rattle.pgbackup_cli.proofs.ChainAreas.{IsOfMember, of_member, one_front, one_asked, chain_back, chain_writes, chain_untaken, areas_site, areas_length, read_later, read_files, lent_back}
+use Rattle.pgbackup_cli.proofs.ChainAreas.{IsOfMember, of_member, one_front, one_asked, chain_back, chain_writes, chain_untaken, areas_site, areas_length, read_later, read_still, lent_back}
 
 abbrev seen_as : List AreaState → AreaState → CombineSeen
 seen_as members out = record { members = members; out = out }
@@ -136,8 +136,8 @@ onto_back : {S A : Type 0} (s : Sites S A) (g : Vaults A) (members : Names) (out
 onto_back s g members out areas old mid new held kept are among home took read gives =
     let back = lent s g areas.names.items old mid new held kept home took (later_named g held kept (read_later g held kept read)) gives in
     record {
-      works = (writes_fewer areas.names.items (out ∷ []) (s.areas old) (s.areas new) back.site (λ n one none. read_files g (s.areas old) (s.areas new) areas.names.items held kept n back.was back.is read one), back.later);
-      keeps = read_files g (s.areas old) (s.areas new) areas.names.items held kept out back.was back.is read among;
+      works = (writes_fewer areas.names.items (out ∷ []) (s.areas old) (s.areas new) back.site (λ n one none. read_still g (s.areas old) (s.areas new) areas.names.items held kept n back.was back.is read one), back.later);
+      keeps = (read_still g (s.areas old) (s.areas new) areas.names.items held kept out back.was back.is read among).files;
       were = areas_site g (s.areas old) areas.names.items members held areas.places.items back.was are.stand;
       are = areas_site g (s.areas new) areas.names.items members kept areas.places.items back.is are.stand;
     }

@@ -6,7 +6,7 @@ use Rattle.lsn_core.specs.declared.fault.AreaFault.TheVariants.{Failed}
 use Rattle.vault.specs.declared.area.Vault.{Ghosts}
 use Rattle.vault.specs.declared.lending.Held.{Held}
 use Rattle.vault.specs.Lending.{Names}
-use Rattle.backup_files.specs.Area.{HoldsNothing}
+use Rattle.backup_files.specs.Area.{EndsSynced, HoldsNothing}
 use Rattle.chain_check.specs.Directory.{IsAsListed}
 use Rattle.chain_check.specs.declared.member.Member.{Member}
 use Rattle.chain_files.specs.Sources.{OfChain}
@@ -17,6 +17,7 @@ use Rattle.combine.specs.Calls.{CannotList, Combines, CombineCause, KeepsOut, Le
 use Rattle.combine.specs.declared.fault.CombineFault.{CombineFault as Uncombined}
 use Rattle.combine.specs.declared.fault.CombineFault.TheVariants as uncombined
 use Rattle.pgbackup_cli.specs.declared.combining.CombineReport.{CombineReport}
+use Rattle.backup_files.proofs.Synced.{synced_is_durable}
 use Rattle.pgbackup_cli.specs.Chain.{files_told, IsChainTo}
 use Rattle.pgbackup_cli.specs.Combine.{CombineSeen, combine_report, HoldsCombined}
 use Rattle.pgbackup_cli.specs.Inner.{AreOwnPlaces, areas_at, combine_seen_in, combine_fault, AnswersCombine}
@@ -47,11 +48,11 @@ module _ {V : Type 0} (g : Ghosts V) where
     holds count is =
         subst (λ (o : Option (List Files)). OfChain o (λ chain. (last : Files) → EndsWith chain last → IsAsListed last newest → IfSome (g.files out_now) (IsCombined chain last newest.manifest when count))) told is
 
-    pub combined : (report : CombineReport) (rows : ℕ) → report ≡ combine_report newest rows → Combines g places newest when w.areas_read out_now rows → HoldsNothing (g.files out) → rows ≡ length (other_rows newest.manifest.files) → (CannotList newest.manifest → ⊥) → AnswersCombine g when names places areas out areas_now out_now (Ok report)
-    combined report rows told is clear counted listable = record {
+    pub combined : (report : CombineReport) (rows : ℕ) → report ≡ combine_report newest rows → Combines g places newest when w.areas_read out_now rows → HoldsNothing (g.files out) → rows ≡ length (other_rows newest.manifest.files) → (CannotList newest.manifest → ⊥) → EndsSynced g out_now → AnswersCombine g when names places areas out areas_now out_now (Ok report)
+    combined report rows told is clear counted listable synced = record {
       newest = newest;
       chain = w.found;
-      holds = record { clear = clear; listable = listable; rows = rows; told = told; counted = counted; combined = holds rows is };
+      holds = record { clear = clear; listable = listable; rows = rows; told = told; counted = counted; combined = holds rows is; durable = synced_is_durable g out_now synced };
     }
 
     pub uncombined_by : (why : Uncombined) → CombineCause g newest.manifest w.areas_read out areas_now out_now why → KeepsOut g out out_now why → IfSome (g.files out) (λ m. m ≢ empty → g.files out_now ≡ g.files out)

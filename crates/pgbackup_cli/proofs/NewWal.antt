@@ -38,7 +38,7 @@ use Rattle.wal_reader.proofs.StoreFiles.{HasStoreFiles, store_settings}
 use Rattle.wal_writer.specs.Log.{Log, Ready, IsLog, log_at, next_record}
 use Rattle.wal_writer.proofs.NextRead.{next_comes}
 use Rattle.wal_writer.proofs.Ready.{comes}
-use Rattle.command_base.specs.Areas.{IsClear}
+use Rattle.command_base.specs.Areas.{IsClear, AreaIsDurable}
 use Rattle.pgbackup_cli.specs.Init.{InitAreas, InitDone, settings_name, segment_name, settings_file, segment_file, first_start, first_entry, new_tip, begun_wal, new_wal, HasFirstAlone, IsNewWal, HoldsPart}
 use Rattle.pgbackup_cli.specs.Inner.{with_settings, with_segment, IsSegmentTorn, IsFirstEntry, with_first, IsFirstTorn}
 
@@ -358,8 +358,8 @@ first_put s size bytes before mid after size_is bytes_is same none wrote =
 -- ---- the whole
 
 pub init_done : (s : StoreSettings) (result : Result Lsn AreaFault) (end : Lsn) (old new : InitAreas) (mid : Option Files) → result ≡ Ok end → IsClear old.wal → IsClear old.sums → mid ≡ old.wal.files
-    → IfOk result (λ x. x.0 ≡ (first_entry s.segment).end.0) → OnOk result (new.wal.files ≡ option_map (λ m. new_wal s) mid) → IsSegmentMib s.segment → IsRelseg s.relseg → s.system < 2 ^ 64 → InitDone s old new end
-init_done s result end old new mid is wal_clear sums_clear same end_is written size blocks fits =
+    → IfOk result (λ x. x.0 ≡ (first_entry s.segment).end.0) → OnOk result (new.wal.files ≡ option_map (λ m. new_wal s) mid) → OnOk result (AreaIsDurable new.wal) → IsSegmentMib s.segment → IsRelseg s.relseg → s.system < 2 ^ 64 → InitDone s old new end
+init_done s result end old new mid is wal_clear sums_clear same end_is written durable size blocks fits =
     let at_end : end.0 ≡ (first_entry s.segment).end.0 = subst (λ (r : Result Lsn AreaFault). IfOk r (λ x. x.0 ≡ (first_entry s.segment).end.0)) is end_is in
     let files : new.wal.files ≡ option_map (λ m. new_wal s) old.wal.files =
     subst (λ (r : Result Lsn AreaFault). OnOk r (new.wal.files ≡ option_map (λ m. new_wal s) mid)) is written ∙ ap (λ (o : Option Files). option_map (λ (m : Files). new_wal s) o) same in
@@ -369,4 +369,5 @@ init_done s result end old new mid is wal_clear sums_clear same end_is written s
       written = files;
       end_is = at_end;
       reads = new_reads s old.wal.files new.wal.files size blocks fits files;
+      durable = subst (λ (r : Result Lsn AreaFault). OnOk r (AreaIsDurable new.wal)) is durable;
     }

@@ -203,7 +203,7 @@ module _ (upto : Option Lsn) (names : Names) (old : RestoreSeen) (wal : Files) (
     restored : (new : RestoreSeen) (m : Member) (report : ReplayReport) → RestoresChain upto old new report m → Aims m (Ok report)
     unfolding answer_of done_with
     restored new m report is =
-        let past : ReadsPast is.settings old.wal.files upto m.label.start m.manifest.end = record { entries = is.restored.entries; last = is.replayed.tip; read = is.restored.read; reached = is.reached wal_told } in
+        let past : ReadsPast is.settings old.wal.files upto m.label.start m.manifest.end = record { entries = is.restored.entries; last = is.replayed.tip; read = is.restored.read; reached = is.reached (inl wal_told) } in
         let same : report ≡ reported is.replayed = same_parts report (reported is.replayed) is.end is.forks is.pages in
         passed is.settings m (Ok report) (late_of upto is.replayed.tip m.manifest.end past.reached) is.clear is.given
         (inr (record {

@@ -116,9 +116,10 @@ module _ {V : Type 0} (g : Ghosts V) (p : Pages (Forks V)) where
           written =
               c.finish.0 ∙ files
               ∙ sym (ap (option_map (λ m. files_of s.relseg made.last)) (told_empty (g.files out) c.clear told));
-          end = ap (λ (x : ReplayReport). x.end.0) c.finish.1 ∙ c.into.end;
-          forks = ap (λ (x : ReplayReport). x.forks) c.finish.1 ∙ made.forks_are;
-          pages = ap (λ (x : ReplayReport). x.pages) c.finish.1 ∙ made.pages_are;
+          end = ap (λ (x : ReplayReport). x.end.0) c.finish.1.0 ∙ c.into.end;
+          forks = ap (λ (x : ReplayReport). x.forks) c.finish.1.0 ∙ made.forks_are;
+          pages = ap (λ (x : ReplayReport). x.pages) c.finish.1.0 ∙ made.pages_are;
+          durable = c.finish.1.1;
         }
 
     was_read : (r : Replayed) (report : ReplayReport) (c : Came upto wal out wal_now out_now s (Ok r) (Ok report)) → ReplayRead upto areas report
@@ -135,7 +136,7 @@ module _ {V : Type 0} (g : Ghosts V) (p : Pages (Forks V)) where
         reached = c.into.read.reached;
         within = c.into.read.within;
       };
-      end = ap (λ (x : ReplayReport). x.end.0) c.finish.1 ∙ c.into.end;
+      end = ap (λ (x : ReplayReport). x.end.0) c.finish.1.0 ∙ c.into.end;
     }
 
     refused : (f why : RecoveryFault) (c : Came upto wal out wal_now out_now s (Err (unreplayed.Wal f)) (Err (replay.Wal why))) → ReplayAnswer upto Never areas now (Err (replay.Wal why))

@@ -14,7 +14,7 @@ use Rattle.chain_files.specs.Told.{AllOnlyRead}
 use Rattle.chain_files.proofs.Told.{reads_length}
 use Rattle.command_base.specs.Areas.{wal_name, output_name}
 use Rattle.command_base.specs.Outside.{of_site, Untakens, IsUntaken}
-use Rattle.command_base.proofs.Lent.{none_written}
+use Rattle.command_base.proofs.Lent.{none_written, reads_still, still_at}
 use Rattle.pgbackup_cli.specs.declared.chain.MemberAreas.{MemberAreas}
 use Rattle.pgbackup_cli.specs.declared.restore.RestoreFault.TheVariants as restore
 use Rattle.pgbackup_cli.specs.Chain.{backup_areas}
@@ -75,7 +75,7 @@ restore_lent {A = A} s g upto members out areas names old mid then new taken fir
     let rest_later : AreLater g rest now = (refl, wal_read.faults, (refl, later, tt)) in
     let back = chain_back s g areas.names.items (beside out) old mid then new held rest kept now refl home there read rest_later gives_two gives_all in
     let wrote : WritesAmong (output_name out ∷ []) (s.areas old) (s.areas new) = chain_writes s g areas.names.items (beside out) (output_name out ∷ []) old new held rest kept now back read (λ n one none. elim one [
-      | inl is ↦ ap (λ (m : List ℕ). (s.areas new m).files) is ∙ ap (λ (x : AreaState). x.files) back.more_are.1 ∙ wal_read.files ∙ sym (ap (λ (x : AreaState). x.files) back.more_were.1) ∙ sym (ap (λ (m : List ℕ). (s.areas old m).files) is)
+      | inl is ↦ still_at (s.areas old n) (s.areas new n) (state_in g wal.area) (state_in g wal_now) (ap (s.areas old) is ∙ back.more_were.1) (ap (s.areas new) is ∙ back.more_are.1) (reads_still g wal.area wal_now wal_read)
       | inr other ↦ elim other [
         | inl is ↦ absurd (none.0 is)
         | inr never ↦ absurd never

@@ -38,7 +38,7 @@ use Rattle.command_base.specs.Areas.{AreaCause}
 use Rattle.pgbackup_cli.specs.declared.replay.ReplayReport.{ReplayReport}
 use Rattle.pgbackup_cli.specs.declared.restore.RestoreFault.TheVariants as restore
 use Rattle.pgbackup_cli.specs.Chain.{files_told, faults_of, BackupFails, IsChainTo}
-use Rattle.pgbackup_cli.specs.Restore.{RestoreSeen, RestoreResult, RestoresChain, ReadsPast, wal_causes_from, restored_areas}
+use Rattle.pgbackup_cli.specs.Restore.{RestoreSeen, RestoreResult, IsLate, RestoresChain, ReadsPast, wal_causes_from, restored_areas}
 use Rattle.pgbackup_cli.specs.Inner.{AreOwnPlaces, areas_at, member_of, IsReady, EndsRestore, restore_seen_in, AnswersRestore}
 use Rattle.backup_restore.proofs.OneReading.{one_tip}
 use Rattle.pgbackup_cli.proofs.ReplayCauses.{rises}
@@ -152,6 +152,11 @@ member_fails g old mid new places area why own first second fails = λ failed.
           absurd (omega (arith, rose, none)))
     ]
 
+-- a target that is given is where the replay ends
+up_to : (upto : Option Lsn) (member : Member) (tip : Tip) → IsSome upto → IsLate upto member → member.manifest.end ≤ replayed_to upto tip
+up_to (Some target) member tip given late = late
+up_to None member tip given late = absurd cc
+
 module _ {V : Type 0} (g : Ghosts V) where
   -- the parts of a restore: what was known before anything was written, and what each call did
   pub record Came (upto : Option Lsn) (names : Names) (places : List ℕ) (wal : V) (areas : List (Held V)) (out wal_now : V) (areas_now : List (Held V)) (out_now : V) (came : Result Replayed Unrestored) (answer : RestoreResult) : Type 0 where
@@ -191,12 +196,16 @@ module _ {V : Type 0} (g : Ghosts V) where
       given = c.ready.given;
       replayed = r;
       restored = restored_there c.settings c.member.label.start upto (areas_in g places c.wal_read c.areas_read c.out_seen) (areas_in g places wal_now areas_now c.made) (restored_areas old) (restored_areas new) r (same_areas (Ok r) (Ok report) c) (sym c.ends.0) c.restores;
-      reached = λ told. subst (λ (t : Tip). c.member.manifest.end ≤ replayed_to upto t)
-          (one_tip c.settings (g.files wal) (g.files c.wal_read) (AtPlace c.member.label.start) upto c.ready.past.entries c.restores.entries c.ready.past.last r.tip c.wal_same.files told c.ready.past.read c.restores.read)
-          c.ready.past.reached;
-      end = ap (λ (x : ReplayReport). x.end.0) c.ends.1;
-      forks = ap (λ (x : ReplayReport). x.forks) c.ends.1;
-      pages = ap (λ (x : ReplayReport). x.pages) c.ends.1;
+      reached = λ known. elim known [
+        | inl told ↦ subst (λ (t : Tip). c.member.manifest.end ≤ replayed_to upto t)
+            (one_tip c.settings (g.files wal) (g.files c.wal_read) (AtPlace c.member.label.start) upto c.ready.past.entries c.restores.entries c.ready.past.last r.tip c.wal_same.files told c.ready.past.read c.restores.read)
+            c.ready.past.reached
+        | inr given ↦ up_to upto c.member r.tip given c.ready.late
+      ];
+      end = ap (λ (x : ReplayReport). x.end.0) c.ends.1.0;
+      forks = ap (λ (x : ReplayReport). x.forks) c.ends.1.0;
+      pages = ap (λ (x : ReplayReport). x.pages) c.ends.1.0;
+      durable = c.ends.1.1;
     }
 
     seen : (came : Result Replayed Unrestored) (answer : RestoreResult) (c : Came upto names places wal areas out wal_now areas_now out_now came answer) → Related (AgreeBut IsForkPath) (g.files out) (g.files c.made)

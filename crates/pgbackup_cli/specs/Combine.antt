@@ -16,7 +16,7 @@ use Rattle.combine.specs.Calls.{CannotList}
 use Rattle.combine.specs.Combined.{EndsWith, IsCombined, other_rows}
 use Rattle.command_base.specs.declared.status.Status.{Status}
 use Rattle.command_base.specs.declared.status.Status.TheVariants as status
-use Rattle.command_base.specs.Areas.{backup_name, IsClear, IsFull, Keeps, AreaFails}
+use Rattle.command_base.specs.Areas.{backup_name, IsClear, IsFull, AreaIsDurable, Keeps, AreaFails}
 use Rattle.command_base.specs.Outside.{Outside, Works, Untakens, IsUntaken}
 use Rattle.command_base.specs.Faults.{refused_line, area_text, full_text, take_text, area_status}
 use Rattle.run_command.specs.Run.{IsMoment}
@@ -55,7 +55,8 @@ combine_report newest rows = record {
   rows = rows;
 }
 
--- the chain to this member was combined into an output that was clear, and a manifest can list it
+-- the chain to this member was combined, durably, into an output that was clear, and a manifest can
+-- list it
 pub record CombinesChain
     (when : ℕ) (old new : CombineSeen) (report : CombineReport) (newest : Member)
     : Type 0 where
@@ -65,6 +66,7 @@ pub record CombinesChain
   pub told : report ≡ combine_report newest rows
   pub counted : rows ≡ length (other_rows newest.manifest.files)
   pub combined : HoldsCombined when old new newest rows
+  pub durable : AreaIsDurable new.out
 
 -- no manifest can list what the chain to this member is combined to, which is the last of the members
 -- of these names

@@ -23,7 +23,7 @@ use Rattle.command_base.specs.declared.status.Status.TheVariants as status
 use Rattle.command_line.specs.declared.options.InitOptions.{InitOptions}
 use Rattle.pgbackup_cli.specs.declared.init.InitFault.{InitFault}
 use Rattle.pgbackup_cli.specs.declared.init.InitFault.TheVariants as init
-use Rattle.command_base.specs.Areas.{wal_name, sums_name, IsClear, IsFull, Keeps, AreaFails}
+use Rattle.command_base.specs.Areas.{wal_name, sums_name, IsClear, IsFull, AreaIsDurable, Keeps, AreaFails}
 use Rattle.command_base.specs.Outside.{Outside, Works, Untakens, IsUntaken}
 use Rattle.command_base.specs.Faults.{refused_line, area_text, full_text, take_text, area_status}
 
@@ -100,13 +100,14 @@ init_asks = wal_name ∷ (sums_name ∷ [])
 abbrev pub init_writes : Names
 init_writes = wal_name ∷ []
 
--- a new store was made, where neither area held a file
+-- a new store was made, durably, where neither area held a file
 pub record InitDone (s : StoreSettings) (old new : InitAreas) (end : Lsn) : Type 0 where
   pub wal_clear : IsClear old.wal
   pub sums_clear : IsClear old.sums
   pub written : new.wal.files ≡ option_map (λ m. new_wal s) old.wal.files
   pub end_is : end.0 ≡ (new_tip s.segment).end
   pub reads : IsNewWal s new.wal.files
+  pub durable : AreaIsDurable new.wal
 
 -- a write of these bytes from the start of a file on failed, and may have left a part
 abbrev pub IsTornIn : List ℕ → List ℕ → Option Files → Option Files → Type 0

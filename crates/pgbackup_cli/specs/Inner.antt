@@ -5,6 +5,7 @@ use Rattle.std.specs.Global.{Vec}
 use Rattle.std.specs.List.{position}
 use Rattle.std.specs.Option.{option_map, unwrap_or}
 use Rattle.std.specs.FinMap.{empty, insert}
+use Rattle.byte_words.specs.Numbers.{◌>>=◌}
 use Rattle.lsn_core.specs.Files.{Files}
 use Rattle.lsn_core.specs.Names.{segment_name_bytes}
 use Rattle.lsn_core.specs.declared.lsn.Lsn.{Lsn}
@@ -19,6 +20,8 @@ use Rattle.vault.specs.Stream.{Tells}
 use Rattle.vault.specs.declared.lending.Held.{Held}
 use Rattle.vault.specs.declared.lending.TakeFault.{TakeFault}
 use Rattle.vault.specs.Area.{after_write}
+use Rattle.vault.specs.Frame.{IsDurable}
+use Rattle.vault.specs.Stops.{Event}
 use Rattle.vault.specs.Lending.{Names, AreDistinct, IsNoneOf}
 use Rattle.vault.specs.Site.{AreaState, at_home, state_in}
 use Rattle.recovery.specs.declared.replaying.Replayed.{Replayed}
@@ -149,12 +152,13 @@ AnswersPrepared vaults upto wal out wal_now out_now (Err fault) =
 abbrev pub reported : Replayed → ReplayReport
 reported r = record { end = r.end; forks = r.forks; pages = r.pages }
 
--- how a replay into an area ends: what was written is as it was, or, where the WAL couldn't be
+-- how a replay into an area ends: what was written is as it was, and durable, or, where the WAL couldn't be
 -- replayed, it is taken away
 abbrev pub FinishAnswer :
     {V : Type 0} → Vaults V → Result Replayed Unreplayed → V → V → ReplayResult → Type 0
 FinishAnswer vaults (Ok r) old new (Ok report) =
-    (vaults.files new ≡ vaults.files old) × (report ≡ reported r)
+    (vaults.files new ≡ vaults.files old)
+    × ((report ≡ reported r) × IsDurable (vaults.files new) (vaults.past new))
 FinishAnswer vaults (Ok r) old new (Err (replay.Out why)) =
     AreaCause (vaults.faults old) (vaults.faults new) why
 FinishAnswer vaults (Ok r) old new (Err (replay.Site fault)) = ⊥
@@ -221,8 +225,12 @@ PlacesArea area old new place =
     ⊎ ((new ≡ old ++ (area ∷ [])) × IsNoneOf area old × (place ≡ length old))
 
 -- what is known of the area of a place, and of those of some places
+abbrev pub past_at : {V : Type 0} → Vaults V → List (Held V) → ℕ → Option (List Event)
+past_at vaults areas place = slice_get areas place >>= λ held. vaults.past held.area
+
 abbrev pub area_at : {V : Type 0} → Vaults V → List (Held V) → ℕ → AreaState
-area_at vaults areas place = at_home (told_at vaults areas place) (faults_at vaults areas place)
+area_at vaults areas place =
+    at_home (told_at vaults areas place) (past_at vaults areas place) (faults_at vaults areas place)
 
 abbrev pub areas_at : {V : Type 0} → Vaults V → List (Held V) → List ℕ → List AreaState
 areas_at vaults areas places = map (λ place. area_at vaults areas place) places
@@ -334,12 +342,13 @@ AnswersRestorable vaults upto names places wal areas out wal_now areas_now out_n
 abbrev pub member_of : List ℕ → ℕ → ℕ
 member_of places area = unwrap_or (position (λ place. place == area) places) (length places)
 
--- how a restore into an area ends: what was written is as it was, or, where the WAL couldn't be
+-- how a restore into an area ends: what was written is as it was, and durable, or, where the WAL couldn't be
 -- redone, it is taken away
 abbrev pub EndsRestore : {V : Type 0} → Vaults V → List ℕ → Result Replayed Unrestored → V → V
     → RestoreResult → Type 0
 EndsRestore vaults places (Ok r) old new (Ok report) =
-    (vaults.files new ≡ vaults.files old) × (report ≡ reported r)
+    (vaults.files new ≡ vaults.files old)
+    × ((report ≡ reported r) × IsDurable (vaults.files new) (vaults.past new))
 EndsRestore vaults places (Ok r) old new (Err (restore.Out why)) =
     AreaCause (vaults.faults old) (vaults.faults new) why
 EndsRestore vaults places (Err (unrestored.Backup f)) old new result =

@@ -25,7 +25,7 @@ use Rattle.command_base.specs.declared.status.Status.TheVariants as status
 use Rattle.pgbackup_cli.specs.declared.replay.ReplayReport.{ReplayReport}
 use Rattle.pgbackup_cli.specs.declared.replay.ReplayFault.{ReplayFault}
 use Rattle.pgbackup_cli.specs.declared.replay.ReplayFault.TheVariants as replay
-use Rattle.command_base.specs.Areas.{wal_name, output_name, IsClear, IsFull, Keeps, AreaFails}
+use Rattle.command_base.specs.Areas.{wal_name, output_name, IsClear, IsFull, AreaIsDurable, Keeps, AreaFails}
 use Rattle.command_base.specs.Outside.{Outside, Works, Untakens, IsUntaken}
 use Rattle.command_base.specs.Faults.{refused_line, area_text, full_text, take_text, wal_text, area_status, wal_status}
 
@@ -62,7 +62,7 @@ pub record ReplayRead (upto : Option Lsn) (old : ReplayAreas) (report : ReplayRe
   pub end : report.end.0 ≡ end_by settings.segment (replayed_to upto last) entries
 
 -- a replay up to a target, or to the WAL's end, that was done: the output's files are those of the
--- store that the WAL makes up to there
+-- store that the WAL makes up to there, durably
 pub record ReplayDone
     (upto : Option Lsn) (old new : ReplayAreas) (report : ReplayReport)
     : Type 0 where
@@ -76,6 +76,7 @@ pub record ReplayDone
   pub end : report.end.0 ≡ end_by settings.segment (replayed_to upto read.tip) read_is.entries
   pub forks : report.forks ≡ len read.store
   pub pages : report.pages ≡ page_count read.store
+  pub durable : AreaIsDurable new.out
 
 -- an area that held a file is as it was
 abbrev pub KeepsFull : AreaState → AreaState → Type 0

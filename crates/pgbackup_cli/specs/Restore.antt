@@ -16,7 +16,7 @@ use Rattle.recovery.specs.Causes.{RecoveryCauses, CauseOf, HasSettings, settings
 use Rattle.backup_restore.specs.Restored.{RestoreAreas, IsRestored, restore_causes}
 use Rattle.command_base.specs.declared.status.Status.{Status}
 use Rattle.command_base.specs.declared.status.Status.TheVariants as status
-use Rattle.command_base.specs.Areas.{wal_name, output_name, backup_name, IsClear, IsFull, Keeps, AreaFails}
+use Rattle.command_base.specs.Areas.{wal_name, output_name, backup_name, IsClear, IsFull, AreaIsDurable, Keeps, AreaFails}
 use Rattle.command_base.specs.Outside.{Outside, Works, Untakens, IsUntaken}
 use Rattle.command_base.specs.Faults.{refused_line, area_text, full_text, take_text, wal_text, area_status, wal_status}
 use Rattle.pgbackup_cli.specs.declared.replay.ReplayReport.{ReplayReport}
@@ -55,7 +55,7 @@ IsLate upto member = IfSome upto (λ target. member.manifest.end ≤ target.0)
 
 -- the chain to this member was restored: the output was clear, and the WAL was redone over what the
 -- chain is combined to, from the start of the member's label on, up to the target or the WAL's end,
--- which isn't before the member's end
+-- which isn't before the member's end; and a stop leaves the output so
 pub record RestoresChain
     (upto : Option Lsn) (old new : RestoreSeen) (report : ReplayReport) (newest : Member)
     : Type 0 where
@@ -65,10 +65,12 @@ pub record RestoresChain
   pub replayed : Replayed
   pub restored : IsRestored settings newest.label.start upto
       (restored_areas old) (restored_areas new) replayed
-  pub reached : IsSome old.wal.files → newest.manifest.end ≤ replayed_to upto replayed.tip
+  pub reached : IsSome old.wal.files ⊎ IsSome upto
+      → newest.manifest.end ≤ replayed_to upto replayed.tip
   pub end : report.end.0 ≡ replayed.end.0
   pub forks : report.forks ≡ replayed.forks
   pub pages : report.pages ≡ replayed.pages
+  pub durable : AreaIsDurable new.out
 
 -- ---- why a chain isn't restored
 

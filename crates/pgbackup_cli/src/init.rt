@@ -2,6 +2,7 @@
 
 ghost use Rattle.std.specs.Prelude.{◌≡◌, ◌≤◌, ◌⊎◌, None, IfOk, IfSome, IfErr, OnOk};
 ghost use Rattle.lsn_core.specs.declared.fault.AreaFault.TheVariants as area;
+ghost use Rattle.vault.specs.Frame.{OnlyReads};
 ghost use Rattle.vault.specs.Site.{AllHome, state_in};
 ghost use Rattle.pgbackup_cli.specs.declared.init.InitFault.TheVariants as init;
 ghost use Rattle.command_base.specs.Areas.{IsClear};
@@ -80,10 +81,8 @@ fn check_clear<V: Vault>(alloc: Global, wal: &mut V, sums: &mut V) -> Result<(),
     ensures wal_clear { OnOk result (IsClear (state_in V.Vault wal.old)) }
     ensures sums_clear { OnOk result (IsClear (state_in V.Vault sums.old)) }
     ensures refused { IfErr result (RefusesInit V.Vault wal.old sums.old wal.new sums.new) }
-    ensures wal { V.files wal.new ≡ V.files wal.old }
-    ensures sums { V.files sums.new ≡ V.files sums.old }
-    ensures wal_later { V.faults wal.old ≤ V.faults wal.new }
-    ensures sums_later { V.faults sums.old ≤ V.faults sums.new }
+    ensures wal { OnlyReads V.Vault wal.old wal.new }
+    ensures sums { OnlyReads V.Vault sums.old sums.new }
 {
     match is_clear(alloc, wal) {
         Ok(true) => {}
@@ -106,9 +105,8 @@ fn init_areas<V: Vault>(
     settings: Settings,
 ) -> (V, Result<Lsn, InitFault>)
     ensures answer { AnswersInit V.Vault settings wal sums.old result.0 sums.new result.1 }
-    ensures sums { V.files sums.new ≡ V.files sums.old }
+    ensures sums { OnlyReads V.Vault sums.old sums.new }
     ensures wal_later { V.faults wal ≤ V.faults result.0 }
-    ensures sums_later { V.faults sums.old ≤ V.faults sums.new }
 {
     let mut wal = wal;
     if let Err(fault) = check_clear(alloc, &mut wal, sums) {

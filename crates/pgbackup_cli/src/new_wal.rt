@@ -4,6 +4,7 @@ ghost use Rattle.std.specs.Prelude.{◌≡◌, [], IfOk, IfSome, OnOk, OnErr};
 ghost use Rattle.std.specs.FinMap.{empty};
 ghost use Rattle.lsn_core.specs.Causes.{HasCause};
 ghost use Rattle.vault.specs.Area.{bytes_of};
+ghost use Rattle.vault.specs.Frame.{IsDurable};
 ghost use Rattle.wal_record.specs.Tips.{first_tip};
 ghost use Rattle.wal_writer.specs.Log.{log_at};
 ghost use Rattle.pgbackup_cli.specs.Init.{segment_name, first_start, first_entry, HoldsPart};
@@ -68,6 +69,7 @@ fn write_first<V: Vault>(
     ensures written { OnOk result
         (V.files area.new ≡ with_first size bytes.now (V.files area.old)) }
     ensures left { OnErr result (IsFirstTorn size bytes.now (V.files area.old) (V.files area.new)) }
+    ensures durable { OnOk result (IsDurable (V.files area.new) (V.past area.new)) }
     ensures cause { HasCause (V.faults area.old) (V.faults area.new) result }
 {
     let name = segment_name(alloc, 1, size)?;
@@ -82,6 +84,7 @@ fn start_wal<V: Vault>(alloc: Global, area: V, settings: Settings) -> (V, Result
     ensures end { IfOk result.1 (λ end. end.0 ≡ (first_entry settings.segment).end.0) }
     ensures written { OnOk result.1 (V.files result.0 ≡ with_segment settings (V.files area)) }
     ensures left { OnErr result.1 (IsSegmentTorn settings (V.files area) (V.files result.0)) }
+    ensures durable { OnOk result.1 (IsDurable (V.files result.0) (V.past result.0)) }
     ensures cause { HasCause (V.faults area) (V.faults result.0) result.1 }
 {
     let wal = WalState::attach(alloc, area, settings, first_tip(settings.segment()));
@@ -108,6 +111,7 @@ pub fn write_wal<V: Vault>(
     ensures end { IfOk result.1 (λ end. end.0 ≡ (first_entry settings.segment).end.0) }
     ensures written { OnOk result.1 (V.files result.0 ≡ with_both settings (V.files area)) }
     ensures left { OnErr result.1 (HoldsPart settings (V.files area) (V.files result.0)) }
+    ensures durable { OnOk result.1 (IsDurable (V.files result.0) (V.past result.0)) }
     ensures cause { HasCause (V.faults area) (V.faults result.0) result.1 }
     ensures known { HasRanges settings }
 {

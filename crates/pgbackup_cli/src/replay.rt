@@ -134,8 +134,7 @@ fn replay_areas<V: Vault>(
     upto: Option<Lsn>,
 ) -> (V, Result<ReplayReport, ReplayFault>)
     ensures answer { AnswersReplay V.Vault upto wal.old out wal.new result.0 result.1 }
-    ensures wal { V.files wal.new ≡ V.files wal.old }
-    ensures wal_later { V.faults wal.old ≤ V.faults wal.new }
+    ensures wal { OnlyReads V.Vault wal.old wal.new }
     ensures out_later { V.faults out ≤ V.faults result.0 }
 {
     let mut out = out;

@@ -19,7 +19,7 @@ returns-in-Ok-clause-answer g c =
       before = c.in_ok-newest.ensures.reads;
       after = c.combine.ensures.reads;
     })
-    c.report_of.result c.in-Ok.rows c.report_of.ensures c.in-Ok.ensures.combined c.in-Ok.ensures.empty c.in-Ok.ensures.counted c.in-Ok.ensures.listable
+    c.report_of.result c.in-Ok.rows c.report_of.ensures c.in-Ok.ensures.combined c.in-Ok.ensures.empty c.in-Ok.ensures.counted c.in-Ok.ensures.listable c.in-Ok.ensures.synced
 
 pub returns-in-Ok-clause-areas : goal.returns-in-Ok-clause-areas
 returns-in-Ok-clause-areas g c = reads_trans g.V.Vault c.args.areas.now c.newest_at.new.areas c.combine.new.areas c.in_ok-newest.ensures.reads c.combine.ensures.reads

@@ -1,8 +1,6 @@
 -- Of the two areas that come back one was only read.
-use Rattle.std.proofs.Common.{ap, ◌∙◌, sym}
-use Rattle.vault.specs.Site.{AreaState}
 use Rattle.command_base.specs.Areas.{wal_name, sums_name}
-use Rattle.command_base.proofs.Lent.{taken_as, two_back, first_writes}
+use Rattle.command_base.proofs.Lent.{taken_as, two_back, first_writes, reads_still, still_at}
 use Rattle.pgbackup_cli.proofs.init.init_in.Goals as goal
 
 pub returns-clause-site : goal.returns-clause-site
@@ -12,4 +10,4 @@ returns-clause-site g c =
     let taken = taken_as g.S.Site g.S.Area.Vault c.in_ok-names.names.items wal_name sums_name c.args.site.now c.take_all.new.site c.in_ok-take_all.field-0.items wal sums
     c.in_ok-names.ensures c.two_of-wal.ensures c.in_ok-take_all.ensures.takes in
     let back = two_back g.S.Site g.S.Area.Vault wal_name sums_name c.args.site.now c.take_all.new.site c.give_two.new.site wal.name sums.name wal.area sums.area _ _ c.requires.home taken c.give_two.ensures.gives in
-    (first_writes wal_name sums_name _ _ back.site (ap (λ (x : AreaState). x.files) back.second_now ∙ c.init_areas-area.ensures.sums ∙ sym (ap (λ (x : AreaState). x.files) back.second)), back.later)
+    (first_writes wal_name sums_name _ _ back.site (still_at _ _ _ _ back.second back.second_now (reads_still g.S.Area.Vault _ _ c.init_areas-area.ensures.sums)), back.later)

@@ -1,8 +1,6 @@
 -- Of the two areas that come back one was only read.
-use Rattle.std.proofs.Common.{ap, ◌∙◌, sym}
-use Rattle.vault.specs.Site.{AreaState}
 use Rattle.command_base.specs.Areas.{wal_name}
-use Rattle.command_base.proofs.Lent.{taken_as, two_back, second_writes}
+use Rattle.command_base.proofs.Lent.{taken_as, two_back, second_writes, reads_still, still_at}
 use Rattle.pgbackup_cli.proofs.replay.replay_in.Goals as goal
 
 pub returns-clause-site : goal.returns-clause-site
@@ -12,4 +10,4 @@ returns-clause-site g c =
     let taken = taken_as g.S.Site g.S.Area.Vault c.in_ok-names.names.items wal_name c.args.out.now c.args.site.now c.take_all.new.site c.in_ok-take_all.field-0.items wal out
     c.in_ok-names.ensures c.two_of-wal.ensures c.in_ok-take_all.ensures.takes in
     let back = two_back g.S.Site g.S.Area.Vault wal_name c.args.out.now c.args.site.now c.take_all.new.site c.give_two.new.site wal.name out.name wal.area out.area _ _ c.requires.home taken c.give_two.ensures.gives in
-    (second_writes wal_name c.args.out.now _ _ back.site (ap (λ (x : AreaState). x.files) back.first_now ∙ c.replay_areas-area.ensures.wal ∙ sym (ap (λ (x : AreaState). x.files) back.first)), back.later)
+    (second_writes wal_name c.args.out.now _ _ back.site (still_at _ _ _ _ back.first back.first_now (reads_still g.S.Area.Vault _ _ c.replay_areas-area.ensures.wal)), back.later)
