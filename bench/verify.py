@@ -1,8 +1,10 @@
-"""Measures `verify` of a backup of 256 MiB beside `sha256sum` and `openssl dgst` over the same files.
+"""Measures `verify` of a backup of 256 MiB, whose work is SHA-256, beside `sha256sum` and `openssl dgst` over the same
+files.
 
-    python3 bench/verify.py PROGRAM [ROUNDS]
+    python3 bench/verify.py PROGRAM [ROUNDS [OLD]]
 
-Prints the best time of each way over rounds, in turn, the ratios, and the peak memory of the program.
+OLD is another pgbackup, whose `verify` is measured too. Prints the best times of each way over rounds, in turn, by the
+clock and of the processor, the ratios, and the peak memory of the program.
 """
 import hashlib
 import json
@@ -53,17 +55,20 @@ def backup():
 
 def main():
     program, rounds = os.path.abspath(sys.argv[1]), int((sys.argv[2:] + ["5"])[0])
+    old = os.path.abspath(sys.argv[3]) if len(sys.argv) > 3 else None
     folder, home = tempfile.mkdtemp(dir=os.getcwd()), os.getcwd()
     os.chdir(folder)
     paths, best = backup(), Best()
     for _ in range(rounds):
+        if old:
+            best.take("old", [old, "verify", "f1"])
         best.take("verify", [program, "verify", "f1"])
         best.take("sha256sum", ["sha256sum"] + paths)
         best.take("openssl", ["openssl", "dgst", "-sha256"] + paths)
-    took = best.seconds
-    print("verify of 256 MiB: %.2f s, %.2f of sha256sum (%.2f s), %.2f of openssl dgst (%.2f s), %.0f MiB of memory" %
-          (took["verify"], took["verify"] / took["sha256sum"], took["sha256sum"], took["verify"] / took["openssl"],
-           took["openssl"], best.memory["verify"]))
+    print("verify of 256 MiB: %s, %.0f MiB of memory" % (best.times("verify"), best.memory["verify"]))
+    for way, name in (("old", "verify of before"), ("sha256sum", "sha256sum"), ("openssl", "openssl dgst")):
+        if way in best.seconds:
+            print("    %s: %s; verify takes %s it" % (name, best.times(way), best.ratio("verify", way)))
     os.chdir(home)
     shutil.rmtree(folder)
 

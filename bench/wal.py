@@ -3,8 +3,8 @@
     python3 bench/wal.py PROGRAM ARCHIVE [ROUNDS [OLD]]
 
 PROGRAM is pgbackup, ARCHIVE the tool of archive.c, and OLD another pgbackup, whose `replay` is
-measured beside that of PROGRAM. Prints the best time of each way over rounds in which they take
-turns, their ratios, and the peak memory of the program.
+measured beside that of PROGRAM. Prints the best times of each way over rounds in which they take
+turns, by the clock and of the processor, their ratios, and the peak memory of the program.
 """
 import os
 import shutil
@@ -55,6 +55,17 @@ class Best:
     def __init__(self):
         self.seconds, self.processor, self.memory = {}, {}, {}
 
+    def times(self, *ways):
+        """What these ways take together, as a text: by the clock and of the processor."""
+        return "%.2f s (%.2f s of the processor)" % tuple(sum(took[way] for way in ways) for took in self.both())
+
+    def ratio(self, way, *others):
+        """What a way takes of what others take together, as a text."""
+        return "%.2f (%.2f) of" % tuple(took[way] / sum(took[other] for other in others) for took in self.both())
+
+    def both(self):
+        return self.seconds, self.processor
+
     def take(self, way, words, stdin=None):
         taken = timed(words, stdin)
         self.seconds[way] = min(taken.seconds, self.seconds.get(way, taken.seconds))
@@ -67,6 +78,13 @@ def replays(best, way, program):
     """Takes one `replay` into a new output."""
     shutil.rmtree("o", ignore_errors=True)
     best.take(way, [program, "replay", "p"])
+
+
+def print_replay(best):
+    print("replay  %s, %.0f MiB of memory" % (best.times("replay"), best.memory["replay"]))
+    if "old" in best.seconds:
+        print("before  %s, %.0f MiB of memory: replay takes %s it" %
+              (best.times("old"), best.memory["old"], best.ratio("replay", "old")))
 
 
 def images(program, archive, rounds, old):
@@ -90,29 +108,28 @@ def images(program, archive, rounds, old):
         replays(best, "replay", program)
         best.take("sum", [archive, "sum"] + segments())
         best.take("cp", ["cp", "-r", "o/p", "copy"])
-    run, dd, replay, both = (best.seconds["run"], best.seconds["dd"], best.seconds["replay"],
-                             best.seconds["sum"] + best.seconds["cp"])
     print("%d page images, %.0f MiB of WAL" % (PAGES, mib))
-    print("run     %.2f s, %.0f MB/s, %.0f MiB of memory" % (run, mib * MIB / run / 1e6, best.memory["run"]))
-    print("dd      %.2f s with one fsync: run takes %.2f of it" % (dd, run / dd))
-    print("replay  %.2f s, %.0f MiB of memory" % (replay, best.memory["replay"]))
-    print("sum     %.2f s, cp %.2f s: replay takes %.2f of both" % (best.seconds["sum"], best.seconds["cp"], replay / both))
-    if old:
-        print("other   %.2f s, %.0f MiB of memory: replay takes %.2f of it" % (best.seconds["old"], best.memory["old"],
-                                                                           replay / best.seconds["old"]))
+    print("run     %s, %.0f MB/s, %.0f MiB of memory" %
+          (best.times("run"), mib * MIB / best.seconds["run"] / 1e6, best.memory["run"]))
+    print("dd      %s with one fsync: run takes %s it" % (best.times("dd"), best.ratio("run", "dd")))
+    print_replay(best)
+    print("sum     %s, cp %s: replay takes %s both" %
+          (best.times("sum"), best.times("cp"), best.ratio("replay", "sum", "cp")))
 
 
-def short(program, archive, rounds):
-    """About 64 MiB of short entries, read by `replay`."""
+def short(program, archive, rounds, old):
+    """About 64 MiB of short entries, read by `replay`, and by that of another program."""
     best = Best()
     shutil.rmtree("wal")
     os.mkdir("wal")
     entries = int(timed([archive, "make", "wal", "64"]).text)
     for _ in range(rounds):
+        if old:
+            replays(best, "old", old)
         replays(best, "replay", program)
-    took = best.seconds["replay"]
-    print("%d short entries, %.0f MiB of WAL" % (entries, size("wal") / MIB))
-    print("replay  %.2f s, %.0f entries/s, %.0f MiB of memory" % (took, entries / took, best.memory["replay"]))
+    print("%d short entries, %.0f MiB of WAL, %.0f entries/s" %
+          (entries, size("wal") / MIB, entries / best.seconds["replay"]))
+    print_replay(best)
 
 
 def grown(program, archive):
@@ -137,7 +154,7 @@ def main():
         for name in ("wal", "sums", "o"):
             os.mkdir(name)
         images(program, archive, rounds, old)
-        short(program, archive, rounds)
+        short(program, archive, rounds, old)
         grown(program, archive)
     finally:
         os.chdir("/")

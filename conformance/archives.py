@@ -2,13 +2,13 @@
 
     python3 conformance/archives.py PROGRAM [RUNS [SEED]]
 
-Each run makes an archive with the independent implementation: creations, truncations, images,
-deltas, entries of several blocks, checkpoints, marks and no-ops, over one or more segments, mostly
-with 1 to 7 blocks in each file of a relation. It is replayed with and without a target. Then it is
-damaged three times, each time anew: one to three bytes changed, with the sum made again or not; an
-entry written otherwise than the store writes it; a file cut, made longer, removed, put in another's
-place or given another timeline; other settings or none. Line, status and files have to be the same
-each time.
+Each run makes an archive with the independent implementation: creations, truncations, commits that
+drop none, one or more relations, images, deltas, entries of several blocks, checkpoints, marks and
+no-ops, over one or more segments, mostly with 1 to 7 blocks in each file of a relation. It is replayed
+with and without a target. Then it is damaged three times, each time anew: one to three bytes changed,
+with the sum made again or not; an entry written otherwise than the store writes it; a file cut, made
+longer, removed, put in another's place or given another timeline; other settings or none. Line, status
+and files have to be the same each time.
 Not part of the gate. Skipped where the independent implementation (PGBACKUP_ORACLE) isn't there.
 """
 import os
@@ -55,6 +55,13 @@ def blocks_of(rnd, images):
     return found
 
 
+def dropped(rnd):
+    """The relations that a commit names: none, one, a few, or more than fit into 255 bytes of main data; at times
+    one twice, or one that isn't there."""
+    count = rnd.choice([0, 1, 1, 1, 2, 3, 19, 20, 21])
+    return [rnd.choice([fork[:2] for fork in FORKS] * 2 + [(9, 9)]) for _ in range(count)]
+
+
 def kind_of(rnd, most):
     """An entry's kind; a no-op has up to so many bytes."""
     pick = rnd.random()
@@ -66,6 +73,8 @@ def kind_of(rnd, most):
         return ("Generic", blocks_of(rnd, False))
     if pick < 0.7:
         return ("Images", blocks_of(rnd, True))
+    if pick < 0.8:
+        return ("Commit", rnd.choice([0, 1, -1, rnd.randrange(-1 << 63, 1 << 63)]), dropped(rnd))
     return rnd.choice([
         ("Online", rnd.randrange(1 << 40)),
         ("Shutdown", rnd.randrange(1 << 40)),
@@ -103,10 +112,39 @@ def strange_block(rnd):
     return hand.block(rnd.choice([0, 0, 0, 1, 2, 32, 33, 253]), **form, **rest)
 
 
+def strange_commit(rnd):
+    """A commit with a right sum, spelled in a way that the store doesn't write: other information bits, a count that
+    is negative or of other names, names that are refused, a length that doesn't fit, blocks; at times several of
+    these, or none."""
+    from oracle import hand
+
+    def mostly(good, others):
+        return good if rnd.random() < 0.7 else rnd.choice(others)
+
+    names = [(1663,) + rel for rel in dropped(rnd)]
+    for _ in range(rnd.choice([0, 0, 1, 2])):
+        names.insert(rnd.randrange(len(names) + 1), rnd.choice([(1664, 5, 16384), (1663, 0, 1), (1663, 1, 0), (0, 0, 0)]))
+    bits = mostly(4, [0, 5, 6, 12, 0x84, 0x104, 0x80000004, 0xFFFFFFFF, rnd.randrange(1 << 32)])
+    count = mostly(len(names), [0, 1, len(names) + 1, max(0, len(names) - 1), 0x80000000, 0x80000000 + len(names),
+                                0xFFFFFFFF, 0x15555556, 0x55555555])
+    main = rnd.randbytes(8) + bits.to_bytes(4, "little") + count.to_bytes(4, "little")
+    main += b"".join(n.to_bytes(4, "little") for name in names for n in name)
+    main = mostly(main, [main[:rnd.randrange(len(main) + 1)], main[:8], main[:11], main[:12], main[:15], main + b"x",
+                         main + bytes(12)])
+    info = rnd.choice([0x80, 0x80, 0x80, 0x81, 0x8F, 0x00, 0x01, 0x0F])
+    if info < 0x10:
+        main = mostly(main[:8], [main, main[:7], main[:9], b""])
+    blocks = mostly([], [[strange_block(rnd)]])
+    manager, info = mostly((1, info), [(1, info ^ 1 << rnd.randrange(4, 8)), (2, info)])
+    return hand.entry(manager, info, blocks, main, rnd.choice([0, 7]))
+
+
 def strange(rnd):
     """An entry with a right sum, spelled in a way that the store doesn't write, and seldom right."""
     from oracle import hand
 
+    if rnd.random() < 0.3:
+        return strange_commit(rnd)
     managers = [(0, 0x00), (0, 0x10), (0, 0x20), (0, 0x50), (0, 0xB0), (0, 0xE0), (2, 0x10), (2, 0x20), (20, 0x00)]
     manager, info = rnd.choice(managers)
     if rnd.random() < 0.1:
@@ -143,7 +181,7 @@ def write_archive(rnd):
     if long:
         for _ in range(rnd.randrange(1, 4)):
             items.insert(rnd.randrange(len(items) + 1), ("NoOp", bytes(rnd.randrange(300000, 1100000))))
-    if rnd.random() < 0.3:
+    if rnd.random() < 0.4:
         items.insert(rnd.randrange(len(items) + 1), strange(rnd))
     first = rnd.random() < 0.98
     blocks = rnd.choice([64, 131072] + 3 * [rnd.randrange(1, 8)])

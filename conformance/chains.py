@@ -4,7 +4,8 @@
 
 Each run makes a store of few blocks a file, at times of the default, and runs one to four random scripts
 on it with full and incremental backups among their lines, each incremental one mostly on the backup
-before it, else on any, with truncations and growth over segment boundaries, checkpoints and summaries.
+before it, else on any, with truncations, growth over segment boundaries, relations dropped and made
+anew, checkpoints and summaries.
 At times a backup's manifest is damaged between two scripts, or the summaries are removed. Then each
 backup is checked by `verify`, and a range of WAL is summed up. Lines, statuses and all files are compared.
 Not part of the gate. Skipped where the independent implementation (PGBACKUP_ORACLE) isn't there.
@@ -13,13 +14,13 @@ import os
 import shutil
 
 from common import compare
-from run import Store, a_line, both
+from run import Store, both, some_lines
 from summaries import a_range, ends_of, summaries
 
 
 def a_script(rnd, store, names):
     """A script of some lines, with backups of new names anywhere among them."""
-    lines = [line for line in (a_line(rnd, store) for _ in range(rnd.choice([3, 10, 30]))) if line]
+    lines = some_lines(rnd, store, rnd.choice([3, 10, 30]))
     at = sorted(rnd.randrange(len(lines) + 1) for _ in range(rnd.randrange(1, 4)))
     for behind, place in enumerate(at):
         name = "c%d" % len(names)

@@ -5,7 +5,7 @@ implementation.
 
 Each run makes a store of few blocks a file, at times of the default, and runs one to four random scripts on it that
 take a full backup and up to eleven incremental ones, mostly each on the one before, with truncations, growth over
-segment boundaries and checkpoints between. Then it combines chains six times: whole ones, their beginnings and their
+segment boundaries, relations dropped and made anew, and checkpoints between. Then it combines chains six times: whole ones, their beginnings and their
 ends, and with a backup that was combined before in the place of the members that it was made of; of some a member is
 left out, doubled, moved, or another one, and now and then there are 65. At times there are backups of another store
 beside them, which was made by most lines of our first script, under the same system identifier or another: chains of
@@ -23,7 +23,7 @@ import shutil
 from backups import Backup, damage
 from common import compare, oracle, program
 from restores import a_target, ends_in, restored, wal_end
-from run import Store, a_line, both
+from run import Store, both, some_lines
 
 MOST = 12
 
@@ -82,7 +82,7 @@ def stranger_of(name):
 
 def a_script(rnd, store, chains):
     """A script of some lines, with backups of new names anywhere among them."""
-    lines = [line for line in (a_line(rnd, store) for _ in range(rnd.choice([3, 10, 30]))) if line]
+    lines = some_lines(rnd, store, rnd.choice([3, 10, 30]))
     taken = []
     for _ in range(min(rnd.randrange(1, 6), MOST - len(chains.priors))):
         name, before = "c%d" % len(chains.priors), list(chains.priors)

@@ -4,7 +4,7 @@
 
 Two forks get 32,768 pages each, one of them four a line and one by a growth, over several segments of
 the WAL. Then come lines that the limits of a fork and of a store refuse, in any order, with some that
-they don't. Lines, status and the files of `wal` and of the data areas have to be the same.
+they don't, a drop of one of the two among them. Lines, status and the files of `wal` and of the data areas have to be the same.
 Not part of the gate. Skipped where the independent implementation (PGBACKUP_ORACLE) isn't there.
 """
 import os
@@ -29,6 +29,8 @@ grow 5/1@0 32769 24,8192,0
 grow 5/3@0 5 24,8192,0
 truncate 5/1 32760
 truncate 5/1 32768
+drop 5/2
+drop 5/9
 grow 5/3@0 9 24,8192,0
 checkpoint
 flush 100

@@ -2,8 +2,8 @@
 
     python3 conformance/restores.py PROGRAM [RUNS [SEED]]
 
-Each run makes a store, runs one to three random scripts on it with a backup among their lines, and
-restores each backup to five targets: starts and ends of entries, places beside them, before the
+Each run makes a store, runs one to three random scripts on it with a backup among their lines, which
+drop relations too and make them anew, and restores each backup to five targets: starts and ends of entries, places beside them, before the
 backup's end and past the WAL's, and none. Lines, statuses and all files are compared with those of the
 other implementation, and what a restore wrote with what `replay` to the same target writes. At times
 the WAL or the backup was damaged before.
@@ -13,12 +13,12 @@ import os
 import shutil
 
 from common import compare, files, program
-from run import Store, a_line, both
+from run import Store, both, some_lines
 
 
 def a_script(rnd, store, names):
     """A script of some lines, with full backups of new names anywhere among them."""
-    lines = [line for line in (a_line(rnd, store) for _ in range(rnd.choice([3, 10, 30]))) if line]
+    lines = some_lines(rnd, store, rnd.choice([3, 10, 30]))
     for _ in range(rnd.randrange(3)):
         names.append("r%d" % len(names))
         lines.insert(rnd.randrange(len(lines) + 1), "full " + names[-1])

@@ -7,9 +7,10 @@ replays its WAL, with both, each in a folder of its own. After each call the lin
 the bytes of `wal`, `sums`, `o`, `b` and the data areas are compared, and at the end what the data
 areas hold with what `replay` wrote, and what `verify` of each backup prints. Some scripts have one
 broken line, some stores can't be made.
-Lines change one to four blocks by pages and fragments, grow and cut forks, or are refused in each way
-that a small store knows; checkpoints, flushes, summaries and full backups stand between them, these at
-times into a folder that isn't empty. Entries go on over pages; now and then one ends just at a page's
+Lines change one to four blocks by pages and fragments, grow and cut forks, drop relations of one fork
+or of two, which at times are made anew or dropped again, or are refused in each way that a small store
+knows; checkpoints, flushes, summaries and full backups stand between them, these at times into a folder
+that isn't empty. Entries go on over pages; now and then one ends just at a page's
 end, or a few bytes before it. The other implementation is told the moment of the program's backups and
 summaries.
 At times a script is run by the program in one call and in two, which must write the same WAL.
@@ -114,6 +115,22 @@ truncate 0/2 0
 truncate 1/2 4294967296
 truncate 1/2 -1
 truncate 1/2 x
+drop
+drop 1
+drop 1/
+drop /2
+drop 0/2
+drop 1/0
+drop 1/2 1/3
+drop 1/2 0
+drop 1/2_init
+drop 1/2_
+drop 1/2@0
+drop 1/2/3
+drop 4294967296/1
+drop 00000000001/2
+Drop 1/2
+drops 1/2
 grow
 grow 1/2@0
 grow 1/2@0 1
@@ -164,10 +181,36 @@ BAD_FRAGMENTS = ["8192:61", "8191:6162", "65535:61", "24:61,8192:61", "0:" + 819
 
 
 class Store:
-    """What the scripts so far made: the blocks of each fork, and the room on the WAL's last page."""
+    """What the scripts so far made: the blocks of each fork, the relations that were dropped and not made anew, and
+    the room on the WAL's last page."""
 
     def __init__(self):
-        self.blocks, self.room = {}, ROOM
+        self.blocks, self.gone, self.room = {}, [], ROOM
+
+    def rels(self):
+        """The relations of which a fork is there."""
+        return sorted({fork[:2] for fork in self.blocks})
+
+    def create(self, fork):
+        """A fork is made, if it isn't there."""
+        if fork not in self.blocks:
+            self.blocks[fork] = 0
+            self.gone = [rel for rel in self.gone if rel != fork[:2]]
+            self.take(48)
+
+    def drop(self, rel):
+        """All forks of a relation are taken away, if it has one."""
+        if rel in self.rels():
+            self.blocks = {fork: length for fork, length in self.blocks.items() if fork[:2] != rel}
+            self.gone.append(rel)
+            self.take(56)
+
+    def grow(self, fork, at, count, size):
+        """So many entries of a size put blocks from a place on, if the fork has that."""
+        if fork in self.blocks and at <= self.blocks[fork]:
+            self.blocks[fork] = max(self.blocks[fork], at + count)
+            for _ in range(count):
+                self.take(size)
 
     def take(self, size):
         """An entry takes so much room, of further pages too where it has to."""
@@ -227,9 +270,9 @@ def a_shape(rnd, room):
 
 def a_creation(rnd, store):
     fork = a_fork(rnd)
-    if fork not in store.blocks:
-        store.blocks[fork] = 0
-        store.take(48)
+    if store.gone and rnd.random() < 0.3:
+        fork = rnd.choice(store.gone) + (rnd.choice(["", "_init"]),)
+    store.create(fork)
     return "create " + fork_word(rnd, fork)
 
 
@@ -326,21 +369,43 @@ def a_truncation(rnd, store):
 def a_growth(rnd, store):
     """Blocks put from a place on, all or none of them."""
     forks = sorted(store.blocks)
-    if not forks or rnd.random() < 0.1:
-        fork, length = a_fork(rnd), 0
-        there = fork in store.blocks
-        length = store.blocks.get(fork, 0)
-    else:
-        fork = rnd.choice(forks)
-        there, length = True, store.blocks[fork]
-    at = rnd.choice([length, length, rnd.randrange(length + 1), length + 1, TOP])
+    fork = a_fork(rnd) if not forks or rnd.random() < 0.1 else rnd.choice(forks)
+    length = store.blocks.get(fork, 0)
+    return growth_at(rnd, store, fork, rnd.choice([length, length, rnd.randrange(length + 1), length + 1, TOP]))
+
+
+def growth_at(rnd, store, fork, at):
     count, (lower, upper) = rnd.choice([1, 2, 3, rnd.randrange(1, 12)]), a_shape(rnd, store.room)
-    if there and at <= length:
-        store.blocks[fork] = max(length, at + count)
-        for _ in range(count):
-            store.take((49 + 8192 - (upper - lower) + 7) // 8 * 8)
+    store.grow(fork, at, count, (49 + 8192 - (upper - lower) + 7) // 8 * 8)
     shape = ",".join(digits(rnd, n) for n in (lower, upper, rnd.randrange(256)))
     return "grow %s %s %s" % (place_word(rnd, fork, at), digits(rnd, count), shape)
+
+
+def a_drop(rnd, store, rel=None):
+    """A relation is dropped: this one, or one that is there, that was dropped before, or any."""
+    if rel is None:
+        rels = rnd.choice([store.rels()] * 4 + [store.gone, []])
+        rel = rnd.choice(rels) if rels else a_fork(rnd)[:2]
+    store.drop(rel)
+    return "drop " + fork_word(rnd, rel + ("",))
+
+
+def a_renewal(rnd, store):
+    """A relation is dropped, and forks of it are made anew, at times with blocks; at times its removal is written
+    between, or the drop stands there again."""
+    if not store.rels():
+        return []
+    rel = rnd.choice(store.rels())
+    lines = [a_drop(rnd, store, rel)]
+    if rnd.random() < 0.3:
+        lines.append(rnd.choice([a_write, a_drop])(rnd, store))
+    for last in rnd.choice([[""], ["_init"], ["", "_init"], ["_init", ""]]):
+        fork = rel + (last,)
+        store.create(fork)
+        lines.append("create " + fork_word(rnd, fork))
+        if rnd.random() < 0.7:
+            lines.append(growth_at(rnd, store, fork, 0))
+    return lines
 
 
 def a_write(rnd, store):
@@ -370,6 +435,8 @@ def a_line(rnd, store):
     kind = rnd.random()
     if kind > 0.94:
         return a_backup(rnd, store)
+    if kind > 0.9:
+        return a_drop(rnd, store)
     if kind < 0.25:
         return a_creation(rnd, store)
     if kind < 0.35:
@@ -379,6 +446,16 @@ def a_line(rnd, store):
     if kind < 0.65:
         return a_write(rnd, store)
     return a_change(rnd, store)
+
+
+def some_lines(rnd, store, count):
+    """About so many lines of a worker, at times with a relation among them that is dropped and made anew."""
+    lines = []
+    while len(lines) < count:
+        if rnd.random() < 0.05:
+            lines += a_renewal(rnd, store)
+        lines.append(a_line(rnd, store))
+    return [line for line in lines if line is not None]
 
 
 def a_comment(rnd):
@@ -402,14 +479,10 @@ def good_lines(rnd, store):
     lines = [rnd.choice(["", a_comment(rnd)]) for _ in range(rnd.choice([0, 0, 0, 2]))]
     at = len(lines)
     lines.append(spaced(rnd, "worker " + name))
-    for _ in range(rnd.choice([0, 5, 20, 40])):
-        kind = rnd.random()
-        if kind < 0.1:
+    for line in some_lines(rnd, store, rnd.choice([0, 5, 20, 40])):
+        if rnd.random() < 0.1:
             lines.append(rnd.choice(["", a_comment(rnd)]))
-            continue
-        line = a_line(rnd, store)
-        if line is not None:
-            lines.append(spaced(rnd, line))
+        lines.append(spaced(rnd, line))
     return lines, at
 
 

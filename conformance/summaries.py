@@ -4,7 +4,7 @@ independent implementation.
     python3 conformance/summaries.py PROGRAM [RUNS [SEED]]
 
 Each run makes a store with both and runs one to four random scripts on it with checkpoints and
-summaries among their lines. Between two scripts, and behind the last, a summary's file is at times
+summaries among their lines, and relations that are dropped and made anew. Between two scripts, and behind the last, a summary's file is at times
 damaged in both alike, renamed, cut, removed, or another one added. Then both are asked for six ranges:
 of ends and starts of summaries, places beside them, and empty or turned ones. Lines, statuses and all
 files are compared.
@@ -14,12 +14,12 @@ import os
 
 from common import compare
 from restores import lsn
-from run import Store, a_line, both
+from run import Store, both, some_lines
 
 
 def a_script(rnd, store):
     """A script of some lines, with checkpoints and summaries anywhere among them."""
-    lines = [line for line in (a_line(rnd, store) for _ in range(rnd.choice([3, 10, 40]))) if line]
+    lines = some_lines(rnd, store, rnd.choice([3, 10, 40]))
     for _ in range(rnd.randrange(1, 6)):
         lines.insert(rnd.randrange(len(lines) + 1), "checkpoint")
     for _ in range(rnd.randrange(1, 3)):

@@ -25,6 +25,10 @@ grow 5/16384@2 4 24,8192,0
 change 5/16384@1+100:00FF
 checkpoint
 change 5/16384@1+100:01FF
+drop 5/16384
+create 5/16384_init
+create 5/16384
+grow 5/16384@0 2 24,8192,7
 """
 
 
@@ -66,7 +70,7 @@ def one_run(path, rnd):
     if kind == 3:
         cut(0x2000 if start > 0x102000 else start - 0x100000 - 8)
     for target in [None] + list(range(end - 16, last + 24, 8)):
-        differences += restored(path, rnd, "f1", target)
+        differences += restored(path, rnd, ["f1"], target)
     return differences
 
 

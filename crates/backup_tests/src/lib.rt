@@ -17,6 +17,8 @@ mod incr_dir_tests;
 #[cfg(test)]
 mod label_tests;
 #[cfg(test)]
+mod lane_tests;
+#[cfg(test)]
 mod manifest_tests;
 #[cfg(test)]
 mod summary_tests;

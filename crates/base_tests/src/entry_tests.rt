@@ -6,7 +6,8 @@ ghost use Rattle.wal_record.specs.Spelling.{IsWritable};
 ghost use Rattle.history.specs.Op.{IsFitEdit};
 
 use checkpointer::{
-    change_kind, creation_kind, first_kind, needs_image, online_kind, redo_kind, truncation_kind,
+    change_kind, creation_kind, drop_kind, first_kind, needs_image, online_kind, redo_kind,
+    truncation_kind,
 };
 use history::{Edit, Item};
 use lsn_core::{BlockId, ForkId, Lsn, NoMemory, Place};
@@ -38,6 +39,21 @@ const TRUNCATION: &[u8] = &[
     0x2e, 0x00, 0x00, 0x00, 0x00, 0x00, 0x00, 0x00, 0x28, 0x00, 0x10, 0x00, 0x00, 0x00, 0x00, 0x00,
     0x21, 0x02, 0x00, 0x00, 0xfe, 0x15, 0x00, 0x9b, 0xff, 0x14, 0x03, 0x00, 0x00, 0x00, 0x7f, 0x06,
     0x00, 0x00, 0x05, 0x00, 0x00, 0x00, 0x00, 0x40, 0x00, 0x00, 0x07, 0x00, 0x00, 0x00,
+];
+
+/// The commit that drops the relation.
+const COMMIT: &[u8] = &[
+    0x36, 0x00, 0x00, 0x00, 0x00, 0x00, 0x00, 0x00, 0x28, 0x00, 0x10, 0x00, 0x00, 0x00, 0x00, 0x00,
+    0x81, 0x01, 0x00, 0x00, 0x47, 0x75, 0x55, 0xc0, 0xff, 0x1c, 0x00, 0x00, 0x00, 0x00, 0x00, 0x00,
+    0x00, 0x00, 0x04, 0x00, 0x00, 0x00, 0x01, 0x00, 0x00, 0x00, 0x7f, 0x06, 0x00, 0x00, 0x05, 0x00,
+    0x00, 0x00, 0x00, 0x40, 0x00, 0x00,
+];
+
+/// A commit that drops none.
+const IDLE_COMMIT: &[u8] = &[
+    0x22, 0x00, 0x00, 0x00, 0x00, 0x00, 0x00, 0x00, 0x28, 0x00, 0x10, 0x00, 0x00, 0x00, 0x00, 0x00,
+    0x00, 0x01, 0x00, 0x00, 0x80, 0xfc, 0x86, 0xe3, 0xff, 0x08, 0x00, 0x00, 0x00, 0x00, 0x00, 0x00,
+    0x00, 0x00,
 ];
 
 /// A first entry, with the redo point 0/100028.
@@ -149,6 +165,7 @@ fn changes_are_written(rt: HostRuntime) -> Result<(), Fail> {
     let fork = main_fork(16384).ok_or("the numbers are good")?;
     assert!(rt; is_written(rt.alloc(), creation_kind(fork), CREATION)?);
     assert!(rt; is_written(rt.alloc(), truncation_kind(fork.rel, 3), TRUNCATION)?);
+    assert!(rt; is_written(rt.alloc(), drop_kind(rt.alloc(), fork.rel)?, COMMIT)?);
     assert!(rt; is_written(rt.alloc(), put_of(rt.alloc(), fork)?, IMAGE)?);
     Ok(())
 }
@@ -209,12 +226,17 @@ fn said_by(alloc: Global, entry: &[u8]) -> Option<Said> {
         Kind::NoOp => Some(("no-op", 0, 0)),
         Kind::Create(fork) => Some(("creation", u64::from(fork.rel.rel()), 0)),
         Kind::Truncate(rel, count, _) => Some(("truncation", u64::from(rel.rel()), *count)),
+        Kind::Commit(0, rels) => match rels.as_slice() {
+            [] => Some(("commit", 0, 0)),
+            [rel] => Some(("commit", u64::from(rel.rel()), 1)),
+            _ => None,
+        },
         _ => None,
     }
 }
 
 /// Entries without blocks, and what each says.
-static SAID: [(&[u8], Said); 7] = [
+static SAID: [(&[u8], Said); 9] = [
     (FIRST, ("shutdown", 0x100028, 0)),
     (ONLINE, ("online", 0x100060, 0)),
     (REDO, ("redo mark", 0, 1)),
@@ -222,6 +244,8 @@ static SAID: [(&[u8], Said); 7] = [
     (NO_OP, ("no-op", 0, 0)),
     (CREATION, ("creation", 16384, 0)),
     (TRUNCATION, ("truncation", 16384, 3)),
+    (COMMIT, ("commit", 16384, 1)),
+    (IDLE_COMMIT, ("commit", 0, 0)),
 ];
 
 #[test]
@@ -274,7 +298,7 @@ fn blocks_are_read(rt: HostRuntime) -> Result<(), RecordFault> {
 
 /// Entries, bytes at places of each that are changed, and what it is refused for when its sum is
 /// made again. The last rows show which of two comes first.
-static CHANGED: [(&str, &[u8], &[(usize, u8)], Option<RecordFault>); 30] = [
+static CHANGED: [(&str, &[u8], &[(usize, u8)], Option<RecordFault>); 37] = [
     ("total 23", CREATION, &[(0, 0x17)], Some(Length)),
     ("link", CREATION, &[(8, 0x29)], Some(Prev)),
     (
@@ -322,6 +346,33 @@ static CHANGED: [(&str, &[u8], &[(usize, u8)], Option<RecordFault>); 30] = [
         CREATION,
         &[(17, 1), (25, 0)],
         Some(Unsupported(1, 0x11)),
+    ),
+    (
+        "other bits",
+        COMMIT,
+        &[(34, 5)],
+        Some(Content(Why::CommitBits)),
+    ),
+    ("two names", COMMIT, &[(38, 2)], Some(Content(Why::Shape))),
+    ("no names", COMMIT, &[(38, 0)], Some(Content(Why::Shape))),
+    (
+        "no bits",
+        IDLE_COMMIT,
+        &[(16, 0x80)],
+        Some(Content(Why::Shape)),
+    ),
+    (
+        "place of a name",
+        COMMIT,
+        &[(42, 0)],
+        Some(Content(Why::Tablespace)),
+    ),
+    ("name 0", COMMIT, &[(51, 0)], Some(Content(Why::Relation))),
+    (
+        "bits first",
+        COMMIT,
+        &[(34, 5), (42, 0)],
+        Some(Content(Why::CommitBits)),
     ),
     ("heads first", IMAGE, &[(24, 33), (32, 6)], Some(Header)),
     (

@@ -5,14 +5,14 @@ ghost use Rattle.history.specs.Applied.{IsApplicable, IsApplicableBody};
 ghost use Rattle.smgr_redo.specs.Storage.{IsStorage};
 
 use generic_redo::redo_block;
-use history::{ApplyFault, PageMap, apply, apply_undoably};
+use history::{ApplyFault, PageMap, apply};
 use lsn_core::{AreaFault, BlockId, ForkId, Lsn, NoMemory};
 use pg_page::{Frag, Frags, check_frags, lsn_of, make_page, restored_page};
 use smgr_redo::redo_storage;
 use std::alloc::Global;
 use std::test::Fail;
 use test_areas::main_fork;
-use wal_record::{Blocks, Body, Kind, Record};
+use wal_record::{Blocks, Body, Kind, Record, Rels};
 
 /// An entry of this kind that ends there.
 fn record(end: u64, kind: Kind) -> Record
@@ -61,28 +61,31 @@ fn has_page(alloc: Global, store: &PageMap, fork: ForkId, blocks: u64) -> Result
     )
 }
 
-/// How many blocks a fork has when a cut of its relation to one block was applied and when that was
-/// reverted.
-fn cut_and_revert(
+/// How many blocks a fork has when a cut of its relation to one block was applied, and how many when
+/// a commit that drops the relation was.
+fn cut_and_drop(
+    alloc: Global,
     store: &mut PageMap,
     fork: ForkId,
 ) -> Result<(Option<usize>, Option<usize>), Fail> {
-    let cut = record(0x1000f8, Kind::Truncate(fork.rel, 1, 7));
-    let undo = apply_undoably(store, &cut)?;
+    apply(store, &record(0x1000f8, Kind::Truncate(fork.rel, 1, 7)))?;
     let left = store.blocks(&fork);
-    store.revert(undo);
+    apply(
+        store,
+        &record(0x100130, Kind::Commit(0, Rels::one(alloc, fork.rel)?)),
+    )?;
     Ok((left, store.blocks(&fork)))
 }
 
 #[test]
-fn entries_are_applied_and_reverted(rt: HostRuntime) -> Result<(), Fail> {
+fn entries_are_applied(rt: HostRuntime) -> Result<(), Fail> {
     let fork = main_fork(16384).ok_or("the numbers are good")?;
     let mut store = PageMap::new(rt.alloc());
     apply_kind(&mut store, Kind::Create(fork))?;
     let blocks = Blocks::one(rt.alloc(), BlockId { fork, block: 2 }, image(rt.alloc())?)?;
     apply_kind(&mut store, Kind::Generic(blocks))?;
     assert!(rt; has_page(rt.alloc(), &store, fork, 3)?);
-    assert!(rt; cut_and_revert(&mut store, fork)? == (Some(1), Some(3)));
+    assert!(rt; cut_and_drop(rt.alloc(), &mut store, fork)? == (Some(1), None));
     Ok(())
 }
 

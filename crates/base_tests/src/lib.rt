@@ -19,6 +19,8 @@ mod pg_page_tests;
 #[cfg(test)]
 mod rel_files_tests;
 #[cfg(test)]
+mod sums_tests;
+#[cfg(test)]
 mod timeline_tests;
 #[cfg(test)]
 mod vault_os_tests;

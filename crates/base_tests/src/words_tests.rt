@@ -1,10 +1,9 @@
-//! Numbers and parts of bytes and texts, and sums of bytes.
+//! Numbers and parts of bytes and texts.
 
 use byte_words::{aligned, behind_prefix, cut_at, u8_at, u16_at, u32_at, u64_at, zeros};
 use std::test::Fail;
 use test_areas::NEW_WAL;
 use text_numbers::{decimal_front, decimal_in, digits_in, eight_digits_front, hex_digits_in};
-use wal_crc::Crc;
 
 /// The magic, the low byte of the info, the timeline and the address of a page head.
 fn head_in(bytes: &[u8]) -> Option<(u16, u8, u32, u64)> {
@@ -43,33 +42,4 @@ fn texts_have_their_numbers(rt: HostRuntime) {
     }
     assert!(rt; decimal_front(b"16384_init") == Some((16384, b"_init".as_slice())));
     assert!(rt; eight_digits_front(b"000000FF.x") == Some((255, b".x".as_slice())));
-}
-
-/// Bytes and their sums.
-static SUMS: [(&[u8], u32); 6] = [
-    (b"", 0x00000000),
-    (b"123456789", 0xe3069283),
-    (b"The quick brown fox jumps over the lazy dog", 0x22620404),
-    (&[0; 32], 0x8a9136aa),
-    (&[0xff; 32], 0x62a8ab43),
-    (
-        &[
-            0, 1, 2, 3, 4, 5, 6, 7, 8, 9, 10, 11, 12, 13, 14, 15, 16, 17, 18, 19, 20, 21, 22, 23,
-            24, 25, 26, 27, 28, 29, 30, 31,
-        ],
-        0x46dd794e,
-    ),
-];
-
-fn sum_of(bytes: &[u8]) -> u32 {
-    let mut crc = Crc::new();
-    crc.add(bytes);
-    crc.value()
-}
-
-#[test]
-fn known_sums(rt: HostRuntime) {
-    for (bytes, sum) in &SUMS {
-        assert!(rt; sum_of(bytes) == *sum, "{bytes:?}");
-    }
 }

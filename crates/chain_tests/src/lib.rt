@@ -21,6 +21,8 @@ mod combine_faults_tests;
 #[cfg(test)]
 mod combine_tests;
 #[cfg(test)]
+mod dropped_tests;
+#[cfg(test)]
 mod faulty_sites;
 #[cfg(test)]
 mod full_tests;

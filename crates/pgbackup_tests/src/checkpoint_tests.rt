@@ -14,7 +14,7 @@ use vault::{MemSite, Site, read_in};
 const INIT: &str = "init --segment-mib 1 --system-id 7";
 
 /// A script on a store of one entry and what it prints, and what replay of its WAL prints.
-type Row<'a> = (&'a str, &'a str, &'a str);
+pub(crate) type Row<'a> = (&'a str, &'a str, &'a str);
 
 static ROWS: [Row; 5] = [
     // The image rule: behind a checkpoint the first patch of a page is an image, the next a delta.
@@ -139,7 +139,7 @@ wal 0/100110
 ];
 
 /// Makes a store of one entry, runs a script on it, and replays its WAL.
-fn run_anew<S: Site>(alloc: Global, site: &mut S, row: &Row) -> Result<(), Wrong>
+pub(crate) fn run_anew<S: Site>(alloc: Global, site: &mut S, row: &Row) -> Result<(), Wrong>
     requires { AllHome (S.areas site.old) }
     ensures { AllHome (S.areas site.new) }
 {
@@ -153,7 +153,7 @@ fn run_anew<S: Site>(alloc: Global, site: &mut S, row: &Row) -> Result<(), Wrong
 }
 
 /// The same over a site of its own.
-fn is_run(alloc: Global, row: &Row) -> Result<(), Wrong> {
+pub(crate) fn is_run(alloc: Global, row: &Row) -> Result<(), Wrong> {
     let mut site = MemSite::new(alloc, &[])?;
     run_anew(alloc, &mut site, row)
 }

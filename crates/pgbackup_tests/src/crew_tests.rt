@@ -82,6 +82,10 @@ fn order_text(alloc: Global, order: &Order) -> Result<String, NoMemory> {
             let (db, rel) = (rel.db(), rel.rel());
             Ok(format!(in alloc; "truncate {db} {rel} {count}")?)
         }
+        Order::Drop(rel) => {
+            let (db, rel) = (rel.db(), rel.rel());
+            Ok(format!(in alloc; "drop {db} {rel}")?)
+        }
         Order::Change(items) => items_text(alloc, items.as_slice()),
     }
 }
@@ -151,7 +155,7 @@ fn is_taken(alloc: Global, line: &str, says: &str) -> Result<bool, NoMemory> {
 }
 
 /// Lines, and what each says.
-static TAKEN: [(&str, &str); 27] = [
+static TAKEN: [(&str, &str); 29] = [
     ("create 1/2", "create main 1 2"),
     ("\tcreate \t 1/2 ", "create main 1 2"),
     ("create 0000000001/0000000002", "create main 1 2"),
@@ -189,6 +193,8 @@ static TAKEN: [(&str, &str); 27] = [
     ),
     ("truncate 1/2 0", "truncate 1 2 0"),
     (" truncate\t01/2 4294967295", "truncate 1 2 4294967295"),
+    ("drop 1/2", "drop 1 2"),
+    ("\tdrop \t 4294967295/02", "drop 4294967295 2"),
     ("grow 1/2@0 1 24,8192,7", "grow main 1 2 0 1 24 8192 7"),
     (
         "grow\t1/2_init@4294967295 65536 24,24,255 ",
@@ -217,7 +223,7 @@ fn lines_are_taken(rt: HostRuntime) -> Result<(), NoMemory> {
 }
 
 /// Scripts, and where and why each is refused.
-static REFUSED: [(&str, u32, &str); 79] = [
+static REFUSED: [(&str, u32, &str); 87] = [
     ("\n#\u{7f}\n", 2, "Bytes"),
     ("worker a\r\n", 1, "Bytes"),
     ("x\0", 1, "Bytes"),
@@ -267,6 +273,14 @@ static REFUSED: [(&str, u32, &str); 79] = [
     ("worker a\ntruncate 1/2_init 1", 2, "Word"),
     ("worker a\ntruncate 1/2 4294967296", 2, "Word"),
     ("worker a\ntruncate 1 1/2", 2, "Word"),
+    ("worker a\ndrop", 2, "Word"),
+    ("worker a\ndrop 1", 2, "Word"),
+    ("worker a\ndrop 0/2", 2, "Word"),
+    ("worker a\ndrop 1/2_init", 2, "Word"),
+    ("worker a\ndrop 1/2 1/3", 2, "Word"),
+    ("worker a\nDrop 1/2", 2, "Word"),
+    ("worker a\ndrops 1/2", 2, "Word"),
+    ("drop 1/2\nworker a", 1, "NoWorker"),
     ("worker a\ngrow 1/2@0 1", 2, "Word"),
     ("worker a\ngrow 1/2@0 1 24,8192,7 1", 2, "Word"),
     ("worker a\ngrow 1/2 1 24,8192,7", 2, "Word"),

@@ -17,6 +17,8 @@ mod checkpoint_tests;
 #[cfg(test)]
 mod crew_tests;
 #[cfg(test)]
+mod drop_tests;
+#[cfg(test)]
 mod kinds_tests;
 #[cfg(test)]
 mod limit_tests;

@@ -94,7 +94,7 @@ fn a_call_of_the_input_fails(rt: HostRuntime) -> Result<(), AreaFault> {
 
 /// How many calls a run makes of each area.
 static CALLS: [(&str, u64); 5] = [
-    ("wal", 19),
+    ("wal", 17),
     ("data0", 11),
     ("data1", 7),
     ("data2", 7),

@@ -17,7 +17,7 @@ use vault::MemVault;
 use wal_record::Kind;
 
 /// Where the full backup starts, behind ten pages.
-const FULL: Lsn = Lsn(0x100540);
+pub const FULL: Lsn = Lsn(0x100540);
 
 /// Where the incremental backup starts, behind a cut to two blocks.
 const START: Lsn = Lsn(0x1005F0);
@@ -26,7 +26,7 @@ const START: Lsn = Lsn(0x1005F0);
 const END: Lsn = Lsn(0x1007D8);
 
 /// Ten pages, a full backup of them, and its summary. No range between redo points is left then.
-static BACKED_UP: [(Does, Answer); 34] = [
+pub static BACKED_UP: [(Does, Answer); 34] = [
     (Does::Creates, Answer::Accepted(1, Lsn(0x100090))),
     (Does::Puts(0, 65), Answer::Accepted(2, Lsn(0x100108))),
     (Does::Puts(1, 66), Answer::Accepted(3, Lsn(0x100180))),

@@ -1,6 +1,8 @@
 //! A backup of a fork that is cut between its listing and its copying: what the copy has, and what
 //! the WAL from the backup's start on makes of it. Places follow from the entries' lengths.
 
+ghost use Rattle.wal_record.specs.Spelling.{IsWritable};
+
 use crate::flushed::{BEHIND_FIRST, append, flush, new_wal, page_of, put_kind, settings};
 use crate::machine_tests::{Answer, Does, block_of, take_in_turn};
 use checkpointer::{creation_kind, online_kind, redo_kind, truncation_kind};
@@ -17,7 +19,7 @@ use wal_record::Kind;
 use wal_writer::WalState;
 
 /// Where the backup starts, behind ten pages.
-const START: Lsn = Lsn(0x100540);
+pub const START: Lsn = Lsn(0x100540);
 
 /// Where it ends.
 const END: Lsn = Lsn(0x1005F0);
@@ -70,16 +72,19 @@ pub fn append_pages(alloc: Global, wal: &mut WalState<MemVault>) -> Result<(), W
     Ok(())
 }
 
-/// The area of a WAL with the entries that the steps write.
-fn written(alloc: Global) -> Result<MemVault, Wrong> {
+/// The area of a WAL with the entries that the steps write: this one behind the checkpoint. It ends
+/// there.
+pub fn written(alloc: Global, kind: Kind, end: Lsn) -> Result<MemVault, Wrong>
+    requires { IsWritable kind }
+{
     let mut wal = new_wal(alloc, BEHIND_FIRST)?;
     append_pages(alloc, &mut wal)?;
     append(alloc, &mut wal, redo_kind())?;
     append(alloc, &mut wal, online_kind(START))?;
-    append(alloc, &mut wal, truncation_kind(block_of(0)?.fork.rel, 3))?;
+    append(alloc, &mut wal, kind)?;
     append(alloc, &mut wal, Kind::BackupEnd(START))?;
     let mark = flush(alloc, &mut wal)?;
-    if mark.to() == END {
+    if mark.to() == end {
         Ok(wal.detach())
     } else {
         Err(Wrong::Step(2))
@@ -121,9 +126,9 @@ fn has_first(store: &PageMap) -> Result<bool, Wrong> {
     Ok(true)
 }
 
-/// Whether the blocks behind them are zeros.
-fn has_zeros(store: &PageMap) -> Result<bool, Wrong> {
-    for block in 3..10u32 {
+/// Whether the blocks from one on are zeros.
+pub fn has_zeros(store: &PageMap, from: u32) -> Result<bool, Wrong> {
+    for block in from..10u32 {
         let page = store.page_at(&block_of(block)?);
         if page.iter().any(|byte| *byte != 0) {
             return Ok(false);
@@ -132,13 +137,13 @@ fn has_zeros(store: &PageMap) -> Result<bool, Wrong> {
     Ok(true)
 }
 
-/// The copy of a backup that is taken in these steps.
-fn backed_up(alloc: Global) -> Result<PageMap, Wrong> {
+/// The copy of a backup that is taken in these steps, and ends there.
+pub fn backed_up(alloc: Global, steps: &[(Does, Answer)], end: Lsn) -> Result<PageMap, Wrong> {
     let settings = settings().ok_or(Wrong::Step(0))?;
     let mut machine = Machine::new(alloc, &settings)?;
-    take_in_turn(alloc, &mut machine, &STEPS)?;
+    take_in_turn(alloc, &mut machine, steps)?;
     let backup = machine.finished().first().ok_or(Wrong::Step(1))?;
-    if backup.start == START && backup.end == END {
+    if backup.start == START && backup.end == end {
         copied(alloc, &backup.copy)
     } else {
         Err(Wrong::Step(2))
@@ -149,9 +154,9 @@ fn backed_up(alloc: Global) -> Result<PageMap, Wrong> {
 fn a_cut_behind_the_listing_is_redone(rt: HostRuntime) -> Result<(), Fail> {
     let alloc = rt.alloc();
     let fork = block_of(0)?.fork;
-    let mut store = backed_up(alloc)?;
-    assert!(rt; store.blocks(&fork) == Some(10) && has_first(&store)? && has_zeros(&store)?);
-    let mut wal = written(alloc)?;
+    let mut store = backed_up(alloc, &STEPS, END)?;
+    assert!(rt; store.blocks(&fork) == Some(10) && has_first(&store)? && has_zeros(&store, 3)?);
+    let mut wal = written(alloc, truncation_kind(fork.rel, 3), END)?;
     assert!(rt; redone(alloc, &mut wal, START, &mut store) == Some(END));
     assert!(rt; store.blocks(&fork) == Some(3) && has_first(&store)?);
     Ok(())

@@ -7,6 +7,10 @@
 #![tactic(auto)]
 
 #[cfg(test)]
+mod anew_tests;
+#[cfg(test)]
+mod dropped_tests;
+#[cfg(test)]
 mod flushed;
 #[cfg(test)]
 mod incremental_tests;

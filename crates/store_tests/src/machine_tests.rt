@@ -21,6 +21,8 @@ pub enum Does {
     Puts(u32, u8),
     /// The fork is cut to so many blocks.
     Cuts(u32),
+    /// The relation is dropped.
+    Drops,
     Writes,
     Cleans(u32),
     Starts,
@@ -43,6 +45,7 @@ pub enum Answer {
     Full,
     Made,
     Cut,
+    Removed,
     Page(u32),
     Cleaned(Lsn),
     Started(Lsn),
@@ -81,6 +84,7 @@ fn step_of(alloc: Global, does: Does) -> Result<Step, Wrong> {
         Does::Creates => Step::Insert(0, Op::Create(block_of(0)?.fork)),
         Does::Puts(block, fill) => Step::Insert(0, put(alloc, block, fill)?),
         Does::Cuts(count) => Step::Insert(0, Op::Truncate(block_of(0)?.fork.rel, count)),
+        Does::Drops => Step::Insert(0, Op::Drop(block_of(0)?.fork.rel)),
         Does::Writes => Step::WritePage(0),
         Does::Cleans(part) => Step::Clean(part),
         Does::Starts => Step::Redo(1),
@@ -101,6 +105,7 @@ fn answer_of(reply: &Reply) -> Answer {
         Reply::WalFull(_) => Answer::Full,
         Reply::Written(Wrote::Made(_)) => Answer::Made,
         Reply::Written(Wrote::Cut(_, _)) => Answer::Cut,
+        Reply::Written(Wrote::Removed(_)) => Answer::Removed,
         Reply::Written(Wrote::Page(at)) => Answer::Page(at.block),
         Reply::Cleaned(redo) => Answer::Cleaned(*redo),
         Reply::Started(place) => Answer::Started(*place),

@@ -6,8 +6,8 @@ ghost use Rattle.std.specs.Prelude.{IfOk};
 ghost use Rattle.page_pool.specs.Ready.{HasItems};
 
 use crate::flushed::{PUT, flushed, page_of};
-use history::{Edit, Item, Items, Op};
-use lsn_core::{AreaFault, BlockId, ForkId, ForkLen, Lsn, NoMemory};
+use history::{Edit, Item, Items, Op, init_fork};
+use lsn_core::{AreaFault, BlockId, ForkId, ForkKind, ForkLen, Lsn, NoMemory};
 use page_frames::Frames;
 use page_pool::{OpFault, Partition, Wrote};
 use pg_page::{Frag, Frags};
@@ -21,22 +21,30 @@ use wal_writer::Flushed;
 /// The partition of 5/16384.
 type Part = Partition<MemVault, 0>;
 
+/// How many device calls write a fork with three pages in two files and remove it: a look whether it
+/// is there, one for each file and page that is made, and one for each file that is removed.
+const CALLS: u64 = 7;
+
 /// The start of the first entry, which is the redo point at first.
 const FIRST: Lsn = Lsn(0x100028);
 
 /// Where the entry of a creation of 5/16384 ends, as the second one of a WAL.
 const CREATED: Lsn = Lsn(0x100090);
 
-/// A command on the main fork of 5/16384.
+/// A command on 5/16384: on its main fork, where nothing else is said.
 #[derive(Clone, Copy)]
 enum Does {
     Creates,
+    /// It creates the init fork.
+    CreatesInit,
     /// It puts a page with a hole, filled with this byte, at each of these blocks.
     Puts(u32, u8),
     PutsTwo(u32, u32),
     /// It writes two bytes over those at a place of a page.
     Patches(u32, u16),
     Cuts(u32),
+    /// It drops the relation.
+    Drops,
 }
 
 /// What is written.
@@ -47,6 +55,8 @@ enum Writes {
     Made,
     /// It is cut to so many blocks.
     Cut(u32),
+    /// The fork of this kind is removed.
+    Removed(ForkKind),
     /// A page at this block.
     Page(u32),
 }
@@ -118,12 +128,14 @@ fn op_of(alloc: Global, does: Does) -> Result<Op, Wrong>
 {
     match does {
         Does::Creates => Ok(Op::Create(fork()?)),
+        Does::CreatesInit => Ok(Op::Create(init_fork(fork()?.rel))),
         Does::Puts(block, fill) => Ok(change(alloc, put(alloc, block, fill)?)?),
         Does::PutsTwo(first, second) => {
             Ok(change_two(alloc, put(alloc, first, 1)?, put(alloc, second, 2)?)?)
         }
         Does::Patches(block, at) => Ok(change(alloc, patch(alloc, fork()?, block, at)?)?),
         Does::Cuts(count) => Ok(Op::Truncate(fork()?.rel, count)),
+        Does::Drops => Ok(Op::Drop(fork()?.rel)),
     }
 }
 
@@ -144,6 +156,7 @@ fn kind_of_write(wrote: Option<Wrote>) -> Writes {
         None => Writes::Nothing,
         Some(Wrote::Made(_)) => Writes::Made,
         Some(Wrote::Cut(_, count)) => Writes::Cut(count),
+        Some(Wrote::Removed(fork)) => Writes::Removed(fork.kind),
         Some(Wrote::Wrote(at)) => Writes::Page(at.block),
     }
 }
@@ -298,6 +311,72 @@ static CLEANED: [PartStep; 9] = [
     PartStep::Reads(2, Some(PUT)),
 ];
 
+/// A fork of two files is dropped once it is written, made anew, dropped again before that is written,
+/// and made a third time.
+static DROPPED: [PartStep; 26] = [
+    PartStep::Refuses(Does::Drops, OpFault::NoFork),
+    PartStep::Takes(Does::Creates, CREATED),
+    PartStep::Takes(Does::PutsTwo(0, 1), Lsn(0x1000A0)),
+    PartStep::Takes(Does::Puts(2, 3), Lsn(0x1000B0)),
+    PartStep::Cleans(Lsn(0x1000B0)),
+    PartStep::Takes(Does::Drops, Lsn(0x1000C0)),
+    PartStep::Refuses(Does::Drops, OpFault::NoFork),
+    PartStep::Refuses(Does::Puts(0, 65), OpFault::NoFork),
+    PartStep::Takes(Does::Creates, Lsn(0x1000D0)),
+    PartStep::Takes(Does::Puts(0, 4), Lsn(0x1000E0)),
+    PartStep::Takes(Does::Drops, Lsn(0x1000F0)),
+    PartStep::Takes(Does::Creates, Lsn(0x1000F8)),
+    PartStep::Takes(Does::Puts(0, 5), PUT),
+    PartStep::Unwritten(Some(Lsn(0x1000C0)), Some(PUT)),
+    PartStep::Lists(Some(3)),
+    PartStep::Reads(2, Some(Lsn(0x1000B0))),
+    PartStep::Written(Writes::Removed(ForkKind::Main)),
+    PartStep::Lists(None),
+    PartStep::Reads(0, None),
+    PartStep::Written(Writes::Made),
+    PartStep::Written(Writes::Removed(ForkKind::Main)),
+    PartStep::Written(Writes::Made),
+    PartStep::Written(Writes::Page(0)),
+    PartStep::Written(Writes::Nothing),
+    PartStep::Lists(Some(1)),
+    PartStep::Reads(0, Some(PUT)),
+];
+
+/// A relation with both forks is dropped and created anew before anything is written: works are
+/// done in the order of their entries, and of the two removals that of the main fork comes first.
+static DROPPED_BOTH: [PartStep; 16] = [
+    PartStep::Takes(Does::CreatesInit, Lsn(0x100080)),
+    PartStep::Takes(Does::Creates, CREATED),
+    PartStep::Takes(Does::Puts(0, 1), Lsn(0x1000A0)),
+    PartStep::Takes(Does::Drops, Lsn(0x1000B0)),
+    PartStep::Takes(Does::Creates, Lsn(0x1000C0)),
+    PartStep::Takes(Does::Puts(0, 2), Lsn(0x1000D0)),
+    PartStep::Unwritten(Some(Lsn(0x100080)), Some(Lsn(0x1000D0))),
+    PartStep::Written(Writes::Made),
+    PartStep::Written(Writes::Made),
+    PartStep::Written(Writes::Removed(ForkKind::Main)),
+    PartStep::Written(Writes::Removed(ForkKind::Init)),
+    PartStep::Written(Writes::Made),
+    PartStep::Written(Writes::Page(0)),
+    PartStep::Written(Writes::Nothing),
+    PartStep::Lists(Some(1)),
+    PartStep::Reads(0, Some(Lsn(0x1000D0))),
+];
+
+/// A fork of two files is dropped once it is written, and created anew once it is removed.
+static REMOVED: [PartStep; 10] = [
+    PartStep::Takes(Does::Creates, CREATED),
+    PartStep::Takes(Does::PutsTwo(0, 1), Lsn(0x1000A0)),
+    PartStep::Takes(Does::Puts(2, 3), Lsn(0x1000B0)),
+    PartStep::Takes(Does::Drops, Lsn(0x1000C0)),
+    PartStep::Unwritten(None, None),
+    PartStep::Lists(None),
+    PartStep::Takes(Does::Creates, Lsn(0x1000D0)),
+    PartStep::Written(Writes::Made),
+    PartStep::Lists(Some(0)),
+    PartStep::Reads(0, None),
+];
+
 #[test]
 fn the_first_page_is_written_behind_its_fork(rt: HostRuntime) -> Result<(), Fail> {
     let alloc = rt.alloc();
@@ -325,6 +404,24 @@ fn all_is_written_at_once(rt: HostRuntime) -> Result<(), Fail> {
     Ok(())
 }
 
+#[test]
+fn dropped_forks_are_removed(rt: HostRuntime) -> Result<(), Fail> {
+    let alloc = rt.alloc();
+    let mark = flushed(alloc)?;
+    let mut part = partition(alloc, &[])?;
+    take_all(alloc, &mut part, &mark, &DROPPED)?;
+    Ok(())
+}
+
+#[test]
+fn the_main_fork_is_removed_first(rt: HostRuntime) -> Result<(), Fail> {
+    let alloc = rt.alloc();
+    let mark = flushed(alloc)?;
+    let mut part = partition(alloc, &[])?;
+    take_all(alloc, &mut part, &mark, &DROPPED_BOTH)?;
+    Ok(())
+}
+
 /// How many of eight writes failed.
 fn failed(part: &mut Part, mark: &Flushed) -> u32 {
     let mut failed: u32 = 0;
@@ -348,5 +445,33 @@ fn failed_writes_are_made_good(rt: HostRuntime) -> Result<(), Fail> {
         assert!(rt; failed(&mut part, &mark) == 1);
         take_all(alloc, &mut part, &mark, &CUT[13..])?;
     }
+    Ok(())
+}
+
+/// How many writes fail of a fork and of its removal, where a device call fails. The fork is removed
+/// all the same, and created anew.
+fn failed_removals(alloc: Global, mark: &Flushed, call: u64) -> Result<(u32, u32), Wrong> {
+    let mut part = partition(alloc, &[call])?;
+    take_all(alloc, &mut part, mark, &REMOVED[..3])?;
+    let before = failed(&mut part, mark);
+    take_all(alloc, &mut part, mark, &REMOVED[3..4])?;
+    let removal = failed(&mut part, mark);
+    take_all(alloc, &mut part, mark, &REMOVED[4..])?;
+    Ok((before, removal))
+}
+
+/// Where one of these device calls fails, so does one write, and the next one makes it good. Two of
+/// them are the removal's.
+#[test]
+fn failed_removals_are_made_good(rt: HostRuntime) -> Result<(), Fail> {
+    let alloc = rt.alloc();
+    let mark = flushed(alloc)?;
+    let mut removals: u32 = 0;
+    for call in 1..=CALLS {
+        let (before, removal) = failed_removals(alloc, &mark, call)?;
+        assert!(rt; before.saturating_add(removal) == 1);
+        removals = removals.saturating_add(removal);
+    }
+    assert_eq!(rt; removals, 2);
     Ok(())
 }
