@@ -6,39 +6,44 @@ use mathlib.Core.List.{IsPrefix}
 use Rattle.lsn_core.specs.Segment.{StoreSettings}
 use Rattle.lsn_core.specs.declared.ids.BlockId.{BlockId}
 use Rattle.lsn_core.specs.declared.lsn.Place.{Place}
+use Rattle.lsn_core.specs.Causes.{Rose}
 use Rattle.lsn_core.specs.declared.fault.StoreArea.{StoreArea}
 use Rattle.history.specs.declared.op.Op.{Op}
 use Rattle.history.specs.Entry.{Entry}
 use Rattle.shared_store.specs.declared.fault.InsertFault.{InsertFault}
 use Rattle.shared_store.specs.declared.fault.InsertFault.TheVariants as insert
 use Rattle.shared_store.specs.Seen.{Seen}
-use Rattle.shared_store.specs.Opened.{Opened}
+use Rattle.shared_store.specs.Opened.{Opened, count_of}
+use Rattle.shared_store.specs.Calls.{InsertCause}
 use Rattle.crew.specs.declared.script.Command.TheVariants as command
 use Rattle.crew.specs.declared.order.Order.{Order}
 use Rattle.crew.specs.declared.answer.Answer.TheVariants.{Accepted, Refused, Grown, Stopped}
 use Rattle.crew.specs.Orders.{op_asked, grow_op, grow_ops}
 use Rattle.crew.specs.Shape.{Shape}
-use Rattle.crew.specs.Run.{IsMade, Made, IsRefusedNow, span_end, span_of, TellsFault, CountRose}
+use Rattle.crew.specs.Run.{IsMade, Made, IsRefusedNow, span_end, span_of, TellsFault}
 use Rattle.crew.specs.Running.{Knows, WentOn, Inserts, CommandRuns}
 use Rattle.crew.proofs.Moments.{made_later, made_on}
-use Rattle.crew.proofs.Steps.{went_nowhere, went_further}
+use Rattle.crew.proofs.Steps.{rose_from, store_rose, went_nowhere, went_further}
 
--- no refusal of a command tells that an area failed
-pub none_failed : (why : InsertFault) (area : StoreArea) (P : Type 0) → TellsFault area (Refused why) → P
-none_failed (insert.NoFork n) area P t = absurd cc
-none_failed (insert.ForkExists n) area P t = absurd cc
-none_failed (insert.PastEnd n) area P t = absurd cc
-none_failed (insert.NoBlock n) area P t = absurd cc
-none_failed (insert.BadPage i n) area P t = absurd cc
-none_failed (insert.BadFragment i j) area P t = absurd cc
-none_failed insert.BlockCount area P t = absurd cc
-none_failed insert.TwoRelations area P t = absurd cc
-none_failed (insert.ForkFull n) area P t = absurd cc
-none_failed (insert.StoreFull n) area P t = absurd cc
-none_failed (insert.CutPastEnd n) area P t = absurd cc
-none_failed insert.NoMemory area P t = absurd cc
-none_failed (insert.SameBlock i) area P t = absurd cc
-none_failed (insert.WalFull n) area P t = absurd cc
+-- the count of an area rose that the refusal of a command tells to have failed
+insert_risen : (before behind : Opened) (why : InsertFault) (area : StoreArea) → InsertCause before.faults behind.faults why → TellsFault area (Refused why) → Rose (count_of area before.faults) (count_of area behind.faults)
+insert_risen before behind (insert.Failed other) area cause t =
+    let same : other ≡ area = cc in
+    subst (λ (a : StoreArea). Rose (count_of a before.faults) (count_of a behind.faults)) same cause
+insert_risen before behind (insert.NoFork n) area cause t = absurd cc
+insert_risen before behind (insert.ForkExists n) area cause t = absurd cc
+insert_risen before behind (insert.PastEnd n) area cause t = absurd cc
+insert_risen before behind (insert.NoBlock n) area cause t = absurd cc
+insert_risen before behind (insert.BadPage i n) area cause t = absurd cc
+insert_risen before behind (insert.BadFragment i j) area cause t = absurd cc
+insert_risen before behind insert.BlockCount area cause t = absurd cc
+insert_risen before behind insert.TwoRelations area cause t = absurd cc
+insert_risen before behind (insert.ForkFull n) area cause t = absurd cc
+insert_risen before behind (insert.StoreFull n) area cause t = absurd cc
+insert_risen before behind (insert.CutPastEnd n) area cause t = absurd cc
+insert_risen before behind insert.NoMemory area cause t = absurd cc
+insert_risen before behind (insert.SameBlock i) area cause t = absurd cc
+insert_risen before behind (insert.WalFull n) area cause t = absurd cc
 
 -- ---- one command
 
@@ -61,7 +66,7 @@ refused_line tells order old new before behind why i = λ when held. record {
   made = [];
   went = i.0;
   answered = (order, refl, refl, i.1, refl);
-  risen = λ area t. none_failed why area (CountRose area (command.Insert order) before behind held held) t;
+  risen = λ area t. store_rose area (command.Insert order) before behind held held (insert_risen before behind why area i.2 t);
   run = refl;
 }
 
@@ -131,7 +136,7 @@ stopped tells old now new before mid behind at shape k count span why g i lt = �
         subst (λ (n : ℕ). IsRefusedNow tells n new.list (grow_op at shape k) why) same i.1,
         refl,
       );
-      risen = λ area t. none_failed why area (CountRose area (command.Grow at count shape) before behind held held) t;
+      risen = λ area t. store_rose area (command.Grow at count shape) before behind held held (rose_from (count_of area before.faults) (count_of area mid.faults) (count_of area behind.faults) (g.went.goes_on.later area) (insert_risen mid behind why area i.2 t));
       run = refl;
     }
 

@@ -1,7 +1,8 @@
 -- What holds of every run.
-use Rattle.std.proofs.Common.{◌≡◌, ℕ, true, List, ◌++◌, length, None, refl, ap, sym, subst, ◌∙◌, arith}
+use Rattle.std.proofs.Common.{◌≡◌, ℕ, true, List, ◌++◌, length, None, refl, ap, sym, subst, ◌∙◌, arith, ◌⊎◌, inl, inr}
 use Rattle.std.proofs.lemmas.List.Elements.{filter-append}
 use Rattle.lsn_core.specs.Store.{Store}
+use Rattle.lsn_core.specs.declared.fault.StoreArea.{StoreArea}
 use Rattle.history.specs.declared.op.Op.{Op}
 use Rattle.history.specs.Entry.{Entry}
 use Rattle.history.specs.Written.{tip_of}
@@ -26,8 +27,12 @@ runs_answer tells b lines old new held mid answers run none =
       order = run.order;
     }
 
+-- an area that failed, or want of memory
+abbrev IsFree : InsertFault → Type 0
+IsFree why = ((area : StoreArea) × (why ≡ insert.Failed area)) ⊎ (why ≡ insert.NoMemory)
+
 -- a refusal is why it was judged so
-first_refusal : (mib : ℕ) (store : Store) (history : List Entry) (asked : Op) (why : InsertFault) → judged_at mib store (tip_of mib history) asked ≡ None → IsRefused mib store (tip_of mib history) asked why → why ≡ insert.NoMemory
+first_refusal : (mib : ℕ) (store : Store) (history : List Entry) (asked : Op) (why : InsertFault) → judged_at mib store (tip_of mib history) asked ≡ None → IsRefused mib store (tip_of mib history) asked why → IsFree why
 first_refusal mib store history asked (insert.NoFork n) none is = absurd cc
 first_refusal mib store history asked (insert.ForkExists n) none is = absurd cc
 first_refusal mib store history asked (insert.PastEnd n) none is = absurd cc
@@ -39,7 +44,8 @@ first_refusal mib store history asked insert.TwoRelations none is = absurd cc
 first_refusal mib store history asked (insert.ForkFull n) none is = absurd cc
 first_refusal mib store history asked (insert.StoreFull n) none is = absurd cc
 first_refusal mib store history asked (insert.CutPastEnd n) none is = absurd cc
-first_refusal mib store history asked insert.NoMemory none is = refl
+first_refusal mib store history asked (insert.Failed area) none is = inl (area, refl)
+first_refusal mib store history asked insert.NoMemory none is = inr refl
 first_refusal mib store history asked (insert.SameBlock i) none is = absurd cc
 first_refusal mib store history asked (insert.WalFull n) none is = absurd cc
 

@@ -22,7 +22,7 @@ use Rattle.shared_store.specs.declared.fault.InsertFault.TheVariants as insert
 use Rattle.shared_store.specs.Seen.{Seen, StaysBy, is_by, is_number, accepted_by}
 use Rattle.shared_store.specs.Refusals.{IsRefusedBehind}
 use Rattle.shared_store.specs.Opened.{Opened, count_of}
-use Rattle.shared_store.specs.Calls.{GoesOn, IsReceipt, IsTaken}
+use Rattle.shared_store.specs.Calls.{GoesOn, InsertCause, IsReceipt, IsTaken}
 use Rattle.shared_store.proofs.Goes.{goes_on, goes_nowhere}
 use Rattle.crew.specs.declared.script.Command.{Command}
 use Rattle.crew.specs.Run.{IsMade, IsTakenAt, IsOfWorker, CountRose}
@@ -146,10 +146,11 @@ inserted tells asked old new before behind receipt k r taken stays whole counted
     (e, went, made, same_place receipt.place e.start e.end r.start r.end)
 
 pub refused : (tells : Type 0) (asked : Op) (old new : Seen) (before behind : Opened) (why : InsertFault) → Knows old before → behind.history ≡ before.history → (tells → IsRefusedBehind before.settings.segment behind.history asked why)
-    → StaysBy old new → new.list ≡ behind.history → new.accepted ≡ old.accepted → GoesOn before behind → Inserts tells asked old new before behind (Err why)
-refused tells asked old new before behind why k same told stays whole counted goes = (
+    → InsertCause before.faults behind.faults why → StaysBy old new → new.list ≡ behind.history → new.accepted ≡ old.accepted → GoesOn before behind → Inserts tells asked old new before behind (Err why)
+refused tells asked old new before behind why k same told cause stays whole counted goes = (
   stood_still old new before behind k same stays whole counted goes,
   λ t. subst (λ (xs : List Entry). IsRefusedBehind before.settings.segment xs asked why) (sym whole) (told t),
+  cause,
 )
 
 -- a command that was not made for want of memory
@@ -157,4 +158,5 @@ pub not_made : (tells : Type 0) (asked : Op) (seen : Seen) (store : Opened) → 
 not_made tells asked seen store k lawful = (
   went_nowhere seen store k,
   λ t. subst (λ (xs : List Entry). IsRefusedBehind store.settings.segment xs asked insert.NoMemory) (sym k.whole) (record { store = (lawful t).0; state = (lawful t).1; why = tt }),
+  tt,
 )

@@ -483,6 +483,7 @@ Answered tells b worker history from (line ∷ lines) (answer ∷ answers) made 
 -- that failed, or want of memory, but not want of room in the WAL, no area that holds a file, and
 -- nothing that is judged of a prior backup
 abbrev pub insert_stop : InsertFault → Option Stop
+insert_stop (insert.Failed area) = Some (stop.Store (store.Failed area))
 insert_stop insert.NoMemory = Some (stop.Store store.NoMemory)
 insert_stop why = None
 
@@ -741,9 +742,10 @@ AnswersKeepSummariesHonest =
     → NoneStops answers → IsHonestFor (take found history) (held sums_name)
     → IsHonestFor history (new sums_name)
 
--- behind one history a command is taken or refused, and never both, but for want of memory
+-- behind one history a command is taken or refused, and never both, but for an area that fails and
+-- want of memory
 abbrev pub TakenOrRefused : Type 0
 TakenOrRefused =
     (mib : ℕ) (before : List Entry) (asked : Op) (entry : Entry) (why : InsertFault)
     → IsTakenAt mib before asked entry → IsRefusedBehind mib before asked why
-    → why ≡ insert.NoMemory
+    → ((area : StoreArea) × (why ≡ insert.Failed area)) ⊎ (why ≡ insert.NoMemory)

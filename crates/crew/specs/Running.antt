@@ -12,7 +12,7 @@ use Rattle.history.specs.Entry.{Entry}
 use Rattle.shared_store.specs.declared.fault.InsertFault.{InsertFault}
 use Rattle.shared_store.specs.Seen.{Seen, StaysBy, accepted_by}
 use Rattle.shared_store.specs.Opened.{Opened, wal_top}
-use Rattle.shared_store.specs.Calls.{GoesOn}
+use Rattle.shared_store.specs.Calls.{GoesOn, InsertCause}
 use Rattle.base_backup.specs.Incr.{IncrSite, incr_site}
 use Rattle.vault.specs.declared.lending.Held.{Held}
 use Rattle.crew.specs.declared.increments.Places.{Places}
@@ -42,7 +42,7 @@ pub record WentOn (old new : Seen) (before behind : Opened) (made : List Entry) 
   pub goes_on : GoesOn before behind
 
 -- a command's entry stands behind all that was seen, at this place; or nothing was added, and the
--- command is refused there
+-- command is refused there, for an area only where its count of faults rose
 abbrev pub Inserts :
     Type 0 → Op → Seen → Seen → Opened → Opened → Result Place InsertFault → Type 0
 Inserts tells asked old new before behind (Ok place) =
@@ -51,6 +51,7 @@ Inserts tells asked old new before behind (Ok place) =
     × (place ≡ span_of (entry ∷ []))
 Inserts tells asked old new before behind (Err why) =
     WentOn old new before behind [] × IsRefusedNow tells before.settings.segment new.list asked why
+    × InsertCause before.faults behind.faults why
 
 -- a line's command was run and answered, or not run where the worker was stopped before it, and
 -- this is what it left of the areas that are held

@@ -13,7 +13,7 @@ use std::marker::Model;
 pub enum Answer {
     /// The entry of its command stands at this place.
     Accepted(Place),
-    /// Its command was refused, and changed nothing.
+    /// Its command was refused, and changed neither the history nor a page.
     Refused(InsertFault),
     /// All of its so many blocks were put; their entries stand between the first one's start and the
     /// last one's end.
@@ -57,6 +57,7 @@ fn insert_stop(why: InsertFault) -> Option<Stop>
     ensures { result ≡ insert_stop why }
 {
     match why {
+        InsertFault::Failed(area) => Some(Stop::Store(StoreFault::Failed(area))),
         InsertFault::NoMemory => Some(Stop::Store(StoreFault::NoMemory)),
         _ => None,
     }

@@ -42,6 +42,13 @@ judged_edits i [] = None
 judged_edits i (item ∷ items) =
     option_or (judged_frags i item.edit) (judged_edits (i + 1) items)
 
+-- the first of these refusals of a command
+abbrev pub judged_alone : Op → Option OpFault
+judged_alone (op.Create fork) = None
+judged_alone (op.Truncate rel count) = None
+judged_alone (op.Change items) = option_or (judged_blocks 0 [] items) (judged_edits 0 items)
+judged_alone (op.Drop rel) = None
+
 -- ---- what each item finds
 
 -- a page may be put up to the end of its fork; a patch is of a block that is there, and leaves it

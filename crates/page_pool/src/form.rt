@@ -3,12 +3,26 @@
 ghost use Rattle.std.specs.Prelude.{◌≡◌, ◌≤◌, [], map, length};
 ghost use Rattle.std.specs.Result.{result_err};
 ghost use Rattle.history.specs.Whole.{is_named};
-ghost use Rattle.page_pool.specs.Refusals.{most_items, judged_blocks, judged_frags, judged_edits};
+ghost use Rattle.page_pool.specs.Ready.{HasItems};
+ghost use Rattle.page_pool.specs.Refusals.{most_items, judged_alone, judged_blocks, judged_frags, judged_edits};
 
 use crate::fault::OpFault;
-use history::{Edit, Item, is_same_block};
+use history::{Edit, Item, Op, is_same_block};
 use lsn_core::BlockId;
 use pg_page::check_frags;
+
+/// Whether a command shows by itself that it can't be done, whatever the pages are: an item names the
+/// block of an earlier one, or has a bad fragment.
+pub fn judge_alone(op: &Op) -> Result<(), OpFault>
+    requires { HasItems op.now }
+    ensures { result_err result ≡ judged_alone op.now }
+{
+    let Op::Change(items) = op else {
+        return Ok(());
+    };
+    judge_blocks(items.as_slice())?;
+    judge_edits(items.as_slice())
+}
 
 /// Whether no item names the block of an earlier one.
 pub(crate) fn judge_blocks(items: &[Item]) -> Result<(), OpFault>

@@ -24,6 +24,7 @@ mod work;
 mod writing;
 
 pub use fault::OpFault;
+pub use form::judge_alone;
 pub use laws::{
     acts_are_entered, clean_partitions_lack_nothing, entries_are_followed, followers_cover,
     parts_count_alike, parts_judge_alike, unwritten_is_of_history, writes_are_followed,

@@ -44,6 +44,7 @@ insert_fault_text insert_fault.TwoRelations = codes "8 TwoRelations"
 insert_fault_text (insert_fault.ForkFull n) = codes "9 ForkFull " ++ decimal n
 insert_fault_text (insert_fault.StoreFull n) = codes "10 StoreFull " ++ decimal n
 insert_fault_text (insert_fault.CutPastEnd n) = codes "11 CutPastEnd " ++ decimal n
+insert_fault_text (insert_fault.Failed area) = codes "12 DeviceFault " ++ area_name area
 insert_fault_text insert_fault.NoMemory = codes "13 NoMemory"
 insert_fault_text (insert_fault.SameBlock i) = codes "14 SameBlock " ++ decimal i
 insert_fault_text (insert_fault.WalFull n) = codes "15 WalFull " ++ decimal n

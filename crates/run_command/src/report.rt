@@ -15,8 +15,8 @@ use crate::command::RunReport;
 use crate::told::Told;
 use base_backup::{BackupFault, IncrFault};
 use command_base::{
-    area_text, backup_name, full_text, gap_text, joined, manifest_text, overlap_text, refused_line,
-    store_text, systems_text,
+    area_name, area_text, backup_name, full_text, gap_text, joined, manifest_text, overlap_text,
+    refused_line, store_text, systems_text,
 };
 use crew::{Answer, Command, Line, Stop};
 use lsn_core::{AreaFault, Lsn, MarkFault, NoMemory, Place, StoreArea, StoreFault, Text, lsn_text};
@@ -38,6 +38,9 @@ fn insert_fault_text(alloc: Global, fault: InsertFault) -> Result<Text, NoMemory
         InsertFault::ForkFull(n) => format!(in alloc; "9 ForkFull {n}")?,
         InsertFault::StoreFull(n) => format!(in alloc; "10 StoreFull {n}")?,
         InsertFault::CutPastEnd(n) => format!(in alloc; "11 CutPastEnd {n}")?,
+        InsertFault::Failed(area) => {
+            return joined(alloc, &[b"12 DeviceFault ", area_name(area)]);
+        }
         InsertFault::NoMemory => format!(in alloc; "13 NoMemory")?,
         InsertFault::SameBlock(i) => format!(in alloc; "14 SameBlock {i}")?,
         InsertFault::WalFull(n) => format!(in alloc; "15 WalFull {n}")?,

@@ -10,6 +10,8 @@ use Rattle.lsn_core.specs.declared.ids.BlockId.{BlockId}
 use Rattle.lsn_core.specs.Store.{Store, ForkPages}
 use Rattle.lsn_core.specs.Blocks.{with_cut_pages, without_fork}
 use Rattle.lsn_core.specs.Tip.{Tip}
+use Rattle.lsn_core.specs.declared.fault.StoreFault.{StoreFault}
+use Rattle.lsn_core.specs.declared.fault.StoreFault.TheVariants as store
 use Rattle.wal_record.specs.Tips.{wal_limit, record_at_tip}
 use Rattle.wal_record.specs.declared.record.Kind.{Kind}
 use Rattle.wal_writer.specs.Log.{Log, next_record}
@@ -34,7 +36,7 @@ use Rattle.page_pool.specs.declared.fault.OpFault.{OpFault}
 use Rattle.page_pool.specs.declared.fault.OpFault.TheVariants as why
 use Rattle.page_pool.specs.declared.ready.Ready.{Ready}
 use Rattle.page_pool.specs.Part.{Part}
-use Rattle.page_pool.specs.Refusals.{judged_blocks, judged_edits, judged_items, judged_op, IsRefusedOp}
+use Rattle.page_pool.specs.Refusals.{judged_alone, judged_blocks, judged_edits, judged_items, judged_op, IsRefusedOp}
 use Rattle.page_pool.specs.Ready.{IsChecked, done_at}
 use Rattle.page_pool.proofs.Counted.{gone_pages}
 use Rattle.page_pool.proofs.Items.{first_none}
@@ -45,7 +47,7 @@ use Rattle.shared_store.specs.declared.fault.InsertFault.{InsertFault}
 use Rattle.shared_store.specs.declared.fault.InsertFault.TheVariants as fault
 use Rattle.shared_store.specs.Refusals.{most_pages, fault_at, judged_form, judged_total, judged_room, judged_at, IsRefused, IsRefusedBehind}
 use Rattle.shared_store.specs.Opened.{IsPartOf}
-use Rattle.shared_store.specs.Inside.{pages_behind, is_over, IsAdmitted}
+use Rattle.shared_store.specs.Inside.{insert_fault, pages_behind, is_over, IsAdmitted}
 
 -- ---- the store behind a history, and a partition's part of it
 
@@ -82,6 +84,7 @@ refused_is mib store tip command fault.TwoRelations e = e
 refused_is mib store tip command (fault.ForkFull n) e = e
 refused_is mib store tip command (fault.StoreFull n) e = e
 refused_is mib store tip command (fault.CutPastEnd n) e = e
+refused_is mib store tip command (fault.Failed area) e = tt
 refused_is mib store tip command fault.NoMemory e = tt
 refused_is mib store tip command (fault.SameBlock i) e = e
 refused_is mib store tip command (fault.WalFull n) e = e
@@ -103,6 +106,34 @@ memory_refuses log history store command state tip = refused_behind log history 
 
 second_is : (a : Option InsertFault) (b : Option OpFault) (c : Option InsertFault) (g : OpFault → InsertFault) (f : OpFault) → a ≡ None → b ≡ Some f → option_or a (option_or (option_map g b) c) ≡ Some (g f)
 second_is a b c g f e d = rw (e, d) refl
+
+-- it shows by itself that it can't be done
+or_front : (a b c : Option OpFault) (f : OpFault) → option_or a b ≡ Some f → option_or a (option_or b c) ≡ Some f
+or_front (Some x) b c f e = e
+or_front None (Some y) c f e = e
+or_front None None c f e = absurd cc
+
+alone_first : (store : Store) (command : Op) (f : OpFault) → judged_alone command ≡ Some f → judged_op store command ≡ Some f
+alone_first store (op.Create fork) f e = absurd cc
+alone_first store (op.Truncate rel count) f e = absurd cc
+alone_first store (op.Change items) f e = or_front (judged_blocks 0 [] items) (judged_edits 0 items) (judged_items 0 store items) f e
+alone_first store (op.Drop rel) f e = absurd cc
+
+pub alone_refuses : (log : Log) (o : Option Files) (history : List Entry) (pages : ℕ) (command : Op) (f : OpFault) (tip : Tip) (answer : InsertFault) → IsTold log o history pages → judged_form command ≡ None → judged_alone command ≡ Some f → tip ≡ log.tip
+    → answer ≡ fault_at tip.count f → IsRefusedBehind log.mib history command answer
+alone_refuses log o history pages command f tip answer is form alone same answer_is =
+    subst (IsRefusedBehind log.mib history command) (ap (λ (t : Tip). fault_at t.count f) (sym same) ∙ sym answer_is)
+    (refused_behind log history is.lawful.store command (fault_at log.tip.count f) is.lawful.made is.tip
+    (refused_is log.mib is.lawful.store log.tip command (fault_at log.tip.count f)
+    (second_is (judged_form command) (judged_op is.lawful.store command) _ (fault_at log.tip.count) f form (alone_first is.lawful.store command f alone))))
+
+-- an area failed, or memory ran out
+pub area_refuses : (log : Log) (o : Option Files) (history : List Entry) (pages : ℕ) (command : Op) (f : StoreFault) → IsTold log o history pages → IsRefusedBehind log.mib history command (insert_fault f)
+area_refuses log o history pages command f is = refused_behind log history is.lawful.store command (insert_fault f) is.lawful.made is.tip (free f)
+  where
+    free : (f : StoreFault) → IsRefused log.mib is.lawful.store log.tip command (insert_fault f)
+    free (store.Failed area) = tt
+    free store.NoMemory = tt
 
 -- a partition refuses it
 pub part_refuses : (q : ℕ) (log : Log) (history : List Entry) (pages : ℕ) (part : Store) (command : Op) (f : OpFault) → Known q log history pages part → ConcernsNoOther q (act_of_op command) → judged_form command ≡ None → IsRefusedOp part command f

@@ -4,6 +4,7 @@ pub mod Kept
 pub mod Goes
 pub mod Behind
 pub mod Checked
+pub mod Causes
 pub mod Marked
 pub mod Rounds
 pub mod Closed

@@ -60,7 +60,7 @@ impl<J: OfCrew, V: Vault> Store<J, V> {
     }
 
     /// Writes all that a partition has dirty or pending, the WAL flushed first, and raises its point
-    /// to the redo point.
+    /// to the redo point, past which the WAL is flushed too.
     fn clean_part(&mut self, alloc: Global, q: u32, redo: Lsn) -> Result<Cleaned, StoreFault>
         requires number { q < 4 }
         requires late { redo.0 ≤ history_end self.old.history }
@@ -191,8 +191,8 @@ impl<J: OfCrew, V: Vault> Store<J, V> {
         }
     }
 
-    /// A checkpoint: appends its start, writes all that is dirty or pending in each partition, the
-    /// WAL flushed first, appends its end, and flushes the WAL. Its entries stand behind all that
+    /// A checkpoint: appends its start, flushes the WAL past it, writes all that is dirty or pending
+    /// in each partition, appends its end, and flushes the WAL. Its entries stand behind all that
     /// the pass had seen.
     pub fn checkpoint(
         &mut self,

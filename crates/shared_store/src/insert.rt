@@ -1,37 +1,86 @@
 //! Inserting a command into one partition.
 
-ghost use Rattle.std.specs.Prelude.{◌≡◌, ◌+◌, ◌<◌, true, [], ◌∷◌, ◌++◌, None, Some, IfOk, OnOk, OnErr, IfErr, length};
+ghost use Rattle.std.specs.Prelude.{◌≡◌, ◌+◌, ◌<◌, ◌≤◌, true, [], ◌∷◌, ◌++◌, None, Some, IfOk, OnOk, OnErr, IfErr, length};
 ghost use Rattle.history.specs.Op.{act_of_op};
+ghost use Rattle.lsn_core.specs.declared.fault.StoreArea.TheVariants.{Data};
 ghost use Rattle.wal_record.specs.Spelling.{IsWritable};
 ghost use Rattle.wal_writer.specs.Answers.{AppendAnswer};
 ghost use Rattle.partitions.specs.Parts.{ConcernsNoOther};
 ghost use Rattle.journal.specs.Journal.{MayFollow, entry_at};
 ghost use Rattle.page_pool.specs.Ready.{HasItems, IsChecked, IsReady};
 ghost use Rattle.page_pool.specs.Calls.{SameUnwritten, SameDisk};
-ghost use Rattle.shared_store.specs.Refusals.{judged_form, IsRefusedBehind};
+ghost use Rattle.shared_store.specs.Refusals.{judged_form, judged_itself, IsRefusedBehind};
 ghost use Rattle.shared_store.specs.Opened.{IsPartOf, AreCounts};
-ghost use Rattle.shared_store.specs.Calls.{IsReceipt, IsTaken};
+ghost use Rattle.shared_store.specs.Calls.{IsReceipt, IsTaken, most_waiting};
 ghost use Rattle.shared_store.specs.Inside.{pages_behind, is_over, IsAdmitted, AddsOnly, IsNextOf};
+ghost use Rattle.shared_store.specs.Inside.{CommandCause, GrowsWal, NamesNoArea, written_end};
 
-use crate::fault::{InsertFault, fault_at};
+use crate::fault::{InsertFault, fault_at, insert_fault};
+use crate::flush::flush_waiting;
 use crate::form::{judge_form, partition_of_op};
 use crate::receipt::Receipt;
 use history::Op;
 use journal::{HistoryEntry, Journal, OfStore, know_pages};
 use lsn_core::Place;
-use page_pool::{Partition, Ready};
+use page_pool::{Partition, Ready, judge_alone};
 use std::alloc::Global;
 use timeline::Timeline;
 use vault::Vault;
 use wal_record::Record;
-use wal_writer::AppendFault;
+use wal_writer::{AppendFault, Flushed};
 
 /// The most pages of a store (profile).
 const MOST_PAGES: u64 = 65_536;
 
-/// Inserts a command of a worker that concerns this partition alone: judges it, appends its entry,
-/// changes the pages, and counts it. A refusal is the first one in order, and changes nothing.
+/// Inserts a command of a worker that concerns this partition alone: flushes the WAL where too much
+/// of it waits, judges the command, appends its entry, changes the pages, and counts it. A refusal is
+/// the first one in order, but for an area that fails, and leaves history and pages as they are.
 pub(crate) fn insert_in<J: OfStore, V: Vault, W: Vault, const Q: u32>(
+    alloc: Global,
+    line: &Timeline<HistoryEntry, J>,
+    journal: &mut Journal<J, V>,
+    part: &mut Partition<W, Q>,
+    counts: &mut Vec<u64>,
+    mark: &mut Flushed,
+    worker: u32,
+    op: &Op,
+) -> Result<Receipt, InsertFault>
+    requires form { judged_form op.now ≡ None }
+    requires items { HasItems op.now }
+    requires alone { ConcernsNoOther Q (act_of_op op.now) }
+    requires part { IsPartOf Q part.old.relseg (J.tells ≡ true) journal.old.pen part.old }
+    requires counts { AreCounts counts.old.items journal.old.pen }
+    requires marked { mark.old.to.0 ≤ journal.old.wal.tail.flushed }
+    requires worker { worker < length counts.old.items }
+    ensures accepted { IfOk result (IsReceipt worker op.now journal.old.pen journal.new.pen) }
+    ensures taken { J.tells ≡ true
+        → IfOk result (IsTaken journal.old.wal.tail.mib op.now journal.old.pen) }
+    ensures few { OnOk result
+        (written_end journal.old ≤ journal.new.wal.tail.flushed + most_waiting) }
+    ensures before { journal.new.wal.tail.flushed ≤ written_end journal.old }
+    ensures refused { J.tells ≡ true
+        → IfErr result (IsRefusedBehind journal.old.wal.tail.mib journal.old.pen op.now) }
+    ensures same { OnErr result (journal.new.pen ≡ journal.old.pen) }
+    ensures cause { IfErr result (CommandCause (Data Q) (V.faults journal.old.wal.area)
+        (V.faults journal.new.wal.area) part.old.faults part.new.faults) }
+    ensures grows { GrowsWal V.Vault journal.old journal.new }
+    ensures next { OnOk result (IsNextOf op.now journal.old.pen journal.new.pen) }
+    ensures part { IsPartOf Q part.old.relseg (J.tells ≡ true) journal.new.pen part.new }
+    ensures later { part.old.faults ≤ part.new.faults }
+    ensures counts { AreCounts counts.new.items journal.new.pen }
+    ensures crew { length counts.new.items ≡ length counts.old.items }
+    ensures marked { mark.new.to.0 ≤ journal.new.wal.tail.flushed }
+{
+    journal.know();
+    let _tip = journal.tip();
+    if let Err(fault) = flush_waiting(alloc, journal, mark) {
+        return Err(insert_fault(fault));
+    }
+    insert_prepared(alloc, line, journal, part, counts, worker, op)
+}
+
+/// The same, where the WAL is flushed far enough: a refusal changes nothing.
+fn insert_prepared<J: OfStore, V: Vault, W: Vault, const Q: u32>(
     alloc: Global,
     line: &Timeline<HistoryEntry, J>,
     journal: &mut Journal<J, V>,
@@ -51,6 +100,7 @@ pub(crate) fn insert_in<J: OfStore, V: Vault, W: Vault, const Q: u32>(
         → IfOk result (IsTaken journal.old.wal.tail.mib op.now journal.old.pen) }
     ensures refused { J.tells ≡ true
         → IfErr result (IsRefusedBehind journal.old.wal.tail.mib journal.old.pen op.now) }
+    ensures named { IfErr result NamesNoArea }
     ensures same { OnErr result (journal.new ≡ journal.old) }
     ensures adds { AddsOnly journal.old journal.new }
     ensures next { OnOk result (IsNextOf op.now journal.old.pen journal.new.pen) }
@@ -79,22 +129,28 @@ pub(crate) fn insert_in<J: OfStore, V: Vault, W: Vault, const Q: u32>(
 }
 
 /// The partition that a command concerns, and it alone; it errs where the command hasn't the form of
-/// one.
+/// one, or can't be done on any pages.
 pub(crate) fn partition_for<J: OfStore, V: Vault>(
     journal: &Journal<J, V>,
     op: &Op,
 ) -> Result<u32, InsertFault>
     ensures below { IfOk result (λ q. q < 4) }
     ensures form { OnOk result (judged_form op.now ≡ None) }
+    ensures itself { OnOk result (judged_itself op.now ≡ None) }
     ensures items { OnOk result (HasItems op.now) }
     ensures alone { IfOk result (λ q. ConcernsNoOther q (act_of_op op.now)) }
     ensures refused { J.tells ≡ true
         → IfErr result (IsRefusedBehind journal.now.wal.tail.mib journal.now.pen op.now) }
+    ensures named { IfErr result NamesNoArea }
 {
     journal.know();
-    match judge_form(op) {
+    let tip = journal.tip();
+    if let Err(fault) = judge_form(op) {
+        return Err(fault);
+    }
+    match judge_alone(op) {
         Ok(()) => Ok(partition_of_op(op)),
-        Err(fault) => Err(fault),
+        Err(fault) => Err(fault_at(tip.count, fault)),
     }
 }
 
@@ -118,6 +174,7 @@ fn check_in<J: OfStore, V: Vault, W: Vault, const Q: u32>(
         IsAdmitted journal.now.wal.tail journal.now.pen op.now r.0.kind) }
     ensures refused { J.tells ≡ true
         → IfErr result (IsRefusedBehind journal.now.wal.tail.mib journal.now.pen op.now) }
+    ensures named { IfErr result NamesNoArea }
     ensures same { SameUnwritten part.old part.new }
     ensures area { SameDisk part.old part.new }
 {

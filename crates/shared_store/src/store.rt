@@ -1,12 +1,12 @@
 //! An open store.
 
-ghost use Rattle.std.specs.Prelude.{◌≡◌, ◌+◌, ◌<◌, ◌≤◌, true, IfOk, OnOk, OnErr, IfErr};
+ghost use Rattle.std.specs.Prelude.{◌≡◌, ◌+◌, ◌<◌, ◌≤◌, true, IfOk, OnOk, OnErr, IfErr, IsSome};
 ghost use Rattle.journal.specs.Journal.{IsEndOf};
 ghost use Rattle.wal_record.specs.Tips.{wal_limit};
 ghost use Rattle.shared_store.specs.Seen.{StaysBy};
-ghost use Rattle.shared_store.specs.Refusals.{IsRefusedBehind};
+ghost use Rattle.shared_store.specs.Refusals.{IsRefusedBehind, judged_itself};
 ghost use Rattle.shared_store.specs.Opened.{IsOpen, IsLawfulOf, StoreCause, opened_of, wal_top};
-ghost use Rattle.shared_store.specs.Calls.{GoesOn, IsReceipt, IsTaken};
+ghost use Rattle.shared_store.specs.Calls.{GoesOn, InsertCause, IsReceipt, IsTaken, most_waiting};
 
 use crate::fault::InsertFault;
 use crate::flush::{flush, write_in};
@@ -106,9 +106,11 @@ impl<J: OfCrew, V: Vault> Store<J, V> {
         let _tip = self.journal.tip();
     }
 
-    /// Inserts a command: judges it, appends its entry to the WAL and the history, and changes the
-    /// pages. The entry isn't durable before a flush. A refusal is the first one in order, and
-    /// changes nothing.
+    /// Inserts a command: judges its form and what it shows by itself, flushes the WAL up to its end
+    /// where more than 4 MiB of it wait, judges the command on the pages, appends its entry to the
+    /// WAL and the history, and changes the pages. The entry isn't durable before a flush. A refusal
+    /// is the first one in order, but for an area that fails, and leaves history and pages as they
+    /// are; one that a command shows by itself changes nothing.
     pub fn insert(
         &mut self,
         alloc: Global,
@@ -120,16 +122,17 @@ impl<J: OfCrew, V: Vault> Store<J, V> {
         ensures taken { J.tells ≡ true
             → IfOk result (IsTaken self.old.settings.segment op.now self.old.history) }
         ensures lawful { OnOk result (IsLawfulOf (J.tells ≡ true) self.new) }
-        ensures in_memory { OnOk result
-            ((self.new.wal ≡ self.old.wal) × (self.new.flushed ≡ self.old.flushed)) }
-        ensures same { OnErr result (self.new ≡ self.old) }
+        ensures few { OnOk result (wal_top self.old ≤ self.new.flushed + most_waiting) }
+        ensures before { self.new.flushed ≤ wal_top self.old }
+        ensures same { OnErr result (self.new.history ≡ self.old.history) }
+        ensures itself { IsSome (judged_itself op.now) → self.new ≡ self.old }
         ensures refused { J.tells ≡ true → IfErr result
             (IsRefusedBehind self.old.settings.segment self.new.history op.now) }
         ensures seen { StaysBy pass.old pass.new }
         ensures whole { pass.new.list ≡ self.new.history }
         ensures counted { OnOk result (pass.new.accepted ≡ pass.old.accepted + 1) }
         ensures uncounted { OnErr result (pass.new.accepted ≡ pass.old.accepted) }
-        ensures faults { self.new.faults ≡ self.old.faults }
+        ensures cause { IfErr result (InsertCause self.old.faults self.new.faults) }
         ensures goes_on { GoesOn self.old self.new }
     {
         pass.meet(&self.line, &mut self.journal);
@@ -146,24 +149,26 @@ impl<J: OfCrew, V: Vault> Store<J, V> {
             (IsReceipt worker op.now self.old.history self.new.history) }
         ensures taken { J.tells ≡ true
             → IfOk result (IsTaken self.old.settings.segment op.now self.old.history) }
-        ensures in_memory { OnOk result
-            ((self.new.wal ≡ self.old.wal) × (self.new.flushed ≡ self.old.flushed)) }
-        ensures same { OnErr result (self.new ≡ self.old) }
+        ensures few { OnOk result (wal_top self.old ≤ self.new.flushed + most_waiting) }
+        ensures before { self.new.flushed ≤ wal_top self.old }
+        ensures same { OnErr result (self.new.history ≡ self.old.history) }
+        ensures itself { IsSome (judged_itself op.now) → self.new ≡ self.old }
         ensures refused { J.tells ≡ true → IfErr result
             (IsRefusedBehind self.old.settings.segment self.old.history op.now) }
-        ensures faults { self.new.faults ≡ self.old.faults }
+        ensures cause { IfErr result (InsertCause self.old.faults self.new.faults) }
         ensures goes_on { GoesOn self.old self.new }
     {
         let _tip = self.journal.tip();
         let q = partition_for(&self.journal, op)?;
         let line = &self.line;
-        let journal = &mut self.journal;
+        let log = &mut self.journal;
         let counts = &mut self.counts;
+        let mark = &mut self.mark;
         match q {
-            0 => insert_in(alloc, line, journal, &mut self.part0, counts, worker, op),
-            1 => insert_in(alloc, line, journal, &mut self.part1, counts, worker, op),
-            2 => insert_in(alloc, line, journal, &mut self.part2, counts, worker, op),
-            _ => insert_in(alloc, line, journal, &mut self.part3, counts, worker, op),
+            0 => insert_in(alloc, line, log, &mut self.part0, counts, mark, worker, op),
+            1 => insert_in(alloc, line, log, &mut self.part1, counts, mark, worker, op),
+            2 => insert_in(alloc, line, log, &mut self.part2, counts, mark, worker, op),
+            _ => insert_in(alloc, line, log, &mut self.part3, counts, mark, worker, op),
         }
     }
 

@@ -1,6 +1,6 @@
 //! Writing all that a partition has dirty or pending.
 
-ghost use Rattle.std.specs.Prelude.{◌≡◌, ◌≤◌, true, IfOk, OnOk, IfErr};
+ghost use Rattle.std.specs.Prelude.{◌≡◌, ◌≤◌, max, true, IfOk, OnOk, IfErr};
 ghost use Rattle.lsn_core.specs.declared.fault.StoreArea.TheVariants.{Wal, Data};
 ghost use Rattle.page_pool.specs.Facts.{history_end};
 ghost use Rattle.page_pool.specs.Calls.{MayWriteAll};
@@ -8,7 +8,7 @@ ghost use Rattle.shared_store.specs.Opened.{IsPartOf};
 ghost use Rattle.shared_store.specs.Inside.{AreaCause, WriteCause, KeepsWal, IsCleaned};
 
 use crate::fault::fault_of;
-use crate::flush::flush_past;
+use crate::flush::{flush_past, flush_whole};
 use journal::{Journal, OfStore};
 use lsn_core::{Lsn, StoreArea, StoreFault};
 use page_pool::{Cleaned, Partition};
@@ -16,22 +16,29 @@ use std::alloc::Global;
 use vault::Vault;
 use wal_writer::Flushed;
 
-/// Flushes the WAL past the newest entry of what a partition hasn't written, where there is any.
+/// Flushes the WAL past a redo point, and past the newest entry of what a partition hasn't written,
+/// where there is any.
 fn flush_newest<J: OfStore, V: Vault, W: Vault, const Q: u32>(
     alloc: Global,
     journal: &mut Journal<J, V>,
     part: &Partition<W, Q>,
     mark: &mut Flushed,
+    redo: Lsn,
 ) -> Result<(), StoreFault>
     requires part { IsPartOf Q part.now.relseg (J.tells ≡ true) journal.old.pen part.now }
     requires marked { mark.old.to.0 ≤ journal.old.wal.tail.flushed }
+    requires late { redo.0 ≤ history_end journal.old.pen }
     ensures wal { KeepsWal V.Vault journal.old journal.new }
     ensures marked { mark.new.to.0 ≤ journal.new.wal.tail.flushed }
     ensures reached { OnOk result (MayWriteAll part.now mark.new.to.0) }
+    ensures redo { OnOk result (redo.0 ≤ mark.new.to.0) }
     ensures cause { IfErr result (AreaCause Wal (V.faults journal.old.wal.area)
         (V.faults journal.new.wal.area)) }
 {
     let _tip = journal.tip();
+    if mark.to() <= redo {
+        return flush_whole(alloc, journal, mark);
+    }
     match part.newest_lsn() {
         Some(to) => flush_past(alloc, journal, mark, to),
         None => Ok(()),
@@ -52,6 +59,7 @@ fn write_all<J: OfStore, V: Vault, W: Vault, const Q: u32>(
     requires late { redo.0 ≤ history_end journal.now.pen }
     ensures cleaned { IfOk result (IsCleaned Q redo) }
     ensures raised { OnOk result (redo.0 ≤ part.new.point) }
+    ensures point { part.new.point ≤ max part.old.point redo.0 }
     ensures part { IsPartOf Q part.old.relseg (J.tells ≡ true) journal.now.pen part.new }
     ensures later { part.old.faults ≤ part.new.faults }
     ensures cause { IfErr result (AreaCause (Data Q) part.old.faults part.new.faults) }
@@ -63,7 +71,8 @@ fn write_all<J: OfStore, V: Vault, W: Vault, const Q: u32>(
 }
 
 /// Writes all that a partition has dirty or pending, the WAL flushed first, syncs its area, and
-/// raises its point to the redo point.
+/// raises its point to the redo point, past which the WAL is flushed too: no point is raised past
+/// what is flushed.
 pub(crate) fn clean_in<J: OfStore, V: Vault, W: Vault, const Q: u32>(
     alloc: Global,
     journal: &mut Journal<J, V>,
@@ -76,6 +85,7 @@ pub(crate) fn clean_in<J: OfStore, V: Vault, W: Vault, const Q: u32>(
     requires late { redo.0 ≤ history_end journal.old.pen }
     ensures cleaned { IfOk result (IsCleaned Q redo) }
     ensures raised { OnOk result (redo.0 ≤ part.new.point) }
+    ensures point { part.new.point ≤ max part.old.point journal.new.wal.tail.flushed }
     ensures wal { KeepsWal V.Vault journal.old journal.new }
     ensures marked { mark.new.to.0 ≤ journal.new.wal.tail.flushed }
     ensures part { IsPartOf Q part.old.relseg (J.tells ≡ true) journal.new.pen part.new }
@@ -83,6 +93,6 @@ pub(crate) fn clean_in<J: OfStore, V: Vault, W: Vault, const Q: u32>(
     ensures cause { IfErr result (WriteCause (Data Q) (V.faults journal.old.wal.area)
         (V.faults journal.new.wal.area) part.old.faults part.new.faults) }
 {
-    flush_newest(alloc, journal, part, mark)?;
+    flush_newest(alloc, journal, part, mark, redo)?;
     write_all(alloc, journal, part, mark, redo)
 }

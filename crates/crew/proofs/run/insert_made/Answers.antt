@@ -1,7 +1,6 @@
-use Rattle.std.proofs.Common.{◌≡◌, true, IfOk, Result, ap, subst}
+use Rattle.std.proofs.Common.{◌≡◌, true, IfOk, Result, subst}
 use Rattle.lsn_core.specs.declared.fault.NoMemory.{NoMemory}
 use Rattle.history.specs.declared.op.Op.{Op}
-use Rattle.shared_store.specs.Opened.{Opened}
 use Rattle.shared_store.specs.Calls.{IsReceipt, IsTaken}
 use Rattle.shared_store.specs.Refusals.{IsRefusedBehind}
 use Rattle.crew.proofs.Steps.{inserted, refused, not_made}
@@ -21,6 +20,6 @@ returns-in-Ok-insert g c = λ asked e.
 pub returns : goal.returns
 returns g c = λ asked e.
     let same : c.in-Ok.op ≡ asked = subst (λ (r : Result Op NoMemory). IfOk r (λ op. op ≡ asked)) c.in-Ok.is e in
-    refused (g.J.OfStore.tells ≡ true) asked c.args.pass.now c.insert.new.pass c.args.store.now c.insert.new.self c.in-Err.fault c.requires (ap (λ (o : Opened). o.history) c.in-Err.ensures.same)
+    refused (g.J.OfStore.tells ≡ true) asked c.args.pass.now c.insert.new.pass c.args.store.now c.insert.new.self c.in-Err.fault c.requires c.in-Err.ensures.same
     (λ t. subst (λ (op : Op). IsRefusedBehind c.args.store.now.settings.segment c.insert.new.self.history op c.in-Err.fault) same (c.in-Err.ensures.refused t))
-    c.insert.ensures.seen c.insert.ensures.whole c.in-Err.ensures.uncounted c.insert.ensures.goes_on
+    c.in-Err.ensures.cause c.insert.ensures.seen c.insert.ensures.whole c.in-Err.ensures.uncounted c.insert.ensures.goes_on

@@ -13,3 +13,8 @@ returns-clause-reached g c =
     let ended = c.tip-tip.ensures.ended in
     let within : c.args.to.0 ≤ written_end c.args.journal.now = (let e = end_within c.args.journal.now.pen c.args.to.0 _ ended.within c.requires.place in omega (arith, e, ended.end)) in
     on_ok_weaker c.flush_whole.result (λ past. omega (arith, within, past)) c.flush_whole.ensures.reached
+
+pub returns-clause-onward : goal.returns-clause-onward
+returns-clause-onward g c =
+    let wal = c.flush_whole.ensures.wal in
+    on_ok_weaker c.flush_whole.result (λ past. omega (arith, c.requires.marked, wal.flushed, wal.within, past)) c.flush_whole.ensures.reached
