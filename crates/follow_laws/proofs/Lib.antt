@@ -1,0 +1,5 @@
+pub mod GoOn
+pub mod Windowed
+pub mod One
+pub mod Apart
+pub mod Refused

@@ -1,0 +1,6 @@
+-- Zeros go on.
+use Rattle.follow_laws.proofs.GoOn.{zeros_go_on}
+use Rattle.follow_laws.proofs.zeros_go_on.Goals as goal
+
+pub returns : goal.returns
+returns c = zeros_go_on c.streams_are_archives.ensures c.reading_waits_for_bytes.ensures.ends

@@ -1,0 +1,5 @@
+pub mod Waiting
+pub mod Streams
+pub mod Windows
+pub mod Names
+pub mod Held
