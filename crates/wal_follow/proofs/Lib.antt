@@ -1,0 +1,5 @@
+mod Going
+mod Windows
+mod Areas
+mod Behind
+mod Agree
