@@ -1,7 +1,7 @@
 -- Those who stand behind the same bytes agree.
-use Rattle.std.proofs.Common.{◌≡◌, ℕ, List, sym, subst}
+use Rattle.std.proofs.Common.{ℕ, sym, subst}
 use Rattle.follow_laws.specs.Followed.{IsFollowed, FollowingIsOne}
-use Rattle.wal_follow.specs.Laws.{AreBehind, FollowersAgree}
+use Rattle.wal_follow.specs.Laws.{FollowersAgree}
 
 pub followers_agree : FollowingIsOne → FollowersAgree
 followers_agree law f g fed two =

@@ -1,6 +1,5 @@
 -- What a follower keeps of its stream as it takes pieces, reads and forgets.
-use Rattle.std.proofs.Common.{◌≡◌, ℕ, zero, suc, ◌+◌, ◌-◌, ◌/◌, ◌<◌, ◌≤◌, min, Bool, true, false, cond, ◌⊎◌, inl, inr, List, [], ◌∷◌, ◌++◌, length, map, take, drop, replicate, get_or, Option, Some, None, Result, Ok, Err, refl, sym, ap, subst, ◌∙◌, arith}
-use Rattle.std.specs.Prelude.{nat_lt, nat_le, if◌then◌else◌}
+use Rattle.std.proofs.Common.{◌≡◌, ℕ, ◌+◌, ◌-◌, ◌/◌, ◌≤◌, min, Bool, true, false, cond, inl, inr, List, [], ◌++◌, length, map, take, drop, replicate, Option, Some, None, Result, Ok, Err, refl, sym, ap, subst, ◌∙◌, arith}
 use Rattle.std.specs.FinMap.{empty}
 use Rattle.std.proofs.lemmas.Bool.{cases_lt, le-ltb}
 use Rattle.std.proofs.lemmas.List.{take_all, take_min, take-take, take-append-le, take-append-drop, length-take, length-append}
@@ -15,31 +14,28 @@ use Rattle.wal_record.specs.Tips.{first_tip}
 use Rattle.wal_archive.specs.Archive.{Archive, archive_of, is_segment, nth}
 use Rattle.wal_archive.specs.Rules.{Found, End, Gives, Bad, found, next_in, lsn}
 use Rattle.wal_archive.specs.declared.fault.Damage.{Damage}
-use Rattle.wal_archive.specs.declared.fault.Damage.TheVariants as damage
-use Rattle.wal_archive.specs.declared.fault.Broken.TheVariants as broken
 use Rattle.wal_reader.specs.Settings.{system_in}
 use Rattle.wal_reader.specs.Wal.{stands_behind, ReadsOn}
-use Rattle.history.specs.Apply.{apply, apply_all}
+use Rattle.history.specs.Apply.{apply_all}
 use Rattle.history.specs.Whole.{entry_of}
-use Rattle.stream_laws.specs.Waiting.{IsTorn}
 use Rattle.stream_laws.specs.Streams.{stream_files, stream_byte}
-use Rattle.stream_laws.specs.Windows.{Span, shown, span_files, span_top, archive_room, IsEndOf}
+use Rattle.stream_laws.specs.Windows.{Span, span_files, archive_room, IsEndOf}
 use Rattle.stream_laws.proofs.Streams.{streams_are_archives}
 use Rattle.stream_laws.proofs.Solid.{next_none, bytes_decide}
 use Rattle.stream_laws.proofs.Stay.{end_stays, final_needs_head}
 use Rattle.stream_laws.proofs.Shown.{shows}
 use Rattle.stream_laws.proofs.Moved.{takes, forgets}
-use Rattle.follow_laws.specs.Followed.{stream_settings, behind_in, Waits, IsReadSo, IsFollowed, Unfollowed, Damaged, BadDelta, RefusesFound, IsRefused}
+use Rattle.follow_laws.specs.Followed.{stream_settings, behind_in, Waits, IsReadSo, IsFollowed, Damaged, BadDelta, RefusesFound}
 use Rattle.follow_laws.specs.Windows.{IsReadIn}
 use Rattle.follow_laws.proofs.Refused.{system_more}
 use Rattle.follow_laws.proofs.GoOn.{pieces_go_on, zeros_go_on}
 use Rattle.follow_laws.proofs.Windowed.{shows_found, follows, refuses}
 use Rattle.wal_follow.specs.declared.fault.FollowFault.{FollowFault}
 use Rattle.wal_follow.specs.declared.fault.FollowFault.TheVariants as follow
-use Rattle.wal_follow.specs.Reading.{WaitsAs, RefusesAt, ReadsTo, RefusedBehind}
-use Rattle.wal_follow.specs.Window.{empty_span, TakesPiece, Forgets}
+use Rattle.wal_follow.specs.Reading.{WaitsAs, RefusesAt}
+use Rattle.wal_follow.specs.Window.{empty_span}
 use Rattle.wal_follow.specs.Following.{Following, front_size, new_following, settings_of, Follows, FollowsTo, RefusesStream, EndAnswer}
-use Rattle.wal_follow.specs.Inside.{TakesIn, IsQuiet, ReadsIn, RefusedIn, ForgetsRead, found_behind, AsksFound}
+use Rattle.wal_follow.specs.Inside.{TakesIn, ReadsIn, RefusedIn, ForgetsRead, found_behind, AsksFound}
 
 -- ---- the front of a stream
 

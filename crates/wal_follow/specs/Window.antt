@@ -1,5 +1,5 @@
 -- What a window on a stream's end takes and forgets, and what it shows.
-use Rattle.std.specs.Prelude.{◌≡◌, ◌≤◌, ◌<◌, ℕ, ◌+◌, ◌-◌, ◌*◌, min, Option, Some, None, List, [], ◌∷◌, ◌++◌, length, take, drop, replicate}
+use Rattle.std.specs.Prelude.{◌≡◌, ◌≤◌, ℕ, ◌+◌, ◌-◌, min, Option, Some, None, List, [], ◌++◌, length, take, drop, replicate}
 use Rattle.std.specs.FinMap.{get}
 use Rattle.lsn_core.specs.Segment.{segment_bytes}
 use Rattle.wal_record.specs.Tips.{wal_limit}

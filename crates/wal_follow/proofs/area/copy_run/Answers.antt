@@ -1,5 +1,5 @@
 -- A run is copied: zeros, and over them the bytes that lie in it.
-use Rattle.std.proofs.Common.{◌<◌, ◌≤◌, length, arith}
+use Rattle.std.proofs.Common.{length, arith}
 use Rattle.wal_follow.proofs.Areas.{copied_none, copied_some}
 use Rattle.wal_follow.proofs.area.copy_run.Goals as goal
 

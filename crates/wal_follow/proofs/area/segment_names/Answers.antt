@@ -1,5 +1,5 @@
 -- One name more.
-use Rattle.std.proofs.Common.{◌+◌, ◌-◌, ◌≤◌, ap, ◌∙◌, arith}
+use Rattle.std.proofs.Common.{arith}
 use Rattle.wal_follow.proofs.Areas.{one_name_more}
 use Rattle.wal_follow.proofs.area.segment_names.Goals as goal
 

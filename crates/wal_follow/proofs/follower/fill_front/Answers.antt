@@ -1,5 +1,5 @@
 -- The front is filled.
-use Rattle.std.proofs.Common.{◌-◌, length, arith}
+use Rattle.std.proofs.Common.{arith}
 use Rattle.wal_follow.specs.Following.{front_size}
 use Rattle.wal_follow.proofs.Behind.{front_filled}
 use Rattle.wal_follow.proofs.follower.fill_front.Goals as goal

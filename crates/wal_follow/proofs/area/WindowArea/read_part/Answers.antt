@@ -1,5 +1,5 @@
 -- A run is copied over the first bytes of the buffer.
-use Rattle.std.proofs.Common.{◌≡◌, ℕ, ◌+◌, ◌-◌, ◌*◌, ◌<◌, ◌≤◌, List, length, take, drop, ap, subst, arith}
+use Rattle.std.proofs.Common.{◌≡◌, ℕ, ◌+◌, ◌-◌, ◌*◌, ◌≤◌, List, length, take, drop, ap, subst, arith}
 use Rattle.std.proofs.lemmas.List.{length-take}
 use Rattle.stream_laws.specs.Windows.{Span}
 use Rattle.wal_follow.specs.Window.{run}

@@ -1,5 +1,5 @@
 -- A name's file is a segment's part of what is shown, or there is none.
-use Rattle.std.proofs.Common.{◌<◌, ◌≤◌, sym, ap, ◌∙◌, arith}
+use Rattle.std.proofs.Common.{sym, ap, ◌∙◌, arith}
 use Rattle.lsn_core.specs.Names.{segment_name_bytes}
 use Rattle.stream_laws.specs.Windows.{Span}
 use Rattle.wal_follow.proofs.Areas.{part_there, none_there, none_behind}

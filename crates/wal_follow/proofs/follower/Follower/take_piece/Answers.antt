@@ -1,6 +1,5 @@
 -- A piece comes, and what became whole is read.
 use Rattle.std.proofs.Common.{List, ℕ, ◌++◌}
-use Rattle.wal_follow.specs.declared.fault.FollowFault.{FollowFault}
 use Rattle.wal_follow.specs.declared.fault.FollowFault.TheVariants as follow
 use Rattle.wal_follow.specs.Following.{Follows, RefusesStream}
 use Rattle.wal_follow.proofs.Going.{err_cause}
