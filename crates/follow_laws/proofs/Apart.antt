@@ -15,9 +15,9 @@ use Rattle.wal_reader.specs.Wal.{stands_behind, ReadsOn}
 use Rattle.history.specs.Entry.{Entry}
 use Rattle.history.specs.Apply.{apply, apply_all}
 use Rattle.history.specs.Whole.{entry_of}
-use Rattle.stream_laws.specs.Waiting.{IsTorn}
+use Rattle.stream_laws.specs.Waiting.{IsCutShort}
 use Rattle.stream_laws.specs.Streams.{stream_files}
-use Rattle.follow_laws.specs.Followed.{stream_settings, behind_in, Waits, IsFollowed, Unfollowed, Damaged, BadDelta, RefusesFound, IsRefused, FollowedOrRefused, RefusedInOneWay}
+use Rattle.follow_laws.specs.Followed.{stream_settings, behind_in, AwaitsMore, IsFollowed, Unfollowed, Damaged, BadDelta, RefusesFound, IsUnfollowed, FollowedOrRefused, RefusedInOneWay}
 
 -- behind entries that make a store no entry stands that can be applied
 abbrev Halts : Store → Found → Type 0
@@ -62,8 +62,8 @@ module _ (s : StoreSettings) (files : Files) where
       (subst (λ (x : Record). ReadsOn s files (tip_after tip x) qs end) same walk.1)
       (subst (λ (x : Store). apply_all x (map entry_of qs) ≡ Some b) next two.2) stops
 
-waits_halt : (m : Store) (f : Found) → Waits f → Halts m f
-waits_halt m f waits r gives = absurd (subst Waits gives waits)
+waits_halt : (m : Store) (f : Found) → AwaitsMore f → Halts m f
+waits_halt m f waits r gives = absurd (subst AwaitsMore gives waits)
 
 refusal_halts : (m : Store) (f : Found) (why : Unfollowed) → RefusesFound m f why → Halts m f
 refusal_halts m End why is r gives = absurd is
@@ -73,7 +73,7 @@ refusal_halts m (Gives q) (BadDelta at) is r gives =
     let same : q ≡ r = same_gives (Gives q) q r refl gives in
     subst (λ (x : Record). apply m (entry_of x) ≡ None) same is.1
 
-waits_or_refuses : (m : Store) (f : Found) (why : Unfollowed) → Waits f → RefusesFound m f why → ⊥
+waits_or_refuses : (m : Store) (f : Found) (why : Unfollowed) → AwaitsMore f → RefusesFound m f why → ⊥
 waits_or_refuses m End why waits is = is
 waits_or_refuses m (Gives r) why waits is = waits
 waits_or_refuses m (Bad d) (Damaged e) waits is = is.1 waits
@@ -102,7 +102,7 @@ followed_or_refused mib relseg bytes rs tip store why is refused =
     is.read.walk is.read.makes (waits_halt store (behind_in mib relseg bytes tip) is.waits)
     refused.read.walk refused.read.makes (refusal_halts refused.store (behind_in mib relseg bytes refused.tip) why refused.refused) in
     waits_or_refuses refused.store (behind_in mib relseg bytes refused.tip) why
-    (subst (λ (t : Tip). Waits (behind_in mib relseg bytes t)) same.0 is.waits) refused.refused
+    (subst (λ (t : Tip). AwaitsMore (behind_in mib relseg bytes t)) same.0 is.waits) refused.refused
 
 pub refused_in_one_way : RefusedInOneWay
 refused_in_one_way mib relseg bytes why other is also =

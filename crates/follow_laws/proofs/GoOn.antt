@@ -25,7 +25,7 @@ use Rattle.stream_laws.specs.Waiting.{FinalNeedsHead, EndStays}
 use Rattle.stream_laws.specs.Streams.{stream_files, stream_byte, StreamsAreArchives}
 use Rattle.follow_laws.specs.Followed.{stream_settings, behind_in, IsReadSo}
 use Rattle.follow_laws.proofs.Refused.{goes_on, byte_more, system_more, long_of, gives_stays}
-use Rattle.follow_laws.specs.Steps.{EntriesGoOn, PiecesGoOn, ZerosGoOn}
+use Rattle.follow_laws.specs.Steps.{EntriesGoOn, StreamsGoOn, ZerosGoOn}
 
 -- ---- an entry more
 
@@ -56,8 +56,8 @@ goes_read law head mib relseg fed piece (r ∷ rs) tip store some read =
       makes = read.makes;
     }
 
-pub pieces_go_on : StreamsAreArchives → FinalNeedsHead → PiecesGoOn
-pieces_go_on law head mib relseg fed piece rs tip store some read = goes_read law head mib relseg fed piece rs tip store some read
+pub streams_go_on : StreamsAreArchives → FinalNeedsHead → StreamsGoOn
+streams_go_on law head mib relseg fed piece rs tip store some read = goes_read law head mib relseg fed piece rs tip store some read
 
 -- ---- zeros
 

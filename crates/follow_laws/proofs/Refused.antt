@@ -23,10 +23,10 @@ use Rattle.wal_archive.proofs.Read.{origin_end}
 use Rattle.wal_reader.specs.Settings.{system_in}
 use Rattle.history.specs.Apply.{apply}
 use Rattle.history.specs.Whole.{entry_of}
-use Rattle.stream_laws.specs.Waiting.{IsTorn, Stays, IsSolid, GoesOn, FoundStays}
+use Rattle.stream_laws.specs.Waiting.{IsCutShort, Stays, IsSolid, HoldsMore, FoundStays}
 use Rattle.stream_laws.specs.Streams.{stream_files, stream_byte, IsStreamed, StreamsAreArchives}
 use Rattle.stream_laws.specs.Waiting.{FinalNeedsHead}
-use Rattle.follow_laws.specs.Followed.{stream_settings, behind_in, IsReadSo, Unfollowed, Damaged, BadDelta, RefusesFound, IsRefused, RefusalsStay}
+use Rattle.follow_laws.specs.Followed.{stream_settings, behind_in, IsReadSo, Unfollowed, Damaged, BadDelta, RefusesFound, IsUnfollowed, RefusalsStay}
 
 -- ---- a stream that goes on
 
@@ -48,7 +48,7 @@ byte_more mib bytes more x b =
       | false ↦ λ e. e
     ]
 
-pub goes_on : StreamsAreArchives → (mib : ℕ) (bytes more : List ℕ) (e : ℕ) → 1 ≤ mib → segment_bytes mib ≤ e → GoesOn mib (archive_of mib (stream_files mib bytes)) (archive_of mib (stream_files mib (bytes ++ more))) e
+pub goes_on : StreamsAreArchives → (mib : ℕ) (bytes more : List ℕ) (e : ℕ) → 1 ≤ mib → segment_bytes mib ≤ e → HoldsMore mib (archive_of mib (stream_files mib bytes)) (archive_of mib (stream_files mib (bytes ++ more))) e
 goes_on law mib bytes more e some least =
     let one = law mib bytes some in
     let two = law mib (bytes ++ more) some in

@@ -18,11 +18,11 @@ use Rattle.history.specs.Apply.{apply_all}
 use Rattle.history.specs.Whole.{entry_of}
 use Rattle.history.proofs.Histories.{apply_all-behind}
 use Rattle.stream_laws.specs.Streams.{stream_files}
-use Rattle.stream_laws.specs.Windows.{Span, span_files, IsEndOf, WindowsShowTheEnd}
-use Rattle.follow_laws.specs.Followed.{stream_settings, behind_in, Waits, IsReadSo, IsFollowed, Unfollowed, RefusesFound, IsRefused}
+use Rattle.stream_laws.specs.Windows.{Span, span_files, IsStreamEnd, WindowsShowTheEnd}
+use Rattle.follow_laws.specs.Followed.{stream_settings, behind_in, AwaitsMore, IsReadSo, IsFollowed, Unfollowed, RefusesFound, IsUnfollowed}
 use Rattle.follow_laws.specs.Windows.{IsReadIn, WindowsShow, WindowsFollow, WindowsRefuse}
 
-walk_in : WindowsShowTheEnd → (w : Span) (fed : List ℕ) (system : ℕ) (tip last : Tip) (qs : List Record) → IsEndOf w fed → IsEnd w.mib tip.end → w.base ≤ tip.end → Walks record_at w.mib system (archive_of w.mib (span_files w)) tip qs last → Walks record_at w.mib system (archive_of w.mib (stream_files w.mib fed)) tip qs last
+walk_in : WindowsShowTheEnd → (w : Span) (fed : List ℕ) (system : ℕ) (tip last : Tip) (qs : List Record) → IsStreamEnd w fed → IsEnd w.mib tip.end → w.base ≤ tip.end → Walks record_at w.mib system (archive_of w.mib (span_files w)) tip qs last → Walks record_at w.mib system (archive_of w.mib (stream_files w.mib fed)) tip qs last
 walk_in shows w fed system tip last [] is end later walk = walk
 walk_in shows w fed system tip last (q ∷ qs) is end later walk =
     let reach = walk_reach record_at w.mib system (archive_of w.mib (span_files w)) tip (q ∷ []) (tip_after tip q) is.some record_is_fair end (walk.0, refl) in
@@ -52,7 +52,7 @@ module _ (shows : WindowsShowTheEnd) (w : Span) (relseg : ℕ) (fed : List ℕ) 
 pub follows : WindowsShowTheEnd → WindowsFollow
 follows shows w relseg fed rs qs tip last store made is waits = record {
   read = read_all shows w relseg fed rs qs tip last store made is;
-  waits = subst Waits (found_same shows w relseg fed rs qs tip last store made is) waits;
+  waits = subst AwaitsMore (found_same shows w relseg fed rs qs tip last store made is) waits;
 }
 
 pub refuses : WindowsShowTheEnd → WindowsRefuse

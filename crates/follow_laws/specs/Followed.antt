@@ -13,7 +13,7 @@ use Rattle.wal_reader.specs.Settings.{system_in}
 use Rattle.wal_reader.specs.Wal.{stands_behind, ReadsOn}
 use Rattle.history.specs.Apply.{apply, apply_all}
 use Rattle.history.specs.Whole.{entry_of}
-use Rattle.stream_laws.specs.Waiting.{IsTorn}
+use Rattle.stream_laws.specs.Waiting.{IsCutShort}
 use Rattle.stream_laws.specs.Streams.{stream_files}
 
 -- the settings of a stream's archive: those that the follower was given, and the first page's
@@ -27,10 +27,10 @@ behind_in mib relseg bytes tip =
     stands_behind (stream_settings mib relseg bytes) (stream_files mib bytes) tip
 
 -- nothing is read yet: the archive ends there, or within an entry or a head
-abbrev pub Waits : Found → Type 0
-Waits End = Unit {0}
-Waits (Gives r) = ⊥
-Waits (Bad d) = IsTorn d
+abbrev pub AwaitsMore : Found → Type 0
+AwaitsMore End = Unit {0}
+AwaitsMore (Gives r) = ⊥
+AwaitsMore (Bad d) = IsCutShort d
 
 -- the entries of a stream so far, the tip behind them, and the store that they make from nothing
 pub record IsReadSo (mib relseg : ℕ) (bytes : List ℕ) (rs : List Record) (tip : Tip) (store : Store)
@@ -43,7 +43,7 @@ pub record IsReadSo (mib relseg : ℕ) (bytes : List ℕ) (rs : List Record) (ti
 pub record IsFollowed (mib relseg : ℕ) (bytes : List ℕ) (rs : List Record) (tip : Tip)
     (store : Store) : Type 0 where
   pub read : IsReadSo mib relseg bytes rs tip store
-  pub waits : Waits (behind_in mib relseg bytes tip)
+  pub waits : AwaitsMore (behind_in mib relseg bytes tip)
 
 -- why a stream isn't followed on: the archive is damaged, or an entry can't be applied
 pub data Unfollowed : Type 0 where
@@ -52,13 +52,13 @@ pub data Unfollowed : Type 0 where
 
 -- what is found behind entries that make a store is refused so
 abbrev pub RefusesFound : Store → Found → Unfollowed → Type 0
-RefusesFound store (Bad d) (Damaged e) = (e ≡ d) × (IsTorn d → ⊥)
+RefusesFound store (Bad d) (Damaged e) = (e ≡ d) × (IsCutShort d → ⊥)
 RefusesFound store (Gives r) (BadDelta at) = (at ≡ r.start) × (apply store (entry_of r) ≡ None)
 RefusesFound store End why = ⊥
 RefusesFound store (Bad d) (BadDelta at) = ⊥
 RefusesFound store (Gives r) (Damaged d) = ⊥
 
-pub record IsRefused (mib relseg : ℕ) (bytes : List ℕ) (why : Unfollowed) : Type 0 where
+pub record IsUnfollowed (mib relseg : ℕ) (bytes : List ℕ) (why : Unfollowed) : Type 0 where
   pub rs : List Record
   pub tip : Tip
   pub store : Store
@@ -77,16 +77,16 @@ abbrev pub FollowedOrRefused : Type 0
 FollowedOrRefused =
     (mib relseg : ℕ) (bytes : List ℕ) (rs : List Record) (tip : Tip) (store : Store)
     (why : Unfollowed)
-    → IsFollowed mib relseg bytes rs tip store → IsRefused mib relseg bytes why → ⊥
+    → IsFollowed mib relseg bytes rs tip store → IsUnfollowed mib relseg bytes why → ⊥
 
 -- and what is refused is so in one way
 abbrev pub RefusedInOneWay : Type 0
 RefusedInOneWay =
     (mib relseg : ℕ) (bytes : List ℕ) (why other : Unfollowed)
-    → IsRefused mib relseg bytes why → IsRefused mib relseg bytes other → why ≡ other
+    → IsUnfollowed mib relseg bytes why → IsUnfollowed mib relseg bytes other → why ≡ other
 
 -- a refusal stays, whatever bytes come
 abbrev pub RefusalsStay : Type 0
 RefusalsStay =
     (mib relseg : ℕ) (bytes more : List ℕ) (why : Unfollowed) → 1 ≤ mib
-    → IsRefused mib relseg bytes why → IsRefused mib relseg (bytes ++ more) why
+    → IsUnfollowed mib relseg bytes why → IsUnfollowed mib relseg (bytes ++ more) why

@@ -6,13 +6,13 @@ use Rattle.wal_record.specs.declared.record.Record.{Record}
 use Rattle.wal_reader.specs.Wal.{stands_behind, ReadsOn}
 use Rattle.history.specs.Apply.{apply_all}
 use Rattle.history.specs.Whole.{entry_of}
-use Rattle.stream_laws.specs.Windows.{Span, span_files, IsEndOf}
-use Rattle.follow_laws.specs.Followed.{stream_settings, behind_in, Waits, IsReadSo, IsFollowed, Unfollowed, RefusesFound, IsRefused}
+use Rattle.stream_laws.specs.Windows.{Span, span_files, IsStreamEnd}
+use Rattle.follow_laws.specs.Followed.{stream_settings, behind_in, AwaitsMore, IsReadSo, IsFollowed, Unfollowed, RefusesFound, IsUnfollowed}
 
 -- behind what was read of a stream a window on its end gave these entries, which were applied
 pub record IsReadIn (w : Span) (relseg : ℕ) (fed : List ℕ) (rs qs : List Record) (tip last : Tip)
     (store made : Store) : Type 0 where
-  pub is_end : IsEndOf w fed
+  pub is_end : IsStreamEnd w fed
   pub before : w.base ≤ tip.end
   pub read : IsReadSo w.mib relseg fed rs tip store
   pub walk : ReadsOn (stream_settings w.mib relseg fed) (span_files w) tip qs last
@@ -33,7 +33,7 @@ WindowsFollow =
     (w : Span) (relseg : ℕ) (fed : List ℕ) (rs qs : List Record) (tip last : Tip)
     (store made : Store)
     → IsReadIn w relseg fed rs qs tip last store made
-    → Waits (stands_behind (stream_settings w.mib relseg fed) (span_files w) last)
+    → AwaitsMore (stands_behind (stream_settings w.mib relseg fed) (span_files w) last)
     → IsFollowed w.mib relseg fed (rs ++ qs) last made
 
 -- and where what stands behind them is refused the stream is
@@ -43,4 +43,4 @@ WindowsRefuse =
     (store made : Store) (why : Unfollowed)
     → IsReadIn w relseg fed rs qs tip last store made
     → RefusesFound made (stands_behind (stream_settings w.mib relseg fed) (span_files w) last) why
-    → IsRefused w.mib relseg fed why
+    → IsUnfollowed w.mib relseg fed why

@@ -10,7 +10,7 @@
 #![tactic(auto)]
 
 ghost use Rattle.follow_laws.specs.Followed.{FollowingIsOne, FollowedOrRefused, RefusedInOneWay, RefusalsStay};
-ghost use Rattle.follow_laws.specs.Steps.{EntriesGoOn, PiecesGoOn, ZerosGoOn};
+ghost use Rattle.follow_laws.specs.Steps.{EntriesGoOn, StreamsGoOn, ZerosGoOn};
 ghost use Rattle.follow_laws.specs.Windows.{WindowsShow, WindowsFollow, WindowsRefuse};
 
 use stream_laws::{reading_waits_for_bytes, streams_are_archives, windows_show_the_end};
@@ -38,8 +38,8 @@ pub fn entries_go_on()
 {}
 
 /// What was read stays so when a piece comes.
-pub fn pieces_go_on()
-    ensures { PiecesGoOn }
+pub fn streams_go_on()
+    ensures { StreamsGoOn }
 {
     // known: a stream's files have its bytes, and what stays is found
     streams_are_archives();

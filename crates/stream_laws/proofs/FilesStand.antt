@@ -9,7 +9,7 @@ use Rattle.lsn_core.proofs.AnyAll.{all_range, any_range, range_any}
 use Rattle.lsn_core.proofs.StoreFiles.{get_with_files, same_name, name_itself, names_tie}
 use Rattle.lsn_core.specs.Names.{segment_name_bytes}
 use Rattle.wal_archive.proofs.Names.{names_differ}
-use Rattle.stream_laws.specs.Streams.{segment_count, segment_part, stream_files}
+use Rattle.stream_laws.specs.Streams.{segments_begun, segment_part, stream_files}
 use Rattle.stream_laws.specs.Held.{FilesStand, NoneElse}
 
 abbrev Named : Type 0
@@ -20,7 +20,7 @@ file_at mib bytes seg = (segment_name_bytes seg mib, segment_part mib bytes seg)
 
 pub files_stand : FilesStand
 files_stand mib s bytes low high =
-    let count : ℕ = segment_count mib bytes in
+    let count : ℕ = segments_begun mib bytes in
     let name : List ℕ = segment_name_bytes s mib in
     let part : List ℕ = segment_part mib bytes s in
     let own : List Named = map (λ seg. (segment_name_bytes seg mib, segment_part mib bytes seg)) (range_with_len 1 count) in
@@ -34,7 +34,7 @@ files_stand mib s bytes low high =
 
 pub none_else : NoneElse
 none_else mib bytes name never =
-    let count : ℕ = segment_count mib bytes in
+    let count : ℕ = segments_begun mib bytes in
     let own : List Named = map (λ seg. (segment_name_bytes seg mib, segment_part mib bytes seg)) (range_with_len 1 count) in
     let all : AllByRecursion (λ f. name ≡ f.0 → f.1 ≡ name) own =
     all_range (λ (f : Named). name ≡ f.0 → f.1 ≡ name) (λ seg. (segment_name_bytes seg mib, segment_part mib bytes seg)) 1 count

@@ -11,7 +11,7 @@ use Rattle.wal_record.specs.Tips.{wal_limit}
 use Rattle.wal_archive.specs.Archive.{is_segment, nth}
 use Rattle.wal_archive.proofs.Files.{segment_range}
 use Rattle.stream_laws.specs.Streams.{stream_byte}
-use Rattle.stream_laws.specs.Windows.{Span, shown, span_top, archive_room, IsEndOf, WindowsTake, WindowsForget}
+use Rattle.stream_laws.specs.Windows.{Span, shown, span_top, archive_room, IsStreamEnd, WindowsTake, WindowsForget}
 
 -- ---- bytes of lists
 
@@ -117,7 +117,7 @@ module _ (m base : ℕ) (s fed piece : List ℕ) (some : 1 ≤ m) (long : length
       taken_nth (x - segment_bytes m) (omega (arith, top, some)) (λ lt. unstreamed m s fed x is (same x le)))
 
 -- a window with the stream that it shows
-moved : (v : Span) (m b : ℕ) (s fed : List ℕ) → v.mib ≡ m → v.base ≡ b → shown v ≡ s → 1 ≤ m → segment_bytes m ≤ b → length s ≡ min (length fed) (archive_room m) → ((x : ℕ) → b ≤ x → stream_byte m s x ≡ stream_byte m fed x) → IsEndOf v fed
+moved : (v : Span) (m b : ℕ) (s fed : List ℕ) → v.mib ≡ m → v.base ≡ b → shown v ≡ s → 1 ≤ m → segment_bytes m ≤ b → length s ≡ min (length fed) (archive_room m) → ((x : ℕ) → b ≤ x → stream_byte m s x ≡ stream_byte m fed x) → IsStreamEnd v fed
 moved v m b s fed em eb es some least long same = record {
   some = subst (λ (n : ℕ). 1 ≤ n) (sym em) some;
   least = subst (λ (n : ℕ). segment_bytes n ≤ v.base) (sym em) (subst (λ (k : ℕ). segment_bytes m ≤ k) (sym eb) least);

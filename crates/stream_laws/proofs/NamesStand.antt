@@ -11,7 +11,7 @@ use Rattle.std.proofs.lemmas.List.{append-nil, append_assoc}
 use Rattle.lsn_core.specs.Files.{Files}
 use Rattle.lsn_core.specs.Names.{segment_name_bytes}
 use Rattle.lsn_core.specs.Store.{with_files}
-use Rattle.stream_laws.specs.Streams.{segment_count, segment_part, stream_files}
+use Rattle.stream_laws.specs.Streams.{segments_begun, segment_part, stream_files}
 use Rattle.stream_laws.specs.Names.{NamesStand}
 use Rattle.lsn_core.proofs.SegmentOrder.{names_rise}
 
@@ -63,10 +63,10 @@ module _ (mib : ℕ) (bytes : List ℕ) (some : 1 ≤ mib) (most : mib ≤ 1024)
   names_of [] = refl
   names_of (x ∷ l) = ap (λ (r : List (List ℕ)). segment_name_bytes x mib ∷ r) (names_of l)
 
-  stand : keys (stream_files mib bytes) ≡ map (λ seg. segment_name_bytes seg mib) (range_with_len 1 (segment_count mib bytes))
+  stand : keys (stream_files mib bytes) ≡ map (λ seg. segment_name_bytes seg mib) (range_with_len 1 (segments_begun mib bytes))
   stand =
-      let l : List ℕ = range_with_len 1 (segment_count mib bytes) in
-      ap (map (λ (e : Named). e.0)) (rises (segment_count mib bytes) 1 empty (omega arith) (λ t least lt. subst (λ (es : List Named). AllByRecursion (IsPast t) es) (sym no_entries) tt))
+      let l : List ℕ = range_with_len 1 (segments_begun mib bytes) in
+      ap (map (λ (e : Named). e.0)) (rises (segments_begun mib bytes) 1 empty (omega arith) (λ t least lt. subst (λ (es : List Named). AllByRecursion (IsPast t) es) (sym no_entries) tt))
       ∙ (ap (λ (es : List Named). map (λ (e : Named). e.0) (es ++ map file_at l)) no_entries ∙ names_of l)
 
 pub names_stand : NamesStand

@@ -19,13 +19,13 @@ use Rattle.wal_archive.proofs.Chain.{ended, ends}
 use Rattle.wal_archive.proofs.Runs.{held_bytes}
 use Rattle.wal_record.specs.Tips.{first_tip}
 use Rattle.std.proofs.Math.Nat.{mod_self}
-use Rattle.stream_laws.specs.Waiting.{IsTorn, Stays, IsSolid, HoldsFrom, GoesOn, FoundStays, EndStays, FinalNeedsHead}
+use Rattle.stream_laws.specs.Waiting.{IsCutShort, Stays, IsSolid, HoldsFrom, HoldsMore, FoundStays, EndStays, FinalNeedsHead}
 use Rattle.stream_laws.proofs.Solid.{torn, mark_held, top_past, filed, Behind, next_held, next_none}
 
 -- a result that no later byte changes
 abbrev IsFinal : {A : Type 0} → Result A Damage → Type 0
 IsFinal (Ok x) = Unit {0}
-IsFinal (Err d) = IsTorn d → ⊥
+IsFinal (Err d) = IsCutShort d → ⊥
 
 -- and is the same in an archive that goes on
 abbrev Grows : {A : Type 0} → Result A Damage → Result A Damage → Type 0
@@ -42,7 +42,7 @@ grows_bind {A} {B} (Err d) s f g first next is = ap (λ k. k >>= g) (first is)
 never_final : {A : Type 0} (r : Result A Damage) (at : ℕ) → r ≡ Err (broken_at at broken.Torn) → IsFinal r → ⊥
 never_final r at e f = (subst IsFinal e f) (at, refl)
 
-module _ (mib : ℕ) (a c : Archive) (e : ℕ) (on : GoesOn mib a c e) where
+module _ (mib : ℕ) (a c : Archive) (e : ℕ) (on : HoldsMore mib a c e) where
   held_grows : (begin x : ℕ) (o : Option ℕ) → e ≤ x → a.byte x ≡ o → Grows (held_or (not_held a mib begin x) (a.byte x)) (held_or (not_held c mib begin x) (c.byte x))
   held_grows begin x (Some b) le eq is =
       let other = on.holds x b le eq in
@@ -115,7 +115,7 @@ module _ (mib : ℕ) (a c : Archive) (e : ℕ) (on : GoesOn mib a c e) where
 abbrev IsFinalNext : Result (Option (List ℕ)) Damage → Type 0
 IsFinalNext (Ok None) = ⊥
 IsFinalNext (Ok (Some bytes)) = Unit {0}
-IsFinalNext (Err d) = IsTorn d → ⊥
+IsFinalNext (Err d) = IsCutShort d → ⊥
 
 is_final : (r : Result (Option (List ℕ)) Damage) → IsFinalNext r → IsFinal r
 is_final (Ok None) f = absurd f
@@ -126,7 +126,7 @@ no_end : (r : Result (Option (List ℕ)) Damage) → r ≡ Ok None → IsFinalNe
 no_end r e f = subst IsFinalNext e f
 
 -- a test of an archive's ends stays failed, or a head that isn't held yet is awaited
-by_head : (mib system : ℕ) (a c : Archive) (e : ℕ) → GoesOn mib a c e → (h : Result ℕ Damage) → head_at a mib system e e (Some 0) ≡ h → IsFinal h → nat_le a.mark e ≡ false → (is_ok h && nat_le a.mark (e + head_size mib e)) ≡ false
+by_head : (mib system : ℕ) (a c : Archive) (e : ℕ) → HoldsMore mib a c e → (h : Result ℕ Damage) → head_at a mib system e e (Some 0) ≡ h → IsFinal h → nat_le a.mark e ≡ false → (is_ok h && nat_le a.mark (e + head_size mib e)) ≡ false
     → (is_ok (head_at c mib system e e (Some 0)) && nat_le c.mark (e + head_size mib e)) ≡ false
 by_head mib system a c e on (Ok x) eq f low apart =
     let below = leb-false a.mark e low in
@@ -142,7 +142,7 @@ by_head mib system a c e on (Err d) eq f low apart =
     let same = head_grows mib a c e on system e e (Some 0) (omega arith) (subst IsFinal (sym eq) f) in
     ap (λ (r : Result ℕ Damage). is_ok r && nat_le c.mark (e + head_size mib e)) (same ∙ eq)
 
-never_ends : (mib system : ℕ) (a c : Archive) (e : ℕ) → GoesOn mib a c e → (page : Bool) → (e % 8192 == 0) ≡ page → IsFinal (if page then head_at a mib system e e (Some 0) else Ok 0)
+never_ends : (mib system : ℕ) (a c : Archive) (e : ℕ) → HoldsMore mib a c e → (page : Bool) → (e % 8192 == 0) ≡ page → IsFinal (if page then head_at a mib system e e (Some 0) else Ok 0)
     → (nat_le a.mark e || (page && (is_ok (head_at a mib system e e (Some 0)) && nat_le a.mark (e + head_size mib e)))) ≡ false
     → (nat_le c.mark e || (page && (is_ok (head_at c mib system e e (Some 0)) && nat_le c.mark (e + head_size mib e)))) ≡ false
 never_ends mib system a c e on page is f apart =
@@ -170,7 +170,7 @@ first_final : (h : Result ℕ Damage) (r : Result (List ℕ) Damage) → IsFinal
 first_final (Ok x) r f = tt
 first_final (Err d) r f = f
 
-by_ends : (mib system : ℕ) (a c : Archive) (e : ℕ) → GoesOn mib a c e → (s : Bool) → ends_at a mib system e ≡ s → IsFinalNext (Behind s (first_head a mib system e) (entry_at a mib system (start_after mib e)))
+by_ends : (mib system : ℕ) (a c : Archive) (e : ℕ) → HoldsMore mib a c e → (s : Bool) → ends_at a mib system e ≡ s → IsFinalNext (Behind s (first_head a mib system e) (entry_at a mib system (start_after mib e)))
     → Behind (ends_at c mib system e) (first_head c mib system e) (entry_at c mib system (start_after mib e)) ≡ Behind s (first_head a mib system e) (entry_at a mib system (start_after mib e))
 unfolding ends_at
 by_ends mib system a c e on true eq f = absurd f
@@ -187,7 +187,7 @@ by_ends mib system a c e on false eq f =
     (λ h. grows_bind (entry_at a mib system (start_after mib e)) (entry_at c mib system (start_after mib e)) (λ bytes. Ok (Some bytes)) (λ bytes. Ok (Some bytes)) (entry_grows mib a c e on system (start_after mib e) after) (λ bytes g. refl))
     final
 
-next_stays : (mib system : ℕ) (a c : Archive) (e : ℕ) → GoesOn mib a c e → IsFinalNext (next_bytes a mib system e) → next_bytes c mib system e ≡ next_bytes a mib system e
+next_stays : (mib system : ℕ) (a c : Archive) (e : ℕ) → HoldsMore mib a c e → IsFinalNext (next_bytes a mib system e) → next_bytes c mib system e ≡ next_bytes a mib system e
 next_stays mib system a c e on f =
     elim (cases_lt e a.top) [
       | inl lt ↦
@@ -213,7 +213,7 @@ found_stays judge mib system a c tip on f =
 abbrev OnlyZeros : Archive → Archive → ℕ → Type 0
 OnlyZeros a c e = (x b : ℕ) → e ≤ x → c.byte x ≡ Some b → 0 < b → a.byte x ≡ Some b
 
-mark_kept : (mib : ℕ) (a c : Archive) (e k : ℕ) → GoesOn mib a c e → OnlyZeros a c e → e ≤ k → a.mark ≤ k → c.mark ≤ k
+mark_kept : (mib : ℕ) (a c : Archive) (e k : ℕ) → HoldsMore mib a c e → OnlyZeros a c e → e ≤ k → a.mark ≤ k → c.mark ≤ k
 mark_kept mib a c e k on zeros le low =
     elim (cases_lt k c.mark) [
       | inl lt ↦
@@ -228,7 +228,7 @@ ok_final : (h : Result ℕ Damage) → is_ok h ≡ true → IsFinal h
 ok_final (Ok x) e = tt
 ok_final (Err d) e = absurd cc
 
-ends_kept : (mib system : ℕ) (a c : Archive) (e : ℕ) → GoesOn mib a c e → OnlyZeros a c e → ends_at a mib system e ≡ true → ends_at c mib system e ≡ true
+ends_kept : (mib system : ℕ) (a c : Archive) (e : ℕ) → HoldsMore mib a c e → OnlyZeros a c e → ends_at a mib system e ≡ true → ends_at c mib system e ≡ true
 unfolding ends_at
 ends_kept mib system a c e on zeros is =
     elim (nat_le a.mark e) as (λ s. nat_le a.mark e ≡ s → (s || ((e % 8192 == 0) && (is_ok (head_at a mib system e e (Some 0)) && nat_le a.mark (e + head_size mib e)))) ≡ true → (nat_le c.mark e || ((e % 8192 == 0) && (is_ok (head_at c mib system e e (Some 0)) && nat_le c.mark (e + head_size mib e)))) ≡ true) [
@@ -263,7 +263,7 @@ marks_end : (c : Archive) (mib system e : ℕ) → c.mark ≤ e → ends_at c mi
 unfolding ends_at
 marks_end c mib system e low = ap (λ (b : Bool). b || ((e % 8192 == 0) && (is_ok (head_at c mib system e e (Some 0)) && nat_le c.mark (e + head_size mib e)))) (le-leb c.mark e low)
 
-end_kept : (mib system : ℕ) (a c : Archive) (e : ℕ) → GoesOn mib a c e → OnlyZeros a c e → next_bytes a mib system e ≡ Ok None → next_bytes c mib system e ≡ Ok None
+end_kept : (mib system : ℕ) (a c : Archive) (e : ℕ) → HoldsMore mib a c e → OnlyZeros a c e → next_bytes a mib system e ≡ Ok None → next_bytes c mib system e ≡ Ok None
 end_kept mib system a c e on zeros none =
     elim (cases_lt e c.top) [
       | inl lt' ↦
@@ -292,23 +292,23 @@ end_stays judge mib system a c tip on zeros is =
 err_same : {A : Type 0} (a b : Damage) → ◌≡◌ {A = Result A Damage} (Err a) (Err b) → a ≡ b
 err_same a b e = cc
 
-by_rest : (b : ℕ) (d : Damage) (r : Result (List ℕ) Damage) → ((k : Damage) → r ≡ Err k → IsTorn k) → (r >>= λ bs. Ok (b ∷ bs)) ≡ Err d → IsTorn d
+by_rest : (b : ℕ) (d : Damage) (r : Result (List ℕ) Damage) → ((k : Damage) → r ≡ Err k → IsCutShort k) → (r >>= λ bs. Ok (b ∷ bs)) ≡ Err d → IsCutShort d
 by_rest b d (Ok bs) rest f = absurd cc
-by_rest b d (Err k) rest f = subst IsTorn (err_same {A = List ℕ} k d f) (rest k refl)
+by_rest b d (Err k) rest f = subst IsCutShort (err_same {A = List ℕ} k d f) (rest k refl)
 
-by_byte : (a : Archive) (mib begin x e : ℕ) (d : Damage) (r : Result (List ℕ) Damage) (o : Option ℕ) → IsSolid a e → e ≤ x → a.byte x ≡ o → ((k : Damage) → r ≡ Err k → IsTorn k) → (held_or (not_held a mib begin x) o >>= λ b. r >>= λ bs. Ok (b ∷ bs)) ≡ Err d → IsTorn d
+by_byte : (a : Archive) (mib begin x e : ℕ) (d : Damage) (r : Result (List ℕ) Damage) (o : Option ℕ) → IsSolid a e → e ≤ x → a.byte x ≡ o → ((k : Damage) → r ≡ Err k → IsCutShort k) → (held_or (not_held a mib begin x) o >>= λ b. r >>= λ bs. Ok (b ∷ bs)) ≡ Err d → IsCutShort d
 by_byte a mib begin x e d r None solid le is rest f =
     (begin, sym (err_same {A = List ℕ} (not_held a mib begin x) d f) ∙ torn a mib begin x (solid.ends x le is))
 by_byte a mib begin x e d r (Some b) solid le is rest f = by_rest b d r rest f
 
-bytes_torn : (a : Archive) (mib begin x n e : ℕ) (d : Damage) → IsSolid a e → e ≤ x → bytes_at a mib begin x n ≡ Err d → IsTorn d
+bytes_torn : (a : Archive) (mib begin x n e : ℕ) (d : Damage) → IsSolid a e → e ≤ x → bytes_at a mib begin x n ≡ Err d → IsCutShort d
 unfolding bytes_at
 bytes_torn a mib begin x zero e d solid le eq = absurd cc
 bytes_torn a mib begin x (suc n) e d solid le eq =
     by_byte a mib begin x e d (bytes_at a mib begin (x + 1) n) (a.byte x) solid le refl (λ k is. bytes_torn a mib begin (x + 1) n e k solid (omega (arith, le)) is) eq
 
 -- what is read and final is held
-final_ok : (r : Result (List ℕ) Damage) → ((d : Damage) → r ≡ Err d → IsTorn d) → IsFinal r → (l : List ℕ) × (r ≡ Ok l)
+final_ok : (r : Result (List ℕ) Damage) → ((d : Damage) → r ≡ Err d → IsCutShort d) → IsFinal r → (l : List ℕ) × (r ≡ Ok l)
 final_ok (Ok l) t f = (l, refl)
 final_ok (Err d) t f = absurd (f (t d refl))
 

@@ -21,7 +21,7 @@ use Rattle.wal_archive.specs.Archive.{Archive, archive_of, is_segment, held_in, 
 use Rattle.wal_archive.proofs.Files.{files_archive, segment_range, nth_held}
 use Rattle.wal_archive.proofs.Names.{names_differ}
 use Rattle.stream_laws.specs.Waiting.{IsSolid}
-use Rattle.stream_laws.specs.Streams.{segment_count, segment_part, stream_files, stream_byte, IsStreamed, StreamsAreArchives}
+use Rattle.stream_laws.specs.Streams.{segments_begun, segment_part, stream_files, stream_byte, IsStreamed, StreamsAreArchives}
 
 abbrev Named : Type 0
 Named = List ℕ × List ℕ
@@ -69,7 +69,7 @@ module _ (mib : ℕ) (bytes : List ℕ) (some : 1 ≤ mib) where
   abbrev files : Files
   files = stream_files mib bytes
 
-  no_part : (s : ℕ) → s ≤ most_segments → segment_count mib bytes < s → segment_part mib bytes s ≡ []
+  no_part : (s : ℕ) → s ≤ most_segments → segments_begun mib bytes < s → segment_part mib bytes s ≡ []
   no_part s fits lt =
       let past = behind_all size ((length bytes + (size - 1)) / size) (s - 1) (length bytes) (omega (arith, some)) refl (omega (arith, lt, fits)) in
       ap (take size) (drop_all ((s - 1) * size) bytes past) ∙ take_nil size
@@ -79,16 +79,16 @@ module _ (mib : ℕ) (bytes : List ℕ) (some : 1 ≤ mib) where
       let range = segment_range s is in
       let name = segment_name_bytes s mib in
       let part = segment_part mib bytes s in
-      let own : List Named = map (λ seg. (segment_name_bytes seg mib, segment_part mib bytes seg)) (range_with_len 1 (segment_count mib bytes)) in
+      let own : List Named = map (λ seg. (segment_name_bytes seg mib, segment_part mib bytes seg)) (range_with_len 1 (segments_begun mib bytes)) in
       let all : AllByRecursion (λ f. name ≡ f.0 → f.1 ≡ part) own =
-      all_range (λ (f : Named). name ≡ f.0 → f.1 ≡ part) (λ seg. (segment_name_bytes seg mib, segment_part mib bytes seg)) 1 (segment_count mib bytes)
+      all_range (λ (f : Named). name ≡ f.0 → f.1 ≡ part) (λ seg. (segment_name_bytes seg mib, segment_part mib bytes seg)) 1 (segments_begun mib bytes)
       (λ k least less e. ap (segment_part mib bytes) (names_differ mib k s (omega (arith, less)) (omega (arith, range.1)) (sym e))) in
       let there = get_with_files empty name part own all ∙ ap (λ (o : Option (List ℕ)). cond (list_any (λ f. same_name name f.0) own) (Some part) o) (get-empty (slice_cmp nat_cmp) name) in
       ap (λ (o : Option (List ℕ)). unwrap_or o []) there
-      ∙ by_any (list_any (λ f. same_name name f.0) own) part (λ none. elim (cases_lt (segment_count mib bytes) s) [
+      ∙ by_any (list_any (λ f. same_name name f.0) own) part (λ none. elim (cases_lt (segments_begun mib bytes) s) [
         | inl lt ↦ no_part s range.1 lt
         | inr le ↦
-            let found = any_range (λ (f : Named). same_name name f.0) (λ seg. (segment_name_bytes seg mib, segment_part mib bytes seg)) 1 (segment_count mib bytes) s range.0 (omega (arith, le)) (name_itself name) in
+            let found = any_range (λ (f : Named). same_name name f.0) (λ seg. (segment_name_bytes seg mib, segment_part mib bytes seg)) 1 (segments_begun mib bytes) s range.0 (omega (arith, le)) (name_itself name) in
             absurd (let never : true ≡ false = sym found ∙ none in cc)
       ])
 

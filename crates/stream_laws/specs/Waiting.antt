@@ -1,4 +1,5 @@
--- An archive whose bytes come one behind the other: what is read of it, and stays so whatever comes.
+-- An archive whose bytes come one behind the other: what is read of it and stays so, whatever
+-- comes.
 use Rattle.std.specs.Prelude.{◌≡◌, ◌≤◌, ◌<◌, ℕ, ◌+◌, Option, Some, None}
 use Rattle.lsn_core.specs.Segment.{segment_bytes}
 use Rattle.lsn_core.specs.Tip.{Tip}
@@ -9,14 +10,14 @@ use Rattle.wal_archive.specs.declared.fault.Damage.{Damage}
 use Rattle.wal_archive.specs.declared.fault.Broken.TheVariants as broken
 
 -- the archive ends within an entry or a head
-abbrev pub IsTorn : Damage → Type 0
-IsTorn d = (at : ℕ) × (d ≡ broken_at at broken.Torn)
+abbrev pub IsCutShort : Damage → Type 0
+IsCutShort d = (at : ℕ) × (d ≡ broken_at at broken.Torn)
 
 -- what is found stays: an entry, or damage other than that the archive ends there
 abbrev pub Stays : Found → Type 0
 Stays End = ⊥
 Stays (Gives r) = Unit {0}
-Stays (Bad d) = IsTorn d → ⊥
+Stays (Bad d) = IsCutShort d → ⊥
 
 -- from a place on no byte is missing before the archive's end
 pub record IsSolid (a : Archive) (e : ℕ) : Type 0 where
@@ -27,7 +28,7 @@ abbrev pub HoldsFrom : Archive → Archive → ℕ → Type 0
 HoldsFrom old new e = (x b : ℕ) → e ≤ x → old.byte x ≡ Some b → new.byte x ≡ Some b
 
 -- two archives from a place on, both without a gap, of which one holds all that the other holds
-pub record GoesOn (mib : ℕ) (old new : Archive) (e : ℕ) : Type 0 where
+pub record HoldsMore (mib : ℕ) (old new : Archive) (e : ℕ) : Type 0 where
   pub some : 1 ≤ mib
   pub before : IsArchive mib old
   pub behind : IsArchive mib new
@@ -39,14 +40,14 @@ pub record GoesOn (mib : ℕ) (old new : Archive) (e : ℕ) : Type 0 where
 abbrev pub FoundStays : Type 0
 FoundStays =
     (judge : Judge) (mib system : ℕ) (old new : Archive) (tip : Tip)
-    → GoesOn mib old new tip.end → Stays (next_in judge mib system old tip)
+    → HoldsMore mib old new tip.end → Stays (next_in judge mib system old tip)
     → next_in judge mib system new tip ≡ next_in judge mib system old tip
 
 -- an end stays one where only zeros came
 abbrev pub EndStays : Type 0
 EndStays =
     (judge : Judge) (mib system : ℕ) (old new : Archive) (tip : Tip)
-    → GoesOn mib old new tip.end
+    → HoldsMore mib old new tip.end
     → ((x b : ℕ) → tip.end ≤ x → new.byte x ≡ Some b → 0 < b → old.byte x ≡ Some b)
     → next_in judge mib system old tip ≡ End → next_in judge mib system new tip ≡ End
 
@@ -54,7 +55,7 @@ EndStays =
 abbrev pub BytesDecide : Type 0
 BytesDecide =
     (judge : Judge) (mib system : ℕ) (one other : Archive) (tip : Tip)
-    → GoesOn mib one other tip.end → HoldsFrom other one tip.end
+    → HoldsMore mib one other tip.end → HoldsFrom other one tip.end
     → next_in judge mib system one tip ≡ next_in judge mib system other tip
 
 -- of what stays nothing is found behind the first tip before the first page's head is held

@@ -19,23 +19,23 @@ use Rattle.wal_reader.specs.Wal.{stands_behind, ReadsOn}
 use Rattle.history.specs.Apply.{apply_all}
 use Rattle.history.specs.Whole.{entry_of}
 use Rattle.stream_laws.specs.Streams.{stream_files, stream_byte}
-use Rattle.stream_laws.specs.Windows.{Span, span_files, archive_room, IsEndOf}
+use Rattle.stream_laws.specs.Windows.{Span, span_files, archive_room, IsStreamEnd}
 use Rattle.stream_laws.proofs.Streams.{streams_are_archives}
 use Rattle.stream_laws.proofs.Solid.{next_none, bytes_decide}
 use Rattle.stream_laws.proofs.Stay.{end_stays, final_needs_head}
 use Rattle.stream_laws.proofs.Shown.{shows}
 use Rattle.stream_laws.proofs.Moved.{takes, forgets}
-use Rattle.follow_laws.specs.Followed.{stream_settings, behind_in, Waits, IsReadSo, IsFollowed, Damaged, BadDelta, RefusesFound}
+use Rattle.follow_laws.specs.Followed.{stream_settings, behind_in, AwaitsMore, IsReadSo, IsFollowed, Damaged, BadDelta, RefusesFound}
 use Rattle.follow_laws.specs.Windows.{IsReadIn}
 use Rattle.follow_laws.proofs.Refused.{system_more}
-use Rattle.follow_laws.proofs.GoOn.{pieces_go_on, zeros_go_on}
+use Rattle.follow_laws.proofs.GoOn.{streams_go_on, zeros_go_on}
 use Rattle.follow_laws.proofs.Windowed.{shows_found, follows, refuses}
 use Rattle.wal_follow.specs.declared.fault.FollowFault.{FollowFault}
 use Rattle.wal_follow.specs.declared.fault.FollowFault.TheVariants as follow
 use Rattle.wal_follow.specs.Reading.{WaitsAs, RefusesAt}
 use Rattle.wal_follow.specs.Window.{empty_span}
-use Rattle.wal_follow.specs.Following.{Following, front_size, new_following, settings_of, Follows, FollowsTo, RefusesStream, EndAnswer}
-use Rattle.wal_follow.specs.Inside.{TakesIn, ReadsIn, RefusedIn, ForgetsRead, found_behind, AsksFound}
+use Rattle.wal_follow.specs.Following.{Following, front_size, new_following, settings_of, StandsBehind, FollowsTo, RefusesStream, FinishGives}
+use Rattle.wal_follow.specs.Inside.{TakesIn, ReadsEntries, RefusedIn, ForgetsRead, found_behind, AsksFound}
 
 -- ---- the front of a stream
 
@@ -106,12 +106,12 @@ nothing_behind mib relseg some =
     ] in
     none_found mib (system_in []) a (first_tip mib) low
 
-pub new_follows : (mib relseg : ℕ) → 1 ≤ mib → Follows (new_following mib relseg) []
+pub new_follows : (mib relseg : ℕ) → 1 ≤ mib → StandsBehind (new_following mib relseg) []
 new_follows mib relseg some = record {
   rs = [];
   followed = record {
     read = record { walk = refl; makes = refl };
-    waits = subst Waits (sym (nothing_behind mib relseg some)) tt;
+    waits = subst AwaitsMore (sym (nothing_behind mib relseg some)) tt;
   };
   held = record {
     some = some;
@@ -132,12 +132,12 @@ new_follows mib relseg some = record {
     none_shown : (mib : ℕ) → length (replicate (segment_bytes mib - segment_bytes mib) 0 ++ (◌++◌ {A = ℕ} [] (replicate 0 0))) ≡ min 0 (archive_room mib)
     none_shown mib = ap (λ (l : List ℕ). length l) (no_bytes mib) ∙ (let few : 0 ≡ min 0 (archive_room mib) = omega arith in few)
 
-pub new_by : (mib relseg : ℕ) (front : List ℕ) (tip : Tip) (store : Store) (span : Span) → front ≡ [] → tip ≡ first_tip mib → store ≡ empty → span ≡ empty_span mib → 1 ≤ mib → Follows (record { relseg = relseg; front = front; tip = tip; store = store; span = span; ended = true; fault = None }) []
+pub new_by : (mib relseg : ℕ) (front : List ℕ) (tip : Tip) (store : Store) (span : Span) → front ≡ [] → tip ≡ first_tip mib → store ≡ empty → span ≡ empty_span mib → 1 ≤ mib → StandsBehind (record { relseg = relseg; front = front; tip = tip; store = store; span = span; ended = true; fault = None }) []
 new_by mib relseg front tip store span ef et es ew some =
-    subst (λ (x : List ℕ). Follows (record { relseg = relseg; front = x; tip = tip; store = store; span = span; ended = true; fault = None }) []) (sym ef)
-    (subst (λ (x : Tip). Follows (record { relseg = relseg; front = []; tip = x; store = store; span = span; ended = true; fault = None }) []) (sym et)
-    (subst (λ (x : Store). Follows (record { relseg = relseg; front = []; tip = first_tip mib; store = x; span = span; ended = true; fault = None }) []) (sym es)
-    (subst (λ (x : Span). Follows (record { relseg = relseg; front = []; tip = first_tip mib; store = empty; span = x; ended = true; fault = None }) []) (sym ew)
+    subst (λ (x : List ℕ). StandsBehind (record { relseg = relseg; front = x; tip = tip; store = store; span = span; ended = true; fault = None }) []) (sym ef)
+    (subst (λ (x : Tip). StandsBehind (record { relseg = relseg; front = []; tip = x; store = store; span = span; ended = true; fault = None }) []) (sym et)
+    (subst (λ (x : Store). StandsBehind (record { relseg = relseg; front = []; tip = first_tip mib; store = x; span = span; ended = true; fault = None }) []) (sym es)
+    (subst (λ (x : Span). StandsBehind (record { relseg = relseg; front = []; tip = first_tip mib; store = empty; span = x; ended = true; fault = None }) []) (sym ew)
     (new_follows mib relseg some))))
 
 -- ---- a piece
@@ -146,7 +146,7 @@ new_by mib relseg front tip store span ef et es ew some =
 pub record IsPast (f : Following) (fed : List ℕ) : Type 0 where
   pub rs : List Record
   pub read : IsReadSo f.span.mib f.relseg fed rs f.tip f.store
-  pub held : IsEndOf f.span fed
+  pub held : IsStreamEnd f.span fed
   pub before : f.span.base ≤ f.tip.end
   pub counted : f.tip.count ≡ length rs
   pub front : f.front ≡ take front_size fed
@@ -159,7 +159,7 @@ read_moved m n r q fed rs t u s o em er et es is =
     (subst (λ (x : Tip). IsReadSo m r fed rs x o) (sym et)
     (subst (λ (x : Store). IsReadSo m r fed rs t x) (sym es) is)))
 
-pub taken : (f g : Following) (fed piece : List ℕ) (quiet : Bool) → TakesIn f piece g quiet → Follows f fed → IsPast g (fed ++ piece)
+pub taken : (f g : Following) (fed piece : List ℕ) (quiet : Bool) → TakesIn f piece g quiet → StandsBehind f fed → IsPast g (fed ++ piece)
 taken f g fed piece quiet in_ is =
     let rest = in_.rest in
     let base = in_.span.base in
@@ -169,7 +169,7 @@ taken f g fed piece quiet in_ is =
       rs = is.rs;
       read = read_moved f.span.mib g.span.mib f.relseg g.relseg (fed ++ piece) is.rs f.tip g.tip f.store g.store
           in_.span.mib (ap (λ (x : Following). x.relseg) rest) tip (ap (λ (x : Following). x.store) rest)
-          (pieces_go_on streams_are_archives final_needs_head f.span.mib f.relseg fed piece is.rs f.tip f.store is.held.some is.followed.read);
+          (streams_go_on streams_are_archives final_needs_head f.span.mib f.relseg fed piece is.rs f.tip f.store is.held.some is.followed.read);
       held = takes f.span g.span fed piece is.held in_.span.mib base in_.span.tail;
       before = subst (λ (t : Tip). g.span.base ≤ t.end) (sym tip) (omega (arith, base, before));
       counted = ap (λ (t : Tip). t.count) tip ∙ is.counted;
@@ -177,7 +177,7 @@ taken f g fed piece quiet in_ is =
       going = ap (λ (x : Following). x.fault) rest ∙ is.going;
     }
 
-pub quiet_follows : (f g : Following) (fed piece : List ℕ) → TakesIn f piece g true → Follows f fed → Follows g (fed ++ piece)
+pub quiet_follows : (f g : Following) (fed piece : List ℕ) → TakesIn f piece g true → StandsBehind f fed → StandsBehind g (fed ++ piece)
 quiet_follows f g fed piece in_ is =
     let past = taken f g fed piece true in_ is in
     let quiet = in_.quiet refl in
@@ -193,7 +193,7 @@ quiet_follows f g fed piece in_ is =
     ∙ (ap (λ (x : Following). behind_in f.span.mib x.relseg (fed ++ piece) x.tip) in_.rest ∙ end) in
     record {
       rs = past.rs;
-      followed = record { read = past.read; waits = subst Waits (sym here) tt };
+      followed = record { read = past.read; waits = subst AwaitsMore (sym here) tt };
       held = past.held;
       before = past.before;
       counted = past.counted;
@@ -204,9 +204,9 @@ quiet_follows f g fed piece in_ is =
 
 -- ---- what became whole
 
-waits_of : (b : Bool) (f : Found) → WaitsAs b f → Waits f
-waits_of true f is = subst Waits (sym is) tt
-waits_of false f is = subst Waits (sym is.1) (is.0.0, refl)
+waits_of : (b : Bool) (f : Found) → WaitsAs b f → AwaitsMore f
+waits_of true f is = subst AwaitsMore (sym is) tt
+waits_of false f is = subst AwaitsMore (sym is.1) (is.0.0, refl)
 
 ends_of : (b : Bool) (f : Found) → WaitsAs b f → b ≡ true → f ≡ End
 ends_of true f is e = is
@@ -226,7 +226,7 @@ followed_by : (m n r q : ℕ) (fed : List ℕ) (rs : List Record) (t : Tip) (s :
 followed_by m n r q fed rs t s em er is =
     subst (λ (x : ℕ). IsFollowed x q fed rs t s) (sym em) (subst (λ (x : ℕ). IsFollowed m x fed rs t s) (sym er) is)
 
-pub read_follows : (f g : Following) (fed : List ℕ) → IsPast f fed → ReadsIn f g → Follows g fed
+pub read_follows : (f g : Following) (fed : List ℕ) → IsPast f fed → ReadsEntries f g → StandsBehind g fed
 read_follows f g fed past in_ =
     let qs = in_.reads.rs in
     let goes = in_.reads.goes in
@@ -247,7 +247,7 @@ read_follows f g fed past in_ =
     record {
       rs = past.rs ++ qs;
       followed = followed_by f.span.mib g.span.mib f.relseg g.relseg fed (past.rs ++ qs) g.tip g.store (ap (λ (w : Span). w.mib) span) relseg on;
-      held = subst (λ (w : Span). IsEndOf w fed) (sym span) past.held;
+      held = subst (λ (w : Span). IsStreamEnd w fed) (sym span) past.held;
       before = subst (λ (w : Span). w.base ≤ g.tip.end) (sym span) (omega (arith, later, before));
       counted = omega (arith, long, counted, count);
       front = ap (λ (x : Following). x.front) rest ∙ past.front;
@@ -258,7 +258,7 @@ read_follows f g fed past in_ =
       going = ap (λ (x : Following). x.fault) rest ∙ past.going;
     }
 
-pub forgotten_follows : (f g : Following) (fed : List ℕ) → Follows f fed → ForgetsRead f g → Follows g fed
+pub forgotten_follows : (f g : Following) (fed : List ℕ) → StandsBehind f fed → ForgetsRead f g → StandsBehind g fed
 forgotten_follows f g fed is in_ =
     let rest = in_.rest in
     let before = is.before in
@@ -300,17 +300,17 @@ refused_behind f fed why past is =
 -- ---- the end
 
 -- what a follower finds in its window stands there in the stream
-pub found_there : (f : Following) (fed : List ℕ) → Follows f fed → found_behind f ≡ behind_in f.span.mib f.relseg fed f.tip
+pub found_there : (f : Following) (fed : List ℕ) → StandsBehind f fed → found_behind f ≡ behind_in f.span.mib f.relseg fed f.tip
 found_there f fed is =
     ap (λ (s : StoreSettings). stands_behind s (span_files f.span) f.tip) (settings_front f fed is.front)
     ∙ shows streams_are_archives bytes_decide f.span fed record_at (system_in fed) f.tip is.held is.before
 
-ends_or_damaged : (x : Found) → Waits x → ((d : Damage) → x ≡ Bad d → ⊥) → x ≡ End
+ends_or_damaged : (x : Found) → AwaitsMore x → ((d : Damage) → x ≡ Bad d → ⊥) → x ≡ End
 ends_or_damaged End waits not_bad = refl
 ends_or_damaged (Gives r) waits not_bad = absurd waits
 ends_or_damaged (Bad d) waits not_bad = absurd (not_bad d refl)
 
-pub ended_there : (f : Following) (fed : List ℕ) (end : Lsn) → Follows f fed → end.0 ≡ f.tip.end → behind_in f.span.mib f.relseg fed f.tip ≡ End → EndAnswer f fed (Ok end)
+pub ended_there : (f : Following) (fed : List ℕ) (end : Lsn) → StandsBehind f fed → end.0 ≡ f.tip.end → behind_in f.span.mib f.relseg fed f.tip ≡ End → FinishGives f fed (Ok end)
 ended_there f fed end is at none = record {
   rs = is.rs;
   wal = record { walk = is.followed.read.walk; ended = none };
@@ -318,7 +318,7 @@ ended_there f fed end is at none = record {
   end_is = at;
 }
 
-pub asked_there : (f : Following) (fed : List ℕ) (result : Result Lsn FollowFault) → Follows f fed → AsksFound f result → EndAnswer f fed result
+pub asked_there : (f : Following) (fed : List ℕ) (result : Result Lsn FollowFault) → StandsBehind f fed → AsksFound f result → FinishGives f fed result
 asked_there f fed (Ok end) is asks =
     ended_there f fed end is asks.0
     (ends_or_damaged (behind_in f.span.mib f.relseg fed f.tip) is.followed.waits (λ d bad. asks.1 d (found_there f fed is ∙ bad)))
@@ -329,7 +329,7 @@ asked_there f fed (Err follow.NoMemory) is asks = tt
 
 -- ---- a call
 
-pub quiet_goes : (f g : Following) (fed piece : List ℕ) (nothing : Bool) → TakesIn f piece g nothing → nothing ≡ true → Follows f fed → FollowsTo f g fed piece
+pub quiet_goes : (f g : Following) (fed piece : List ℕ) (nothing : Bool) → TakesIn f piece g nothing → nothing ≡ true → StandsBehind f fed → FollowsTo f g fed piece
 quiet_goes f g fed piece nothing in_ quiet is =
     let count : g.tip.count ≡ f.tip.count = ap (λ (x : Following). x.tip.count) in_.rest in
     record {
@@ -339,7 +339,7 @@ quiet_goes f g fed piece nothing in_ quiet is =
       later = omega (arith, count);
     }
 
-pub read_goes : (f g h k : Following) (fed piece : List ℕ) (nothing : Bool) → TakesIn f piece g nothing → ReadsIn g h → ForgetsRead h k → Follows f fed → FollowsTo f k fed piece
+pub read_goes : (f g h k : Following) (fed piece : List ℕ) (nothing : Bool) → TakesIn f piece g nothing → ReadsEntries g h → ForgetsRead h k → StandsBehind f fed → FollowsTo f k fed piece
 read_goes f g h k fed piece nothing in_ reads forgets is =
     let count : g.tip.count ≡ f.tip.count = ap (λ (x : Following). x.tip.count) in_.rest in
     let more = reads.reads.goes.counted in
@@ -351,7 +351,7 @@ read_goes f g h k fed piece nothing in_ reads forgets is =
       later = omega (arith, count, more, last);
     }
 
-pub read_refused : (f g : Following) (fed piece : List ℕ) (nothing : Bool) (why : FollowFault) → TakesIn f piece g nothing → RefusedIn g why → Follows f fed → RefusesStream f.span.mib f.relseg (fed ++ piece) why
+pub read_refused : (f g : Following) (fed piece : List ℕ) (nothing : Bool) (why : FollowFault) → TakesIn f piece g nothing → RefusedIn g why → StandsBehind f fed → RefusesStream f.span.mib f.relseg (fed ++ piece) why
 read_refused f g fed piece nothing why in_ refused is =
     subst (λ (m : ℕ). RefusesStream m f.relseg (fed ++ piece) why) in_.span.mib
     (subst (λ (x : Following). RefusesStream g.span.mib x.relseg (fed ++ piece) why) in_.rest

@@ -20,7 +20,7 @@ use Rattle.history.proofs.Histories.{apply_all-push}
 use Rattle.wal_follow.specs.declared.fault.FollowFault.{FollowFault}
 use Rattle.wal_follow.specs.declared.fault.FollowFault.TheVariants as follow
 use Rattle.wal_follow.specs.Steps.{RefusedIn}
-use Rattle.wal_follow.specs.Reading.{WaitsAs, RefusedAt, Takes, GoesTo, ReadsTo, RefusedBehind}
+use Rattle.wal_follow.specs.Reading.{WaitsAs, RefusedAt, TakesEntry, GoesTo, ReadsTo, RefusedBehind}
 
 -- ---- refusals
 
@@ -56,9 +56,9 @@ module _ {V : Type 0} (g : Ghosts V) where
   pub both_read : (old now later : V) → OnlyReads g old now → OnlyReads g now later → OnlyReads g old later
   both_read old now later first second = record { files = second.files ∙ first.files; past = second.past ∙ first.past; faults = omega (arith, first.faults, second.faults) }
 
-  pub one_gone : (s : StoreSettings) (old now later : V) (tip last next : Tip) (store made more : Store) (ended : Bool) (rs : List Record) (r : Record) → HasGone s old now tip last store made rs → OnlyReads g now later → Takes s (g.files now) last next made more ended (Some r) → HasGone s old later tip next store more (rs ++ (r ∷ []))
+  pub one_gone : (s : StoreSettings) (old now later : V) (tip last next : Tip) (store made more : Store) (ended : Bool) (rs : List Record) (r : Record) → HasGone s old now tip last store made rs → OnlyReads g now later → TakesEntry s (g.files now) last next made more ended (Some r) → HasGone s old later tip next store more (rs ++ (r ∷ []))
   one_gone s old now later tip last next store made more ended rs r gone reads takes =
-      let t = subst (λ (f : Option Files). Takes s f last next made more ended (Some r)) gone.reads.files takes in
+      let t = subst (λ (f : Option Files). TakesEntry s f last next made more ended (Some r)) gone.reads.files takes in
       record {
         reads = both_read old now later gone.reads reads;
         goes = record {
@@ -72,9 +72,9 @@ module _ {V : Type 0} (g : Ghosts V) where
         };
       }
 
-  pub all_gone : (s : StoreSettings) (old now : V) (tip last next : Tip) (store made more : Store) (ended : Bool) (rs : List Record) → HasGone s old now tip last store made rs → Takes s (g.files now) last next made more ended None → ReadsTo s (g.files old) tip store next more ended
+  pub all_gone : (s : StoreSettings) (old now : V) (tip last next : Tip) (store made more : Store) (ended : Bool) (rs : List Record) → HasGone s old now tip last store made rs → TakesEntry s (g.files now) last next made more ended None → ReadsTo s (g.files old) tip store next more ended
   all_gone s old now tip last next store made more ended rs gone takes =
-      let t = subst (λ (f : Option Files). Takes s f last next made more ended None) gone.reads.files takes in
+      let t = subst (λ (f : Option Files). TakesEntry s f last next made more ended None) gone.reads.files takes in
       record {
         rs = rs;
         goes = record {

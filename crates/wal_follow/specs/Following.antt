@@ -19,8 +19,8 @@ use Rattle.wal_reader.specs.Wal.{IsWal, IsDamaged}
 use Rattle.history.specs.Apply.{apply_all}
 use Rattle.history.specs.Whole.{entry_of}
 use Rattle.stream_laws.specs.Streams.{stream_files}
-use Rattle.stream_laws.specs.Windows.{Span, IsEndOf}
-use Rattle.follow_laws.specs.Followed.{stream_settings, behind_in, IsFollowed, Damaged, BadDelta, IsRefused}
+use Rattle.stream_laws.specs.Windows.{Span, IsStreamEnd}
+use Rattle.follow_laws.specs.Followed.{stream_settings, behind_in, IsFollowed, Damaged, BadDelta, IsUnfollowed}
 use Rattle.wal_follow.specs.declared.fault.FollowFault.{FollowFault}
 use Rattle.wal_follow.specs.declared.fault.FollowFault.TheVariants as follow
 use Rattle.wal_follow.specs.Window.{empty_span}
@@ -60,7 +60,7 @@ settings_of f = settings_with f.span.mib f.relseg (system_in f.front)
 
 -- a follower reads by settings that there are, behind an end that an entry may have, and its window
 -- begins no later than that
-pub record CanFollow (relseg : ℕ) (front : List ℕ) (tip : Tip) (span : Span) : Type 0 where
+pub record CanGoOn (relseg : ℕ) (front : List ℕ) (tip : Tip) (span : Span) : Type 0 where
   pub blocks : IsRelseg relseg
   pub few : length front ≤ front_size
   pub reached : IsReached span.mib tip
@@ -68,10 +68,10 @@ pub record CanFollow (relseg : ℕ) (front : List ℕ) (tip : Tip) (span : Span)
 
 -- a follower stands behind a stream of these bytes: it has read the entries that are whole in the
 -- stream's archive, its store is what they make from nothing, and it waits for more
-pub record Follows (f : Following) (fed : List ℕ) : Type 0 where
+pub record StandsBehind (f : Following) (fed : List ℕ) : Type 0 where
   pub rs : List Record
   pub followed : IsFollowed f.span.mib f.relseg fed rs f.tip f.store
-  pub held : IsEndOf f.span fed
+  pub held : IsStreamEnd f.span fed
   pub before : f.span.base ≤ f.tip.end
   pub counted : f.tip.count ≡ length rs
   pub front : f.front ≡ take front_size fed
@@ -80,13 +80,13 @@ pub record Follows (f : Following) (fed : List ℕ) : Type 0 where
 
 -- the stream that a follower stood behind, with a piece more, is refused so
 abbrev pub RefusesStream : ℕ → ℕ → List ℕ → FollowFault → Type 0
-RefusesStream mib relseg fed (follow.Damaged d) = IsRefused mib relseg fed (Damaged d)
-RefusesStream mib relseg fed (follow.BadDelta at) = IsRefused mib relseg fed (BadDelta at)
+RefusesStream mib relseg fed (follow.Damaged d) = IsUnfollowed mib relseg fed (Damaged d)
+RefusesStream mib relseg fed (follow.BadDelta at) = IsUnfollowed mib relseg fed (BadDelta at)
 RefusesStream mib relseg fed follow.NoMemory = Unit {0}
 
 -- a follower stands behind the longer stream, by the same settings
 pub record FollowsTo (old new : Following) (fed piece : List ℕ) : Type 0 where
-  pub follows : Follows new (fed ++ piece)
+  pub follows : StandsBehind new (fed ++ piece)
   pub mib : new.span.mib ≡ old.span.mib
   pub relseg : new.relseg ≡ old.relseg
   pub later : old.tip.count ≤ new.tip.count
@@ -104,18 +104,18 @@ pub record EndsWell (f : Following) (fed : List ℕ) (end : Lsn) : Type 0 where
   pub end_is : end.0 ≡ f.tip.end
 
 -- the archive is damaged so, behind some entries
-abbrev pub HasDamage : Following → List ℕ → Damage → Type 0
-HasDamage f fed d =
+abbrev pub EndsDamaged : Following → List ℕ → Damage → Type 0
+EndsDamaged f fed d =
     (rs : List Record)
     × IsDamaged (stream_settings f.span.mib f.relseg fed) (stream_files f.span.mib fed) rs d
 
 -- the end of the archive of the stream that a follower stands behind, or its damage: what a replay
 -- of that archive gives
-abbrev pub EndAnswer : Following → List ℕ → Result Lsn FollowFault → Type 0
-EndAnswer f fed (Ok end) = EndsWell f fed end
-EndAnswer f fed (Err (follow.Damaged d)) = HasDamage f fed d
-EndAnswer f fed (Err (follow.BadDelta at)) = ⊥
-EndAnswer f fed (Err follow.NoMemory) = Unit {0}
+abbrev pub FinishGives : Following → List ℕ → Result Lsn FollowFault → Type 0
+FinishGives f fed (Ok end) = EndsWell f fed end
+FinishGives f fed (Err (follow.Damaged d)) = EndsDamaged f fed d
+FinishGives f fed (Err (follow.BadDelta at)) = ⊥
+FinishGives f fed (Err follow.NoMemory) = Unit {0}
 
 -- ---- the forks
 

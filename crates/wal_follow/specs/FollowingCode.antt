@@ -15,8 +15,8 @@ TipNumbers = ℕ × (ℕ × (ℕ × ℕ))
 abbrev pub SpanParts : Type 0
 SpanParts = ℕ × (ℕ × (List ℕ × ℕ))
 
-abbrev pub Rest : Type 0
-Rest = (ℕ × List ℕ) × (Store × (Bool × Option FollowFault))
+abbrev pub FollowRest : Type 0
+FollowRest = (ℕ × List ℕ) × (Store × (Bool × Option FollowFault))
 
 abbrev pub tip_code : Coded TipNumbers
 tip_code = coded× coded_ℕ (coded× coded_ℕ (coded× coded_ℕ coded_ℕ))
@@ -24,8 +24,8 @@ tip_code = coded× coded_ℕ (coded× coded_ℕ (coded× coded_ℕ coded_ℕ))
 abbrev pub span_code : Coded SpanParts
 span_code = coded× coded_ℕ (coded× coded_ℕ (coded× (coded_list coded_ℕ) coded_ℕ))
 
-abbrev pub rest_code : Coded Rest
-rest_code =
+abbrev pub follow_rest_code : Coded FollowRest
+follow_rest_code =
     coded× (coded× coded_ℕ (coded_list coded_ℕ))
     (coded× store_code (coded× coded_bool (coded_option the_row.coded)))
 
@@ -35,10 +35,10 @@ tip_numbers f = (f.tip.end, (f.tip.prev, (f.tip.redo, f.tip.count)))
 abbrev pub span_parts : Following → SpanParts
 span_parts f = (f.span.mib, (f.span.base, (f.span.bytes, f.span.zeros)))
 
-abbrev pub rest_of : Following → Rest
+abbrev pub rest_of : Following → FollowRest
 rest_of f = ((f.relseg, f.front), (f.store, (f.ended, f.fault)))
 
-abbrev pub following_of : TipNumbers → SpanParts → Rest → Following
+abbrev pub following_of : TipNumbers → SpanParts → FollowRest → Following
 following_of t s r = record {
   relseg = r.0.0;
   front = r.0.1;
@@ -51,6 +51,7 @@ following_of t s r = record {
 
 abbrev pub following_code : Coded Following
 following_code =
-    code_by (TipNumbers × (SpanParts × Rest)) (coded× tip_code (coded× span_code rest_code))
+    code_by (TipNumbers × (SpanParts × FollowRest))
+    (coded× tip_code (coded× span_code follow_rest_code))
     (λ f. (tip_numbers f, (span_parts f, rest_of f))) (λ t. following_of t.0 t.1.0 t.1.1)
     (λ _. refl)

@@ -8,7 +8,7 @@ use Rattle.wal_reader.specs.Wal.{stands_behind}
 use Rattle.stream_laws.specs.Windows.{span_files, span_top}
 use Rattle.wal_follow.specs.declared.fault.FollowFault.{FollowFault}
 use Rattle.wal_follow.specs.declared.fault.FollowFault.TheVariants as follow
-use Rattle.wal_follow.specs.Window.{TakesPiece, Forgets}
+use Rattle.wal_follow.specs.Window.{TakesPiece, DropsBefore}
 use Rattle.wal_follow.specs.Reading.{ReadsTo, RefusedBehind}
 use Rattle.wal_follow.specs.Following.{Following, front_size, settings_of}
 
@@ -27,7 +27,7 @@ pub record TakesIn (old : Following) (piece : List ℕ) (new : Following) (nothi
   pub quiet : nothing ≡ true → IsQuiet old piece new
 
 -- the entries that are whole in the window were read
-pub record ReadsIn (old new : Following) : Type 0 where
+pub record ReadsEntries (old new : Following) : Type 0 where
   pub reads : ReadsTo (settings_of old) (Some (span_files old.span)) old.tip old.store
       new.tip new.store new.ended
   pub rest : new
@@ -40,7 +40,7 @@ RefusedIn f why =
 
 -- the bytes before the tip were forgotten
 pub record ForgetsRead (old new : Following) : Type 0 where
-  pub span : Forgets old.span (min old.tip.end (span_top old.span)) new.span
+  pub span : DropsBefore old.span (min old.tip.end (span_top old.span)) new.span
   pub rest : new ≡ record old { span = new.span }
 
 -- what stands behind the tip in the window

@@ -14,7 +14,7 @@ use Rattle.wal_reader.specs.Cursor.{IsGiven, IsReached}
 use Rattle.wal_reader.specs.Wal.{stands_behind, ReadsOn}
 use Rattle.history.specs.Apply.{apply, apply_all}
 use Rattle.history.specs.Whole.{entry_of}
-use Rattle.stream_laws.specs.Waiting.{IsTorn}
+use Rattle.stream_laws.specs.Waiting.{IsCutShort}
 use Rattle.wal_follow.specs.declared.fault.FollowFault.{FollowFault}
 use Rattle.wal_follow.specs.declared.fault.FollowFault.TheVariants.{Damaged, BadDelta, NoMemory}
 
@@ -31,7 +31,7 @@ WaitsAs false found = (at : Lsn) × (found ≡ Bad (damage.Broken at broken.Torn
 
 -- what is found behind entries that made a store is refused so
 abbrev pub RefusesAt : Store → Found → FollowFault → Type 0
-RefusesAt store found (Damaged d) = (found ≡ Bad d) × (IsTorn d → ⊥)
+RefusesAt store found (Damaged d) = (found ≡ Bad d) × (IsCutShort d → ⊥)
 RefusesAt store found (BadDelta at) =
     (r : Record) × (found ≡ Gives r) × (at ≡ r.start) × (apply store (entry_of r) ≡ None)
 RefusesAt store found NoMemory = Unit {0}
@@ -40,12 +40,12 @@ abbrev pub RefusedAt : StoreSettings → Option Files → Tip → Store → Foll
 RefusedAt s files tip store why = IfSome files (λ m. RefusesAt store (stands_behind s m tip) why)
 
 -- an entry was read behind a tip and applied, or none is whole there
-abbrev pub Takes :
+abbrev pub TakesEntry :
     StoreSettings → Option Files → Tip → Tip → Store → Store → Bool → Option Record → Type 0
-Takes s files tip next store made ended (Some r) =
+TakesEntry s files tip next store made ended (Some r) =
     IfSome files (λ m. stands_behind s m tip ≡ Gives r) × (next ≡ tip_after tip r)
     × (apply store (entry_of r) ≡ Some made) × IsGiven s.segment tip r
-Takes s files tip next store made ended None =
+TakesEntry s files tip next store made ended None =
     IfSome files (λ m. WaitsAs ended (stands_behind s m tip)) × (next ≡ tip) × (made ≡ store)
 
 -- entries were read behind a tip and applied, up to another tip

@@ -3,7 +3,7 @@ use Rattle.std.specs.Prelude.{◌≡◌, ◌≤◌, ℕ, ◌+◌, ◌-◌, min, 
 use Rattle.std.specs.FinMap.{get}
 use Rattle.lsn_core.specs.Segment.{segment_bytes}
 use Rattle.wal_record.specs.Tips.{wal_limit}
-use Rattle.stream_laws.specs.Streams.{segment_count, segment_part}
+use Rattle.stream_laws.specs.Streams.{segments_begun, segment_part}
 use Rattle.stream_laws.specs.Windows.{Span, shown, span_files, span_top}
 
 -- the window of a stream without bytes
@@ -45,7 +45,7 @@ pub record TakesPiece (old : Span) (piece : List ℕ) (new : Span) : Type 0 wher
   pub tail : span_tail new ≡ span_tail old ++ take (wal_limit old.mib - span_top old) piece
 
 -- the bytes before a place are forgotten
-pub record Forgets (old : Span) (place : ℕ) (new : Span) : Type 0 where
+pub record DropsBefore (old : Span) (place : ℕ) (new : Span) : Type 0 where
   pub mib : new.mib ≡ old.mib
   pub base : new.base ≡ place
   pub tail : span_tail new ≡ drop (place - old.base) (span_tail old)
@@ -54,7 +54,7 @@ pub record Forgets (old : Span) (place : ℕ) (new : Span) : Type 0 where
 
 -- how many of its segments have a file
 abbrev pub span_segments : Span → ℕ
-span_segments w = segment_count w.mib (shown w)
+span_segments w = segments_begun w.mib (shown w)
 
 -- the segment of which a name's file is; none exactly where there is no such file
 abbrev pub NamesPart : Span → List ℕ → Option ℕ → Type 0

@@ -5,8 +5,8 @@ ghost use Rattle.lsn_core.specs.Shown.{BlockAnswer};
 ghost use Rattle.lsn_core.specs.Segment.{IsRelseg};
 ghost use Rattle.wal_reader.specs.Settings.{system_in};
 ghost use Rattle.wal_follow.specs.declared.fault.FollowFault.{FollowFault};
-ghost use Rattle.wal_follow.specs.Following.{front_size, new_following, settings_of, Follows, FollowsOn, FollowsTo, RefusesStream, EndAnswer, len_of, fork_lens};
-ghost use Rattle.wal_follow.specs.Inside.{TakesIn, ReadsIn, RefusedIn, AsksFound, ForgetsRead};
+ghost use Rattle.wal_follow.specs.Following.{front_size, new_following, settings_of, StandsBehind, FollowsOn, FollowsTo, RefusesStream, FinishGives, len_of, fork_lens};
+ghost use Rattle.wal_follow.specs.Inside.{TakesIn, ReadsEntries, RefusedIn, AsksFound, ForgetsRead};
 
 use crate::fault::FollowFault;
 use crate::reading::read_on;
@@ -38,7 +38,7 @@ pub struct Follower {
 }
 
 impl Model for Follower {
-    ghost use Rattle.wal_follow.specs.Following.{Following, CanFollow};
+    ghost use Rattle.wal_follow.specs.Following.{Following, CanGoOn};
     ghost use Rattle.wal_follow.specs.FollowingCode.{following_code};
 
     ghost Value = { Following };
@@ -55,7 +55,7 @@ impl Model for Follower {
       fault = f.fault;
     } };
 
-    ghost invariant = { λ f. CanFollow f.relseg f.front.items f.tip f.window };
+    ghost invariant = { λ f. CanGoOn f.relseg f.front.items f.tip f.window };
 }
 
 /// The system identifier that stands in a page's first bytes; 0 where its first 32 bytes aren't
@@ -73,7 +73,8 @@ fn system_of(front: &[u8]) -> u64
 fn fill_front(front: &mut Vec<u8>, piece: &[u8]) -> Result<(), NoMemory>
     requires { length front.old.items ≤ front_size }
     ensures few { length front.new.items ≤ front_size }
-    ensures filled { OnOk result (front.new.items ≡ take front_size (front.old.items ++ piece.now)) }
+    ensures filled { OnOk result
+        (front.new.items ≡ take front_size (front.old.items ++ piece.now)) }
 {
     let count = piece.len().min(FRONT - front.len());
     front.extend_from_slice(&piece[..count])?;
@@ -85,7 +86,7 @@ impl Follower {
     pub fn new(alloc: Global, segment: SegSize, relseg: u32) -> Result<Follower, NoMemory>
         requires { IsRelseg relseg }
         ensures new { IfOk result (λ f. f ≡ new_following segment relseg) }
-        ensures follows { IfOk result (λ f. Follows f []) }
+        ensures follows { IfOk result (λ f. StandsBehind f []) }
     {
         // known: a segment has a MiB at least
         let _mib = segment.mib();
@@ -123,7 +124,7 @@ impl Follower {
 
     /// Reads and applies the entries that are whole.
     fn read_whole(&mut self) -> Result<(), FollowFault>
-        ensures read { OnOk result (ReadsIn self.old self.new) }
+        ensures read { OnOk result (ReadsEntries self.old self.new) }
         ensures refused { IfErr result (RefusedIn self.old) }
         ensures fault { self.new.fault ≡ self.old.fault }
     {
@@ -154,9 +155,9 @@ impl Follower {
 
     /// Takes a piece of the stream, and reads what became whole.
     fn take_piece(&mut self, piece: &[u8]) -> Result<(), FollowFault>
-        ensures follows { OnOk result ((fed : List ℕ) → Follows self.old fed
+        ensures follows { OnOk result ((fed : List ℕ) → StandsBehind self.old fed
             → FollowsTo self.old self.new fed piece.now) }
-        ensures refused { IfErr result (λ why. (fed : List ℕ) → Follows self.old fed
+        ensures refused { IfErr result (λ why. (fed : List ℕ) → StandsBehind self.old fed
             → RefusesStream self.old.span.mib self.old.relseg (fed ++ piece.now) why) }
     {
         if self.take_in(piece)? {
@@ -172,9 +173,9 @@ impl Follower {
     /// within an entry or a head, or has an entry that can't be applied, as replay gives them.
     /// After a fault every later call answers the same.
     pub fn feed(&mut self, piece: &[u8]) -> Result<u64, FollowFault>
-        ensures fed { IfOk result (λ count. (fed : List ℕ) → Follows self.old fed
+        ensures fed { IfOk result (λ count. (fed : List ℕ) → StandsBehind self.old fed
             → FollowsOn self.old self.new fed piece.now count) }
-        ensures refused { IfErr result (λ why. (fed : List ℕ) → Follows self.old fed
+        ensures refused { IfErr result (λ why. (fed : List ℕ) → StandsBehind self.old fed
             → RefusesStream self.old.span.mib self.old.relseg (fed ++ piece.now) why) }
         ensures kept { IfErr result (λ why. self.new.fault ≡ Some why) }
         ensures again { (why : FollowFault) → self.old.fault ≡ Some why
@@ -208,8 +209,8 @@ impl Follower {
     /// Where the archive of all bytes so far ends, or how it is damaged there, also where it ends
     /// within an entry or a head, as replay gives it. It changes nothing but that a fault is kept.
     pub fn finish(&mut self) -> Result<Lsn, FollowFault>
-        ensures end { (fed : List ℕ) → Follows self.old fed
-            → EndAnswer self.old fed result }
+        ensures end { (fed : List ℕ) → StandsBehind self.old fed
+            → FinishGives self.old fed result }
         ensures same { OnOk result (self.new ≡ self.old) }
         ensures kept { IfErr result (λ why. self.new ≡ record self.old { fault = Some why }) }
         ensures again { (why : FollowFault) → self.old.fault ≡ Some why

@@ -6,7 +6,7 @@ ghost use Rattle.wal_reader.specs.Cursor.{IsReached};
 ghost use Rattle.history.specs.Applied.{IsApplicable};
 ghost use Rattle.history.specs.Apply.{apply as applied_to};
 ghost use Rattle.history.specs.Whole.{entry_of};
-ghost use Rattle.wal_follow.specs.Reading.{RefusesEntry, RefusedAt, Takes, ReadsTo, RefusedBehind};
+ghost use Rattle.wal_follow.specs.Reading.{RefusesEntry, RefusedAt, TakesEntry, ReadsTo, RefusedBehind};
 
 use crate::fault::FollowFault;
 use crate::step::{Step, step_behind};
@@ -42,7 +42,7 @@ fn take_next<V: Vault>(
 ) -> Result<Option<Record>, FollowFault>
     requires { IsReached settings.now.segment tip.old }
     ensures taken { IfOk result
-        (Takes settings.now (V.files area.old) tip.old tip.new store.old store.new ended.new) }
+        (TakesEntry settings.now (V.files area.old) tip.old tip.new store.old store.new ended.new) }
     ensures refused { IfErr result (RefusedAt settings.now (V.files area.old) tip.old store.old) }
     ensures reads { OnlyReads V.Vault area.old area.new }
 {

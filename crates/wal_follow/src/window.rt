@@ -3,7 +3,7 @@
 ghost use Rattle.std.specs.Prelude.{◌≡◌, ◌≤◌, ◌+◌, ◌^◌, ◌++◌, length, take, drop, replicate, OnOk, OnErr};
 ghost use Rattle.wal_record.specs.Tips.{wal_limit};
 ghost use Rattle.stream_laws.specs.Windows.{span_top};
-ghost use Rattle.wal_follow.specs.Window.{empty_span, IsLastNonzero, StaysAt, HoldsPiece, TakesPiece, Forgets};
+ghost use Rattle.wal_follow.specs.Window.{empty_span, IsLastNonzero, StaysAt, HoldsPiece, TakesPiece, DropsBefore};
 
 use crate::area::WindowArea;
 use lsn_core::{NoMemory, SegSize};
@@ -148,7 +148,7 @@ impl Window {
     pub(crate) fn drop_before(&mut self, place: u64)
         requires from { self.old.base ≤ place }
         requires to { place ≤ span_top self.old }
-        ensures { Forgets self.old place self.new }
+        ensures { DropsBefore self.old place self.new }
     {
         let count = (place - self.base).min(self.bytes.len() as u64);
         drop_front(&mut self.bytes, count as usize);
