@@ -1,7 +1,7 @@
-//! The tests of the crates from the words on bytes up to the readers and the writer of the WAL,
-//! through their public calls alone. A crate with tests is proved twice, so they stand in a crate of
-//! their own; those of the crates above stand in `store_tests`, `backup_tests`, `chain_tests` and
-//! `pgbackup_tests`, so that these are proved beside those crates.
+//! The tests of the crates from the words on bytes up to the readers, the follower and the writer of
+//! the WAL, through their public calls alone. A crate with tests is proved twice, so they stand in a
+//! crate of their own; those of the crates above stand in `store_tests`, `backup_tests`,
+//! `chain_tests` and `pgbackup_tests`, so that these are proved beside those crates.
 //!
 //! A test shows what no clause says: that a call succeeds where memory is there, bytes and texts
 //! that come from an independent implementation of the formats, and what the system does. Each
@@ -26,6 +26,8 @@ mod timeline_tests;
 mod vault_os_tests;
 #[cfg(test)]
 mod vault_tests;
+#[cfg(test)]
+mod wal_follow_tests;
 #[cfg(test)]
 mod wal_pages_tests;
 #[cfg(test)]
