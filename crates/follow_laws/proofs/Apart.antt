@@ -1,5 +1,5 @@
 -- A stream is followed or refused, and in one way.
-use Rattle.std.proofs.Common.{◌≡◌, ℕ, List, [], ◌∷◌, map, Option, Some, None, refl, sym, ap, subst, ◌∙◌}
+use Rattle.std.proofs.Common.{◌≡◌, List, [], ◌∷◌, map, Option, Some, None, refl, sym, ap, subst, ◌∙◌}
 use Rattle.std.specs.FinMap.{empty}
 use Rattle.byte_words.proofs.Fields.{bind_some}
 use Rattle.lsn_core.specs.Files.{Files}
@@ -12,12 +12,10 @@ use Rattle.wal_record.specs.Tips.{first_tip, tip_after}
 use Rattle.wal_archive.specs.Rules.{Found, End, Gives, Bad}
 use Rattle.wal_archive.specs.declared.fault.Damage.{Damage}
 use Rattle.wal_reader.specs.Wal.{stands_behind, ReadsOn}
-use Rattle.history.specs.Entry.{Entry}
 use Rattle.history.specs.Apply.{apply, apply_all}
 use Rattle.history.specs.Whole.{entry_of}
-use Rattle.stream_laws.specs.Waiting.{IsCutShort}
 use Rattle.stream_laws.specs.Streams.{stream_files}
-use Rattle.follow_laws.specs.Followed.{stream_settings, behind_in, AwaitsMore, IsFollowed, Unfollowed, Damaged, BadDelta, RefusesFound, IsUnfollowed, FollowedOrRefused, RefusedInOneWay}
+use Rattle.follow_laws.specs.Followed.{stream_settings, behind_in, AwaitsMore, Unfollowed, Damaged, BadDelta, RefusesFound, FollowedOrRefused, RefusedInOneWay}
 
 -- behind entries that make a store no entry stands that can be applied
 abbrev Halts : Store → Found → Type 0

@@ -1,6 +1,5 @@
 -- What was read goes on.
-use Rattle.std.proofs.Common.{◌≡◌, ℕ, zero, suc, ◌+◌, ◌-◌, ◌/◌, ◌<◌, ◌≤◌, Bool, true, false, cond, ◌⊎◌, inl, inr, List, [], ◌∷◌, ◌++◌, map, length, replicate, get_or, Option, Some, None, refl, sym, ap, subst, ◌∙◌, arith}
-use Rattle.std.specs.Prelude.{nat_lt, if◌then◌else◌}
+use Rattle.std.proofs.Common.{◌≡◌, ℕ, ◌+◌, ◌-◌, ◌/◌, ◌<◌, ◌≤◌, true, false, cond, inl, inr, List, [], ◌∷◌, ◌++◌, map, length, replicate, get_or, Option, Some, None, refl, sym, ap, subst, ◌∙◌, arith}
 use Rattle.std.specs.FinMap.{empty}
 use Rattle.std.proofs.lemmas.Bool.{cases_lt, lt-ltb, le-ltb}
 use Rattle.std.proofs.lemmas.List.{length-append, length-replicate, get_or_append_left, get_or-append-add, get_or-replicate, map-append}
@@ -18,7 +17,7 @@ use Rattle.wal_archive.proofs.Judged.{record_is_fair}
 use Rattle.wal_archive.proofs.Read.{origin_end}
 use Rattle.wal_reader.specs.Settings.{system_in}
 use Rattle.wal_reader.specs.Wal.{stands_behind, ReadsOn}
-use Rattle.history.specs.Apply.{apply, apply_all}
+use Rattle.history.specs.Apply.{apply_all}
 use Rattle.history.specs.Whole.{entry_of}
 use Rattle.history.proofs.Histories.{apply_all-push}
 use Rattle.stream_laws.specs.Waiting.{FinalNeedsHead, EndStays}

@@ -1,32 +1,24 @@
 -- A refusal stays, whatever bytes come.
-use Rattle.std.proofs.Common.{◌≡◌, ℕ, zero, suc, ◌+◌, ◌-◌, ◌*◌, ◌/◌, ◌%◌, ◌<◌, ◌≤◌, Bool, true, false, cond, ◌==◌, ◌⊎◌, inl, inr, List, [], ◌∷◌, ◌++◌, length, get_or, Option, Some, None, Result, Ok, Err, refl, sym, ap, ap₂, subst, ◌∙◌, arith}
-use Rattle.std.specs.Prelude.{nat_lt, nat_le, if◌then◌else◌}
-use Rattle.std.proofs.lemmas.Bool.{cases_lt, lt-ltb, le-ltb, le-leb, eq-eqb}
+use Rattle.std.proofs.Common.{◌≡◌, ℕ, ◌+◌, ◌-◌, ◌/◌, ◌<◌, ◌≤◌, Bool, true, false, cond, inl, inr, List, [], ◌∷◌, ◌++◌, length, get_or, Some, None, refl, sym, ap, subst, ◌∙◌, arith}
+use Rattle.std.proofs.lemmas.Bool.{cases_lt, lt-ltb, le-ltb, le-leb}
 use Rattle.std.proofs.lemmas.List.{length-append, get_or_append_left}
-use Rattle.byte_words.specs.Numbers.{u16_in, u32_in, u64_in}
+use Rattle.byte_words.specs.Numbers.{u64_in}
 use Rattle.lsn_core.specs.Segment.{segment_bytes}
 use Rattle.lsn_core.specs.Store.{Store}
 use Rattle.lsn_core.specs.Tip.{Tip}
-use Rattle.wal_pages.specs.Places.{head_size}
-use Rattle.wal_pages.specs.Heads.{head_fault}
 use Rattle.wal_record.specs.declared.record.Record.{Record}
 use Rattle.wal_record.specs.Decoding.{record_at}
-use Rattle.wal_record.specs.Tips.{first_tip, tip_after}
-use Rattle.wal_archive.specs.Archive.{Archive, archive_of, is_segment, nth, IsArchive}
-use Rattle.wal_archive.specs.Rules.{◌>>=◌, Judge, Found, End, Gives, Bad, broken_at, not_held, held_or, bytes_at, head_at, head_said, Walks, next_in}
-use Rattle.wal_archive.specs.Laws.{IsFair}
-use Rattle.wal_archive.specs.declared.fault.Damage.{Damage}
-use Rattle.wal_archive.specs.declared.fault.Broken.TheVariants as broken
+use Rattle.wal_record.specs.Tips.{first_tip}
+use Rattle.wal_archive.specs.Archive.{archive_of, is_segment, nth}
+use Rattle.wal_archive.specs.Rules.{Found, End, Gives, Bad, Walks, next_in}
 use Rattle.wal_archive.proofs.Chain.{walk_reach, walks_extended}
 use Rattle.wal_archive.proofs.Judged.{record_is_fair}
 use Rattle.wal_archive.proofs.Read.{origin_end}
 use Rattle.wal_reader.specs.Settings.{system_in}
-use Rattle.history.specs.Apply.{apply}
-use Rattle.history.specs.Whole.{entry_of}
-use Rattle.stream_laws.specs.Waiting.{IsCutShort, Stays, IsSolid, HoldsMore, FoundStays}
-use Rattle.stream_laws.specs.Streams.{stream_files, stream_byte, IsStreamed, StreamsAreArchives}
+use Rattle.stream_laws.specs.Waiting.{Stays, HoldsMore, FoundStays}
+use Rattle.stream_laws.specs.Streams.{stream_files, stream_byte, StreamsAreArchives}
 use Rattle.stream_laws.specs.Waiting.{FinalNeedsHead}
-use Rattle.follow_laws.specs.Followed.{stream_settings, behind_in, IsReadSo, Unfollowed, Damaged, BadDelta, RefusesFound, IsUnfollowed, RefusalsStay}
+use Rattle.follow_laws.specs.Followed.{behind_in, IsReadSo, Unfollowed, Damaged, BadDelta, RefusesFound, RefusalsStay}
 
 -- ---- a stream that goes on
 

@@ -1,5 +1,5 @@
 -- What is read through a window is read in the stream.
-use Rattle.std.proofs.Common.{◌≡◌, ℕ, ◌≤◌, List, [], ◌∷◌, ◌++◌, map, Some, refl, sym, ap, subst, ◌∙◌, arith}
+use Rattle.std.proofs.Common.{◌≡◌, ℕ, ◌≤◌, List, [], ◌∷◌, ◌++◌, map, refl, sym, ap, subst, ◌∙◌, arith}
 use Rattle.std.specs.FinMap.{empty}
 use Rattle.std.proofs.lemmas.List.{map-append}
 use Rattle.lsn_core.specs.Store.{Store}
@@ -19,7 +19,7 @@ use Rattle.history.specs.Whole.{entry_of}
 use Rattle.history.proofs.Histories.{apply_all-behind}
 use Rattle.stream_laws.specs.Streams.{stream_files}
 use Rattle.stream_laws.specs.Windows.{Span, span_files, IsStreamEnd, WindowsShowTheEnd}
-use Rattle.follow_laws.specs.Followed.{stream_settings, behind_in, AwaitsMore, IsReadSo, IsFollowed, Unfollowed, RefusesFound, IsUnfollowed}
+use Rattle.follow_laws.specs.Followed.{behind_in, AwaitsMore, IsReadSo, RefusesFound}
 use Rattle.follow_laws.specs.Windows.{IsReadIn, WindowsShow, WindowsFollow, WindowsRefuse}
 
 walk_in : WindowsShowTheEnd → (w : Span) (fed : List ℕ) (system : ℕ) (tip last : Tip) (qs : List Record) → IsStreamEnd w fed → IsEnd w.mib tip.end → w.base ≤ tip.end → Walks record_at w.mib system (archive_of w.mib (span_files w)) tip qs last → Walks record_at w.mib system (archive_of w.mib (stream_files w.mib fed)) tip qs last

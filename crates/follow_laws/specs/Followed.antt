@@ -1,5 +1,5 @@
 -- What a stream's bytes make, as far as they came.
-use Rattle.std.specs.Prelude.{◌≡◌, ◌≤◌, ℕ, List, ◌++◌, take, map, Option, Some, None}
+use Rattle.std.specs.Prelude.{◌≡◌, ◌≤◌, ℕ, List, ◌++◌, map, Some, None}
 use Rattle.std.specs.FinMap.{empty}
 use Rattle.lsn_core.specs.Segment.{StoreSettings, settings_with}
 use Rattle.lsn_core.specs.Store.{Store}

@@ -1,5 +1,5 @@
 -- What a stream's files hold.
-use Rattle.std.proofs.Common.{◌≡◌, ℕ, ◌<◌, ◌≤◌, Bool, true, false, cond, List, map, Option, Some, None, refl, sym, ap, ◌∙◌, arith}
+use Rattle.std.proofs.Common.{◌≡◌, ℕ, Bool, true, false, cond, List, map, Some, sym, ap, ◌∙◌, arith}
 use Rattle.std.specs.List.{AllByRecursion, list_any, range_with_len}
 use Rattle.std.specs.FinMap.{get, empty, get-empty}
 use Rattle.std.specs.Ordering.{nat_cmp}
@@ -9,7 +9,7 @@ use Rattle.lsn_core.proofs.AnyAll.{all_range, any_range, range_any}
 use Rattle.lsn_core.proofs.StoreFiles.{get_with_files, same_name, name_itself, names_tie}
 use Rattle.lsn_core.specs.Names.{segment_name_bytes}
 use Rattle.wal_archive.proofs.Names.{names_differ}
-use Rattle.stream_laws.specs.Streams.{segments_begun, segment_part, stream_files}
+use Rattle.stream_laws.specs.Streams.{segments_begun, segment_part}
 use Rattle.stream_laws.specs.Held.{FilesStand, NoneElse}
 
 abbrev Named : Type 0

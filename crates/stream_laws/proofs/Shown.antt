@@ -1,6 +1,5 @@
 -- A window shows what stands behind a tip.
-use Rattle.std.proofs.Common.{◌≡◌, ℕ, ◌≤◌, sym, ◌∙◌, arith}
-use Rattle.lsn_core.specs.Segment.{segment_bytes}
+use Rattle.std.proofs.Common.{sym, ◌∙◌, arith}
 use Rattle.wal_archive.specs.Archive.{archive_of}
 use Rattle.stream_laws.specs.Waiting.{BytesDecide}
 use Rattle.stream_laws.specs.Streams.{stream_files, StreamsAreArchives}

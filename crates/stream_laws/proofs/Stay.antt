@@ -1,25 +1,21 @@
 -- What is found and stays, whatever bytes come.
-use Rattle.std.proofs.Common.{◌≡◌, ℕ, zero, suc, ◌+◌, ◌-◌, ◌/◌, ◌%◌, ◌<◌, ◌≤◌, min, Bool, true, false, cond, not, ◌==◌, ◌&&◌, ◌||◌, ◌⊎◌, inl, inr, List, [], ◌∷◌, ◌++◌, length, get_or, Option, Some, None, Result, Ok, Err, refl, sym, ap, ap₂, subst, ◌∙◌, arith}
+use Rattle.std.proofs.Common.{◌≡◌, ℕ, zero, suc, ◌+◌, ◌-◌, ◌%◌, ◌<◌, ◌≤◌, min, Bool, true, false, cond, ◌==◌, ◌&&◌, ◌||◌, inl, inr, List, ◌∷◌, ◌++◌, get_or, Option, Some, None, Result, Ok, Err, refl, sym, ap, ap₂, subst, ◌∙◌, arith}
 use Rattle.std.specs.Prelude.{nat_le, if◌then◌else◌}
 use Rattle.std.proofs.lemmas.Bool.{cases_lt, le-leb, lt-leb, leb-true, leb-false, and_parts, lt-ltb, eq-eqb}
 use Rattle.byte_words.specs.Numbers.{u32_in}
 use Rattle.lsn_core.specs.Segment.{segment_bytes}
-use Rattle.lsn_core.specs.Tip.{Tip}
 use Rattle.lsn_core.specs.declared.lsn.Lsn.{Lsn}
 use Rattle.wal_pages.specs.Places.{head_size, start_after}
 use Rattle.wal_pages.specs.Heads.{head_fault}
-use Rattle.wal_record.specs.declared.record.Record.{Record}
-use Rattle.wal_record.specs.declared.record.RecordFault.{RecordFault}
-use Rattle.wal_archive.specs.Archive.{Archive, IsArchive}
-use Rattle.wal_archive.specs.Rules.{◌>>=◌, Judge, Found, End, Gives, Bad, lsn, found, judged, broken_at, not_held, held_or, bytes_at, head_at, head_said, left_on_page, entry_bytes, is_total, entry_at, is_ok, ends_at, first_head, next_bytes, next_in}
+use Rattle.wal_archive.specs.Archive.{Archive}
+use Rattle.wal_archive.specs.Rules.{◌>>=◌, Judge, lsn, found, broken_at, not_held, held_or, bytes_at, head_at, head_said, left_on_page, entry_bytes, is_total, entry_at, is_ok, ends_at, first_head, next_bytes, next_in}
 use Rattle.wal_archive.specs.declared.fault.Damage.{Damage}
 use Rattle.wal_archive.specs.declared.fault.Broken.TheVariants as broken
 use Rattle.wal_archive.proofs.Founds.{start_near}
 use Rattle.wal_archive.proofs.Chain.{ended, ends}
 use Rattle.wal_archive.proofs.Runs.{held_bytes}
-use Rattle.wal_record.specs.Tips.{first_tip}
 use Rattle.std.proofs.Math.Nat.{mod_self}
-use Rattle.stream_laws.specs.Waiting.{IsCutShort, Stays, IsSolid, HoldsFrom, HoldsMore, FoundStays, EndStays, FinalNeedsHead}
+use Rattle.stream_laws.specs.Waiting.{IsCutShort, Stays, IsSolid, HoldsMore, FoundStays, EndStays, FinalNeedsHead}
 use Rattle.stream_laws.proofs.Solid.{torn, mark_held, top_past, filed, Behind, next_held, next_none}
 
 -- a result that no later byte changes

@@ -1,23 +1,21 @@
 -- The archive of a stream's files has the stream's bytes.
-use Rattle.std.proofs.Common.{◌≡◌, ℕ, zero, suc, ◌+◌, ◌-◌, ◌*◌, ◌/◌, ◌%◌, ◌<◌, ◌≤◌, min, Bool, true, false, cond, ◌&&◌, ◌⊎◌, inl, inr, List, [], ◌∷◌, ◌++◌, map, length, take, drop, get_or, Option, Some, None, unwrap_or, refl, sym, ap, ap₂, subst, ◌∙◌, arith}
-use Rattle.std.specs.Prelude.{nat_lt, if◌then◌else◌}
+use Rattle.std.proofs.Common.{◌≡◌, ℕ, zero, suc, ◌+◌, ◌-◌, ◌*◌, ◌/◌, ◌%◌, ◌<◌, ◌≤◌, Bool, true, false, cond, ◌&&◌, inl, inr, List, [], map, length, take, drop, get_or, Option, Some, None, unwrap_or, refl, sym, ap, ap₂, ◌∙◌, arith}
 use Rattle.std.specs.List.{AllByRecursion, list_any, range_with_len}
-use Rattle.std.specs.FinMap.{get, empty, get-empty}
+use Rattle.std.specs.FinMap.{empty, get-empty}
 use Rattle.std.specs.Ordering.{nat_cmp}
 use Rattle.std.specs.Cmp.Lexicographic.{slice_cmp}
-use Rattle.std.proofs.lemmas.Bool.{cases_lt, lt-ltb, le-ltb, le-leb, ltb-true, ltb-false, false_from_ne_true}
+use Rattle.std.proofs.lemmas.Bool.{cases_lt, lt-ltb, le-ltb, le-leb}
 use Rattle.std.proofs.lemmas.Nat.{div-add-mod'}
 use Rattle.std.proofs.Math.Nat.{le-div_iff_mul-le, div-mul-le_self, mod-lt}
 use Rattle.std.proofs.lemmas.List.{length-take, length-drop, get_or-take, get_or-drop, take_all, drop_all}
-use Rattle.lsn_core.proofs.AnyAll.{all_range, any_range, range_any}
-use Rattle.lsn_core.proofs.StoreFiles.{get_with_files, same_name, name_itself, names_tie}
+use Rattle.lsn_core.proofs.AnyAll.{all_range, any_range}
+use Rattle.lsn_core.proofs.StoreFiles.{get_with_files, same_name, name_itself}
 use Rattle.lsn_core.specs.Files.{Files}
 use Rattle.lsn_core.specs.Names.{segment_name_bytes}
 use Rattle.lsn_core.specs.Segment.{segment_bytes}
 use Rattle.lsn_core.specs.Sizes.{most_segments}
-use Rattle.lsn_core.specs.Store.{with_files}
 use Rattle.vault.specs.Area.{bytes_of}
-use Rattle.wal_archive.specs.Archive.{Archive, archive_of, is_segment, held_in, byte_of, nth, IsArchive}
+use Rattle.wal_archive.specs.Archive.{archive_of, is_segment, held_in, byte_of, nth}
 use Rattle.wal_archive.proofs.Files.{files_archive, segment_range, nth_held}
 use Rattle.wal_archive.proofs.Names.{names_differ}
 use Rattle.stream_laws.specs.Waiting.{IsSolid}

@@ -1,6 +1,6 @@
 -- An archive whose bytes come one behind the other: what is read of it and stays so, whatever
 -- comes.
-use Rattle.std.specs.Prelude.{◌≡◌, ◌≤◌, ◌<◌, ℕ, ◌+◌, Option, Some, None}
+use Rattle.std.specs.Prelude.{◌≡◌, ◌≤◌, ◌<◌, ℕ, ◌+◌, Some, None}
 use Rattle.lsn_core.specs.Segment.{segment_bytes}
 use Rattle.lsn_core.specs.Tip.{Tip}
 use Rattle.wal_record.specs.Tips.{first_tip}
