@@ -1,9 +1,10 @@
 //! A follower of a stream, over bytes that an independent implementation of the formats wrote.
 
-use lsn_core::{Lsn, SegSize};
+use lsn_core::{BlockId, ForkLen, Lsn, SegSize};
+use pg_page::{lsn_of, zero_page};
 use std::alloc::Global;
 use std::test::Fail;
-use test_areas::ARCHIVE;
+use test_areas::{ARCHIVE, main_fork};
 use wal_archive::{Broken, Damage};
 use wal_follow::{FollowFault, Follower};
 use wal_pages::HeadFault;
@@ -13,7 +14,12 @@ type Bad = (u64, Broken);
 
 /// A stream: so many bytes of the archive, and these, behind zeros, at a place; how many entries it
 /// has, and where it ends, or its damage.
-type Case = (&'static str, (u32, u32, &'static [u8]), u64, Result<u64, Bad>);
+type Case = (
+    &'static str,
+    (u32, u32, &'static [u8]),
+    u64,
+    Result<u64, Bad>,
+);
 
 const MAGIC: Bad = (0x100_0000, Broken::Head(HeadFault::PageMagic));
 
@@ -59,7 +65,10 @@ fn byte_at(case: &Case, index: usize) -> u8 {
 fn stream_of(alloc: Global, case: &Case) -> Result<Vec<u8>, Fail> {
     let (_, (size, at, piece), _, _) = case;
     let mut bytes = Vec::new(alloc);
-    for index in 0..(*at as usize).saturating_add(piece.len()).max(*size as usize) {
+    for index in 0..(*at as usize)
+        .saturating_add(piece.len())
+        .max(*size as usize)
+    {
         bytes.push(byte_at(case, index))?;
     }
     Ok(bytes)
@@ -109,5 +118,20 @@ fn streams_are_followed_however_they_are_cut(rt: HostRuntime) -> Result<(), Fail
             assert!(rt; is_followed(rt.alloc(), case, *size)?, "{} {size}", case.0);
         }
     }
+    Ok(())
+}
+
+#[test]
+fn pages_of_a_stream_are_told(rt: HostRuntime) -> Result<(), Fail> {
+    let mut follower = Follower::new(rt.alloc(), SegSize::standard(), 131_072)?;
+    let count = follower.feed(&ARCHIVE).map_err(|_| Fail::from("feed"))?;
+    let forks = follower.forks()?;
+    let mut page = zero_page();
+    let fork = main_fork(16384).ok_or("the number is one")?;
+    let there = follower.read_page(BlockId { fork, block: 0 }, &mut page);
+    let behind = follower.read_page(BlockId { fork, block: 1 }, &mut page);
+    assert!(rt; count == 3 && follower.end() == Lsn(0x100_0108));
+    assert!(rt; forks.as_slice() == [ForkLen { fork, blocks: 1 }].as_slice());
+    assert!(rt; there && !behind && lsn_of(&page) == 0x100_0108 && page[8191] == 65);
     Ok(())
 }
