@@ -1,7 +1,8 @@
 //! Errors of the system, and what is said of each.
 
-ghost use Rattle.std.specs.Prelude.{◌≡◌, true, Ok, IsErr, MatchResult};
+ghost use Rattle.std.specs.Prelude.{◌≡◌, true, Ok, IfOk, IsErr, MatchResult};
 
+use lsn_core::NoMemory;
 use std::alloc::{AllocError, AllocFailed, Global};
 use std::io::{self, ErrorKind};
 
@@ -69,6 +70,14 @@ impl<T: Drop> From<AllocFailed<T>> for SystemError {
     }
 }
 
+impl From<NoMemory> for SystemError {
+    ghost from_gives = { λ _ e. e.is_memory ≡ true };
+
+    fn from(_: NoMemory) -> Self {
+        SystemError::no_memory()
+    }
+}
+
 /// The answer of a call of the system on a path.
 pub(crate) fn told<T>(
     alloc: Global,
@@ -76,7 +85,8 @@ pub(crate) fn told<T>(
     path: &str,
     answer: io::Result<T>,
 ) -> Result<T, SystemError>
-    ensures { MatchResult answer (λ value. result ≡ Ok value) (λ _. IsErr result) }
+    ensures answer { MatchResult answer (λ value. result ≡ Ok value) (λ _. IsErr result) }
+    ensures told { IfOk result (λ value. answer ≡ Ok value) }
 {
     match answer {
         Ok(value) => Ok(value),

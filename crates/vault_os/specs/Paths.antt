@@ -1,0 +1,50 @@
+-- The names of an area's files as paths below its folder.
+use Rattle.std.specs.Prelude.{◌≡◌, ℕ, ◌+◌, Bool, true, false, cond, not, ◌&&◌, ◌||◌, eqb, bytes_eq, List, [], ◌∷◌, ◌++◌, length, drop, Option, Some, None, is_some}
+use Rattle.std.specs.List.{list_all, list_any, slice_split}
+use Rattle.std.specs.Option.{option_map}
+use Rattle.std.specs.FinMap.{entries, from_entries}
+use Rattle.lsn_core.specs.Files.{Files}
+
+-- a byte of a path that no part of a name has: NUL or a slash
+abbrev pub is_no_letter : ℕ → Bool
+is_no_letter b = eqb b 0 || eqb b 47
+
+-- a part of a name: not empty, not `.` or `..`, without NUL and slash
+abbrev pub is_part : List ℕ → Bool
+is_part part =
+    not (bytes_eq part []) && (not (bytes_eq part (46 ∷ [])) && (not (bytes_eq part (46 ∷ 46 ∷ [])) && not (list_any is_no_letter part)))
+
+-- a name leads to one place below a folder: parts between slashes
+unfoldable pub leads_below : List ℕ → Bool
+leads_below name = list_all is_part (slice_split (λ b. eqb b 47) name)
+
+-- the path of a name below a folder
+abbrev pub path_in : List ℕ → List ℕ → List ℕ
+path_in folder name = folder ++ (47 ∷ name)
+
+-- the path of a name below a folder, where it leads to one
+abbrev pub LeadsTo : List ℕ → List ℕ → Option (List ℕ) → Type 0
+LeadsTo folder name None = leads_below name ≡ false
+LeadsTo folder name (Some path) = (path ≡ path_in folder name) × (leads_below name ≡ true)
+
+-- what stands behind a folder's path and a slash
+abbrev pub behind : List ℕ → List ℕ → List ℕ
+behind folder path = drop (length folder + 1) path
+
+-- a path is that of a name below a folder
+abbrev pub is_in : List ℕ → List ℕ → Bool
+is_in folder path = bytes_eq path (path_in folder (behind folder path)) && leads_below (behind folder path)
+
+-- of a list of files by their paths, those below a folder, by their names
+abbrev pub entries_in : List ℕ → List (List ℕ × List ℕ) → List (List ℕ × List ℕ)
+entries_in folder [] = []
+entries_in folder (e ∷ es) =
+    cond (is_in folder e.0) ((behind folder e.0, e.1) ∷ entries_in folder es) (entries_in folder es)
+
+-- the files below a folder, by their names
+unfoldable pub files_in : List ℕ → Files → Files
+files_in folder files = from_entries (entries_in folder (entries files))
+
+-- the same, where the files are told
+abbrev pub told_in : List ℕ → Option Files → Option Files
+told_in folder files = option_map (files_in folder) files
