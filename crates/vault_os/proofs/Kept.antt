@@ -1,21 +1,20 @@
 -- The files that are kept open.
 use Rattle.std.proofs.Common.{◌≡◌, ℕ, ◌<◌, ◌-◌, min, Bool, true, false, not, cond, ◌≢◌, bytes_eq, position, nat_le, if◌then◌else◌, List, [], ◌∷◌, ◌++◌, length, take, drop, Option, Some, None, IfSome, option_map, Result, Ok, Err, IfOk, suc, slice_index_or, refl, sym, subst, ap, ◌∙◌, arith}
 use Rattle.std.specs.List.{All, remove, push, filter}
-use Rattle.std.proofs.lemmas.List.Elements.{All-push, All-cons, All-nil}
+use Rattle.std.proofs.lemmas.List.Elements.{All-push, All-nil}
 use Rattle.std.proofs.lemmas.List.Quantifiers.{position-Some}
 use Rattle.std.proofs.lemmas.Slice.Eq.{bytes_eq-Decides}
 use Rattle.lsn_core.specs.Files.{Files}
 use Rattle.vault.specs.Area.{IsRead, ReadsIn, bytes_of}
 use Rattle.vault_os.specs.Paths.{leads_below, path_in, told_in, LeadsTo}
 use Rattle.vault_os.specs.Open.{IsOpenAt, AreOpenAt}
-use Rattle.vault_os.specs.Kept.{with_room, but}
+use Rattle.vault_os.specs.Kept.{with_room}
 use Rattle.vault_os.specs.Reading.{Opens}
-use Rattle.vault_os.specs.System.{Stays, StaysBut}
+use Rattle.vault_os.specs.System.{Stays}
 use Rattle.vault_os.specs.declared.open_files.OpenFile.{OpenFile}
 use Rattle.vault_os.specs.declared.open_files.OpenFiles.{OpenFiles}
 use Rattle.vault_os.proofs.Below.{bytes_in}
 use Rattle.vault_os.proofs.Common.{when_ok, when_all, when_some}
-use Rattle.vault_os.proofs.Names.{same_path}
 
 module _ {F : Type 0} (P : OpenFile F → Type 0) where
   all_removed : (xs : List (OpenFile F)) → All P xs → All P (remove xs 0)
@@ -78,32 +77,11 @@ kept_fewer is_at folder old new are e same = (
       subst (λ o. IfSome o (IsOpenAt is_at folder)) (sym same) are.1,
     )
 
-module _ {F : Type 0} (P : OpenFile F → Type 0) (name : List ℕ) where
-  abbrev Stands : OpenFile F → Type 0
-  Stands file = P file × (file.name.items ≢ name)
-
-  all_tail : (x : OpenFile F) (xs : List (OpenFile F)) → All P (x ∷ xs) → All P xs
-  all_tail x xs h = λ k d lt. h (suc k) d (omega (arith, lt))
-
-  -- files of other names
-  all_but : (xs : List (OpenFile F)) → All P xs → All Stands (but name xs)
-  all_but [] h = All-nil Stands
-  all_but (x ∷ xs) h =
-      elim (bytes_eq name x.name.items) as (λ b. bytes_eq name x.name.items ≡ b → All Stands (cond (not b) (x ∷ but name xs) (but name xs))) [
-        | true ↦ λ e. all_but xs (all_tail x xs h)
-        | false ↦ λ e. All-cons Stands x (but name xs) (h 0 x (omega arith), λ same. let no : true ≡ false = sym ((bytes_eq-Decides name x.name.items).1 (sym same)) ∙ e in absurd cc) (all_but xs (all_tail x xs h))
-      ] refl
-
-written_but : {F : Type 0} (P : OpenFile F → Type 0) (name : List ℕ) (old new : Option (OpenFile F)) → IfSome new (λ f. (old ≡ Some f) × (f.name.items ≢ name)) → IfSome old P → IfSome new (λ f. P f × (f.name.items ≢ name))
-written_but P name old None h is = tt
-written_but P name old (Some f) h is = (subst (λ o. IfSome o P) h.0 is, h.1)
-
--- what is kept open when the file of a name was closed, and then removed
-pub kept_closed : {S F : Type 0} (is_at : S → F → List ℕ → Type 0) (folder name path : List ℕ) (s t : S) (old new : OpenFiles F) → LeadsTo folder name (Some path) → AreOpenAt (is_at s) folder old → new.read.items ≡ but name old.read.items → IfSome new.written (λ f. (old.written ≡ Some f) × (f.name.items ≢ name)) → StaysBut path is_at s t → AreOpenAt (is_at t) folder new
-kept_closed {F = F} is_at folder name path s t old new leads are e written stays =
-    let stand : (f : OpenFile F) → IsOpenAt (is_at s) folder f × (f.name.items ≢ name) → IsOpenAt (is_at t) folder f = λ f h. (stays f.file (path_in folder f.name.items) (λ same. h.1 (same_path folder f.name.items name (same ∙ leads.0))) h.0.0, h.0.1) in (
-      when_all _ stand (subst (All (Stands (IsOpenAt (is_at s) folder) name)) (sym e) (all_but (IsOpenAt (is_at s) folder) name old.read.items are.0)),
-      when_some new.written stand (written_but (IsOpenAt (is_at s) folder) name old.written new.written written are.1),
+-- no file is kept open
+pub none_kept : {F : Type 0} (is_at : F → List ℕ → Type 0) (folder : List ℕ) (kept : OpenFiles F) → kept.read.items ≡ [] → kept.written ≡ None → AreOpenAt is_at folder kept
+none_kept is_at folder kept read written = (
+      subst (All (IsOpenAt is_at folder)) (sym read) (All-nil (IsOpenAt is_at folder)),
+      subst (λ o. IfSome o (IsOpenAt is_at folder)) (sym written) tt,
     )
 
 -- what is kept open stays so

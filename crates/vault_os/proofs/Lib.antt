@@ -5,3 +5,4 @@ pub mod Held
 pub mod Kept
 pub mod Made
 pub mod Walks
+pub mod Sorted

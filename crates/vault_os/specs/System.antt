@@ -83,8 +83,3 @@ after_resize path size files = resized files path size (get files path)
 -- each open file is that of its path still
 abbrev pub Stays : {S F : Type 0} → (S → F → List ℕ → Type 0) → S → S → Type 0
 Stays {S} {F} is_at old new = (file : F) (q : List ℕ) → is_at old file q → is_at new file q
-
--- each open file of another path is so still
-abbrev pub StaysBut : {S F : Type 0} → List ℕ → (S → F → List ℕ → Type 0) → S → S → Type 0
-StaysBut {S} {F} path is_at old new =
-    (file : F) (q : List ℕ) → q ≢ path → is_at old file q → is_at new file q

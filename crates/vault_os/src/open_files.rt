@@ -1,8 +1,8 @@
 //! The files that an area keeps open.
 
-ghost use Rattle.std.specs.Prelude.{◌≡◌, ◌≢◌, ◌↔◌, [], bytes_eq, None, Some, IfSome, IsTrue, OnOk, OnErr};
+ghost use Rattle.std.specs.Prelude.{◌≡◌, ◌↔◌, [], None, IsTrue, OnOk, OnErr};
 ghost use Rattle.std.specs.List.{push};
-ghost use Rattle.vault_os.specs.Kept.{with_room, but};
+ghost use Rattle.vault_os.specs.Kept.{with_room};
 
 use lsn_core::NoMemory;
 use std::alloc::Global;
@@ -21,10 +21,9 @@ pub(crate) struct OpenFile<F: Drop> {
 impl<F: Drop> OpenFile<F> {
     /// Whether the file has this name.
     pub(crate) fn is_named(&self, name: &[u8]) -> bool
-        ensures named { IsTrue result ↔ (self.now.name.items ≡ name.now) }
-        ensures test { result ≡ bytes_eq name.now self.now.name.items }
+        ensures { IsTrue result ↔ (self.now.name.items ≡ name.now) }
     {
-        name == self.name.as_slice()
+        self.name.as_slice() == name
     }
 }
 
@@ -61,12 +60,12 @@ impl<F: Drop> OpenFiles<F> {
         Ok(())
     }
 
-    /// Keeps the file of a name open no longer.
-    pub(crate) fn close(&mut self, name: &[u8])
-        ensures read { self.new.read.items ≡ but name.now self.old.read.items }
-        ensures written { IfSome self.new.written (λ f. (self.old.written ≡ Some f) × (f.name.items ≢ name.now)) }
+    /// Keeps no file open any longer.
+    pub(crate) fn close(&mut self)
+        ensures read { self.new.read.items ≡ [] }
+        ensures written { self.new.written ≡ None }
     {
-        self.read.retain(|file| !file.is_named(name));
-        self.written = self.written.take().filter(|file| !file.is_named(name));
+        self.read.clear();
+        self.written = None;
     }
 }

@@ -40,6 +40,15 @@ fn is_missing(error: &io::Error) -> bool {
     )
 }
 
+/// The answer of a call, None where it says that a folder is missing.
+fn there<T>(answer: io::Result<T>) -> io::Result<Option<T>> {
+    match answer {
+        Ok(value) => Ok(Some(value)),
+        Err(error) if error.kind() == ErrorKind::NotFound => Ok(None),
+        Err(error) => Err(error),
+    }
+}
+
 fn kind_of(found: Metadata) -> Kind {
     if found.is_file() {
         Kind::File(found.len())
@@ -64,7 +73,7 @@ impl System for Os {
     }
 
     fn list(&self, alloc: Global, folder: &str) -> io::Result<Option<Vec<String>>> {
-        let Some(entries) = found(fs::read_dir(&self.rt, folder))? else {
+        let Some(entries) = there(fs::read_dir(&self.rt, folder))? else {
             return Ok(None);
         };
         let mut names = Vec::new(alloc);
@@ -83,7 +92,7 @@ impl System for Os {
     }
 
     fn make(&mut self, path: &str) -> io::Result<Option<File>> {
-        found(OpenOptions::new().write(true).create(true).open(&self.rt, path))
+        there(OpenOptions::new().write(true).create(true).open(&self.rt, path))
     }
 
     fn make_folders(&mut self, path: &str) -> io::Result<()> {

@@ -4,7 +4,7 @@ ghost use Rattle.std.specs.Prelude.{◌≡◌, ◌≢◌, ◌+◌, ◌<◌, ◌^
 ghost use Rattle.std.specs.Option.{option_map};
 ghost use Rattle.lsn_core.specs.Files.{Files};
 ghost use Rattle.vault.specs.Area.{IsTorn, IsUndecided, Related, after_write, after_remove};
-ghost use Rattle.vault_os.specs.System.{TellsKind, ListsAll, IsMissingIn, ReadsSome, MakesFile, AreShort, Stays, StaysBut, after_resize};
+ghost use Rattle.vault_os.specs.System.{TellsKind, ListsAll, IsMissingIn, ReadsSome, MakesFile, AreShort, Stays, after_resize};
 
 use crate::kind::Kind;
 use std::alloc::Global;
@@ -76,12 +76,11 @@ pub trait System: Drop {
         ensures failed { OnErr result (Related (IsUndecided (after_resize path.now size)) (files self.old) (files self.new)) }
         ensures open { Stays is_at self.old self.new };
 
-    /// Removes the name of a file. A missing one is no error. Who has the file open reads and writes
-    /// on what has no name any longer.
+    /// Removes the name of a file. A missing one is no error. Of open files nothing is known then:
+    /// who has that one open reads and writes on what has no name any longer.
     fn unlink(&mut self, path: &str) -> io::Result<()>
         ensures removed { OnOk result (files self.new ≡ option_map (after_remove path.now) (files self.old)) }
-        ensures failed { OnErr result (Related (IsUndecided (after_remove path.now)) (files self.old) (files self.new)) }
-        ensures open { StaysBut path.now is_at self.old self.new };
+        ensures failed { OnErr result (Related (IsUndecided (after_remove path.now)) (files self.old) (files self.new)) };
 
     /// Makes durable what stands at a path: the bytes of a file, or the names in a folder. That
     /// nothing stands there is no error.

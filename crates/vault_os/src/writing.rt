@@ -5,7 +5,7 @@ ghost use Rattle.std.specs.Option.{option_map};
 ghost use Rattle.vault.specs.Area.{IsTorn, IsUndecided, Related, after_write, after_cut, after_remove};
 ghost use Rattle.vault_os.specs.Open.{IsOpenAt, AreOpenAt};
 ghost use Rattle.vault_os.specs.Paths.{told_in};
-ghost use Rattle.vault_os.specs.System.{MayMake, Stays, StaysBut};
+ghost use Rattle.vault_os.specs.System.{MayMake, Stays};
 
 use crate::errors::{SystemError, told};
 use crate::open_files::{OpenFile, OpenFiles};
@@ -138,7 +138,6 @@ pub(crate) fn remove_at<S: System>(
 ) -> Result<(), SystemError>
     ensures removed { OnOk result (S.files system.new ≡ option_map (after_remove path.now) (S.files system.old)) }
     ensures failed { OnErr result (Related (IsUndecided (after_remove path.now)) (S.files system.old) (S.files system.new)) }
-    ensures open { StaysBut path.now S.is_at system.old system.new }
 {
     let Some(_) = size_at(root.alloc, system, path)? else {
         return Ok(());

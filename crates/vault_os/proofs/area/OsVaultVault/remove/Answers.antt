@@ -5,7 +5,7 @@ use Rattle.vault_os.specs.Paths.{told_in, LeadsTo}
 use Rattle.vault_os.proofs.Common.{ok_of, passed_on, failed_of}
 use Rattle.vault_os.proofs.Below.{no_path, remove_told, may_remove_told, no_remove}
 use Rattle.vault_os.proofs.Held.{some_path}
-use Rattle.vault_os.proofs.Kept.{kept_closed}
+use Rattle.vault_os.proofs.Kept.{none_kept}
 use Rattle.vault_os.proofs.area.OsVaultVault.remove.Goals as goal
 
 pub returns-in_default-clause-removed : goal.returns-in_default-clause-removed
@@ -32,9 +32,4 @@ returns-clause-failed g c = λ e.
     (may_remove_told root name c.as_str.result.now here (g.S.System.files c.self.inside.system) (g.S.System.files c.remove_at-removed.new.system) (failed_of _ c.remove_at-removed.result c.done.result c.done.ensures.value c.remove_at-removed.ensures.failed e))
 
 pub invariant_of-self-2 : goal.invariant_of-self-2
-invariant_of-self-2 g c =
-    let root = string_bytes c.self.inside.root.path in
-    let name = c.args.name.now in
-    let leads : LeadsTo root name (Some (string_bytes c.in-Some.path)) = some_path string_bytes root name c.in_ok-path.field-0 c.in-Some.path c.in-Some.is (ok_of _ c.path_to_change-path.result _ c.in_ok-path.ensures.told c.path_to_change-path.ensures.path) in
-    let here : LeadsTo root name (Some c.as_str.result.now) = subst (λ (p : List ℕ). LeadsTo root name (Some p)) (sym c.as_str.ensures.value) leads in
-    kept_closed g.S.System.is_at root name c.as_str.result.now c.self.inside.system c.remove_at-removed.new.system c.self.inside.kept c.close.new.self here c.self.invariant c.close.ensures.read c.close.ensures.written c.remove_at-removed.ensures.open
+invariant_of-self-2 g c = none_kept (g.S.System.is_at c.remove_at-removed.new.system) (string_bytes c.self.inside.root.path) c.close.new.self c.close.ensures.read c.close.ensures.written
