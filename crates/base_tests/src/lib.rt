@@ -11,6 +11,8 @@
 #[cfg(test)]
 mod entry_tests;
 #[cfg(test)]
+mod folder_tests;
+#[cfg(test)]
 mod history_tests;
 #[cfg(test)]
 mod lsn_core_tests;

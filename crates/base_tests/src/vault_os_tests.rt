@@ -6,10 +6,10 @@ use std::os::unix::fs::symlink;
 use std::test::Fail;
 use test_areas::{Change, SiteStep, Step, put_in, take_site_steps, take_steps};
 use vault::{Clock, Sink, Site, Source};
-use vault_os::{OsClock, OsSink, OsSite, OsSource, OsVault};
+use vault_os::{Os, OsClock, OsSink, OsSite, OsSource, OsVault};
 
 /// The area in a folder of this name.
-fn area_at(rt: &HostRuntime, name: &str) -> Result<OsVault, Fail> {
+fn area_at(rt: &HostRuntime, name: &str) -> Result<OsVault<Os>, Fail> {
     Ok(OsSite::new(rt.clone()?).take(name.as_bytes())?)
 }
 
@@ -97,7 +97,7 @@ static AFTER: [Step; 13] = [
 ];
 
 /// Takes both in turn over an area in that folder, with what another one does between.
-fn change_beside(rt: &HostRuntime, area: &mut OsVault) -> Result<(), Fail> {
+fn change_beside(rt: &HostRuntime, area: &mut OsVault<Os>) -> Result<(), Fail> {
     take_steps(rt.alloc(), area, &BEFORE)?;
     fs::write(rt, "others_test/base/x", "after it")?;
     symlink(rt, "nowhere", "others_test/dangling")?;
@@ -125,7 +125,7 @@ static SYNCED: [Step; 2] = [
 
 /// The first sync looks at all that stands in the folder, and may be tried again where it couldn't.
 /// Later ones look at what the area changed. Where one can't open that, none succeeds any more.
-fn sync_over_links(rt: &HostRuntime, area: &mut OsVault) -> Result<(), Fail> {
+fn sync_over_links(rt: &HostRuntime, area: &mut OsVault<Os>) -> Result<(), Fail> {
     symlink(rt, "turns", "sync_test/base/turns")?;
     take_steps(rt.alloc(), area, &NOT_SYNCED)?;
     fs::remove_file(rt, "sync_test/base/turns")?;

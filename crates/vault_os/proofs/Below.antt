@@ -11,7 +11,7 @@ use Rattle.std.specs.Cmp.Lexicographic.{slice_cmp, nat_list_cmp_total}
 use Rattle.std.specs.FinMap.{find, get, insert, remove, entries, get-entries, get-from_entries, get-insert, get-remove, same_map, slice_cmp-IsAntisymmetric, nat_cmp-IsAntisymmetric}
 use Rattle.lsn_core.specs.Files.{Files}
 use Rattle.vault.specs.Area.{bytes_of, file_written, after_write, cut_to, after_cut, after_remove, IsTornFile, IsTorn, Related, IsUndecided, IsSizeIn}
-use Rattle.vault_os.specs.Paths.{is_part, leads_below, path_in, behind, is_in, entries_in, files_in, told_in, LeadsTo}
+use Rattle.vault_os.specs.Paths.{is_name_part, leads_below, path_in, name_below, is_below, entries_below, files_below, told_in, LeadsTo}
 use Rattle.vault_os.specs.Open.{IsOpenAt}
 use Rattle.vault_os.specs.declared.open_files.OpenFile.{OpenFile}
 use Rattle.vault_os.specs.System.{MayMake, resized, after_resize}
@@ -33,10 +33,10 @@ paths_same folder p q =
     one_answer _ _ (same_is (path_in folder p) (path_in folder q))
     (λ e. ap (path_in folder) ((same_is p q).0 e), λ e. (same_is p q).1 (same_path folder p q e))
 
-is_in-path : (folder path : List ℕ) → is_in folder path ≡ true → path ≡ path_in folder (behind folder path)
-is_in-path folder path e = (bytes_eq-Decides path _).0 (and_left _ (leads_below (behind folder path)) e)
+is_in-path : (folder path : List ℕ) → is_below folder path ≡ true → path ≡ path_in folder (name_below folder path)
+is_in-path folder path e = (bytes_eq-Decides path _).0 (and_left _ (leads_below (name_below folder path)) e)
 
-in-is_path : (folder n : List ℕ) → leads_below n ≡ true → is_in folder (path_in folder n) ≡ true
+in-is_path : (folder n : List ℕ) → leads_below n ≡ true → is_below folder (path_in folder n) ≡ true
 in-is_path folder n leads =
     subst (λ (b : List ℕ). (bytes_eq (path_in folder n) (path_in folder b) && leads_below b) ≡ true) (sym (behind_path folder n))
     (both_true (bytes_eq (path_in folder n) (path_in folder n)) (leads_below n) ((bytes_eq-Decides (path_in folder n) (path_in folder n)).1 refl) leads)
@@ -61,39 +61,39 @@ module _ (folder n : List ℕ) where
   abbrev among : List (List ℕ × List ℕ) → Option (List ℕ)
   among es = cond (leads_below n) (find (slice_cmp nat_cmp) (path_in folder n) es) None
 
-  find_one : (p bytes : List ℕ) (es : List (List ℕ × List ℕ)) (in_it : Bool) → is_in folder p ≡ in_it
-      → find (slice_cmp nat_cmp) n (entries_in folder es) ≡ among es
-      → find (slice_cmp nat_cmp) n (cond in_it ((behind folder p, bytes) ∷ entries_in folder es) (entries_in folder es)) ≡ among ((p, bytes) ∷ es)
+  find_one : (p bytes : List ℕ) (es : List (List ℕ × List ℕ)) (in_it : Bool) → is_below folder p ≡ in_it
+      → find (slice_cmp nat_cmp) n (entries_below folder es) ≡ among es
+      → find (slice_cmp nat_cmp) n (cond in_it ((name_below folder p, bytes) ∷ entries_below folder es) (entries_below folder es)) ≡ among ((p, bytes) ∷ es)
   find_one p bytes es true e more =
-      ap (cond (same n (behind folder p)) (Some bytes)) more
-      ∙ found_first (same n (behind folder p)) (leads_below n) bytes _ (λ t. subst (λ (q : List ℕ). leads_below q ≡ true) (sym ((same_is n (behind folder p)).0 t)) (and_right _ (leads_below (behind folder p)) e))
-      ∙ ap (λ (t : Bool). cond (leads_below n) (cond t (Some bytes) (find (slice_cmp nat_cmp) (path_in folder n) es)) None) (sym (paths_same folder n (behind folder p)) ∙ ap (same (path_in folder n)) (sym (is_in-path folder p e)))
+      ap (cond (same n (name_below folder p)) (Some bytes)) more
+      ∙ found_first (same n (name_below folder p)) (leads_below n) bytes _ (λ t. subst (λ (q : List ℕ). leads_below q ≡ true) (sym ((same_is n (name_below folder p)).0 t)) (and_right _ (leads_below (name_below folder p)) e))
+      ∙ ap (λ (t : Bool). cond (leads_below n) (cond t (Some bytes) (find (slice_cmp nat_cmp) (path_in folder n) es)) None) (sym (paths_same folder n (name_below folder p)) ∙ ap (same (path_in folder n)) (sym (is_in-path folder p e)))
   find_one p bytes es false e more =
-      more ∙ found_later (same (path_in folder n) p) (leads_below n) bytes _ (λ leads. not_same (same (path_in folder n) p) (λ t. let no : true ≡ false = sym (in-is_path folder n leads) ∙ ap (is_in folder) ((same_is (path_in folder n) p).0 t) ∙ e in absurd cc))
+      more ∙ found_later (same (path_in folder n) p) (leads_below n) bytes _ (λ leads. not_same (same (path_in folder n) p) (λ t. let no : true ≡ false = sym (in-is_path folder n leads) ∙ ap (is_below folder) ((same_is (path_in folder n) p).0 t) ∙ e in absurd cc))
 
   nowhere : (l : Bool) → ◌≡◌ {A = Option (List ℕ)} None (cond l None None)
   nowhere true = refl
   nowhere false = refl
 
-  find_in : (es : List (List ℕ × List ℕ)) → find (slice_cmp nat_cmp) n (entries_in folder es) ≡ among es
+  find_in : (es : List (List ℕ × List ℕ)) → find (slice_cmp nat_cmp) n (entries_below folder es) ≡ among es
   find_in [] = nowhere (leads_below n)
-  find_in (e ∷ es) = find_one e.0 e.1 es (is_in folder e.0) refl (find_in es)
+  find_in (e ∷ es) = find_one e.0 e.1 es (is_below folder e.0) refl (find_in es)
 
   -- the file of a name below a folder is that of its path
-  pub get_in : (files : Files) → get (files_in folder files) n ≡ cond (leads_below n) (get files (path_in folder n)) None
-  unfolding files_in
+  pub get_in : (files : Files) → get (files_below folder files) n ≡ cond (leads_below n) (get files (path_in folder n)) None
+  unfolding files_below
   get_in files =
-      get-from_entries nat_list_cmp_total (entries_in folder (entries files)) n
+      get-from_entries nat_list_cmp_total (entries_below folder (entries files)) n
       ∙ find_in (entries files)
       ∙ ap (λ (o : Option (List ℕ)). cond (leads_below n) o None) (sym (get-entries files (path_in folder n)))
 
-  pub get_good : (files : Files) → leads_below n ≡ true → get (files_in folder files) n ≡ get files (path_in folder n)
+  pub get_good : (files : Files) → leads_below n ≡ true → get (files_below folder files) n ≡ get files (path_in folder n)
   get_good files leads = get_in files ∙ ap (λ (b : Bool). cond b (get files (path_in folder n)) None) leads
 
-  pub get_bad : (files : Files) → leads_below n ≡ false → get (files_in folder files) n ≡ None
+  pub get_bad : (files : Files) → leads_below n ≡ false → get (files_below folder files) n ≡ None
   get_bad files leads = get_in files ∙ ap (λ (b : Bool). cond b (get files (path_in folder n)) None) leads
 
-  pub bytes_in : (files : Files) → leads_below n ≡ true → bytes_of (files_in folder files) n ≡ bytes_of files (path_in folder n)
+  pub bytes_in : (files : Files) → leads_below n ≡ true → bytes_of (files_below folder files) n ≡ bytes_of files (path_in folder n)
   bytes_in files leads = ap (λ (o : Option (List ℕ)). unwrap_or o []) (get_good files leads)
 
 -- how many bytes a file has, and that a name without a path has no file
@@ -126,53 +126,53 @@ removed_first true false y = refl
 removed_first false l y = refl
 
 module _ (folder n : List ℕ) (leads : leads_below n ≡ true) where
-  insert_in : (files : Files) (v : List ℕ) → files_in folder (insert files (path_in folder n) v) ≡ insert (files_in folder files) n v
+  insert_in : (files : Files) (v : List ℕ) → files_below folder (insert files (path_in folder n) v) ≡ insert (files_below folder files) n v
   insert_in files v =
       same_files _ _ (λ q. get_in folder q (insert files (path_in folder n) v)
         ∙ ap (λ (o : Option (List ℕ)). cond (leads_below q) o None) (get-insert nat_list_cmp_total files (path_in folder n) v (path_in folder q) ∙ ap (λ (t : Bool). cond t (Some v) (get files (path_in folder q))) (paths_same folder q n))
         ∙ sym (found_first (same q n) (leads_below q) v (get files (path_in folder q)) (λ t. subst (λ (r : List ℕ). leads_below r ≡ true) (sym ((same_is q n).0 t)) leads))
         ∙ ap (cond (same q n) (Some v)) (sym (get_in folder q files))
-        ∙ sym (get-insert nat_list_cmp_total (files_in folder files) n v q))
+        ∙ sym (get-insert nat_list_cmp_total (files_below folder files) n v q))
 
-  remove_in : (files : Files) → files_in folder (remove files (path_in folder n)) ≡ remove (files_in folder files) n
+  remove_in : (files : Files) → files_below folder (remove files (path_in folder n)) ≡ remove (files_below folder files) n
   remove_in files =
       same_files _ _ (λ q. get_in folder q (remove files (path_in folder n))
         ∙ ap (λ (o : Option (List ℕ)). cond (leads_below q) o None) (get-remove nat_list_cmp_total files (path_in folder n) (path_in folder q) ∙ ap (λ (t : Bool). cond t None (get files (path_in folder q))) (paths_same folder q n))
         ∙ removed_first (same q n) (leads_below q) (get files (path_in folder q))
         ∙ ap (cond (same q n) None) (sym (get_in folder q files))
-        ∙ sym (get-remove nat_list_cmp_total (files_in folder files) n q))
+        ∙ sym (get-remove nat_list_cmp_total (files_below folder files) n q))
 
-  write_in : (at : ℕ) (piece : List ℕ) (files : Files) → files_in folder (after_write (path_in folder n) at piece files) ≡ after_write n at piece (files_in folder files)
-  write_in at piece files = insert_in files _ ∙ ap (λ (b : List ℕ). insert (files_in folder files) n (file_written b at piece)) (sym (bytes_in folder n files leads))
+  write_in : (at : ℕ) (piece : List ℕ) (files : Files) → files_below folder (after_write (path_in folder n) at piece files) ≡ after_write n at piece (files_below folder files)
+  write_in at piece files = insert_in files _ ∙ ap (λ (b : List ℕ). insert (files_below folder files) n (file_written b at piece)) (sym (bytes_in folder n files leads))
 
-  cut_any : (size : ℕ) (files : Files) (o : Option (List ℕ)) → files_in folder (cut_to files (path_in folder n) size o) ≡ cut_to (files_in folder files) n size o
+  cut_any : (size : ℕ) (files : Files) (o : Option (List ℕ)) → files_below folder (cut_to files (path_in folder n) size o) ≡ cut_to (files_below folder files) n size o
   cut_any size files None = refl
   cut_any size files (Some bytes) = insert_in files (take size bytes)
 
-  cut_in : (size : ℕ) (files : Files) → files_in folder (after_cut (path_in folder n) size files) ≡ after_cut n size (files_in folder files)
-  cut_in size files = cut_any size files (get files (path_in folder n)) ∙ ap (cut_to (files_in folder files) n size) (sym (get_good folder n files leads))
+  cut_in : (size : ℕ) (files : Files) → files_below folder (after_cut (path_in folder n) size files) ≡ after_cut n size (files_below folder files)
+  cut_in size files = cut_any size files (get files (path_in folder n)) ∙ ap (cut_to (files_below folder files) n size) (sym (get_good folder n files leads))
 
-  torn_in : (at count : ℕ) (old new : Files) → IsTorn (path_in folder n) at count old new → IsTorn n at count (files_in folder old) (files_in folder new)
+  torn_in : (at count : ℕ) (old new : Files) → IsTorn (path_in folder n) at count old new → IsTorn n at count (files_below folder old) (files_below folder new)
   torn_in at count old new torn = record {
     others = λ q other. get_in folder q new ∙ ap (λ (o : Option (List ℕ)). cond (leads_below q) o None) (torn.others (path_in folder q) (λ e. other (same_path folder q n e))) ∙ sym (get_in folder q old);
     missing = λ none. get_good folder n old leads ∙ torn.missing (sym (get_good folder n new leads) ∙ none);
-    file = subst (λ (b : List ℕ). IfSome (get (files_in folder new) n) (IsTornFile at count b)) (sym (bytes_in folder n old leads))
+    file = subst (λ (b : List ℕ). IfSome (get (files_below folder new) n) (IsTornFile at count b)) (sym (bytes_in folder n old leads))
         (subst (λ (o : Option (List ℕ)). IfSome o (IsTornFile at count (bytes_of old (path_in folder n)))) (sym (get_good folder n new leads)) torn.file);
   }
 
 -- the same, where the files are told, of the path to which a name leads
-steps_in : (folder : List ℕ) (step step_in : Files → Files) → ((m : Files) → files_in folder (step m) ≡ step_in (files_in folder m)) → (old new : Option Files) → new ≡ option_map step old → told_in folder new ≡ option_map step_in (told_in folder old)
+steps_in : (folder : List ℕ) (step step_in : Files → Files) → ((m : Files) → files_below folder (step m) ≡ step_in (files_below folder m)) → (old new : Option Files) → new ≡ option_map step old → told_in folder new ≡ option_map step_in (told_in folder old)
 steps_in folder step step_in so None new e = ap (told_in folder) e
 steps_in folder step step_in so (Some m) new e = ap (told_in folder) e ∙ ap Some (so m)
 
-undecided_in : (folder : List ℕ) (step step_in : Files → Files) → ((m : Files) → files_in folder (step m) ≡ step_in (files_in folder m)) → (old new : Option Files) → Related (IsUndecided step) old new → Related (IsUndecided step_in) (told_in folder old) (told_in folder new)
+undecided_in : (folder : List ℕ) (step step_in : Files → Files) → ((m : Files) → files_below folder (step m) ≡ step_in (files_below folder m)) → (old new : Option Files) → Related (IsUndecided step) old new → Related (IsUndecided step_in) (told_in folder old) (told_in folder new)
 undecided_in folder step step_in so None None h = tt
 undecided_in folder step step_in so None (Some m) h = h
 undecided_in folder step step_in so (Some m) None h = h
 undecided_in folder step step_in so (Some m) (Some n) h =
     elim h [
-      | inl e ↦ inl (ap (files_in folder) e)
-      | inr e ↦ inr (ap (files_in folder) e ∙ so m)
+      | inl e ↦ inl (ap (files_below folder) e)
+      | inr e ↦ inr (ap (files_below folder) e ∙ so m)
     ]
 
 torn_told : (folder n : List ℕ) → leads_below n ≡ true → (at count : ℕ) (old new : Option Files) → Related (IsTorn (path_in folder n) at count) old new → Related (IsTorn n at count) (told_in folder old) (told_in folder new)
@@ -214,7 +214,7 @@ module _ (folder n path : List ℕ) (leads : LeadsTo folder n (Some path)) where
 -- nothing is done to a file whose name leads to no path
 pub no_cut : (folder n : List ℕ) (size : ℕ) (files : Option Files) → leads_below n ≡ false → told_in folder files ≡ option_map (after_cut n size) (told_in folder files)
 no_cut folder n size None bad = refl
-no_cut folder n size (Some m) bad = ap Some (sym (ap (cut_to (files_in folder m) n size) (get_bad folder n m bad)))
+no_cut folder n size (Some m) bad = ap Some (sym (ap (cut_to (files_below folder m) n size) (get_bad folder n m bad)))
 
 removed_missing : (b : Bool) (o : Option (List ℕ)) → (b ≡ true → o ≡ None) → o ≡ cond b None o
 removed_missing true o none = none refl
@@ -226,7 +226,7 @@ remove_missing n files none =
 
 pub no_remove : (folder n : List ℕ) (files : Option Files) → leads_below n ≡ false → told_in folder files ≡ option_map (after_remove n) (told_in folder files)
 no_remove folder n None bad = refl
-no_remove folder n (Some m) bad = ap Some (remove_missing n (files_in folder m) (get_bad folder n m bad))
+no_remove folder n (Some m) bad = ap Some (remove_missing n (files_below folder m) (get_bad folder n m bad))
 
 -- ---- cuts and removals of what isn't longer, or isn't there
 

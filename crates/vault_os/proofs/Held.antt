@@ -7,10 +7,10 @@ use Rattle.lsn_core.specs.Files.{Files}
 use Rattle.vault.specs.Area.{bytes_of, IsRead, IsSizeIn, ReadsIn}
 use Rattle.vault_os.specs.Paths.{leads_below, path_in, told_in, LeadsTo}
 use Rattle.vault_os.specs.System.{IsReadOnce, ReadsSome, IsMissingIn, AreShort}
-use Rattle.vault_os.specs.Reading.{IsHeld, HoldsSoFar, EndsAt, GoesOn, HasNoneFrom}
+use Rattle.vault_os.specs.Reading.{IsFilled, HoldsSoFar, FillsOrEnds, ReadsOn, HasNoneFrom}
 use Rattle.vault_os.proofs.Below.{get_bad, bytes_in}
 
-more_held : (bytes before into new : List ℕ) (at count got n : ℕ) → n ≡ length into - count → count ≤ length into → length before ≡ length into → IsHeld bytes at before into count → IsReadOnce bytes (at + count) (take n (drop count into)) new got → IsHeld bytes at before (take count into ++ (new ++ drop n (drop count into))) (count + got)
+more_held : (bytes before into new : List ℕ) (at count got n : ℕ) → n ≡ length into - count → count ≤ length into → length before ≡ length into → IsFilled bytes at before into count → IsReadOnce bytes (at + count) (take n (drop count into)) new got → IsFilled bytes at before (take count into ++ (new ++ drop n (drop count into))) (count + got)
 more_held bytes before into new at count got n rest within same held once =
     let xs : List ℕ = drop at bytes in
     let fits : length (take count xs) ≡ count = length-take-le count xs (omega (arith, held.within, length-drop at bytes)) in
@@ -30,7 +30,7 @@ more_held bytes before into new at count got n rest within same held once =
     }
 
 -- one more read of the file of a path
-pub goes_on : (files : Option Files) (path into new : List ℕ) (at count got n : ℕ) → n ≡ length into - count → count ≤ length into → ReadsSome files path (at + count) (take n (drop count into)) new got → GoesOn files path at into (take count into ++ (new ++ drop n (drop count into))) count got
+pub goes_on : (files : Option Files) (path into new : List ℕ) (at count got n : ℕ) → n ≡ length into - count → count ≤ length into → ReadsSome files path (at + count) (take n (drop count into)) new got → ReadsOn files path at into (take count into ++ (new ++ drop n (drop count into))) count got
 goes_on None path into new at count got n rest within once before same held = tt
 goes_on (Some m) path into new at count got n rest within once before same held = more_held (bytes_of m path) before into new at count got n rest within same held once
 
@@ -39,7 +39,7 @@ pub none_held : (files : Option Files) (path : List ℕ) (at : ℕ) (before : Li
 none_held None path at before = tt
 none_held (Some m) path at before = record { held = refl; within = omega arith }
 
-pub ended : (files : Option Files) (path : List ℕ) (at count got n size : ℕ) (before now : List ℕ) → length before ≡ n → n ≡ size - count → count ≤ size → ReadsSome files path (at + count) before now got → got ≡ 0 → EndsAt files path at size count
+pub ended : (files : Option Files) (path : List ℕ) (at count got n size : ℕ) (before now : List ℕ) → length before ≡ n → n ≡ size - count → count ≤ size → ReadsSome files path (at + count) before now got → got ≡ 0 → FillsOrEnds files path at size count
 ended None path at count got n size before now same rest within once none = tt
 ended (Some m) path at count got n size before now same rest within once none =
     elim (once.ended none) [
@@ -47,7 +47,7 @@ ended (Some m) path at count got n size before now same rest within once none =
       | inr end ↦ inr (omega (arith, end))
     ]
 
-read_of : (m : Files) (path into now : List ℕ) (at count room most : ℕ) → room ≡ min (most - at) (length into) → length (bytes_of m path) ≤ most → count ≤ room → IsHeld (bytes_of m path) at (take room into) now count → (room ≡ count) ⊎ (length (bytes_of m path) ≤ at + count) → IsRead m path at into (now ++ drop room into) count
+read_of : (m : Files) (path into now : List ℕ) (at count room most : ℕ) → room ≡ min (most - at) (length into) → length (bytes_of m path) ≤ most → count ≤ room → IsFilled (bytes_of m path) at (take room into) now count → (room ≡ count) ⊎ (length (bytes_of m path) ≤ at + count) → IsRead m path at into (now ++ drop room into) count
 read_of m path into now at count room most roomy short within held end =
     let bytes : List ℕ = bytes_of m path in
     let fits : length (take room into) ≡ room = length-take-le room into (omega (arith, roomy)) in
@@ -63,7 +63,7 @@ read_of m path into now at count room most roomy short within held end =
     }
 
 -- a buffer's front was filled
-pub reads_in : (files : Option Files) (path into now : List ℕ) (at count room : ℕ) → room ≡ min (2 ^ 63 - 1 - at) (length into) → IfSome files AreShort → count ≤ length (take room into) → HoldsSoFar files path at (take room into) now count → EndsAt files path at (length (take room into)) count → ReadsIn files path at into (now ++ drop room into) count
+pub reads_in : (files : Option Files) (path into now : List ℕ) (at count room : ℕ) → room ≡ min (2 ^ 63 - 1 - at) (length into) → IfSome files AreShort → count ≤ length (take room into) → HoldsSoFar files path at (take room into) now count → FillsOrEnds files path at (length (take room into)) count → ReadsIn files path at into (now ++ drop room into) count
 reads_in None path into now at count room roomy short within held end = tt
 reads_in (Some m) path into now at count room roomy short within held end =
     let fits : length (take room into) ≡ room = length-take-le room into (omega (arith, roomy)) in

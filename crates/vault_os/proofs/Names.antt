@@ -8,14 +8,14 @@ use Rattle.std.proofs.lemmas.Slice.Eq.{bytes_eq-Decides}
 use Rattle.std.proofs.lemmas.List.Elements.{All-cons, All-nil}
 use Rattle.std.proofs.lemmas.List.Splits.{slice_split_none, slice_split_at, slice_split-cons_yes, slice_split-cons_no}
 use Rattle.std.proofs.Math.Seq.{drop-append-add}
-use Rattle.vault_os.specs.Paths.{is_no_letter, is_part, leads_below, path_in, behind, is_in}
+use Rattle.vault_os.specs.Paths.{is_no_letter, is_name_part, leads_below, path_in, name_below, is_below}
 
 -- what stands behind the folder of a name's path is the name
-pub behind_path : (folder name : List ℕ) → behind folder (path_in folder name) ≡ name
+pub behind_path : (folder name : List ℕ) → name_below folder (path_in folder name) ≡ name
 behind_path folder name = drop-append-add folder (47 ∷ name) 1
 
 pub same_path : (folder p q : List ℕ) → path_in folder p ≡ path_in folder q → p ≡ q
-same_path folder p q e = sym (behind_path folder p) ∙ ap (behind folder) e ∙ behind_path folder q
+same_path folder p q e = sym (behind_path folder p) ∙ ap (name_below folder) e ∙ behind_path folder q
 
 pub and_left : (a b : Bool) → (a && b) ≡ true → a ≡ true
 and_left true b e = refl
@@ -49,22 +49,22 @@ without_slash (b ∷ bs) h =
     (neither_right (eqb b 0) (eqb b 47) (neither_left (is_no_letter b) (list_any is_no_letter bs) h))
     (without_slash bs (neither_right (is_no_letter b) (list_any is_no_letter bs) h))
 
-no_slash : (e : List ℕ) → is_part e ≡ true → All (λ b. eqb b 47 ≡ false) e
+no_slash : (e : List ℕ) → is_name_part e ≡ true → All (λ b. eqb b 47 ≡ false) e
 no_slash e part = without_slash e (not_true _ (and_right (not (bytes_eq e (46 ∷ 46 ∷ []))) _ (and_right (not (bytes_eq e (46 ∷ []))) _ (and_right (not (bytes_eq e [])) _ part))))
 
 -- one part is a name
-pub one_leads : (e : List ℕ) → is_part e ≡ true → leads_below e ≡ true
+pub one_leads : (e : List ℕ) → is_name_part e ≡ true → leads_below e ≡ true
 unfolding leads_below
-one_leads e part = ap (list_all is_part) (slice_split_none (λ b. eqb b 47) e (no_slash e part)) ∙ both_true (is_part e) true part refl
+one_leads e part = ap (list_all is_name_part) (slice_split_none (λ b. eqb b 47) e (no_slash e part)) ∙ both_true (is_name_part e) true part refl
 
 -- a part before a name
-pub longer_leads : (e q : List ℕ) → is_part e ≡ true → leads_below q ≡ true → leads_below (e ++ (47 ∷ q)) ≡ true
+pub longer_leads : (e q : List ℕ) → is_name_part e ≡ true → leads_below q ≡ true → leads_below (e ++ (47 ∷ q)) ≡ true
 unfolding leads_below
-longer_leads e q part leads = ap (list_all is_part) (slice_split_at (λ b. eqb b 47) e 47 q (no_slash e part) refl) ∙ both_true (is_part e) _ part leads
+longer_leads e q part leads = ap (list_all is_name_part) (slice_split_at (λ b. eqb b 47) e 47 q (no_slash e part) refl) ∙ both_true (is_name_part e) _ part leads
 
 -- a name is a part, or a part before a name
 abbrev pub Begins : List ℕ → Type 0
-Begins n = (is_part n ≡ true) ⊎ ((e : List ℕ) × ((q : List ℕ) × ((n ≡ e ++ (47 ∷ q)) × ((is_part e ≡ true) × (leads_below q ≡ true)))))
+Begins n = (is_name_part n ≡ true) ⊎ ((e : List ℕ) × ((q : List ℕ) × ((n ≡ e ++ (47 ∷ q)) × ((is_name_part e ≡ true) × (leads_below q ≡ true)))))
 
 abbrev slashes : ℕ → Bool
 slashes b = eqb b 47
@@ -89,8 +89,8 @@ pub name_begins : (n : List ℕ) → leads_below n ≡ true → Begins n
 unfolding leads_below Cut
 name_begins n leads =
     elim (cut_first n) [
-      | inl one ↦ inl (and_left (is_part n) true (ap (list_all is_part) (sym one) ∙ leads))
+      | inl one ↦ inl (and_left (is_name_part n) true (ap (list_all is_name_part) (sym one) ∙ leads))
       | inr cut ↦
-        let parts = ap (list_all is_part) (sym cut.1.1.1) ∙ leads in
-        inr (cut.0, (cut.1.0, (cut.1.1.0, (and_left (is_part cut.0) _ parts, and_right (is_part cut.0) _ parts))))
+        let parts = ap (list_all is_name_part) (sym cut.1.1.1) ∙ leads in
+        inr (cut.0, (cut.1.0, (cut.1.1.0, (and_left (is_name_part cut.0) _ parts, and_right (is_name_part cut.0) _ parts))))
     ]

@@ -16,8 +16,8 @@ IsFileIn root files n = (leads_below n ≡ true) × (get files (path_in root n) 
 
 -- a name is reached by a folder that is still to read: it begins with its path, which ends with a
 -- slash or is empty
-abbrev pub IsReached : List (List ℕ) → List ℕ → Type 0
-IsReached unread n =
+abbrev pub IsStillReached : List (List ℕ) → List ℕ → Type 0
+IsStillReached unread n =
     (folder : List ℕ) × ((q : List ℕ)
     × (Contains unread folder × ((n ≡ folder ++ q) × (leads_below q ≡ true))))
 
@@ -33,17 +33,17 @@ IsBefore folder = (q : List ℕ) → leads_below q ≡ true → leads_below (fol
 
 -- a walk with these folders still to read found these names: each is a file's, and each other file
 -- is still reached
-pub record Walks {Z : Type 0} (root : List ℕ) (files : Files) (unread : List (List ℕ))
+pub record HasWalked {Z : Type 0} (root : List ℕ) (files : Files) (unread : List (List ℕ))
     (found : BTreeSet (String Z)) : Type 0 where
   pub are : (n : List ℕ) → contains_text found n ≡ true → IsFileIn root files n
-  pub all : (n : List ℕ) → IsFileIn root files n → (contains_text found n ≡ true) ⊎ IsReached unread n
+  pub all : (n : List ℕ) → IsFileIn root files n → (contains_text found n ≡ true) ⊎ IsStillReached unread n
   pub before : (folder : List ℕ) → Contains unread folder → IsBefore folder
 
 -- the same in the midst of a folder
-pub record WalksIn {Z : Type 0} (root : List ℕ) (files : Files) (folder : List ℕ)
+pub record HasWalkedIn {Z : Type 0} (root : List ℕ) (files : Files) (folder : List ℕ)
     (rest : List (List ℕ)) (unread : List (List ℕ)) (found : BTreeSet (String Z)) : Type 0 where
   pub are : (n : List ℕ) → contains_text found n ≡ true → IsFileIn root files n
   pub all : (n : List ℕ) → IsFileIn root files n
-      → (contains_text found n ≡ true) ⊎ (IsReached unread n ⊎ IsReachedIn folder rest n)
+      → (contains_text found n ≡ true) ⊎ (IsStillReached unread n ⊎ IsReachedIn folder rest n)
   pub before : (f : List ℕ) → Contains unread f → IsBefore f
   pub here : IsBefore folder

@@ -10,13 +10,13 @@ abbrev pub is_no_letter : ℕ → Bool
 is_no_letter b = eqb b 0 || eqb b 47
 
 -- a part of a name: not empty, not `.` or `..`, without NUL and slash
-abbrev pub is_part : List ℕ → Bool
-is_part part =
+abbrev pub is_name_part : List ℕ → Bool
+is_name_part part =
     not (bytes_eq part []) && (not (bytes_eq part (46 ∷ [])) && (not (bytes_eq part (46 ∷ 46 ∷ [])) && not (list_any is_no_letter part)))
 
 -- a name leads to one place below a folder: parts between slashes
 unfoldable pub leads_below : List ℕ → Bool
-leads_below name = list_all is_part (slice_split (λ b. eqb b 47) name)
+leads_below name = list_all is_name_part (slice_split (λ b. eqb b 47) name)
 
 -- the path of a name below a folder
 abbrev pub path_in : List ℕ → List ℕ → List ℕ
@@ -28,23 +28,23 @@ LeadsTo folder name None = leads_below name ≡ false
 LeadsTo folder name (Some path) = (path ≡ path_in folder name) × (leads_below name ≡ true)
 
 -- what stands behind a folder's path and a slash
-abbrev pub behind : List ℕ → List ℕ → List ℕ
-behind folder path = drop (length folder + 1) path
+abbrev pub name_below : List ℕ → List ℕ → List ℕ
+name_below folder path = drop (length folder + 1) path
 
 -- a path is that of a name below a folder
-abbrev pub is_in : List ℕ → List ℕ → Bool
-is_in folder path = bytes_eq path (path_in folder (behind folder path)) && leads_below (behind folder path)
+abbrev pub is_below : List ℕ → List ℕ → Bool
+is_below folder path = bytes_eq path (path_in folder (name_below folder path)) && leads_below (name_below folder path)
 
 -- of a list of files by their paths, those below a folder, by their names
-abbrev pub entries_in : List ℕ → List (List ℕ × List ℕ) → List (List ℕ × List ℕ)
-entries_in folder [] = []
-entries_in folder (e ∷ es) =
-    cond (is_in folder e.0) ((behind folder e.0, e.1) ∷ entries_in folder es) (entries_in folder es)
+abbrev pub entries_below : List ℕ → List (List ℕ × List ℕ) → List (List ℕ × List ℕ)
+entries_below folder [] = []
+entries_below folder (e ∷ es) =
+    cond (is_below folder e.0) ((name_below folder e.0, e.1) ∷ entries_below folder es) (entries_below folder es)
 
 -- the files below a folder, by their names
-unfoldable pub files_in : List ℕ → Files → Files
-files_in folder files = from_entries (entries_in folder (entries files))
+unfoldable pub files_below : List ℕ → Files → Files
+files_below folder files = from_entries (entries_below folder (entries files))
 
 -- the same, where the files are told
 abbrev pub told_in : List ℕ → Option Files → Option Files
-told_in folder files = option_map (files_in folder) files
+told_in folder files = option_map (files_below folder) files

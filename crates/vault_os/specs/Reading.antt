@@ -7,21 +7,21 @@ use Rattle.vault_os.specs.Paths.{told_in}
 use Rattle.vault_os.specs.declared.open_files.OpenFile.{OpenFile}
 
 -- a buffer holds so many bytes of a file, from a place on
-pub record IsHeld (bytes : List ℕ) (at : ℕ) (before now : List ℕ) (count : ℕ) : Type 0 where
+pub record IsFilled (bytes : List ℕ) (at : ℕ) (before now : List ℕ) (count : ℕ) : Type 0 where
   pub held : now ≡ take count (drop at bytes) ++ drop count before
   pub within : count ≤ length bytes - at
 
 abbrev pub HoldsSoFar : Option Files → List ℕ → ℕ → List ℕ → List ℕ → ℕ → Type 0
-HoldsSoFar files path at before now count = IfSome files (λ m. IsHeld (bytes_of m path) at before now count)
+HoldsSoFar files path at before now count = IfSome files (λ m. IsFilled (bytes_of m path) at before now count)
 
 -- a buffer of this size is full with so many bytes, or the file has no more
-abbrev pub EndsAt : Option Files → List ℕ → ℕ → ℕ → ℕ → Type 0
-EndsAt files path at size count =
+abbrev pub FillsOrEnds : Option Files → List ℕ → ℕ → ℕ → ℕ → Type 0
+FillsOrEnds files path at size count =
     IfSome files (λ m. (size ≡ count) ⊎ (length (bytes_of m path) ≤ at + count))
 
 -- a buffer that held so many bytes holds more
-abbrev pub GoesOn : Option Files → List ℕ → ℕ → List ℕ → List ℕ → ℕ → ℕ → Type 0
-GoesOn files path at old new count got =
+abbrev pub ReadsOn : Option Files → List ℕ → ℕ → List ℕ → List ℕ → ℕ → ℕ → Type 0
+ReadsOn files path at old new count got =
     (before : List ℕ) → length before ≡ length old → HoldsSoFar files path at before old count
     → HoldsSoFar files path at before new (count + got)
 

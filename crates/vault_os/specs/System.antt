@@ -7,7 +7,7 @@ use Rattle.std.specs.FinMap.{get, insert}
 use Rattle.byte_words.specs.Pieces.{zero_filled}
 use Rattle.lsn_core.specs.Files.{Files}
 use Rattle.vault.specs.Area.{bytes_of, after_write}
-use Rattle.vault_os.specs.Paths.{is_part}
+use Rattle.vault_os.specs.Paths.{is_name_part}
 use Rattle.vault_os.specs.declared.kind.Kind.{Kind}
 use Rattle.vault_os.specs.declared.kind.Kind.TheVariants.{File, Folder, Other}
 
@@ -30,10 +30,10 @@ TellsKind files path kind = IfSome files (λ m. IsKindAt m path kind)
 -- a folder, whose path ends with a slash, has these names: each file that stands in it or further
 -- below is reached by one
 pub record IsListOf (files : Files) (folder : List ℕ) (names : List (List ℕ)) : Type 0 where
-  pub parts : (name : List ℕ) → Contains names name → is_part name ≡ true
-  pub here : (name : List ℕ) → is_part name ≡ true
+  pub parts : (name : List ℕ) → Contains names name → is_name_part name ≡ true
+  pub here : (name : List ℕ) → is_name_part name ≡ true
       → get files (folder ++ name) ≢ None → Contains names name
-  pub below : (name q : List ℕ) → is_part name ≡ true
+  pub below : (name q : List ℕ) → is_name_part name ≡ true
       → get files (folder ++ (name ++ (47 ∷ q))) ≢ None → Contains names name
 
 -- the names that a list of a folder gave, none where there is no such folder

@@ -24,8 +24,8 @@ pub record AddsFolder (path : List ℕ) (old new : Walk) : Type 0 where
   pub files : new.files.keys ≡ old.files.keys
 
 -- a file or a folder was added
-abbrev pub Adds : List ℕ → Option Kind → Walk → Walk → Type 0
-Adds path None old new = AddsNone old new
-Adds path (Some (File size)) old new = AddsFile path old new
-Adds path (Some Folder) old new = AddsFolder path old new
-Adds path (Some Other) old new = AddsNone old new
+abbrev pub AddsEntry : List ℕ → Option Kind → Walk → Walk → Type 0
+AddsEntry path None old new = AddsNone old new
+AddsEntry path (Some (File size)) old new = AddsFile path old new
+AddsEntry path (Some Folder) old new = AddsFolder path old new
+AddsEntry path (Some Other) old new = AddsNone old new

@@ -4,7 +4,7 @@ ghost use Rattle.std.specs.Prelude.{◌≡◌, ◌+◌, ◌<◌, ◌≤◌, ◌^
 ghost use Rattle.vault.specs.Area.{IsSizeIn, ReadsIn};
 ghost use Rattle.vault_os.specs.Paths.{told_in};
 ghost use Rattle.vault_os.specs.Open.{AreOpenAt};
-ghost use Rattle.vault_os.specs.Reading.{HoldsSoFar, EndsAt, GoesOn, Opens};
+ghost use Rattle.vault_os.specs.Reading.{HoldsSoFar, FillsOrEnds, ReadsOn, Opens};
 
 use crate::errors::{SystemError, told};
 use crate::kind::Kind;
@@ -110,7 +110,7 @@ fn fill<S: System>(system: &S, file: &S::File, at: u64, into: &mut [u8]) -> io::
     requires { at + length into.old < 2 ^ 64 }
     ensures count { IfOk result (λ count. count ≤ length into.old) }
     ensures held { IfOk result (λ count. (path : List ℕ) → S.is_at system.now file.now path → HoldsSoFar (S.files system.now) path at into.old into.new count) }
-    ensures end { IfOk result (λ count. (path : List ℕ) → S.is_at system.now file.now path → EndsAt (S.files system.now) path at (length into.old) count) }
+    ensures end { IfOk result (λ count. (path : List ℕ) → S.is_at system.now file.now path → FillsOrEnds (S.files system.now) path at (length into.old) count) }
 {
     let mut count = 0;
     for _ in 0..u64::MAX {
@@ -135,8 +135,8 @@ fn read_some<S: System>(
     requires count { count ≤ length into.old }
     requires room { at + length into.old < 2 ^ 64 }
     ensures room { IfOk result (λ got. count + got ≤ length into.old) }
-    ensures more { IfOk result (λ got. (path : List ℕ) → S.is_at system.now file.now path → GoesOn (S.files system.now) path at into.old into.new count got) }
-    ensures end { IfOk result (λ got. (path : List ℕ) → S.is_at system.now file.now path → got ≡ 0 → EndsAt (S.files system.now) path at (length into.old) count) }
+    ensures more { IfOk result (λ got. (path : List ℕ) → S.is_at system.now file.now path → ReadsOn (S.files system.now) path at into.old into.new count got) }
+    ensures end { IfOk result (λ got. (path : List ℕ) → S.is_at system.now file.now path → got ≡ 0 → FillsOrEnds (S.files system.now) path at (length into.old) count) }
 {
     if count == into.len() {
         return Ok(0);

@@ -1,7 +1,7 @@
 //! How far a walk through a folder and those below it has come.
 
 ghost use Rattle.std.specs.Prelude.{◌≡◌, OnOk, string_bytes};
-ghost use Rattle.vault_os.specs.Walk.{AddsFile, AddsFolder, Adds};
+ghost use Rattle.vault_os.specs.Walk.{AddsFile, AddsFolder, AddsEntry};
 
 use crate::errors::SystemError;
 use crate::kind::Kind;
@@ -21,7 +21,7 @@ impl Walk {
         path: String,
         kind: Option<Kind>,
     ) -> Result<(), SystemError>
-        ensures { OnOk result (Adds (string_bytes path) kind self.old self.new) }
+        ensures { OnOk result (AddsEntry (string_bytes path) kind self.old self.new) }
     {
         match kind {
             Some(Kind::File(_)) => self.add_file(path),
