@@ -190,20 +190,25 @@ static STEPS: [Step; 15] = [
     Step::Names(b"base/2 "),
 ];
 
+/// How many calls the steps make at least.
+const CALLS: u64 = 40;
+
+/// Each call fails in turn, until no step meets the one that is to fail. A step whose call failed is
+/// told as one, and all succeed when they are taken again.
 #[test]
 fn steps_succeed_behind_each_call_that_fails(rt: HostRuntime) -> Result<(), Fail> {
     let syncs = Arc::new(rt.alloc(), AtomicU64::new(0))?;
-    for fails in 0..120 {
+    for fails in 0..1000 {
         let mut area = area_over(rt.alloc(), fails, &syncs)?;
         let first = take_steps(rt.alloc(), &mut area, &STEPS);
-        assert!(rt; first.is_err() == (fails < CALLS), "{fails}");
         take_steps(rt.alloc(), &mut area, &STEPS)?;
+        if first.is_ok() {
+            assert!(rt; fails > CALLS, "{fails}");
+            return Ok(());
+        }
     }
-    Ok(())
+    Err("each call failed".into())
 }
-
-/// How many calls the steps make.
-const CALLS: u64 = 80;
 
 /// Writes and syncs.
 static SYNCED: [Step; 6] = [

@@ -129,18 +129,18 @@ module _ (folder n : List ℕ) (leads : leads_below n ≡ true) where
   insert_in : (files : Files) (v : List ℕ) → files_below folder (insert files (path_in folder n) v) ≡ insert (files_below folder files) n v
   insert_in files v =
       same_files _ _ (λ q. get_in folder q (insert files (path_in folder n) v)
-        ∙ ap (λ (o : Option (List ℕ)). cond (leads_below q) o None) (get-insert nat_list_cmp_total files (path_in folder n) v (path_in folder q) ∙ ap (λ (t : Bool). cond t (Some v) (get files (path_in folder q))) (paths_same folder q n))
-        ∙ sym (found_first (same q n) (leads_below q) v (get files (path_in folder q)) (λ t. subst (λ (r : List ℕ). leads_below r ≡ true) (sym ((same_is q n).0 t)) leads))
-        ∙ ap (cond (same q n) (Some v)) (sym (get_in folder q files))
-        ∙ sym (get-insert nat_list_cmp_total (files_below folder files) n v q))
+      ∙ ap (λ (o : Option (List ℕ)). cond (leads_below q) o None) (get-insert nat_list_cmp_total files (path_in folder n) v (path_in folder q) ∙ ap (λ (t : Bool). cond t (Some v) (get files (path_in folder q))) (paths_same folder q n))
+      ∙ sym (found_first (same q n) (leads_below q) v (get files (path_in folder q)) (λ t. subst (λ (r : List ℕ). leads_below r ≡ true) (sym ((same_is q n).0 t)) leads))
+      ∙ ap (cond (same q n) (Some v)) (sym (get_in folder q files))
+      ∙ sym (get-insert nat_list_cmp_total (files_below folder files) n v q))
 
   remove_in : (files : Files) → files_below folder (remove files (path_in folder n)) ≡ remove (files_below folder files) n
   remove_in files =
       same_files _ _ (λ q. get_in folder q (remove files (path_in folder n))
-        ∙ ap (λ (o : Option (List ℕ)). cond (leads_below q) o None) (get-remove nat_list_cmp_total files (path_in folder n) (path_in folder q) ∙ ap (λ (t : Bool). cond t None (get files (path_in folder q))) (paths_same folder q n))
-        ∙ removed_first (same q n) (leads_below q) (get files (path_in folder q))
-        ∙ ap (cond (same q n) None) (sym (get_in folder q files))
-        ∙ sym (get-remove nat_list_cmp_total (files_below folder files) n q))
+      ∙ ap (λ (o : Option (List ℕ)). cond (leads_below q) o None) (get-remove nat_list_cmp_total files (path_in folder n) (path_in folder q) ∙ ap (λ (t : Bool). cond t None (get files (path_in folder q))) (paths_same folder q n))
+      ∙ removed_first (same q n) (leads_below q) (get files (path_in folder q))
+      ∙ ap (cond (same q n) None) (sym (get_in folder q files))
+      ∙ sym (get-remove nat_list_cmp_total (files_below folder files) n q))
 
   write_in : (at : ℕ) (piece : List ℕ) (files : Files) → files_below folder (after_write (path_in folder n) at piece files) ≡ after_write n at piece (files_below folder files)
   write_in at piece files = insert_in files _ ∙ ap (λ (b : List ℕ). insert (files_below folder files) n (file_written b at piece)) (sym (bytes_in folder n files leads))

@@ -67,22 +67,22 @@ opened is_at folder files name at found file e h = subst (λ o. Opens is_at fold
 -- what is kept open after one more, or without room for it
 pub kept_more : {F : Type 0} (is_at : F → List ℕ → Type 0) (folder : List ℕ) (old new : OpenFiles F) (file : OpenFile F) → AreOpenAt is_at folder old → new.read.items ≡ push (with_room old.read.items) file → new.written ≡ old.written → IsOpenAt is_at folder file → AreOpenAt is_at folder new
 kept_more is_at folder old new file are e same is = (
-      subst (All (IsOpenAt is_at folder)) (sym e) (all_kept (IsOpenAt is_at folder) old.read.items file are.0 is),
-      subst (λ o. IfSome o (IsOpenAt is_at folder)) (sym same) are.1,
-    )
+  subst (All (IsOpenAt is_at folder)) (sym e) (all_kept (IsOpenAt is_at folder) old.read.items file are.0 is),
+  subst (λ o. IfSome o (IsOpenAt is_at folder)) (sym same) are.1,
+)
 
 pub kept_fewer : {F : Type 0} (is_at : F → List ℕ → Type 0) (folder : List ℕ) (old new : OpenFiles F) → AreOpenAt is_at folder old → new.read.items ≡ with_room old.read.items → new.written ≡ old.written → AreOpenAt is_at folder new
 kept_fewer is_at folder old new are e same = (
-      subst (All (IsOpenAt is_at folder)) (sym e) (all_room (IsOpenAt is_at folder) old.read.items are.0),
-      subst (λ o. IfSome o (IsOpenAt is_at folder)) (sym same) are.1,
-    )
+  subst (All (IsOpenAt is_at folder)) (sym e) (all_room (IsOpenAt is_at folder) old.read.items are.0),
+  subst (λ o. IfSome o (IsOpenAt is_at folder)) (sym same) are.1,
+)
 
 -- no file is kept open
 pub none_kept : {F : Type 0} (is_at : F → List ℕ → Type 0) (folder : List ℕ) (kept : OpenFiles F) → kept.read.items ≡ [] → kept.written ≡ None → AreOpenAt is_at folder kept
 none_kept is_at folder kept read written = (
-      subst (All (IsOpenAt is_at folder)) (sym read) (All-nil (IsOpenAt is_at folder)),
-      subst (λ o. IfSome o (IsOpenAt is_at folder)) (sym written) tt,
-    )
+  subst (All (IsOpenAt is_at folder)) (sym read) (All-nil (IsOpenAt is_at folder)),
+  subst (λ o. IfSome o (IsOpenAt is_at folder)) (sym written) tt,
+)
 
 -- what is kept open stays so
 pub kept_stay : {S F : Type 0} (is_at : S → F → List ℕ → Type 0) (folder : List ℕ) (s t : S) (kept : OpenFiles F) → AreOpenAt (is_at s) folder kept → Stays is_at s t → AreOpenAt (is_at t) folder kept

@@ -91,6 +91,6 @@ name_begins n leads =
     elim (cut_first n) [
       | inl one ↦ inl (and_left (is_name_part n) true (ap (list_all is_name_part) (sym one) ∙ leads))
       | inr cut ↦
-        let parts = ap (list_all is_name_part) (sym cut.1.1.1) ∙ leads in
-        inr (cut.0, (cut.1.0, (cut.1.1.0, (and_left (is_name_part cut.0) _ parts, and_right (is_name_part cut.0) _ parts))))
+          let parts = ap (list_all is_name_part) (sym cut.1.1.1) ∙ leads in
+          inr (cut.0, (cut.1.0, (cut.1.1.0, (and_left (is_name_part cut.0) _ parts, and_right (is_name_part cut.0) _ parts))))
     ]

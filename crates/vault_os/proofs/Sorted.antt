@@ -77,8 +77,8 @@ named_keys names m ordered has =
     let es_sorted = sorted_marked names.keys ordered in
     let fs_sorted = sorted_marks (entries m) (entries_sorted m) in
     let same : from_sorted {R = slice_cmp nat_cmp} es ≡ from_sorted fs = same_map nat_list_cmp_total (slice_cmp-IsAntisymmetric nat_cmp-IsAntisymmetric) _ _ (λ q. same_mark _ _
-      (ap is_some (get-from_sorted (slice_cmp nat_cmp) es q es_sorted) ∙ is_some-find (slice_cmp nat_cmp) q es ∙ any_marked q names.keys ∙ has q ∙ contains_key-keys m q
-      ∙ ap (list_any (eq_by_cmp (slice_cmp nat_cmp) q)) (sym (names_marks (entries m))) ∙ sym (is_some-find (slice_cmp nat_cmp) q fs) ∙ ap is_some (sym (get-from_sorted (slice_cmp nat_cmp) fs q fs_sorted)))) in
+    (ap is_some (get-from_sorted (slice_cmp nat_cmp) es q es_sorted) ∙ is_some-find (slice_cmp nat_cmp) q es ∙ any_marked q names.keys ∙ has q ∙ contains_key-keys m q
+    ∙ ap (list_any (eq_by_cmp (slice_cmp nat_cmp) q)) (sym (names_marks (entries m))) ∙ sym (is_some-find (slice_cmp nat_cmp) q fs) ∙ ap is_some (sym (get-from_sorted (slice_cmp nat_cmp) fs q fs_sorted)))) in
     sym (names_marked names.keys) ∙ ap (map (λ (e : List ℕ × Unit {0}). e.0)) (sym (entries-from_sorted (slice_cmp nat_cmp) es es_sorted)) ∙ ap (λ s. map (λ (e : List ℕ × Unit {0}). e.0) (entries s)) same
     ∙ ap (map (λ (e : List ℕ × Unit {0}). e.0)) (entries-from_sorted (slice_cmp nat_cmp) fs fs_sorted) ∙ names_marks (entries m)
 

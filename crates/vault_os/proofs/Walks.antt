@@ -161,6 +161,7 @@ module _ {Z : Type 0} (root : List ℕ) (m : Files) where
         always : (b : Bool) → cond b true true ≡ true
         always true = refl
         always false = refl
+
         one : (n : List ℕ) (b : Bool) → bytes_eq (folder ++ name) n ≡ b → cond b true (contains_text found n) ≡ true → IsFileIn root m n
         one n true e there = subst (IsFileIn root m) ((bytes_eq-Decides (folder ++ name) n).0 e) (walk.here name (one_leads name part), some_length _ size (at.size ∙ ap size_at is_file))
         one n false e there = walk.are n there
@@ -179,6 +180,7 @@ module _ {Z : Type 0} (root : List ℕ) (m : Files) where
       where
         below : List ℕ
         below = (folder ++ name) ++ (47 ∷ [])
+
         joined : (q : List ℕ) → ((folder ++ name) ++ (47 ∷ [])) ++ q ≡ folder ++ (name ++ (47 ∷ q))
         joined q = append_assoc (folder ++ name) (47 ∷ []) q ∙ append_assoc folder name (47 ∷ q)
 

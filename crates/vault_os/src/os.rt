@@ -92,7 +92,12 @@ impl System for Os {
     }
 
     fn make(&mut self, path: &str) -> io::Result<Option<File>> {
-        there(OpenOptions::new().write(true).create(true).open(&self.rt, path))
+        there(
+            OpenOptions::new()
+                .write(true)
+                .create(true)
+                .open(&self.rt, path),
+        )
     }
 
     fn make_folders(&mut self, path: &str) -> io::Result<()> {
@@ -104,7 +109,10 @@ impl System for Os {
     }
 
     fn truncate(&mut self, path: &str, size: u64) -> io::Result<()> {
-        OpenOptions::new().write(true).open(&self.rt, path)?.set_len(size)
+        OpenOptions::new()
+            .write(true)
+            .open(&self.rt, path)?
+            .set_len(size)
     }
 
     fn unlink(&mut self, path: &str) -> io::Result<()> {

@@ -80,7 +80,12 @@ fn open_from<S: System>(
     if size.unwrap_or(0) <= at {
         return Ok(None);
     }
-    let opened = told(root.alloc, "open", path.as_str(), system.open(path.as_str()))?;
+    let opened = told(
+        root.alloc,
+        "open",
+        path.as_str(),
+        system.open(path.as_str()),
+    )?;
     let Some(file) = opened else {
         return Ok(None);
     };

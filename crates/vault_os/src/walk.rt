@@ -16,11 +16,7 @@ pub(crate) struct Walk {
 
 impl Walk {
     /// Adds what stands at a path to the folders that are still to read, or to the files.
-    pub(crate) fn add(
-        &mut self,
-        path: String,
-        kind: Option<Kind>,
-    ) -> Result<(), SystemError>
+    pub(crate) fn add(&mut self, path: String, kind: Option<Kind>) -> Result<(), SystemError>
         ensures { OnOk result (AddsEntry (string_bytes path) kind self.old self.new) }
     {
         match kind {

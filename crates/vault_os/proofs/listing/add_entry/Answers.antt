@@ -10,7 +10,7 @@ returns g c =
     let root = string_bytes c.args.root.now.path in
     on_ok c.add.result
     (λ adds. read_kind root c.args.folder.now c.args.name.now c.as_str-2.result.now (g.S.System.files c.args.system.now) c.in_ok-kind.kind c.args.walk.now c.add.new.self
-      (c.as_str-2.ensures.value ∙ c.in_ok-path.ensures ∙ ap (path_in root) (c.as_str.ensures.value ∙ c.in_ok-name.ensures))
-      (ok_of _ c.stat-kind.result c.in_ok-kind.kind c.in_ok-kind.ensures.told c.stat-kind.ensures)
-      (subst (λ (p : List ℕ). AddsEntry p c.in_ok-kind.kind c.args.walk.now c.add.new.self) c.in_ok-name.ensures adds))
+    (c.as_str-2.ensures.value ∙ c.in_ok-path.ensures ∙ ap (path_in root) (c.as_str.ensures.value ∙ c.in_ok-name.ensures))
+    (ok_of _ c.stat-kind.result c.in_ok-kind.kind c.in_ok-kind.ensures.told c.stat-kind.ensures)
+    (subst (λ (p : List ℕ). AddsEntry p c.in_ok-kind.kind c.args.walk.now c.add.new.self) c.in_ok-name.ensures adds))
     c.add.ensures

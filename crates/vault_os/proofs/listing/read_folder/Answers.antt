@@ -17,7 +17,7 @@ loop-name-preserved g c =
     let root = string_bytes c.args.root.now.path in
     let rest : List (List ℕ) = map string_bytes (drop (c.loop-name.name-index + 1) c.deref-name-items.result.now) in
     let steps : map string_bytes (drop c.loop-name.name-index c.deref-name-items.result.now) ≡ c.as_str-in-loop-name.result.now ∷ rest =
-        next_name c.deref-name-items.result.now c.loop-name.name-index c.name-item.result (omega (arith, c.loop-name-test.true, c.loop-name.auto.name-index-end)) c.name-item.is ∙ ap (λ (n : List ℕ). n ∷ rest) (sym c.as_str-in-loop-name.ensures.value) in
+    next_name c.deref-name-items.result.now c.loop-name.name-index c.name-item.result (omega (arith, c.loop-name-test.true, c.loop-name.auto.name-index-end)) c.name-item.is ∙ ap (λ (n : List ℕ). n ∷ rest) (sym c.as_str-in-loop-name.ensures.value) in
     midway_goes files root c.args.folder.now c.args.walk.now c.loop-name.walk c.add_entry.new.walk c.as_str-in-loop-name.result.now rest
     (subst (λ (l : List (List ℕ)). Midway files root c.args.folder.now c.args.walk.now l c.loop-name.walk) steps c.loop-name.invariant)
     c.in_ok-add_entry.ensures

@@ -8,8 +8,8 @@ pub returns-in-Some-clause-read : goal.returns-in-Some-clause-read
 returns-in-Some-clause-read g c =
     read_open_told (g.S.System.is_at c.args.system.now) _ _ _ _ _ _ c.index.result.now _
     (file_at (IsOpenAt (g.S.System.is_at c.args.system.now) (string_bytes c.args.root.now.path)) c.args.name.now c.args.kept.now.read.items c.in-Some.place c.index.result.now
-      (subst (λ (xs : List (OpenFile _)). position (λ f. bytes_eq c.args.name.now f.name.items) xs ≡ Some c.in-Some.place) c.deref.ensures.value (sym c.place_of.ensures ∙ c.in-Some.is))
-      c.index.ensures c.requires.kept.0)
+    (subst (λ (xs : List (OpenFile _)). position (λ f. bytes_eq c.args.name.now f.name.items) xs ≡ Some c.in-Some.place) c.deref.ensures.value (sym c.place_of.ensures ∙ c.in-Some.is))
+    c.index.ensures c.requires.kept.0)
     c.read_open.ensures.read
 
 pub returns-in_err-keep-clause-kept : goal.returns-in_err-keep-clause-kept

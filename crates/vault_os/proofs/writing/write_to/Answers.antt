@@ -21,7 +21,7 @@ returns-in_err-write_open-clause-failed g c =
     let before = told_in root (g.S.System.files c.args.system.now) in
     let between = told_in root (g.S.System.files c.take_to_write.new.system) in
     on_err c.from_residual-in_err-write_open.result (tear_made name c.args.at (length c.args.piece.now) before between _ c.take_to_write.ensures.made
-      (tear_file_told (g.S.System.is_at c.take_to_write.new.system) root name c.args.at (length c.args.piece.now) (g.S.System.files c.take_to_write.new.system) (g.S.System.files c.write_open.new.system) c.in_ok-file.file c.in_ok-file.ensures.open c.in_err-write_open.ensures.failed))
+    (tear_file_told (g.S.System.is_at c.take_to_write.new.system) root name c.args.at (length c.args.piece.now) (g.S.System.files c.take_to_write.new.system) (g.S.System.files c.write_open.new.system) c.in_ok-file.file c.in_ok-file.ensures.open c.in_err-write_open.ensures.failed))
 
 pub returns-clause-written : goal.returns-clause-written
 returns-clause-written g c =
