@@ -36,7 +36,8 @@ IsBefore folder = (q : List ℕ) → leads_below q ≡ true → leads_below (fol
 pub record HasWalked {Z : Type 0} (root : List ℕ) (files : Files) (unread : List (List ℕ))
     (found : BTreeSet (String Z)) : Type 0 where
   pub are : (n : List ℕ) → contains_text found n ≡ true → IsFileIn root files n
-  pub all : (n : List ℕ) → IsFileIn root files n → (contains_text found n ≡ true) ⊎ IsStillReached unread n
+  pub all : (n : List ℕ) → IsFileIn root files n
+      → (contains_text found n ≡ true) ⊎ IsStillReached unread n
   pub before : (folder : List ℕ) → Contains unread folder → IsBefore folder
 
 -- the same in the midst of a folder

@@ -12,7 +12,8 @@ is_no_letter b = eqb b 0 || eqb b 47
 -- a part of a name: not empty, not `.` or `..`, without NUL and slash
 abbrev pub is_name_part : List ℕ → Bool
 is_name_part part =
-    not (bytes_eq part []) && (not (bytes_eq part (46 ∷ [])) && (not (bytes_eq part (46 ∷ 46 ∷ [])) && not (list_any is_no_letter part)))
+    not (bytes_eq part []) && (not (bytes_eq part (46 ∷ []))
+    && (not (bytes_eq part (46 ∷ 46 ∷ [])) && not (list_any is_no_letter part)))
 
 -- a name leads to one place below a folder: parts between slashes
 unfoldable pub leads_below : List ℕ → Bool
@@ -33,13 +34,16 @@ name_below folder path = drop (length folder + 1) path
 
 -- a path is that of a name below a folder
 abbrev pub is_below : List ℕ → List ℕ → Bool
-is_below folder path = bytes_eq path (path_in folder (name_below folder path)) && leads_below (name_below folder path)
+is_below folder path =
+    bytes_eq path (path_in folder (name_below folder path)) && leads_below (name_below folder path)
 
 -- of a list of files by their paths, those below a folder, by their names
 abbrev pub entries_below : List ℕ → List (List ℕ × List ℕ) → List (List ℕ × List ℕ)
 entries_below folder [] = []
 entries_below folder (e ∷ es) =
-    cond (is_below folder e.0) ((name_below folder e.0, e.1) ∷ entries_below folder es) (entries_below folder es)
+    cond (is_below folder e.0)
+    ((name_below folder e.0, e.1) ∷ entries_below folder es)
+    (entries_below folder es)
 
 -- the files below a folder, by their names
 unfoldable pub files_below : List ℕ → Files → Files

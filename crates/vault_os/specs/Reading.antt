@@ -12,7 +12,8 @@ pub record IsFilled (bytes : List ℕ) (at : ℕ) (before now : List ℕ) (count
   pub within : count ≤ length bytes - at
 
 abbrev pub HoldsSoFar : Option Files → List ℕ → ℕ → List ℕ → List ℕ → ℕ → Type 0
-HoldsSoFar files path at before now count = IfSome files (λ m. IsFilled (bytes_of m path) at before now count)
+HoldsSoFar files path at before now count =
+    IfSome files (λ m. IsFilled (bytes_of m path) at before now count)
 
 -- a buffer of this size is full with so many bytes, or the file has no more
 abbrev pub FillsOrEnds : Option Files → List ℕ → ℕ → ℕ → ℕ → Type 0

@@ -47,9 +47,11 @@ impl<F: Drop> OpenFiles<F> {
         }
     }
 
-    /// Keeps a file open to be read, in place of the one that was opened first where there are four.
+    /// Keeps a file open to be read, in place of the one that was opened first where there are
+    /// four.
     pub(crate) fn keep(&mut self, file: OpenFile<F>) -> Result<(), NoMemory>
-        ensures kept { OnOk result (self.new.read.items ≡ push (with_room self.old.read.items) file) }
+        ensures kept { OnOk result (self.new.read.items
+            ≡ push (with_room self.old.read.items) file) }
         ensures left { OnErr result (self.new.read.items ≡ with_room self.old.read.items) }
         ensures written { self.new.written ≡ self.old.written }
     {

@@ -29,7 +29,8 @@ pub(crate) fn read_from<S: System>(
     requires few { length into.old ≤ 2 ^ 20 }
     requires kept { AreOpenAt (S.is_at system.now) (string_bytes root.now.path) kept.old }
     ensures count { IfOk result (λ count. count ≤ length into.old) }
-    ensures read { IfOk result (ReadsIn (told_in (string_bytes root.now.path) (S.files system.now)) name.now at into.old into.new) }
+    ensures read { IfOk result (ReadsIn (told_in (string_bytes root.now.path)
+        (S.files system.now)) name.now at into.old into.new) }
     ensures kept { AreOpenAt (S.is_at system.now) (string_bytes root.now.path) kept.new }
 {
     if let Some(place) = place_of(&kept.read, name) {
@@ -71,7 +72,8 @@ fn open_from<S: System>(
     name: &[u8],
     at: u64,
 ) -> Result<Option<OpenFile<S::File>>, SystemError>
-    ensures { IfOk result (Opens (S.is_at system.now) (string_bytes root.now.path) (S.files system.now) name.now at) }
+    ensures { IfOk result (Opens (S.is_at system.now) (string_bytes root.now.path)
+        (S.files system.now) name.now at) }
 {
     let Some(path) = root.path_of(name)? else {
         return Ok(None);
@@ -103,7 +105,8 @@ fn read_open<S: System>(
 ) -> Result<u32, SystemError>
     requires few { length into.old ≤ 2 ^ 20 }
     ensures count { IfOk result (λ count. count ≤ length into.old) }
-    ensures read { IfOk result (λ count. (path : List ℕ) → S.is_at system.now file.now.file path → ReadsIn (S.files system.now) path at into.old into.new count) }
+    ensures read { IfOk result (λ count. (path : List ℕ) → S.is_at system.now file.now.file path
+        → ReadsIn (S.files system.now) path at into.old into.new count) }
 {
     let room = MOST.saturating_sub(at).min(into.len() as u64) as usize;
     let count = fill(system, &file.file, at, &mut into[..room]);
@@ -114,8 +117,10 @@ fn read_open<S: System>(
 fn fill<S: System>(system: &S, file: &S::File, at: u64, into: &mut [u8]) -> io::Result<usize>
     requires { at + length into.old < 2 ^ 64 }
     ensures count { IfOk result (λ count. count ≤ length into.old) }
-    ensures held { IfOk result (λ count. (path : List ℕ) → S.is_at system.now file.now path → HoldsSoFar (S.files system.now) path at into.old into.new count) }
-    ensures end { IfOk result (λ count. (path : List ℕ) → S.is_at system.now file.now path → FillsOrEnds (S.files system.now) path at (length into.old) count) }
+    ensures held { IfOk result (λ count. (path : List ℕ) → S.is_at system.now file.now path
+        → HoldsSoFar (S.files system.now) path at into.old into.new count) }
+    ensures end { IfOk result (λ count. (path : List ℕ) → S.is_at system.now file.now path
+        → FillsOrEnds (S.files system.now) path at (length into.old) count) }
 {
     let mut count = 0;
     for _ in 0..u64::MAX {
@@ -140,8 +145,10 @@ fn read_some<S: System>(
     requires count { count ≤ length into.old }
     requires room { at + length into.old < 2 ^ 64 }
     ensures room { IfOk result (λ got. count + got ≤ length into.old) }
-    ensures more { IfOk result (λ got. (path : List ℕ) → S.is_at system.now file.now path → ReadsOn (S.files system.now) path at into.old into.new count got) }
-    ensures end { IfOk result (λ got. (path : List ℕ) → S.is_at system.now file.now path → got ≡ 0 → FillsOrEnds (S.files system.now) path at (length into.old) count) }
+    ensures more { IfOk result (λ got. (path : List ℕ) → S.is_at system.now file.now path → ReadsOn
+        (S.files system.now) path at into.old into.new count got) }
+    ensures end { IfOk result (λ got. (path : List ℕ) → S.is_at system.now file.now path → got ≡ 0
+        → FillsOrEnds (S.files system.now) path at (length into.old) count) }
 {
     if count == into.len() {
         return Ok(0);

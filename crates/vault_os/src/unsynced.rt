@@ -43,7 +43,8 @@ impl Unsynced {
         root: &Root,
         name: &[u8],
     ) -> Result<Option<String>, SystemError>
-        ensures path { IfOk result (λ found. LeadsTo (string_bytes root.now.path) name.now (option_map string_bytes found)) }
+        ensures path { IfOk result (λ found. LeadsTo
+            (string_bytes root.now.path) name.now (option_map string_bytes found)) }
         ensures lost { self.new.lost ≡ self.old.lost }
     {
         let path = root.path_of(name)?;

@@ -24,8 +24,12 @@ pub(crate) fn write_to<S: System>(
     piece: &[u8],
 ) -> Result<(), SystemError>
     requires kept { AreOpenAt (S.is_at system.old) (string_bytes root.now.path) kept.old }
-    ensures written { OnOk result (told_in (string_bytes root.now.path) (S.files system.new) ≡ option_map (after_write name.now at piece.now) (told_in (string_bytes root.now.path) (S.files system.old))) }
-    ensures failed { OnErr result (Related (IsTorn name.now at (length piece.now)) (told_in (string_bytes root.now.path) (S.files system.old)) (told_in (string_bytes root.now.path) (S.files system.new))) }
+    ensures written { OnOk result (told_in (string_bytes root.now.path) (S.files system.new)
+        ≡ option_map (after_write name.now at piece.now) (told_in (string_bytes root.now.path)
+        (S.files system.old))) }
+    ensures failed { OnErr result (Related (IsTorn name.now at (length piece.now)) (told_in
+        (string_bytes root.now.path) (S.files system.old)) (told_in (string_bytes root.now.path)
+        (S.files system.new))) }
     ensures kept { AreOpenAt (S.is_at system.new) (string_bytes root.now.path) kept.new }
 {
     let file = take_to_write(root, system, kept, name)?;
@@ -43,8 +47,10 @@ fn take_to_write<S: System>(
     name: &[u8],
 ) -> Result<OpenFile<S::File>, SystemError>
     requires kept { AreOpenAt (S.is_at system.old) (string_bytes root.now.path) kept.old }
-    ensures open { IfOk result (λ file. IsOpenAt (S.is_at system.new) (string_bytes root.now.path) file × (file.name.items ≡ name.now)) }
-    ensures made { MayMake name.now (told_in (string_bytes root.now.path) (S.files system.old)) (told_in (string_bytes root.now.path) (S.files system.new)) }
+    ensures open { IfOk result (λ file. IsOpenAt (S.is_at system.new)
+        (string_bytes root.now.path) file × (file.name.items ≡ name.now)) }
+    ensures made { MayMake name.now (told_in (string_bytes root.now.path) (S.files system.old))
+        (told_in (string_bytes root.now.path) (S.files system.new)) }
     ensures kept { AreOpenAt (S.is_at system.new) (string_bytes root.now.path) kept.new }
 {
     if let Some(file) = kept.written.take() {
@@ -61,8 +67,10 @@ fn open_to_write<S: System>(
     system: &mut S,
     name: &[u8],
 ) -> Result<OpenFile<S::File>, SystemError>
-    ensures open { IfOk result (λ file. IsOpenAt (S.is_at system.new) (string_bytes root.now.path) file × (file.name.items ≡ name.now)) }
-    ensures made { MayMake name.now (told_in (string_bytes root.now.path) (S.files system.old)) (told_in (string_bytes root.now.path) (S.files system.new)) }
+    ensures open { IfOk result (λ file. IsOpenAt (S.is_at system.new)
+        (string_bytes root.now.path) file × (file.name.items ≡ name.now)) }
+    ensures made { MayMake name.now (told_in (string_bytes root.now.path) (S.files system.old))
+        (told_in (string_bytes root.now.path) (S.files system.new)) }
     ensures stay { Stays S.is_at system.old system.new }
 {
     let Some(path) = root.path_of(name)? else {
@@ -76,8 +84,10 @@ fn open_to_write<S: System>(
 /// Opens the file of a path to write, and makes it and its folders where they are missing.
 fn make_at<S: System>(root: &Root, system: &mut S, path: &str) -> Result<S::File, SystemError>
     ensures at { IfOk result (λ file. S.is_at system.new file path.now) }
-    ensures made { OnOk result (S.files system.new ≡ option_map (after_write path.now 0 []) (S.files system.old)) }
-    ensures failed { OnErr result (Related (IsUndecided (after_write path.now 0 [])) (S.files system.old) (S.files system.new)) }
+    ensures made { OnOk result (S.files system.new ≡ option_map (after_write path.now 0 [])
+        (S.files system.old)) }
+    ensures failed { OnErr result (Related (IsUndecided (after_write path.now 0 []))
+        (S.files system.old) (S.files system.new)) }
     ensures open { Stays S.is_at system.old system.new }
 {
     if let Some(file) = told(root.alloc, "open", path, system.make(path))? {
@@ -100,8 +110,10 @@ fn write_open<S: System>(
     at: u64,
     piece: &[u8],
 ) -> Result<(), SystemError>
-    ensures written { (path : List ℕ) → S.is_at system.old file.now.file path → OnOk result (S.files system.new ≡ option_map (after_write path at piece.now) (S.files system.old)) }
-    ensures failed { (path : List ℕ) → S.is_at system.old file.now.file path → OnErr result (Related (IsTorn path at (length piece.now)) (S.files system.old) (S.files system.new)) }
+    ensures written { (path : List ℕ) → S.is_at system.old file.now.file path → OnOk result
+        (S.files system.new ≡ option_map (after_write path at piece.now) (S.files system.old)) }
+    ensures failed { (path : List ℕ) → S.is_at system.old file.now.file path → OnErr result
+        (Related (IsTorn path at (length piece.now)) (S.files system.old) (S.files system.new)) }
     ensures open { Stays S.is_at system.old system.new }
 {
     let written = if at.checked_add(piece.len() as u64).is_some() {
@@ -119,8 +131,10 @@ pub(crate) fn cut_at<S: System>(
     path: &str,
     size: u64,
 ) -> Result<(), SystemError>
-    ensures cut { OnOk result (S.files system.new ≡ option_map (after_cut path.now size) (S.files system.old)) }
-    ensures failed { OnErr result (Related (IsUndecided (after_cut path.now size)) (S.files system.old) (S.files system.new)) }
+    ensures cut { OnOk result (S.files system.new ≡ option_map (after_cut path.now size)
+        (S.files system.old)) }
+    ensures failed { OnErr result (Related (IsUndecided (after_cut path.now size))
+        (S.files system.old) (S.files system.new)) }
     ensures open { Stays S.is_at system.old system.new }
 {
     let now = size_at(root.alloc, system, path)?;
@@ -136,8 +150,10 @@ pub(crate) fn remove_at<S: System>(
     system: &mut S,
     path: &str,
 ) -> Result<(), SystemError>
-    ensures removed { OnOk result (S.files system.new ≡ option_map (after_remove path.now) (S.files system.old)) }
-    ensures failed { OnErr result (Related (IsUndecided (after_remove path.now)) (S.files system.old) (S.files system.new)) }
+    ensures removed { OnOk result (S.files system.new ≡ option_map (after_remove path.now)
+        (S.files system.old)) }
+    ensures failed { OnErr result (Related (IsUndecided (after_remove path.now))
+        (S.files system.old) (S.files system.new)) }
 {
     let Some(_) = size_at(root.alloc, system, path)? else {
         return Ok(());
