@@ -1,5 +1,5 @@
 -- The files below a folder: what is found among them, and what becomes of them as the system's change.
-use Rattle.std.proofs.Common.{◌≡◌, ◌≢◌, ℕ, ◌+◌, ◌-◌, ◌<◌, ◌≤◌, ◌⊎◌, replicate, Bool, true, false, cond, not, ◌&&◌, List, [], ◌∷◌, ◌++◌, length, take, drop, Option, Some, None, IfSome, option_map, unwrap_or, Result, Ok, Err, IfOk, OnOk, OnErr, refl, sym, ap, subst, ◌∙◌, arith, inl, inr}
+use Rattle.std.proofs.Common.{◌≡◌, ℕ, ◌-◌, ◌<◌, ◌≤◌, replicate, Bool, true, false, cond, ◌&&◌, List, [], ◌∷◌, length, take, Option, Some, None, IfSome, option_map, unwrap_or, Result, Ok, Err, IfOk, OnOk, OnErr, refl, sym, ap, subst, ◌∙◌, arith, inl, inr}
 use Rattle.std.specs.Str.{bytes_eq}
 use Rattle.std.specs.Bool.{Decides, one_answer}
 use Rattle.std.proofs.lemmas.Slice.Eq.{bytes_eq-Decides}
@@ -11,7 +11,7 @@ use Rattle.std.specs.Cmp.Lexicographic.{slice_cmp, nat_list_cmp_total}
 use Rattle.std.specs.FinMap.{find, get, insert, remove, entries, get-entries, get-from_entries, get-insert, get-remove, same_map, slice_cmp-IsAntisymmetric, nat_cmp-IsAntisymmetric}
 use Rattle.lsn_core.specs.Files.{Files}
 use Rattle.vault.specs.Area.{bytes_of, file_written, after_write, cut_to, after_cut, after_remove, IsTornFile, IsTorn, Related, IsUndecided, IsSizeIn}
-use Rattle.vault_os.specs.Paths.{is_name_part, leads_below, path_in, name_below, is_below, entries_below, files_below, told_in, LeadsTo}
+use Rattle.vault_os.specs.Paths.{leads_below, path_in, name_below, is_below, entries_below, files_below, told_in, LeadsTo}
 use Rattle.vault_os.specs.Open.{IsOpenAt}
 use Rattle.vault_os.specs.declared.open_files.OpenFile.{OpenFile}
 use Rattle.vault_os.specs.System.{MayMake, resized, after_resize}

@@ -1,12 +1,12 @@
 -- The files that are kept open.
-use Rattle.std.proofs.Common.{◌≡◌, ℕ, ◌<◌, ◌-◌, min, Bool, true, false, not, cond, ◌≢◌, bytes_eq, position, nat_le, if◌then◌else◌, List, [], ◌∷◌, ◌++◌, length, take, drop, Option, Some, None, IfSome, option_map, Result, Ok, Err, IfOk, suc, slice_index_or, refl, sym, subst, ap, ◌∙◌, arith}
-use Rattle.std.specs.List.{All, remove, push, filter}
+use Rattle.std.proofs.Common.{◌≡◌, ℕ, ◌-◌, min, Bool, true, false, bytes_eq, position, nat_le, if◌then◌else◌, List, [], ◌∷◌, ◌++◌, length, take, drop, Option, Some, None, IfSome, Result, IfOk, suc, slice_index_or, sym, subst, ap, ◌∙◌, arith}
+use Rattle.std.specs.List.{All, remove, push}
 use Rattle.std.proofs.lemmas.List.Elements.{All-push, All-nil}
 use Rattle.std.proofs.lemmas.List.Quantifiers.{position-Some}
 use Rattle.std.proofs.lemmas.Slice.Eq.{bytes_eq-Decides}
 use Rattle.lsn_core.specs.Files.{Files}
-use Rattle.vault.specs.Area.{IsRead, ReadsIn, bytes_of}
-use Rattle.vault_os.specs.Paths.{leads_below, path_in, told_in, LeadsTo}
+use Rattle.vault.specs.Area.{ReadsIn}
+use Rattle.vault_os.specs.Paths.{leads_below, path_in, told_in}
 use Rattle.vault_os.specs.Open.{IsOpenAt, AreOpenAt}
 use Rattle.vault_os.specs.Kept.{with_room}
 use Rattle.vault_os.specs.Reading.{Opens}

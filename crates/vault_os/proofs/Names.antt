@@ -1,14 +1,12 @@
 -- Names as paths below a folder: each path is one name's, and a name is parts between slashes.
-use Rattle.std.proofs.Common.{◌≡◌, ◌≢◌, ℕ, ◌+◌, ◌<◌, ◌⊎◌, Bool, true, false, cond, not, ◌&&◌, ◌||◌, eqb, List, [], ◌∷◌, ◌++◌, length, drop, refl, sym, ap, subst, ◌∙◌, arith, inl, inr}
+use Rattle.std.proofs.Common.{◌≡◌, ℕ, ◌⊎◌, Bool, true, false, not, ◌&&◌, ◌||◌, eqb, List, [], ◌∷◌, ◌++◌, refl, sym, ap, ◌∙◌, inl, inr}
 use Rattle.std.specs.List.{list_all, list_any, slice_split, All, onto_first}
 use Rattle.std.specs.Str.{bytes_eq}
-use Rattle.std.specs.Bool.{Decides}
 use Rattle.std.proofs.lemmas.Bool.Decides.{Decides-eqb}
-use Rattle.std.proofs.lemmas.Slice.Eq.{bytes_eq-Decides}
 use Rattle.std.proofs.lemmas.List.Elements.{All-cons, All-nil}
 use Rattle.std.proofs.lemmas.List.Splits.{slice_split_none, slice_split_at, slice_split-cons_yes, slice_split-cons_no}
 use Rattle.std.proofs.Math.Seq.{drop-append-add}
-use Rattle.vault_os.specs.Paths.{is_no_letter, is_name_part, leads_below, path_in, name_below, is_below}
+use Rattle.vault_os.specs.Paths.{is_no_letter, is_name_part, leads_below, path_in, name_below}
 
 -- what stands behind the folder of a name's path is the name
 pub behind_path : (folder name : List ℕ) → name_below folder (path_in folder name) ≡ name

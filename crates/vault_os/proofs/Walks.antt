@@ -12,14 +12,14 @@ use Rattle.std.specs.Cmp.Lexicographic.{slice_cmp}
 use Rattle.std.proofs.lemmas.Slice.Eq.{bytes_eq-Decides}
 use Rattle.lsn_core.specs.Files.{Files}
 use Rattle.vault_os.specs.Paths.{is_name_part, leads_below, path_in, files_below, told_in}
-use Rattle.vault_os.specs.Listing.{HasNames, IsFileIn, IsStillReached, IsReachedIn, IsBefore, HasWalked, HasWalkedIn}
-use Rattle.vault_os.specs.Walk.{unread_of, AddsNone, AddsFile, AddsFolder, AddsEntry}
+use Rattle.vault_os.specs.Listing.{HasNames, IsFileIn, IsStillReached, IsReachedIn, HasWalked, HasWalkedIn}
+use Rattle.vault_os.specs.Walk.{unread_of, AddsNone, AddsEntry}
 use Rattle.vault_os.specs.declared.walk.Walk.{Walk}
 use Rattle.vault_os.specs.System.{IsKindAt, IsListOf, ListsAll, names_told, TellsKind, size_at}
 use Rattle.vault_os.specs.declared.kind.Kind.{Kind}
 use Rattle.vault_os.specs.declared.kind.Kind.TheVariants.{File, Folder, Other}
 use Rattle.vault_os.proofs.Names.{name_begins, one_leads, longer_leads}
-use Rattle.vault_os.proofs.Below.{get_in, get_good, get_bad}
+use Rattle.vault_os.proofs.Below.{get_in, get_good}
 
 -- ---- lists
 

@@ -1,5 +1,5 @@
 -- Which files an area keeps open.
-use Rattle.std.specs.Prelude.{ℕ, nat_le, List, length, if◌then◌else◌}
+use Rattle.std.specs.Prelude.{nat_le, List, length, if◌then◌else◌}
 use Rattle.std.specs.List.{remove}
 use Rattle.vault_os.specs.declared.open_files.OpenFile.{OpenFile}
 

@@ -1,5 +1,5 @@
 use Rattle.std.proofs.Common.{string_bytes, String, map, ap, take, ◌-◌, ◌++◌, ◌∙◌, [], List, ℕ}
-use Rattle.vault_os.proofs.Walks.{walking_starts, walking_goes, walking_ends}
+use Rattle.vault_os.proofs.Walks.{walking_ends}
 use Rattle.vault_os.proofs.listing.all_below.Goals as goal
 
 pub returns-in_default : goal.returns-in_default

@@ -1,4 +1,4 @@
-use Rattle.std.proofs.Common.{string_bytes, map, drop, length, ◌∷◌, List, ℕ, ◌≡◌, ◌+◌, subst, sym, ap, ◌∙◌, arith}
+use Rattle.std.proofs.Common.{string_bytes, map, drop, ◌∷◌, List, ℕ, ◌≡◌, ◌+◌, subst, sym, ap, ◌∙◌, arith}
 use Rattle.std.proofs.lemmas.List.{drop_all}
 use Rattle.vault_os.proofs.Common.{ok_of}
 use Rattle.vault_os.proofs.Walks.{Midway, midway_starts, midway_goes, midway_ends, listed_names, next_name}

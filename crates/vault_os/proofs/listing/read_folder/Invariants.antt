@@ -1,4 +1,4 @@
-use Rattle.std.proofs.Common.{◌≡◌, ◌≤◌, length, drop, map, string_bytes}
+use Rattle.std.proofs.Common.{drop, map, string_bytes}
 use Rattle.vault_os.proofs.Walks.{Midway}
 use Rattle.vault_os.proofs.listing.read_folder.Given as goal
 

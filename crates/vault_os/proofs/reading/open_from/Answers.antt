@@ -1,7 +1,7 @@
 use Rattle.std.proofs.Common.{string_bytes, ◌≤◌, List, ℕ, subst}
 use Rattle.vault.specs.Area.{IsSizeIn}
 use Rattle.vault_os.proofs.Below.{no_path}
-use Rattle.vault_os.proofs.Held.{none_bad, none_short, none_missing, some_path}
+use Rattle.vault_os.proofs.Held.{none_bad, none_short, some_path}
 use Rattle.vault_os.proofs.reading.open_from.Goals as goal
 
 pub returns-in_default : goal.returns-in_default

@@ -1,5 +1,5 @@
 use Rattle.std.proofs.Common.{◌≤◌, ℕ, subst}
-use Rattle.vault_os.proofs.Below.{short_cut, resized_cut, may_resized_cut}
+use Rattle.vault_os.proofs.Below.{short_cut}
 use Rattle.vault_os.proofs.writing.cut_at.Goals as goal
 
 pub returns-then-unwrap_or-size-clause-cut : goal.returns-then-unwrap_or-size-clause-cut

@@ -3,7 +3,6 @@ use Rattle.vault_os.specs.Paths.{told_in}
 use Rattle.vault_os.proofs.Common.{on_err}
 use Rattle.vault_os.proofs.Below.{write_file_told, tear_file_told}
 use Rattle.vault_os.proofs.Made.{write_made, tear_made, may_make_tears}
-use Rattle.vault_os.proofs.Kept.{kept_stay}
 use Rattle.vault_os.proofs.writing.write_to.Goals as goal
 
 pub returns-in_err-file-clause-failed : goal.returns-in_err-file-clause-failed
