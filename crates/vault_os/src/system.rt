@@ -11,11 +11,11 @@ use std::alloc::Global;
 use std::io;
 
 /// What the system does with files and folders, by paths below the working directory: parts between
-/// slashes. It tells the files, or nothing, as the real one. A folder is told of by what stands in
-/// it.
+/// slashes. It tells files that none but the owner of this object changes, or nothing, as the real
+/// one. Of a folder is told what stands in it. No file has two names.
 ///
-/// An open file is the one that its path named, until that name is removed. No file has two names,
-/// and none but the owner of this object changes files meanwhile.
+/// An open file is the one that its path named, until a name is removed. What a stop may leave is
+/// not told.
 pub trait System: Drop {
     /// An open file.
     type File: Drop;
