@@ -8,8 +8,9 @@ use std::io::{self, ErrorKind};
 use std::sync::Arc;
 use std::sync::atomic::{AtomicU64, Ordering};
 use std::test::Fail;
+use system_calls::{Kind, System};
 use test_areas::{Change, Step, take_steps};
-use vault_os::{Kind, OsVault, System};
+use vault_os::OsVault;
 
 /// A system in memory: files by their paths, and folders. Its call of a number, counted from 0,
 /// fails. A read gives one byte at most, so that each is a short one.

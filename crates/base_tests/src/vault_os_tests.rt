@@ -4,9 +4,10 @@
 use std::fs;
 use std::os::unix::fs::symlink;
 use std::test::Fail;
+use system_calls::Os;
 use test_areas::{Change, SiteStep, Step, put_in, take_site_steps, take_steps};
 use vault::{Clock, Sink, Site, Source};
-use vault_os::{Os, OsClock, OsSink, OsSite, OsSource, OsVault};
+use vault_os::{OsClock, OsSink, OsSite, OsSource, OsVault};
 
 /// The area in a folder of this name.
 fn area_at(rt: &HostRuntime, name: &str) -> Result<OsVault<Os>, Fail> {

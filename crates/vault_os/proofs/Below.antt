@@ -14,7 +14,7 @@ use Rattle.vault.specs.Area.{bytes_of, file_written, after_write, cut_to, after_
 use Rattle.vault_os.specs.Paths.{leads_below, path_in, name_below, is_below, entries_below, files_below, told_in, LeadsTo}
 use Rattle.vault_os.specs.Open.{IsOpenAt}
 use Rattle.vault_os.specs.declared.open_files.OpenFile.{OpenFile}
-use Rattle.vault_os.specs.System.{MayMake, resized, after_resize}
+use Rattle.system_calls.specs.System.{MayMake, resized, after_resize}
 use Rattle.vault_os.proofs.Names.{behind_path, same_path, and_left, and_right, both_true}
 
 abbrev pub same : List ℕ → List ℕ → Bool

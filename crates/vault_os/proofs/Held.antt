@@ -6,7 +6,7 @@ use Rattle.std.specs.FinMap.{get}
 use Rattle.lsn_core.specs.Files.{Files}
 use Rattle.vault.specs.Area.{bytes_of, IsRead, IsSizeIn, ReadsIn}
 use Rattle.vault_os.specs.Paths.{leads_below, path_in, told_in, LeadsTo}
-use Rattle.vault_os.specs.System.{IsReadOnce, ReadsSome, IsMissingIn, AreShort}
+use Rattle.system_calls.specs.System.{IsReadOnce, ReadsSome, IsMissingIn, AreShort}
 use Rattle.vault_os.specs.Reading.{IsFilled, HoldsSoFar, FillsOrEnds, ReadsOn, HasNoneFrom}
 use Rattle.vault_os.proofs.Below.{get_bad, bytes_in}
 

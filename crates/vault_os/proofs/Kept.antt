@@ -10,7 +10,7 @@ use Rattle.vault_os.specs.Paths.{leads_below, path_in, told_in}
 use Rattle.vault_os.specs.Open.{IsOpenAt, AreOpenAt}
 use Rattle.vault_os.specs.Kept.{with_room}
 use Rattle.vault_os.specs.Reading.{Opens}
-use Rattle.vault_os.specs.System.{Stays}
+use Rattle.system_calls.specs.System.{Stays}
 use Rattle.vault_os.specs.declared.open_files.OpenFile.{OpenFile}
 use Rattle.vault_os.specs.declared.open_files.OpenFiles.{OpenFiles}
 use Rattle.vault_os.proofs.Below.{bytes_in}

@@ -5,7 +5,7 @@ use Rattle.std.specs.Cmp.Lexicographic.{nat_list_cmp_total}
 use Rattle.lsn_core.specs.Files.{Files}
 use Rattle.vault.specs.Area.{bytes_of, file_written, after_write, IsTornFile, IsTorn, Related}
 use Rattle.vault.proofs.Torn.{same_is_related, shorter_is_torn}
-use Rattle.vault_os.specs.System.{MayMake}
+use Rattle.system_calls.specs.System.{MayMake}
 use Rattle.vault_os.proofs.Below.{same, same_is, same_files}
 
 module _ (n : List ℕ) (files : Files) where

@@ -15,9 +15,9 @@ use Rattle.vault_os.specs.Paths.{is_name_part, leads_below, path_in, files_below
 use Rattle.vault_os.specs.Listing.{HasNames, IsFileIn, IsStillReached, IsReachedIn, HasWalked, HasWalkedIn}
 use Rattle.vault_os.specs.Walk.{unread_of, AddsNone, AddsEntry}
 use Rattle.vault_os.specs.declared.walk.Walk.{Walk}
-use Rattle.vault_os.specs.System.{IsKindAt, IsListOf, ListsAll, names_told, TellsKind, size_at}
-use Rattle.vault_os.specs.declared.kind.Kind.{Kind}
-use Rattle.vault_os.specs.declared.kind.Kind.TheVariants.{File, Folder, Other}
+use Rattle.system_calls.specs.System.{IsKindAt, IsListOf, ListsAll, names_told, TellsKind, size_at}
+use Rattle.system_calls.specs.declared.kind.Kind.{Kind}
+use Rattle.system_calls.specs.declared.kind.Kind.TheVariants.{File, Folder, Other}
 use Rattle.vault_os.proofs.Names.{name_begins, one_leads, longer_leads}
 use Rattle.vault_os.proofs.Below.{get_in, get_good}
 

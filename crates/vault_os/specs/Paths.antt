@@ -4,16 +4,7 @@ use Rattle.std.specs.List.{list_all, list_any, slice_split}
 use Rattle.std.specs.Option.{option_map}
 use Rattle.std.specs.FinMap.{entries, from_entries}
 use Rattle.lsn_core.specs.Files.{Files}
-
--- a byte of a path that no part of a name has: NUL or a slash
-abbrev pub is_no_letter : ℕ → Bool
-is_no_letter b = eqb b 0 || eqb b 47
-
--- a part of a name: not empty, not `.` or `..`, without NUL and slash
-abbrev pub is_name_part : List ℕ → Bool
-is_name_part part =
-    not (bytes_eq part []) && (not (bytes_eq part (46 ∷ []))
-    && (not (bytes_eq part (46 ∷ 46 ∷ [])) && not (list_any is_no_letter part)))
+pub use Rattle.system_calls.specs.Parts.{is_no_letter, is_name_part}
 
 -- a name leads to one place below a folder: parts between slashes
 unfoldable pub leads_below : List ℕ → Bool

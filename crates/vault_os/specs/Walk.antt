@@ -1,8 +1,8 @@
 -- What a step of a walk adds.
 use Rattle.std.specs.Prelude.{◌≡◌, ℕ, true, cond, bytes_eq, List, [], ◌∷◌, ◌++◌, map, Option, Some, None, string_bytes}
 use Rattle.std.specs.BTreeSet.{contains_text}
-use Rattle.vault_os.specs.declared.kind.Kind.{Kind}
-use Rattle.vault_os.specs.declared.kind.Kind.TheVariants.{File, Folder, Other}
+use Rattle.system_calls.specs.declared.kind.Kind.{Kind}
+use Rattle.system_calls.specs.declared.kind.Kind.TheVariants.{File, Folder, Other}
 use Rattle.vault_os.specs.declared.walk.Walk.{Walk}
 
 -- the folders that are still to read

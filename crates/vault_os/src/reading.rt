@@ -7,12 +7,11 @@ ghost use Rattle.vault_os.specs.Open.{AreOpenAt};
 ghost use Rattle.vault_os.specs.Reading.{HoldsSoFar, FillsOrEnds, ReadsOn, Opens};
 
 use crate::errors::{SystemError, told};
-use crate::kind::Kind;
 use crate::open_files::{OpenFile, OpenFiles};
 use crate::paths::Root;
-use crate::system::System;
 use std::alloc::Global;
 use std::io;
+use system_calls::{Kind, System};
 
 /// The most bytes that a file of the system may have.
 const MOST: u64 = i64::MAX as u64;

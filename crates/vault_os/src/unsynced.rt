@@ -3,15 +3,15 @@
 ghost use Rattle.std.specs.Prelude.{◌≡◌, IsErr, IfOk, OnOk, OnErr, false, true, string_bytes};
 ghost use Rattle.std.specs.Option.{option_map};
 ghost use Rattle.vault_os.specs.Paths.{LeadsTo};
-ghost use Rattle.vault_os.specs.System.{Stays};
+ghost use Rattle.system_calls.specs.System.{Stays};
 
 use crate::errors::{SystemError, told};
 use crate::listing::all_below;
 use crate::open_files::OpenFiles;
 use crate::paths::{Root, add_with_folders};
-use crate::system::System;
 use std::alloc::{AllocError, Global};
 use std::collections::BTreeSet;
+use system_calls::System;
 
 /// What the next sync of an area makes durable: at first all that it holds, later what changed.
 #[derive(Drop)]

@@ -4,8 +4,8 @@ ghost use Rattle.std.specs.Prelude.{◌≡◌, OnOk, string_bytes};
 ghost use Rattle.vault_os.specs.Walk.{AddsFile, AddsFolder, AddsEntry};
 
 use crate::errors::SystemError;
-use crate::kind::Kind;
 use std::collections::BTreeSet;
+use system_calls::Kind;
 
 /// The folders that are still to read, each with a slash behind it, and the files that were found.
 #[derive(Drop)]

@@ -5,14 +5,14 @@ ghost use Rattle.std.specs.Option.{option_map};
 ghost use Rattle.vault.specs.Area.{IsTorn, IsUndecided, Related, after_write, after_cut, after_remove};
 ghost use Rattle.vault_os.specs.Open.{IsOpenAt, AreOpenAt};
 ghost use Rattle.vault_os.specs.Paths.{told_in};
-ghost use Rattle.vault_os.specs.System.{MayMake, Stays};
+ghost use Rattle.system_calls.specs.System.{MayMake, Stays};
 
 use crate::errors::{SystemError, told};
 use crate::open_files::{OpenFile, OpenFiles};
 use crate::paths::Root;
 use crate::reading::size_at;
-use crate::system::System;
 use std::io::ErrorKind;
+use system_calls::System;
 
 /// Writes a piece at a place of a file of a folder. The file is kept open then, but after an error.
 pub(crate) fn write_to<S: System>(

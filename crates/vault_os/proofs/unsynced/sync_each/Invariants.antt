@@ -1,5 +1,5 @@
 use Rattle.std.proofs.Common.{◌≡◌}
-use Rattle.vault_os.specs.System.{Stays}
+use Rattle.system_calls.specs.System.{Stays}
 use Rattle.vault_os.proofs.unsynced.sync_each.Given as goal
 
 abbrev pub invariant-loop-path : goal.invariant-loop-path

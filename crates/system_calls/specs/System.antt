@@ -7,9 +7,9 @@ use Rattle.std.specs.FinMap.{get, insert}
 use Rattle.byte_words.specs.Pieces.{zero_filled}
 use Rattle.lsn_core.specs.Files.{Files}
 use Rattle.vault.specs.Area.{bytes_of, after_write}
-use Rattle.vault_os.specs.Paths.{is_name_part}
-use Rattle.vault_os.specs.declared.kind.Kind.{Kind}
-use Rattle.vault_os.specs.declared.kind.Kind.TheVariants.{File, Folder, Other}
+use Rattle.system_calls.specs.Parts.{is_name_part}
+use Rattle.system_calls.specs.declared.kind.Kind.{Kind}
+use Rattle.system_calls.specs.declared.kind.Kind.TheVariants.{File, Folder, Other}
 
 -- how many bytes a file has; what is no file has none
 abbrev pub size_at : Option Kind → Option ℕ

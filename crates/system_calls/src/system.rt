@@ -4,7 +4,7 @@ ghost use Rattle.std.specs.Prelude.{◌≡◌, ◌≢◌, ◌+◌, ◌<◌, ◌^
 ghost use Rattle.std.specs.Option.{option_map};
 ghost use Rattle.lsn_core.specs.Files.{Files};
 ghost use Rattle.vault.specs.Area.{IsTorn, IsUndecided, Related, after_write, after_remove};
-ghost use Rattle.vault_os.specs.System.{TellsKind, ListsAll, IsMissingIn, ReadsSome, MakesFile, AreShort, Stays, after_resize};
+ghost use Rattle.system_calls.specs.System.{TellsKind, ListsAll, IsMissingIn, ReadsSome, MakesFile, AreShort, Stays, after_resize};
 
 use crate::kind::Kind;
 use std::alloc::Global;

@@ -18,7 +18,7 @@ pub struct Os {
 
 impl Os {
     /// The system of a runtime.
-    pub(crate) fn new(rt: HostRuntime) -> Os {
+    pub fn new(rt: HostRuntime) -> Os {
         Os { rt }
     }
 }
