@@ -1,9 +1,10 @@
 """Measures an open store of the program `run`: its commands, its checkpoint, and its beginning.
 
-    python3 bench/store.py PROGRAM [ROUNDS]
+    python3 bench/store.py PROGRAM [ROUNDS [OLD]]
 
-Prints the best time of each way over rounds, the rates, the ratio of a checkpoint to `dd` of the same
-bytes with one fsync, and the peak memory of the program beside the pages that the store holds.
+OLD is the program of another checkout, whose flushes are measured beside these. Prints the best time of
+each way over rounds, the rates, the ratio of a checkpoint to `dd` of the same bytes with one fsync, and
+the peak memory of the program beside the pages that the store holds.
 """
 import os
 import shutil
@@ -67,6 +68,26 @@ def checkpoint(program, rounds):
     print("checkpoint of %d dirty pages: %.2f s, dd %.2f s: %.2f of it" % (PAGES, took, dd, took / dd))
 
 
+def flushes(program, rounds, old):
+    """What `flush N` behind a growth of N whole pages takes: the run longer than one without that line.
+
+    What isn't flushed is written at the run's end, so the difference is what N flushes cost beside that.
+    """
+    for count in (1_000, 4_000, BIG):
+        best, grow = Best(), "grow 5/16384@0 %d %s" % (count, SHAPE)
+        ways = [("", program)] + ([("before ", old)] if old else [])
+        for _ in range(rounds):
+            for name, one in ways:
+                for way, lines in (("grow", [grow]), ("flush", [grow, "flush %d" % count])):
+                    new_store(one)
+                    written(lines)
+                    run(best, name + way, one)
+        print("flush %d behind a growth of %d pages:" % (count, count), "; ".join(
+            "%s%.2f s, %.2f s more than without" % (name, best.seconds[name + "flush"],
+                                                    best.seconds[name + "flush"] - best.seconds[name + "grow"])
+            for name, _ in ways))
+
+
 def begin(program, rounds):
     """What a `run` of no line takes on a store of 256 MiB: it reads the WAL, and rebuilds the data areas."""
     best = Best()
@@ -86,6 +107,7 @@ def begin(program, rounds):
 def main():
     program = os.path.abspath(sys.argv[1])
     rounds = int(sys.argv[2]) if len(sys.argv) > 2 else 3
+    old = os.path.abspath(sys.argv[3]) if len(sys.argv) > 3 else None
     folder = tempfile.mkdtemp(dir=os.getcwd())
     os.chdir(folder)
     try:
@@ -99,6 +121,7 @@ def main():
                  PAGES)
         commands(program, rounds, "blocks grown", ["grow 5/16384@0 %d %s" % (PAGES, SHAPE)], PAGES, PAGES)
         checkpoint(program, rounds)
+        flushes(program, rounds, old)
         begin(program, rounds)
     finally:
         os.chdir("/")
