@@ -124,6 +124,17 @@ def run_over_a_full_data_area(program):
     return ("data1", "write", "data1/base/5/1", "No space left on device (os error 28)"), called
 
 
+def run_over_a_full_wal(program):
+    """A command before which the WAL that waits is flushed names the area; 6 MiB have no room for six segments."""
+    os.mkdir(program.at("wal"))
+    with mounted(program.at("wal"), "size=6m"):
+        program.store()
+        called = program.call(["run"], "worker w\ncreate 5/1\n" + "grow 5/1@0 200 8192,8192,7\n" * 6)
+    if not called[1][-2:-1] or not called[1][-2].endswith(" 12 DeviceFault wal"):
+        raise RuntimeError("no command failed: %s" % (called,))
+    return ("wal", "write", "wal/" + SEGMENT[:-1] + "6", "No space left on device (os error 28)"), called
+
+
 def replay_into_a_read_only_folder(program):
     program.store(CREATIONS)
     os.mkdir(program.at("o"))
@@ -200,6 +211,7 @@ CASES = [
     run_where_a_data_area_is_a_file,
     run_where_the_mark_is_a_folder,
     run_over_a_full_data_area,
+    run_over_a_full_wal,
     replay_into_a_read_only_folder,
     replay_onto_a_read_only_disk,
     replay_onto_a_full_disk,
