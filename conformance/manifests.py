@@ -11,15 +11,16 @@ Not part of the gate. Skipped where the independent implementation (PGBACKUP_ORA
 import hashlib
 import os
 
-from backups import KINDS, manifest_of, read, text_of, with_sum, write
+from backups import KINDS, Backup, text_of, with_sum
 from common import compare, oracle, program
 
 SCRIPT = b"worker w\ncreate 5/16384\ngrow 5/16384@0 10 24,8192,0\nfull f1\n"
+BACKUP = Backup("b/f1")
 
 
 def lines_of():
     """The manifest's lines before that of its sum."""
-    text = read("backup_manifest")
+    text = BACKUP.read("backup_manifest")
     return text[:text.rindex(b'"Manifest-Checksum"')]
 
 
@@ -38,10 +39,9 @@ def nested(levels):
 
 def with_kind(kind, upper, rnd):
     """Each row with a right sum of this kind."""
-    manifest = manifest_of()
-    del manifest["Manifest-Checksum"]
+    manifest = BACKUP.manifest()
     for row in manifest["Files"]:
-        digits = hashlib.new(kind.lower(), read(row["Path"])).hexdigest()
+        digits = hashlib.new(kind.lower(), BACKUP.read(row["Path"])).hexdigest()
         row["Checksum-Algorithm"] = kind
         row["Checksum"] = digits.upper() if upper else digits
     return text_of(manifest, rnd)
@@ -49,8 +49,7 @@ def with_kind(kind, upper, rnd):
 
 def in_order(key, rnd):
     """The rows and the keys of each in some other order."""
-    manifest = manifest_of()
-    del manifest["Manifest-Checksum"]
+    manifest = BACKUP.manifest()
     manifest["Files"] = [dict(sorted(row.items(), key=key)) for row in reversed(manifest["Files"])]
     return text_of(dict(sorted(manifest.items(), key=key)), rnd)
 
@@ -58,7 +57,7 @@ def in_order(key, rnd):
 def manifests(rnd):
     """Names, and manifests."""
     size = b'"Size": 81920'
-    yield "as it is", read("backup_manifest")
+    yield "as it is", BACKUP.read("backup_manifest")
     yield "tabs", with_sum(lines_of().replace(b" ", b"\t"))
     yield "carriage returns", with_sum(lines_of().replace(b"\n", b"\r\n"))
     yield "form feeds", with_sum(lines_of().replace(b" ", b"\f"))
@@ -93,20 +92,19 @@ def compared(path, name):
 
 def long_directory(path, rnd):
     """A directory of 10,000 rows: whole, without one file, and with one more."""
-    manifest = manifest_of()
-    del manifest["Manifest-Checksum"]
+    manifest = BACKUP.manifest()
     row = dict(manifest["Files"][-1])
     for number in range(len(manifest["Files"]), 10000):
         content = b"%d" % number
-        write("more/%d" % number, content)
+        BACKUP.write("more/%d" % number, content)
         new = {"Path": "more/%d" % number, "Size": len(content), "Checksum": hashlib.sha256(content).hexdigest()}
         manifest["Files"].append({**row, **new})
-    write("backup_manifest", text_of(manifest, rnd))
+    BACKUP.write("backup_manifest", text_of(manifest, rnd))
     differences = compared(path, "10,000 rows")
     os.remove("b/f1/more/5000")
     differences += compared(path, "a file of 10,000 is missing")
-    write("more/5000", b"5000")
-    write("more/x", b"")
+    BACKUP.write("more/5000", b"5000")
+    BACKUP.write("more/x", b"")
     return differences + compared(path, "a file beside 10,000")
 
 
@@ -114,11 +112,11 @@ def one_run(path, rnd):
     """What differs, as a list of texts."""
     oracle(["init", "--segment-mib", "1", "--system-id", "7"])
     oracle(["run"], SCRIPT)
-    kept, differences = read("backup_manifest"), []
+    kept, differences = BACKUP.read("backup_manifest"), []
     for name, text in list(manifests(rnd)):
-        write("backup_manifest", text)
+        BACKUP.write("backup_manifest", text)
         differences += compared(path, name)
-    write("backup_manifest", kept)
+    BACKUP.write("backup_manifest", kept)
     return differences + long_directory(path, rnd)
 
 
