@@ -1,4 +1,4 @@
--- The options of `init` (profile).
+-- The options of `init` and of `run` (profile).
 use Rattle.std.specs.Prelude.{ℕ, ◌%◌, ◌^◌, ◌≤◌, IfSome, Bool, List, [], ◌∷◌, Option, Some, None, codes, nat_le, nat_lt, ◌==◌, ◌&&◌, bytes_eq, if◌then◌else◌}
 use Rattle.std.specs.Option.{option_map}
 use Rattle.std.specs.Fmt.{decimal}
@@ -27,6 +27,17 @@ segment_value text = decimal_number text >>= λ mib. if is_segment_mib mib then 
 
 abbrev pub relseg_value : List ℕ → Option ℕ
 relseg_value text = decimal_number text >>= λ blocks. if is_relseg blocks then Some blocks else None
+
+-- so many frames a partition may have
+abbrev pub is_frame_count : ℕ → Bool
+is_frame_count frames = nat_le 4 frames && nat_le frames 16384
+
+abbrev pub frames_value : List ℕ → Option ℕ
+frames_value text =
+    decimal_number text >>= λ frames. if is_frame_count frames then Some frames else None
+
+abbrev pub IsFrameCount : ℕ → Type 0
+IsFrameCount frames = (4 ≤ frames) × (frames ≤ 16384)
 
 -- a value of an option that wasn't given yet
 abbrev pub once : {A B : Type 0} → Option A → Option B → Option B

@@ -11,15 +11,15 @@ use Rattle.command_line.specs.declared.options.InitOptions.{InitOptions}
 use Rattle.command_line.specs.declared.words.Command.{Command}
 use Rattle.command_line.specs.declared.words.Command.TheVariants as command
 use Rattle.command_line.specs.Members.{names_in, are_members, is_target}
-use Rattle.command_line.specs.Options.{none_given, options_in, IsInRange}
+use Rattle.command_line.specs.Options.{none_given, options_in, frames_value, IsFrameCount, IsInRange}
 
--- a new store, a script to be run, a replay to an output of that name, up to a target where one is
+-- a new store, a script to be run with so many frames of each partition, a replay to an output of that name, up to a target where one is
 -- given, the check of the backup of a name, the chain of the backups of some names restored to an output
 -- of a name, up to a target where one is given, such a chain combined to a backup of a name, or the
 -- summary of a range of the WAL
 pub data Asked : Type 0 where
   Init : InitOptions → Asked
-  Run : Asked
+  Run : ℕ → Asked
   Replay : Option Lsn → List ℕ → Asked
   Verify : List ℕ → Asked
   Restore : Option Lsn → List ℕ → List (List ℕ) → Asked
@@ -30,9 +30,19 @@ pub data Asked : Type 0 where
 abbrev pub init_asked : List (List ℕ) → Option Asked
 init_asked words = option_map Init (options_in none_given words)
 
+-- the frames of a partition where none are asked for
+abbrev pub usual_frames : ℕ
+usual_frames = 4096
+
+abbrev pub run_with : List ℕ → List ℕ → Option Asked
+run_with name value =
+    if bytes_eq name (codes "--frames") then option_map Run (frames_value value) else None
+
 abbrev pub run_asked : List (List ℕ) → Option Asked
-run_asked [] = Some Run
-run_asked (word ∷ words) = None
+run_asked [] = Some (Run usual_frames)
+run_asked (name ∷ []) = None
+run_asked (name ∷ (value ∷ [])) = run_with name value
+run_asked (name ∷ (value ∷ (more ∷ words))) = None
 
 -- an LSN: 1 to 8 hexadecimal digits on each side of a slash
 abbrev pub lsn_of : ℕ → ℕ → Lsn
@@ -133,7 +143,7 @@ asked (word ∷ words) =
 -- a command asks for this
 abbrev pub asks : Command → Asked
 asks (command.Init options) = Init options
-asks command.Run = Run
+asks (command.Run frames) = Run frames
 asks (command.Replay upto name) = Replay upto name.now
 asks (command.Verify name) = Verify name.now
 asks (command.Restore upto out members) = Restore upto out.now (names_in members)
@@ -143,7 +153,7 @@ asks (command.Walsummary from to) = Walsummary from to
 -- the options of a command are in their ranges, a range has a place, and a chain a member
 abbrev pub HasRange : Command → Type 0
 HasRange (command.Init options) = IsInRange options
-HasRange command.Run = Unit {0}
+HasRange (command.Run frames) = IsFrameCount frames
 HasRange (command.Replay upto name) = Unit {0}
 HasRange (command.Verify name) = Unit {0}
 HasRange (command.Restore upto out members) = 1 ≤ length (names_in members)

@@ -1,8 +1,8 @@
-//! The options of `init`.
+//! The options of `init` and of `run`.
 
 ghost use Rattle.std.specs.Prelude.{◌≡◌, ◌≤◌, IfSome};
 ghost use Rattle.lsn_core.specs.Segment.{IsSegmentMib};
-ghost use Rattle.command_line.specs.Options.{decimal_number, segment_value, relseg_value, with_option, none_given, options_in, IsInRange};
+ghost use Rattle.command_line.specs.Options.{decimal_number, segment_value, relseg_value, frames_value, IsFrameCount, with_option, none_given, options_in, IsInRange};
 
 use lsn_core::{MOST_RELSEG, SegSize, Text};
 use text_numbers::decimal_in;
@@ -43,6 +43,19 @@ fn relseg_in(value: &[u8]) -> Option<u32>
     let blocks = number_in(value)?;
     if 1 <= blocks && blocks <= u64::from(MOST_RELSEG) {
         Some(blocks as u32)
+    } else {
+        None
+    }
+}
+
+/// So many frames of a partition, 4 to 16,384.
+pub fn frames_in(value: &[u8]) -> Option<u32>
+    ensures value { result ≡ frames_value value.now }
+    ensures range { IfSome result IsFrameCount }
+{
+    let frames = number_in(value)?;
+    if 4 <= frames && frames <= 16384 {
+        Some(frames as u32)
     } else {
         None
     }

@@ -2,24 +2,27 @@
 
 ghost use Rattle.std.specs.Prelude.{◌≡◌, IfSome};
 ghost use Rattle.std.specs.Option.{option_map};
-ghost use Rattle.command_line.specs.Words.{init_asked, run_asked, lsn_value, replay_to, replay_up_to, replay_with, replay_asked, verify_name, verify_asked, asked};
+ghost use Rattle.command_line.specs.Words.{init_asked, run_with, run_asked, lsn_value, replay_to, replay_up_to, replay_with, replay_asked, verify_name, verify_asked, asked};
 ghost use Rattle.command_line.specs.Members.{names_in, is_target};
 ghost use Rattle.command_line.specs.Words.{restore_to, restore_named, restore_cut, restore_asked, combine_to, combine_asked};
 ghost use Rattle.command_line.specs.Words.{walsummary_of, walsummary_values, walsummary_asked};
 ghost use Rattle.command_line.specs.Words.{asks, HasRange};
 
 use crate::members::{MemberNames, all_of, are_members, first_of, option_place};
-use crate::options::{InitOptions, options_of};
+use crate::options::{InitOptions, frames_in, options_of};
 use crew::is_name;
 use lsn_core::{Lsn, Text, lsn_read};
+
+/// The frames of a partition where none are asked for (profile).
+const USUAL_FRAMES: u32 = 4096;
 
 /// What the words ask for.
 #[derive(Clone, Copy)]
 pub enum Command<'a> {
     /// A new store with these settings.
     Init(InitOptions),
-    /// The script of the input, run on the store.
-    Run,
+    /// The script of the input, run on the store with so many frames of each partition, 4 to 16,384.
+    Run(u32),
     /// The WAL replayed from its beginning up to the target, where one is given, to an output of
     /// this name.
     Replay(Option<Lsn>, &'a [u8]),
@@ -42,14 +45,25 @@ fn init_of(words: &[Text]) -> Option<Command<'_>>
     Some(Command::Init(options_of(words)?))
 }
 
+/// The option of `run`, with its value.
+fn run_with<'a>(name: &[u8], value: &[u8]) -> Option<Command<'a>>
+    ensures asked { option_map asks result ≡ run_with name.now value.now }
+    ensures range { IfSome result HasRange }
+{
+    if name == b"--frames".as_slice() {
+        return Some(Command::Run(frames_in(value)?));
+    }
+    None
+}
+
 fn run_of(words: &[Text]) -> Option<Command<'_>>
     ensures asked { option_map asks result ≡ run_asked words.now }
     ensures range { IfSome result HasRange }
 {
-    if words.is_empty() {
-        Some(Command::Run)
-    } else {
-        None
+    match words {
+        [] => Some(Command::Run(USUAL_FRAMES)),
+        [name, value] => run_with(name.as_bytes(), value.as_bytes()),
+        _ => None,
     }
 }
 

@@ -1,7 +1,7 @@
 pub mod Cleared
 pub mod Marks
-pub mod Phases
-pub mod Turned
 pub mod Exact
-pub mod Causes
-pub mod Since
+pub mod Phases
+pub mod Settled
+pub mod Turned
+pub mod Stored

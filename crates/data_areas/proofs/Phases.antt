@@ -1,23 +1,22 @@
--- The phases of an area that is rebuilt, joined.
-use Rattle.std.proofs.Common.{◌≡◌, ℕ, ◌<◌, is_some, inl, inr, true≢false, List, [], ◌∷◌, Option, Some, None, IfSome, IsSome, Result, Ok, Err, sym, ap, subst, ◌∙◌}
-use Rattle.std.specs.Prelude.{IfErr, box_value}
+-- The phases of areas that are rebuilt, joined.
+use Rattle.std.proofs.Common.{◌≡◌, ℕ, ◌<◌, ◌≤◌, is_some, inl, inr, true≢false, List, [], ◌∷◌, Option, Some, None, IfSome, IsSome, sym, ◌∙◌, arith}
 use Rattle.lsn_core.specs.Files.{Files}
-use Rattle.lsn_core.specs.Store.{Store, files_of}
+use Rattle.lsn_core.specs.Causes.{Rose}
+use Rattle.lsn_core.specs.Store.{Store}
+use Rattle.lsn_core.specs.declared.fault.StoreFault.{StoreFault}
+use Rattle.lsn_core.specs.declared.fault.StoreFault.TheVariants as store
+use Rattle.lsn_core.specs.declared.fault.StoreArea.TheVariants.{Wal, Data, Sums}
 use Rattle.vault.specs.declared.area.Vault.{Ghosts}
 use Rattle.vault.specs.Stops.{Event}
 use Rattle.vault.specs.Frame.{AgreeBut, ChangesOnly, Each, Adds, IsAmong, LeavesNow, Has}
-use Rattle.vault.proofs.Through.{adds_none, adds_on}
+use Rattle.vault.proofs.Through.{adds_on}
 use Rattle.rel_files.specs.Forks.{IsForkPath}
-use Rattle.page_pool.specs.Part.{Part}
 use Rattle.data_areas.specs.declared.areas.DataAreas.{DataAreas}
-use Rattle.data_areas.specs.Areas.{area_of}
-use Rattle.data_areas.specs.Marking.{rebuilding_name, IsMark, IsOther, HasOnly}
-use Rattle.data_areas.specs.Phases.{WasMarked, WereMarked, CameSoFar, HasMarkSince, HaveMarkSince, HasFilesOf, AreOthersRebuilt, first_past}
-use Rattle.data_areas.specs.Rebuilt.{IsRebuilt, AreOthersFilled}
-use Rattle.data_areas.specs.Filled.{IsFilled, TellAlike, HasEnded, HaveEnded, FilledSoFar, AllFilledSoFar}
-use Rattle.data_areas.specs.declared.store_frames.StoreFrames.{StoreFrames}
-use Rattle.data_areas.specs.declared.rebuilding.Others.{Others}
-use Rattle.data_areas.proofs.Exact.{no_mark, tells_alike, kept_of_filled}
+use Rattle.data_areas.specs.Areas.{area_of, FaultsGrow, TellAlike, DataCause}
+use Rattle.data_areas.specs.Marking.{rebuilding_name, IsMark, IsOther}
+use Rattle.data_areas.specs.Phases.{CameSoFar, HasMarkSince, HaveMarkSince, HasFilesOf, first_past}
+use Rattle.data_areas.specs.Settling.{SettledSoFar}
+use Rattle.data_areas.proofs.Exact.{no_mark, tells_alike}
 
 -- a file of a fork is another one than the mark
 other_event : (event : Event) → IsAmong IsForkPath event → IsAmong IsOther event
@@ -47,21 +46,8 @@ begun g x y z first there others = record {
   others = others.past;
 }
 
--- what has begun and ended; the area that was cleared meanwhile tells its files where it did
-pub joined : (told told' : Option Files) (relseg : ℕ) (pages : Store) (x y z : Option (List Event)) → is_some told' ≡ is_some told → HasMarkSince (IsSome told) x y → HasEnded (IsSome told') relseg pages y z
-    → WasMarked (IsSome told) relseg pages x z
-joined told told' relseg pages x y z alike first second = record {
-  marked = first.marked;
-  first = first.first;
-  there = first.there;
-  filled = second.filled;
-  others = adds_on (IsAmong IsOther) first.marked y second.filled first.others second.others;
-  kept = λ some. second.kept (alike ∙ some);
-  last = second.last;
-}
-
 -- what has begun and goes on
-begun_on : (tells : Type 0) (x y z : Option (List Event)) → HasMarkSince tells x y → Adds (IsAmong IsOther) y z → HasMarkSince tells x z
+pub begun_on : (tells : Type 0) (x y z : Option (List Event)) → HasMarkSince tells x y → Adds (IsAmong IsOther) y z → HasMarkSince tells x z
 begun_on tells x y z first more = record {
   marked = first.marked;
   first = first.first;
@@ -69,78 +55,50 @@ begun_on tells x y z first more = record {
   others = adds_on (IsAmong IsOther) first.marked y z first.others more;
 }
 
--- what others were written, durably, and what was then done with the mark
-pub ended : (relseg from faults : ℕ) (told : Option Files) (pages : Store) (part : Part) (x z : Option (List Event)) → 0 < relseg → IfSome told (HasOnly rebuilding_name) → IsFilled relseg from faults told pages part
-    → Adds (IsAmong IsForkPath) x part.past → Adds (IsAmong IsMark) part.past z → HasEnded (IsSome told) relseg pages x z
-ended relseg from faults told pages part x z some alone is_filled forks mark = record {
-  filled = part.past;
-  others = forks_are_others x part.past forks;
-  kept = λ tells. kept_of_filled relseg from faults told pages part some alone is_filled tells;
-  last = mark;
+files_with : {V : Type 0} (g : Ghosts V) (relseg : ℕ) (held pages : Store → Type 0) (u v w : V) → ((s : Store) → pages s → held s) → is_some (g.files v) ≡ is_some (g.files u) → HasFilesOf g relseg held v w → HasFilesOf g relseg pages u w
+files_with g relseg held pages u v w among alike has = record {
+  tells = has.tells ∙ alike;
+  files = λ s is. has.files s (among s is);
+  settled = has.settled;
 }
 
-pub ended_early : {V : Type 0} (g : Ghosts V) (relseg : ℕ) (pages : Store) (x y : V) → Adds (IsAmong IsForkPath) (g.past x) (g.past y) → FilledSoFar g relseg pages x y
-ended_early g relseg pages x y forks = inl (forks_are_others (g.past x) (g.past y) forks)
+-- what was filled before, and with pages that are known to be held then
+pub so_far_on : {V : Type 0} (g : Ghosts V) (relseg : ℕ) (held pages : ℕ → Store → Type 0) (x y z : DataAreas V) → TellAlike g x y → Adds (IsAmong IsOther) (first_past g x) (first_past g y) → ((q : ℕ) → q < 4 → (s : Store) → pages q s → held q s)
+    → SettledSoFar g relseg held y z → SettledSoFar g relseg pages x z
+so_far_on g relseg held pages x y z tell more among (inl others) = inl (adds_on (IsAmong IsOther) (first_past g x) (first_past g y) (first_past g z) more others)
+so_far_on g relseg held pages x y z tell more among (inr done) = inr (
+  record {
+    data1 = files_with g relseg (held 1) (pages 1) x.data1 y.data1 z.data1 (among 1 (omega arith)) (tell 1) done.0.data1;
+    data2 = files_with g relseg (held 2) (pages 2) x.data2 y.data2 z.data2 (among 2 (omega arith)) (tell 2) done.0.data2;
+    data3 = files_with g relseg (held 3) (pages 3) x.data3 y.data3 z.data3 (among 3 (omega arith)) (tell 3) done.0.data3;
+  },
+  record {
+    filled = done.1.filled;
+    others = adds_on (IsAmong IsOther) (first_past g x) (first_past g y) done.1.filled more done.1.others;
+    kept = λ s is. done.1.kept s (among 0 (omega arith) s is);
+    last = done.1.last;
+  },
+)
 
--- nothing happened to the first area
-pub ended_at_once : {V : Type 0} (g : Ghosts V) (relseg : ℕ) (frames : StoreFrames) (x y : DataAreas V) → y.data0 ≡ x.data0 → AllFilledSoFar g relseg frames x y
-ended_at_once g relseg frames x y e = inl (adds_none (IsAmong IsOther) (first_past g x) (first_past g y) (ap (λ d. g.past (box_value d.area)) e))
+-- what was cleared before
+pub came_so_far : {V : Type 0} (g : Ghosts V) (relseg : ℕ) (pages : ℕ → Store → Type 0) (x y z : DataAreas V) → TellAlike g x y → HaveMarkSince g x y → SettledSoFar g relseg pages y z → CameSoFar g relseg pages x z
+came_so_far g relseg pages x y z tell begins (inl more) = inr (inl (begun_on (IsSome (g.files (area_of x 0))) (first_past g x) (first_past g y) (first_past g z) begins more))
+came_so_far g relseg pages x y z tell begins (inr done) = inr (inr (
+  record {
+    data1 = files_with g relseg (pages 1) (pages 1) x.data1 y.data1 z.data1 (λ s is. is) (tell 1) done.0.data1;
+    data2 = files_with g relseg (pages 2) (pages 2) x.data2 y.data2 z.data2 (λ s is. is) (tell 2) done.0.data2;
+    data3 = files_with g relseg (pages 3) (pages 3) x.data3 y.data3 z.data3 (λ s is. is) (tell 3) done.0.data3;
+  },
+  record { filled = first_past g y; begun = begins; ended = done.1 },
+))
 
--- the area of a partition that was rebuilt has its files
-has_files : {V : Type 0} (g : Ghosts V) (relseg from faults : ℕ) (pages : Store) (part : Part) (old new : V) → IsRebuilt relseg from faults (g.files old) pages part → g.files new ≡ part.disk → g.past new ≡ part.past → HasFilesOf g relseg pages old new
-has_files g relseg from faults pages part old new rebuilt disk past = record {
-  tells = ap (λ (o : Option Files). is_some o) disk ∙ rebuilt.tells;
-  files = subst (λ (o : Option Files). IfSome o (λ files. files ≡ files_of relseg pages)) (sym disk) rebuilt.files;
-  settled = subst (λ (p : Option (List Event)). IfSome (g.files new) (λ files. LeavesNow (λ left. left ≡ files) p)) (sym past)
-      (subst (λ (o : Option Files). IfSome o (λ files. LeavesNow (λ left. left ≡ files) part.past)) (sym disk) rebuilt.settled);
-}
+-- ---- faults
 
--- an area is that of a partition, which handed it on
-pub record IsHandedOn {V : Type 0} (g : Ghosts V) (part : Part) (area : V) : Type 0 where
-  pub files : g.files area ≡ part.disk
-  pub past : g.past area ≡ part.past
+rose_on : (a b c : ℕ) → a ≤ b → Rose b c → Rose a c
+rose_on a b c le rose = omega (arith, le, rose)
 
--- and so have the three of others
-pub others_rebuilt : {V : Type 0} (g : Ghosts V) (relseg from : ℕ) (old : DataAreas V) (frames : StoreFrames) (others : Others V) (new : DataAreas V) → AreOthersFilled g relseg from old frames others
-    → IsHandedOn g others.part1 (area_of new 1) → IsHandedOn g others.part2 (area_of new 2) → IsHandedOn g others.part3 (area_of new 3) → AreOthersRebuilt g relseg frames old new
-others_rebuilt g relseg from old frames others new filled e1 e2 e3 = record {
-  data1 = has_files g relseg from (g.faults (area_of old 1)) frames.part1.pages others.part1 (area_of old 1) (area_of new 1) filled.part1 e1.files e1.past;
-  data2 = has_files g relseg from (g.faults (area_of old 2)) frames.part2.pages others.part2 (area_of old 2) (area_of new 2) filled.part2 e2.files e2.past;
-  data3 = has_files g relseg from (g.faults (area_of old 3)) frames.part3.pages others.part3 (area_of old 3) (area_of new 3) filled.part3 e3.files e3.past;
-}
-
--- the first area was the last one that was filled
-pub first_filled : {V : Type 0} (g : Ghosts V) (relseg : ℕ) (frames : StoreFrames) (old new : DataAreas V) → AreOthersRebuilt g relseg frames old new → FilledSoFar g relseg frames.part0.pages (area_of old 0) (area_of new 0)
-    → AllFilledSoFar g relseg frames old new
-first_filled g relseg frames old new others (inl more) = inl more
-first_filled g relseg frames old new others (inr done) = inr (others, done)
-
--- of an area and pages that are known under other names too
-pub filled_so_far_at : {V : Type 0} (g : Ghosts V) (relseg : ℕ) (pages pages' : Store) (x x' y y' : V) → pages' ≡ pages → x' ≡ x → y ≡ y' → FilledSoFar g relseg pages' x' y' → FilledSoFar g relseg pages x y
-filled_so_far_at {V} g relseg pages pages' x x' y y' ep ex ey so_far =
-    subst (λ (p : Store). FilledSoFar g relseg p x y) ep
-    (subst (λ (v : V). FilledSoFar g relseg pages' v y) ex (subst (λ (v : V). FilledSoFar g relseg pages' x' v) (sym ey) so_far))
-
--- the area that a partition handed on, held by four
-pub area_at : {V : Type 0} (g : Ghosts V) (part : Part) (x y : V) → x ≡ y → g.files y ≡ part.disk → g.past y ≡ part.past → IsHandedOn g part x
-area_at g part x y e files past = record { files = ap g.files e ∙ files; past = ap g.past e ∙ past }
-
--- so far it came since the areas were cleared
-others_since : {V : Type 0} (g : Ghosts V) (relseg : ℕ) (frames : StoreFrames) (x y z : DataAreas V) → TellAlike g x y → AreOthersRebuilt g relseg frames y z → AreOthersRebuilt g relseg frames x z
-others_since g relseg frames x y z tell others = record {
-  data1 = record { tells = others.data1.tells ∙ tell.data1; files = others.data1.files; settled = others.data1.settled };
-  data2 = record { tells = others.data2.tells ∙ tell.data2; files = others.data2.files; settled = others.data2.settled };
-  data3 = record { tells = others.data3.tells ∙ tell.data3; files = others.data3.files; settled = others.data3.settled };
-}
-
-pub were_marked : {V : Type 0} (g : Ghosts V) (relseg : ℕ) (frames : StoreFrames) (x y : DataAreas V) (past : Option (List Event)) → TellAlike g x y → HaveMarkSince g x y → HaveEnded g relseg frames y past → WereMarked g relseg frames x past
-were_marked g relseg frames x y past tell begins done =
-    joined (g.files (area_of x 0)) (g.files (area_of y 0)) relseg frames.part0.pages (first_past g x) (first_past g y) past tell.data0 begins done
-
-pub came_so_far : {V : Type 0} (g : Ghosts V) (relseg : ℕ) (frames : StoreFrames) (x y z : DataAreas V) → TellAlike g x y → HaveMarkSince g x y → AllFilledSoFar g relseg frames y z → CameSoFar g relseg frames x z
-came_so_far g relseg frames x y z tell begins (inl more) = inr (inl (begun_on (IsSome (g.files (area_of x 0))) (first_past g x) (first_past g y) (first_past g z) begins more))
-came_so_far g relseg frames x y z tell begins (inr done) = inr (inr (others_since g relseg frames x y z tell done.0, were_marked g relseg frames x y (first_past g z) tell begins done.1))
-
-pub if_err : {T E : Type 0} (result : Result T E) (P Q : E → Type 0) → ((x : E) → P x → Q x) → IfErr result P → IfErr result Q
-if_err (Ok done) P Q leads holds = tt
-if_err (Err x) P Q leads holds = leads x holds
+pub cause_on : {V : Type 0} (g : Ghosts V) (x y z : DataAreas V) (why : StoreFault) → FaultsGrow g x y → DataCause g y z why → DataCause g x z why
+cause_on g x y z (store.Failed (Data q)) first cause = (cause.0, rose_on _ _ _ (first q) cause.1)
+cause_on g x y z (store.Failed Wal) first cause = absurd cause
+cause_on g x y z (store.Failed Sums) first cause = absurd cause
+cause_on g x y z store.NoMemory first cause = tt

@@ -1,6 +1,10 @@
 pub mod Areas
-pub mod Filled
+pub mod Boxed
+pub mod Clearing
 pub mod Inside
+pub mod Kept
 pub mod Marking
 pub mod Phases
 pub mod Rebuilt
+pub mod Settling
+pub mod Stored

@@ -1,13 +1,21 @@
 //! The four data areas of a store.
 
 use crate::boxed::BoxedArea;
+use lsn_core::StoreFault;
 use vault::Vault;
 
 /// The four data areas of a store, by partition.
 #[derive(Drop)]
 pub struct DataAreas<V: Vault> {
-    pub data0: BoxedArea<V>,
-    pub data1: BoxedArea<V>,
-    pub data2: BoxedArea<V>,
-    pub data3: BoxedArea<V>,
+    pub data0: V,
+    pub data1: V,
+    pub data2: V,
+    pub data3: V,
+}
+
+/// Why data areas weren't rebuilt, with the areas.
+#[derive(Drop)]
+pub struct RebuildFault<V: Vault> {
+    pub areas: DataAreas<BoxedArea<V>>,
+    pub why: StoreFault,
 }

@@ -21,6 +21,8 @@ impl<V: Vault> Vault for BoxedArea<V> {
 
     ghost past = { λ boxed. V.past (box_value boxed.area) };
 
+    ghost tells_alike = { λ a b. V.tells_alike (box_value a.area) (box_value b.area) };
+
     fn names(&mut self, alloc: Global) -> Result<Vec<Text>, AreaFault> {
         self.area.names(alloc)
     }

@@ -1,14 +1,14 @@
-//! The four data areas of a store, and its pages in the frames of four partitions.
+//! The four data areas of a store, made anew from its WAL.
 //!
-//! A store that is opened has its pages first in memory: `StoreFrames` shows them as one store,
-//! into which a WAL is replayed. `rebuild` then makes the data areas anew from these pages:
-//! afterwards each area has just the files of its partition's pages, durably
-//! (`specs/Rebuilt.antt`).
+//! Data areas are rebuilt in three steps. `clear` removes whatever they hold. `StoreForks` then shows
+//! the cleared areas as the pages of one store, the empty one, into which a WAL is replayed. `settle`
+//! makes durable what that wrote, and opens the four partitions: afterwards each area has just the
+//! files of its partition's pages, durably (`specs/Rebuilt.antt`).
 //!
-//! Areas that a stop left half made are known by the file `rebuilding` of the first one. It is made
-//! durable before anything else of that area changes; each stop leaves it while other files change
-//! (`rebuilding_stays`); and it is removed once a stop leaves the area's other files as they are to
-//! be. A fault leaves it there, unless nothing else was touched, or the three other areas have just
+//! Areas that a stop left half made are known by the file `rebuilding` of the first one. `clear`
+//! makes it durable before anything else of that area changes; each stop leaves it while other files
+//! change (`rebuilding_stays`); and `settle` removes it once a stop leaves the areas' other files as
+//! they are to be. A fault leaves it there, unless nothing else was touched, or the areas have just
 //! their files, durably. What a stop leaves is said of areas that tell their files and their past
 //! (`specs/Marking.antt`, `specs/Phases.antt`).
 //!
@@ -18,13 +18,15 @@
 
 mod areas;
 mod boxed;
-mod filling;
+mod clearing;
+mod fault;
 mod marking;
-mod rebuilding;
-mod store_frames;
+mod settling;
+mod store_forks;
 
-pub use areas::DataAreas;
+pub use areas::{DataAreas, RebuildFault};
 pub use boxed::BoxedArea;
+pub use clearing::clear;
 pub use marking::{clear_area, clear_marked, mark_rebuilding, rebuilding_stays, unmark_rebuilding};
-pub use rebuilding::{Partitions, RebuildFault, rebuild};
-pub use store_frames::StoreFrames;
+pub use settling::{Partitions, settle};
+pub use store_forks::StoreForks;

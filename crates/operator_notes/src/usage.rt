@@ -11,9 +11,10 @@ const INIT: &[u8] = b"usage: pgbackup init [--segment-mib M] [--relseg N] [--sys
   S: the system identifier, below 2^64 (made of the clock)
 ";
 
-const RUN: &[u8] = b"usage: pgbackup run < SCRIPT
+const RUN: &[u8] = b"usage: pgbackup run [--frames N] < SCRIPT
   reads a script from standard input, runs its lines on the store, and writes their WAL, pages,
   summaries and backups
+  N: pages of each of the four data areas that are held in memory, 4 to 16384 (4096)
 ";
 
 const REPLAY: &[u8] = b"usage: pgbackup replay [--target LSN] OUT

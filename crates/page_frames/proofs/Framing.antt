@@ -1,207 +1,182 @@
--- Each page has 8192 bytes and a mark, also after a change.
-use Rattle.std.proofs.Common.{◌≡◌, ℕ, zero, suc, ◌+◌, ◌-◌, ◌<◌, ◌≤◌, ◌^◌, Bool, true, false, cond, List, [], ◌∷◌, ◌++◌, take, length, replicate, slice_set, Option, Some, None, unwrap_or, option_map, is_some, IsSome, refl, sym, ap, subst, ◌∙◌, arith, true≢false, length-append}
-use Rattle.std.specs.Prelude.{slice_get}
-use Rattle.std.proofs.lemmas.List.{length-set, length-replicate, length-take}
-use Rattle.std.specs.FinMap.{empty, get, insert, remove, get-empty, get-insert, get-remove}
-use Rattle.byte_words.specs.Numbers.{◌>>=◌}
-use Rattle.byte_words.specs.Pieces.{zero_page}
+-- What stays known of frames after a change.
+use Rattle.std.proofs.Common.{◌≡◌, ℕ, ◌+◌, ◌-◌, ◌<◌, ◌≤◌, ◌^◌, max, Bool, false, List, length, Option, Some, None, IsSome, is_some, unwrap_or, inl, inr, refl, sym, ap, subst, ◌∙◌, arith, true≢false}
+use Rattle.std.specs.Ordering.{eq_by_cmp}
+use Rattle.std.specs.FinMap.{empty, get, insert, remove, len, get-empty}
+use Rattle.std.proofs.lemmas.Bool.{cases_lt}
 use Rattle.lsn_core.specs.declared.ids.ForkId.{ForkId}
 use Rattle.lsn_core.specs.declared.ids.BlockId.{BlockId}
-use Rattle.lsn_core.specs.Store.{Store, ForkPages, fork_cmp}
-use Rattle.lsn_core.specs.Blocks.{block_of, pages_of, with_block, page_put, with_fork, with_cut, with_cut_pages}
-use Rattle.lsn_core.proofs.ForkOrder.{fork_cmp_total}
-use Rattle.history.specs.Apply.{is_same_fork}
-use Rattle.history.proofs.Stores.{by_test, get_here, get_there}
-use Rattle.page_frames.specs.Marks.{DirtyMarks, fork_marks, with_mark}
-use Rattle.page_frames.specs.Framed.{Framed, AreFramed}
-use Rattle.page_frames.specs.Slots.{slot_pages, slot_marks, seen_in, pages_in, marks_in, framed_in}
-use Rattle.page_frames.proofs.SeenBy.{Slots}
+use Rattle.lsn_core.specs.Store.{fork_cmp}
+use Rattle.lsn_core.proofs.ForkOrder.{fork_cmp_total, fork_cmp-IsAntisymmetric}
+use Rattle.page_frames.specs.Framed.{Framed, Held, HeldFrames, ForkLengths, BlockSet, AreFramed, HoldsAlike, held_mark, block_cmp}
+use Rattle.page_frames.specs.Overlay.{IsBlockOf, IsReserved}
+use Rattle.page_frames.specs.Inside.{dirty_end}
+use Rattle.page_frames.proofs.Orders.{block_cmp_total, block_cmp-IsAntisymmetric}
+use Rattle.page_frames.proofs.Keys.{either_key, key_self, put_here, put_there, gone_here, gone_there, count_same}
+use Rattle.page_frames.proofs.Tables.{whole_insert}
+use Rattle.page_frames.proofs.Holding.{by_block, mark_put_here, mark_put_there, page_in, mark_in}
+use Rattle.page_frames.proofs.Overlays.{block_there, end_there}
 
--- ---- pages of 8192 bytes
+abbrev pub Whole : HeldFrames → Type 0
+Whole held = (at : BlockId) (frame : Held) → get held at ≡ Some frame → length frame.page ≡ 8192
 
-abbrev AllWhole : ForkPages → Type 0
-AllWhole pages = (i : ℕ) (page : List ℕ) → slice_get pages i ≡ Some page → length page ≡ 8192
+-- a block that is dirty behind a change was dirty before, and its place in the queue is kept
+abbrev pub StaysQueued : Framed → Framed → Type 0
+StaysQueued f h = (q : BlockId) → IsBlockOf f.lengths q → IsSome (held_mark h.held q) → IsSome (held_mark f.held q) × (IsSome (get f.queue q) → IsSome (get h.queue q))
 
-no_page : {P : Type 0} (page : List ℕ) → None ≡ Some page → P
-no_page page e = absurd (true≢false (ap (λ (o : Option (List ℕ)). is_some o) (sym e)))
-
-one_page : (a b : List ℕ) → Some a ≡ Some b → length a ≡ 8192 → length b ≡ 8192
-one_page a b e l = subst (λ (p : List ℕ). length p ≡ 8192) (ap (λ (o : Option (List ℕ)). unwrap_or o a) e) l
-
-whole_none : AllWhole []
-whole_none i page e = no_page page e
-
-whole_rest : (p : List ℕ) (pages : ForkPages) → AllWhole (p ∷ pages) → AllWhole pages
-whole_rest p pages h i page e = h (suc i) page e
-
-whole_more : (p : List ℕ) (pages : ForkPages) → length p ≡ 8192 → AllWhole pages → AllWhole (p ∷ pages)
-whole_more p pages l h zero page e = one_page p page e l
-whole_more p pages l h (suc i) page e = h i page e
-
-whole_set : (pages : ForkPages) (b : ℕ) (p : List ℕ) → length p ≡ 8192 → AllWhole pages → AllWhole (slice_set pages b p)
-whole_set [] b p l h = whole_none
-whole_set (x ∷ pages) zero p l h = whole_more p pages l (whole_rest x pages h)
-whole_set (x ∷ pages) (suc b) p l h = whole_more x (slice_set pages b p) (h 0 x refl) (whole_set pages b p l (whole_rest x pages h))
-
-whole_both : (pages more : ForkPages) → AllWhole pages → AllWhole more → AllWhole (pages ++ more)
-whole_both [] more h k = k
-whole_both (x ∷ pages) more h k = whole_more x (pages ++ more) (h 0 x refl) (whole_both pages more (whole_rest x pages h) k)
-
-zero_length : length zero_page ≡ 8192
-unfolding zero_page
-zero_length = length-replicate {A = ℕ} 8192 0
-
-whole_zeros : (k : ℕ) → AllWhole (replicate k zero_page)
-whole_zeros zero = whole_none
-whole_zeros (suc k) = whole_more zero_page (replicate k zero_page) zero_length (whole_zeros k)
-
-whole_taken : (n : ℕ) (pages : ForkPages) → AllWhole pages → AllWhole (take n pages)
-whole_taken zero pages h = whole_none
-whole_taken (suc n) [] h = whole_none
-whole_taken (suc n) (x ∷ pages) h = whole_more x (take n pages) (h 0 x refl) (whole_taken n pages (whole_rest x pages h))
-
-whole_block : (pages : ForkPages) (b : ℕ) (p : List ℕ) → length p ≡ 8192 → AllWhole pages → AllWhole (with_block pages b p)
-whole_block pages b p l h = whole_set (pages ++ replicate (b + 1 - length pages) zero_page) b p l (whole_both pages (replicate (b + 1 - length pages) zero_page) h (whole_zeros (b + 1 - length pages)))
-
--- those of a fork
-whole_in : (f : Framed) (fork : ForkId) → AreFramed f → AllWhole (pages_of f.pages fork)
-whole_in f fork h i page e = go (get f.pages fork) refl e
-  where
-    go : (o : Option ForkPages) → get f.pages fork ≡ o → slice_get (unwrap_or o []) i ≡ Some page → length page ≡ 8192
-    go None there e = no_page page e
-    go (Some pages) there e = h.whole fork i page (ap (λ (o : Option ForkPages). o >>= λ ps. slice_get ps i) there ∙ e)
-
--- ---- no more pages than a block's number counts
-
-narrow_in : (f : Framed) (fork : ForkId) → AreFramed f → length (pages_of f.pages fork) ≤ 2 ^ 32
-narrow_in f fork h = go (get f.pages fork) refl
-  where
-    go : (o : Option ForkPages) → get f.pages fork ≡ o → length (unwrap_or o []) ≤ 2 ^ 32
-    go None there = omega arith
-    go (Some pages) there = h.narrow fork pages there
-
-one_fork : (a b : ForkPages) → Some a ≡ Some b → length a ≤ 2 ^ 32 → length b ≤ 2 ^ 32
-one_fork a b e l = subst (λ (ps : ForkPages). length ps ≤ 2 ^ 32) (ap (λ (o : Option ForkPages). unwrap_or o a) e) l
-
-no_fork : {P : Type 0} (pages : ForkPages) → None ≡ Some pages → P
-no_fork pages e = absurd (true≢false (ap (λ (o : Option ForkPages). is_some o) (sym e)))
-
--- ---- as many marks as pages
-
-length_of : {A B : Type 0} (a : Option (List A)) (b : Option (List B)) → option_map length a ≡ option_map length b → length (unwrap_or a []) ≡ length (unwrap_or b [])
-length_of None None e = refl
-length_of (Some xs) None e = absurd (true≢false (ap (λ (o : Option ℕ). is_some o) e))
-length_of None (Some ys) e = absurd (true≢false (ap (λ (o : Option ℕ). is_some o) (sym e)))
-length_of (Some xs) (Some ys) e = ap (λ (o : Option ℕ). unwrap_or o 0) e
-
-pub marked_in : (f : Framed) (fork : ForkId) → AreFramed f → length (fork_marks f.marks fork) ≡ length (pages_of f.pages fork)
-marked_in f fork h = length_of (get f.marks fork) (get f.pages fork) (h.marked fork)
-
-set_length : {A : Type 0} (xs : List A) (b : ℕ) (z y : A) → length (slice_set (xs ++ replicate (b + 1 - length xs) z) b y) ≡ length xs + (b + 1 - length xs)
-set_length xs b z y = length-set (xs ++ replicate (b + 1 - length xs) z) b y ∙ length-append xs (replicate (b + 1 - length xs) z) ∙ ap (λ (n : ℕ). length xs + n) (length-replicate (b + 1 - length xs) z)
-
-same_length : (marks : List (Option ℕ)) (pages : ForkPages) (b : ℕ) (mark : Option ℕ) (page : List ℕ) → length marks ≡ length pages → length (with_mark marks b mark) ≡ length (with_block pages b page)
-same_length marks pages b mark page e = set_length marks b None mark ∙ ap (λ (n : ℕ). n + (b + 1 - n)) e ∙ sym (set_length pages b zero_page page)
-
-taken_length : (n : ℕ) (marks : List (Option ℕ)) (pages : ForkPages) → length marks ≡ length pages → length (take n marks) ≡ length (take n pages)
-taken_length n marks pages e = omega (arith, length-take n marks, length-take n pages, e)
-
--- ---- after a change
-
-marks_here : (marks : DirtyMarks) (fork q : ForkId) (v : List (Option ℕ)) → is_same_fork q fork ≡ true → get (insert marks fork v) q ≡ Some v
-unfolding is_same_fork
-marks_here marks fork q v e = get-insert fork_cmp_total marks fork v q ∙ ap (λ c. cond c (Some v) (get marks q)) e
-
-marks_there : (marks : DirtyMarks) (fork q : ForkId) (v : List (Option ℕ)) → is_same_fork q fork ≡ false → get (insert marks fork v) q ≡ get marks q
-unfolding is_same_fork
-marks_there marks fork q v e = get-insert fork_cmp_total marks fork v q ∙ ap (λ c. cond c (Some v) (get marks q)) e
-
--- of pages and marks of one fork
-framed_insert : (f g : Framed) (fork : ForkId) (ps : ForkPages) (ms : List (Option ℕ)) → AreFramed f → AllWhole ps → length ms ≡ length ps → length ps ≤ 2 ^ 32 → g.pages ≡ insert f.pages fork ps → g.marks ≡ insert f.marks fork ms → AreFramed g
-framed_insert f g fork ps ms h whole lengths few pages marks = record {
-  whole = λ q b page e.
-      let there : block_of (insert f.pages fork ps) q b ≡ Some page = sym (ap (λ (s : Store). block_of s q b) pages) ∙ e in
-      by_test (is_same_fork q fork)
-      (λ same. whole b page (sym (ap (λ (o : Option ForkPages). o >>= λ ps. slice_get ps b) (get_here f.pages fork q ps same)) ∙ there))
-      (λ apart. h.whole q b page (sym (ap (λ (o : Option ForkPages). o >>= λ ps. slice_get ps b) (get_there f.pages fork q ps apart)) ∙ there));
-  marked = λ q.
-      ap (λ (m : DirtyMarks). option_map length (get m q)) marks
-      ∙ by_test (is_same_fork q fork)
-      (λ same. ap (λ (o : Option (List (Option ℕ))). option_map length o) (marks_here f.marks fork q ms same) ∙ ap (λ (n : ℕ). Some n) lengths ∙ sym (ap (λ (o : Option ForkPages). option_map length o) (get_here f.pages fork q ps same)))
-      (λ apart. ap (λ (o : Option (List (Option ℕ))). option_map length o) (marks_there f.marks fork q ms apart) ∙ h.marked q ∙ sym (ap (λ (o : Option ForkPages). option_map length o) (get_there f.pages fork q ps apart)))
-      ∙ sym (ap (λ (s : Store). option_map length (get s q)) pages);
-  narrow = λ q found e.
-      let there : get (insert f.pages fork ps) q ≡ Some found = sym (ap (λ (s : Store). get s q) pages) ∙ e in
-      by_test (is_same_fork q fork)
-      (λ same. one_fork ps found (sym (get_here f.pages fork q ps same) ∙ there) few)
-      (λ apart. h.narrow q found (sym (get_there f.pages fork q ps apart) ∙ there));
+pub framed_frames : (f h : Framed) → AreFramed f → h.lengths ≡ f.lengths → h.limit ≡ f.limit → Whole h.held → len h.held ≤ f.limit → StaysQueued f h → AreFramed h
+framed_frames f h before lengths limit whole few stays = record {
+  whole = whole;
+  few = omega (arith, few, limit);
+  narrow = λ fork n e. before.narrow fork n (sym (ap (λ (ls : ForkLengths). get ls fork) lengths) ∙ e);
+  queued = λ q n e l dirty.
+      let long = sym (ap (λ (ls : ForkLengths). get ls q.fork) lengths) ∙ e in
+      let s = stays q (block_there f.lengths q n long l) dirty in
+      s.1 (before.queued q n long l s.0);
 }
 
-pub framed_same : (f g : Framed) → AreFramed f → g.pages ≡ f.pages → g.marks ≡ f.marks → AreFramed g
-framed_same f g h pages marks = record {
-  whole = λ q b page e. h.whole q b page (sym (ap (λ (s : Store). block_of s q b) pages) ∙ e);
-  marked = λ q. ap (λ (m : DirtyMarks). option_map length (get m q)) marks ∙ h.marked q ∙ sym (ap (λ (s : Store). option_map length (get s q)) pages);
-  narrow = λ q found e. h.narrow q found (sym (ap (λ (s : Store). get s q) pages) ∙ e);
-}
+-- ---- frames
 
-pub framed_put : (f g : Framed) (at : BlockId) (page : List ℕ) (mark : Option ℕ) → AreFramed f → length page ≡ 8192 → at.block < 2 ^ 32 → g.pages ≡ page_put at page f.pages → g.marks ≡ insert f.marks at.fork (with_mark (fork_marks f.marks at.fork) at.block mark) → AreFramed g
-framed_put f g at page mark h long low pages marks =
-    framed_insert f g at.fork (with_block (pages_of f.pages at.fork) at.block page) (with_mark (fork_marks f.marks at.fork) at.block mark) h
-    (whole_block (pages_of f.pages at.fork) at.block page long (whole_in f at.fork h)) (same_length (fork_marks f.marks at.fork) (pages_of f.pages at.fork) at.block mark page (marked_in f at.fork h))
-    (let few = narrow_in f at.fork h in let n = set_length (pages_of f.pages at.fork) at.block zero_page page in omega arith) pages marks
+pub whole_by : (held next : HeldFrames) → next ≡ held → Whole held → Whole next
+whole_by held next e whole = subst Whole (sym e) whole
 
-pub framed_made : (f g : Framed) (fork : ForkId) → AreFramed f → get f.pages fork ≡ None → g.pages ≡ with_fork f.pages fork → g.marks ≡ insert f.marks fork (fork_marks f.marks fork) → AreFramed g
-framed_made f g fork h none pages marks =
-    framed_insert f g fork [] (fork_marks f.marks fork) h whole_none (marked_in f fork h ∙ ap (λ (o : Option ForkPages). length (unwrap_or o [])) none) (omega arith)
-    (pages ∙ ap (λ (o : Option ForkPages). cond (is_some o) f.pages (insert f.pages fork [])) none) marks
-
-pub framed_cut : (f g : Framed) (fork : ForkId) (count : ℕ) → AreFramed f → IsSome (get f.pages fork) → g.pages ≡ with_cut f.pages fork count → g.marks ≡ insert f.marks fork (take count (fork_marks f.marks fork)) → AreFramed g
-framed_cut f g fork count h some pages marks =
-    framed_insert f g fork (take count (pages_of f.pages fork)) (take count (fork_marks f.marks fork)) h (whole_taken count (pages_of f.pages fork) (whole_in f fork h))
-    (taken_length count (fork_marks f.marks fork) (pages_of f.pages fork) (marked_in f fork h))
-    (let few = narrow_in f fork h in let n = length-take count (pages_of f.pages fork) in omega arith) (pages ∙ go (get f.pages fork) some) marks
+pub whole_alike : (held next : HeldFrames) → HoldsAlike held next → Whole held → Whole next
+whole_alike held next alike whole q x e = by (get held q) refl
   where
-    go : (o : Option ForkPages) → IsSome o → with_cut_pages f.pages fork count o ≡ insert f.pages fork (take count (unwrap_or o []))
-    go (Some ps) some = refl
-    go None some = absurd (true≢false (sym some))
+    same : (o : Option Held) → get held q ≡ o → page_in o ≡ Some x.page
+    same o is = ap page_in (sym is) ∙ sym (alike.pages q) ∙ ap page_in e
 
-pages_gone : (s : Store) (fork q : ForkId) (b : Bool) → is_same_fork q fork ≡ b → get (remove s fork) q ≡ cond b None (get s q)
-unfolding is_same_fork
-pages_gone s fork q b e = get-remove fork_cmp_total s fork q ∙ ap (λ c. cond c None (get s q)) e
+    by : (o : Option Held) → get held q ≡ o → length x.page ≡ 8192
+    by None is = absurd (let nothing : None ≡ Some x.page = same None is in cc)
+    by (Some y) is = (let both : Some y.page ≡ Some x.page = same (Some y) is in ap (λ (o : Option (List ℕ)). length (unwrap_or o x.page)) (sym both) ∙ whole q y is)
 
-marks_gone : (m : DirtyMarks) (fork q : ForkId) (b : Bool) → is_same_fork q fork ≡ b → get (remove m fork) q ≡ cond b None (get m q)
-unfolding is_same_fork
-marks_gone m fork q b e = get-remove fork_cmp_total m fork q ∙ ap (λ c. cond c None (get m q)) e
+pub stays_alike : (f h : Framed) → HoldsAlike f.held h.held → h.queue ≡ f.queue → StaysQueued f h
+stays_alike f h alike queue q there_is dirty =
+    (ap (λ (o : Option ℕ). is_some o) (sym (alike.marks q)) ∙ dirty, λ there. ap (λ (s : BlockSet). is_some (get s q)) queue ∙ there)
 
-pub framed_removed : (f g : Framed) (fork : ForkId) → AreFramed f → g.pages ≡ remove f.pages fork → g.marks ≡ remove f.marks fork → AreFramed g
-framed_removed f g fork h pages marks = record {
-  whole = λ q b page e.
-      let there : block_of (remove f.pages fork) q b ≡ Some page = sym (ap (λ (s : Store). block_of s q b) pages) ∙ e in
-      by_test (is_same_fork q fork)
-      (λ same. no_page page (sym (ap (λ (o : Option ForkPages). o >>= λ ps. slice_get ps b) (pages_gone f.pages fork q true same)) ∙ there))
-      (λ apart. h.whole q b page (sym (ap (λ (o : Option ForkPages). o >>= λ ps. slice_get ps b) (pages_gone f.pages fork q false apart)) ∙ there));
-  marked = λ q.
-      ap (λ (m : DirtyMarks). option_map length (get m q)) marks
-      ∙ by_test (is_same_fork q fork)
-      (λ same. ap (λ (o : Option (List (Option ℕ))). option_map length o) (marks_gone f.marks fork q true same) ∙ sym (ap (λ (o : Option ForkPages). option_map length o) (pages_gone f.pages fork q true same)))
-      (λ apart. ap (λ (o : Option (List (Option ℕ))). option_map length o) (marks_gone f.marks fork q false apart) ∙ h.marked q ∙ sym (ap (λ (o : Option ForkPages). option_map length o) (pages_gone f.pages fork q false apart)))
-      ∙ sym (ap (λ (s : Store). option_map length (get s q)) pages);
-  narrow = λ q found e.
-      let there : get (remove f.pages fork) q ≡ Some found = sym (ap (λ (s : Store). get s q) pages) ∙ e in
-      by_test (is_same_fork q fork)
-      (λ same. no_fork found (sym (pages_gone f.pages fork q true same) ∙ there))
-      (λ apart. h.narrow q found (sym (pages_gone f.pages fork q false apart) ∙ there));
+-- a clean frame put in
+pub stays_put : (f h : Framed) (at : BlockId) (frame : Held) → h.held ≡ insert f.held at frame → frame.mark ≡ None → ((q : BlockId) → IsSome (get f.queue q) → eq_by_cmp block_cmp q at ≡ false → IsSome (get h.queue q)) → StaysQueued f h
+stays_put f h at frame held clean kept q there_is dirty = by_block q at
+    (λ same. absurd (true≢false (sym dirty ∙ ap (λ (o : Option ℕ). is_some o) (ap (λ (m : HeldFrames). held_mark m q) held ∙ ap (λ (x : BlockId). held_mark (insert f.held at frame) x) same ∙ mark_put_here f.held at frame ∙ clean))))
+    (λ apart. (ap (λ (o : Option ℕ). is_some o) (sym (ap (λ (m : HeldFrames). held_mark m q) held ∙ mark_put_there f.held at q frame apart)) ∙ dirty, λ there. kept q there apart))
+
+-- a frame given up, with its place in the queue
+pub stays_gone : (f h : Framed) (at : BlockId) → h.held ≡ remove f.held at → h.queue ≡ remove f.queue at → StaysQueued f h
+stays_gone f h at held queue q there_is dirty = by_block q at
+    (λ same. absurd (true≢false (sym dirty ∙ ap (λ (o : Option ℕ). is_some o) (ap (λ (m : HeldFrames). held_mark m q) held ∙ ap (λ (x : BlockId). held_mark (remove f.held at) x) same ∙ ap mark_in (gone_here block_cmp_total f.held at)))))
+    (λ apart. (
+      ap (λ (o : Option ℕ). is_some o) (sym (ap (λ (m : HeldFrames). held_mark m q) held ∙ ap mark_in (gone_there block_cmp_total f.held at q apart))) ∙ dirty,
+      λ there. ap (λ (s : BlockSet). is_some (get s q)) queue ∙ ap (λ (o : Option Bool). is_some o) (gone_there block_cmp_total f.queue at q apart) ∙ there,
+    ))
+
+pub queue_without : (f h : Framed) (at : BlockId) → h.queue ≡ remove f.queue at → (q : BlockId) → IsSome (get f.queue q) → eq_by_cmp block_cmp q at ≡ false → IsSome (get h.queue q)
+queue_without f h at queue q there apart = ap (λ (s : BlockSet). is_some (get s q)) queue ∙ ap (λ (o : Option Bool). is_some o) (gone_there block_cmp_total f.queue at q apart) ∙ there
+
+-- ---- a frame put at a block, at most right behind the last one of its fork
+
+module _ (f h : Framed) (at : BlockId) (frame : Held) (n : ℕ) (before : AreFramed f) (size : length frame.page ≡ 8192) (reserved : IsReserved f at) (long : get f.lengths at.fork ≡ Some n) (within : at.block ≤ n) (small : at.block < 2 ^ 32 - 1) (lengths : h.lengths ≡ insert f.lengths at.fork (max n (at.block + 1))) (held : h.held ≡ insert f.held at frame) (queue : h.queue ≡ f.queue) (limit : h.limit ≡ f.limit) where
+  length_here : (fork : ForkId) (m : ℕ) → get h.lengths fork ≡ Some m → fork ≡ at.fork → m ≡ max n (at.block + 1)
+  length_here fork m e same =
+      let both : Some m ≡ Some (max n (at.block + 1)) = sym e ∙ ap (λ (x : ForkId). get h.lengths x) same ∙ ap (λ (ls : ForkLengths). get ls at.fork) lengths ∙ put_here fork_cmp_total f.lengths at.fork (max n (at.block + 1)) in
+      ap (λ (o : Option ℕ). unwrap_or o m) both
+
+  length_there : (fork : ForkId) (m : ℕ) → get h.lengths fork ≡ Some m → eq_by_cmp fork_cmp fork at.fork ≡ false → get f.lengths fork ≡ Some m
+  length_there fork m e apart = sym (ap (λ (ls : ForkLengths). get ls fork) lengths ∙ put_there fork_cmp_total f.lengths at.fork fork (max n (at.block + 1)) apart) ∙ e
+
+  pub framed_put : AreFramed h
+  framed_put = record {
+    whole = whole_by (insert f.held at frame) h.held held (whole_insert f.held at frame size before.whole);
+    few = (let few = before.few in omega (arith, ap (λ (m : HeldFrames). len m) held, count_same block_cmp_total f.held at frame reserved.held, few, limit));
+    narrow = λ fork m e. either_key fork_cmp_total fork_cmp-IsAntisymmetric fork at.fork
+        (λ same. (let is = length_here fork m e same in let less = before.narrow at.fork n long in omega (arith, is, less, small)))
+        (λ apart. before.narrow fork m (length_there fork m e apart));
+    queued = λ q m e l dirty. ap (λ (s : BlockSet). is_some (get s q)) queue ∙ by_block q at
+        (λ same. ap (λ (x : BlockId). is_some (get f.queue x)) same ∙ reserved.queued)
+        (λ apart.
+        let was : IsSome (held_mark f.held q) = ap (λ (o : Option ℕ). is_some o) (sym (ap (λ (x : HeldFrames). held_mark x q) held ∙ mark_put_there f.held at q frame apart)) ∙ dirty in
+        either_key fork_cmp_total fork_cmp-IsAntisymmetric q.fork at.fork
+        (λ same.
+        let is = length_here q.fork m e same in
+        let other : q.block ≡ at.block → ⊥ = λ b. true≢false (sym (ap (λ (x : BlockId). eq_by_cmp block_cmp x at) (one q same b) ∙ key_self block_cmp_total block_cmp-IsAntisymmetric at) ∙ apart) in
+        before.queued q n (ap (λ (x : ForkId). get f.lengths x) same ∙ long) (below q other (omega (arith, is, l))) was)
+        (λ away. before.queued q m (length_there q.fork m e away) l was));
+  }
+    where
+      one : (q : BlockId) → q.fork ≡ at.fork → q.block ≡ at.block → q ≡ at
+      one q fork block = λ i. record { fork = fork i; block = block i }
+
+      below : (q : BlockId) → (q.block ≡ at.block → ⊥) → q.block < max n (at.block + 1) → q.block < n
+      below q other l = elim (cases_lt q.block n) [
+        | inl less ↦ less
+        | inr past ↦ absurd (other (omega (arith, past, l, within)))
+      ]
+
+-- ---- lengths
+
+-- each fork has no more blocks than before
+abbrev pub AreShorter : ForkLengths → ForkLengths → Type 0
+AreShorter old new = (fork : ForkId) (n : ℕ) → get new fork ≡ Some n → 0 < n → (m : ℕ) × ((get old fork ≡ Some m) × (n ≤ m))
+
+pub framed_lengths : (f h : Framed) → AreFramed f → AreShorter f.lengths h.lengths → h.held ≡ f.held → h.queue ≡ f.queue → h.limit ≡ f.limit → AreFramed h
+framed_lengths f h before shorter held queue limit = record {
+  whole = whole_by f.held h.held held before.whole;
+  few = (let few = before.few in omega (arith, ap (λ (m : HeldFrames). len m) held, few, limit));
+  narrow = λ fork n e. elim (cases_lt 0 n) [
+    | inl some ↦ (let s = shorter fork n e some in let less = before.narrow fork s.0 s.1.0 in omega (arith, less, s.1.1))
+    | inr none ↦ omega (arith, none)
+  ];
+  queued = λ q n e l dirty.
+      let s = shorter q.fork n e (omega (arith, l)) in
+      ap (λ (x : BlockSet). is_some (get x q)) queue ∙ before.queued q s.0 s.1.0 (omega (arith, l, s.1.1)) (ap (λ (m : HeldFrames). is_some (held_mark m q)) (sym held) ∙ dirty);
 }
 
--- of no slots
-pub framed_none : (slots : Slots) → slots.entries ≡ [] → AreFramed (framed_in slots)
-framed_none slots e =
-    let pages : pages_in slots ≡ empty = ap (seen_in slot_pages) e in
-    let marks : marks_in slots ≡ empty = ap (seen_in slot_marks) e in
-    record {
-      whole = λ q b page there. no_page page (sym (ap (λ (s : Store). block_of s q b) pages ∙ ap (λ (o : Option ForkPages). o >>= λ ps. slice_get ps b) (get-empty fork_cmp q)) ∙ there);
-      marked = λ q.
-          ap (λ (m : DirtyMarks). option_map length (get m q)) marks ∙ ap (λ (o : Option (List (Option ℕ))). option_map length o) (get-empty fork_cmp q)
-          ∙ sym (ap (λ (s : Store). option_map length (get s q)) pages ∙ ap (λ (o : Option ForkPages). option_map length o) (get-empty fork_cmp q));
-      narrow = λ q found there. no_fork found (sym (ap (λ (s : Store). get s q) pages ∙ get-empty fork_cmp q) ∙ there);
-    }
+module _ (lengths : ForkLengths) (fork : ForkId) where
+  pub shorter_put : (k : ℕ) → (0 < k → (m : ℕ) × ((get lengths fork ≡ Some m) × (k ≤ m))) → AreShorter lengths (insert lengths fork k)
+  shorter_put k less q n e some = either_key fork_cmp_total fork_cmp-IsAntisymmetric q fork
+      (λ same.
+      let both : Some n ≡ Some k = sym e ∙ ap (λ (x : ForkId). get (insert lengths fork k) x) same ∙ put_here fork_cmp_total lengths fork k in
+      let is : n ≡ k = ap (λ (o : Option ℕ). unwrap_or o n) both in
+      let s = less (omega (arith, is, some)) in
+      (s.0, (ap (λ (x : ForkId). get lengths x) same ∙ s.1.0, omega (arith, is, s.1.1))))
+      (λ apart. (n, (sym (put_there fork_cmp_total lengths fork q k apart) ∙ e, omega arith)))
+
+  pub shorter_gone : AreShorter lengths (remove lengths fork)
+  shorter_gone q n e some = either_key fork_cmp_total fork_cmp-IsAntisymmetric q fork
+      (λ same. absurd (let nothing : Some n ≡ None = sym e ∙ ap (λ (x : ForkId). get (remove lengths fork) x) same ∙ gone_here fork_cmp_total lengths fork in cc))
+      (λ apart. (n, (sym (gone_there fork_cmp_total lengths fork q apart) ∙ e, omega arith)))
+
+pub shorter_by : (old new next : ForkLengths) → next ≡ new → AreShorter old new → AreShorter old next
+shorter_by old new next e shorter = subst (λ (ls : ForkLengths). AreShorter old ls) (sym e) shorter
+
+-- lengths where no block has a frame
+pub framed_none : (f h : Framed) → AreFramed f → f.held ≡ empty → h.held ≡ f.held → h.limit ≡ f.limit → ((fork : ForkId) (n : ℕ) → get h.lengths fork ≡ Some n → n < 2 ^ 32) → AreFramed h
+framed_none f h before none held limit narrow = record {
+  whole = whole_by f.held h.held held before.whole;
+  few = (let few = before.few in omega (arith, ap (λ (m : HeldFrames). len m) held, few, limit));
+  narrow = narrow;
+  queued = λ q n e l dirty. absurd (true≢false (sym dirty ∙ ap (λ (m : HeldFrames). is_some (held_mark m q)) (held ∙ none) ∙ ap (λ (o : Option Held). is_some (mark_in o)) (get-empty block_cmp q)));
+}
+
+pub narrow_put : (f : Framed) (fork : ForkId) (k : ℕ) → AreFramed f → k < 2 ^ 32 → (q : ForkId) (n : ℕ) → get (insert f.lengths fork k) q ≡ Some n → n < 2 ^ 32
+narrow_put f fork k before less q n e = either_key fork_cmp_total fork_cmp-IsAntisymmetric q fork
+    (λ same.
+    let both : Some n ≡ Some k = sym e ∙ ap (λ (x : ForkId). get (insert f.lengths fork k) x) same ∙ put_here fork_cmp_total f.lengths fork k in
+    let is : n ≡ k = ap (λ (o : Option ℕ). unwrap_or o n) both in
+    omega (arith, is, less))
+    (λ apart. before.narrow q n (sym (put_there fork_cmp_total f.lengths fork q k apart) ∙ e))
+
+-- the clock is turned
+pub framed_turned : (f h : Framed) → AreFramed f → h.lengths ≡ f.lengths → h.limit ≡ f.limit → h.queue ≡ f.queue → HoldsAlike f.held h.held → AreFramed h
+framed_turned f h before lengths limit queue alike =
+    framed_frames f h before lengths limit (whole_alike f.held h.held alike before.whole) (let few = before.few in omega (arith, alike.count, few)) (stays_alike f h alike queue)
+
+-- a clean block is taken out of the queue
+pub framed_trimmed : (f h : Framed) (at : BlockId) → AreFramed f → h.lengths ≡ f.lengths → h.limit ≡ f.limit → h.held ≡ f.held → h.queue ≡ remove f.queue at → dirty_end f.lengths f.held at ≡ None → AreFramed h
+framed_trimmed f h at before lengths limit held queue clean =
+    framed_frames f h before lengths limit (whole_by f.held h.held held before.whole) (let few = before.few in omega (arith, ap (λ (m : HeldFrames). len m) held, few))
+    (λ q there dirty.
+    let was : IsSome (held_mark f.held q) = ap (λ (m : HeldFrames). is_some (held_mark m q)) (sym held) ∙ dirty in (
+      was,
+      λ queued. by_block q at
+          (λ same. absurd (true≢false (sym was ∙ ap (λ (o : Option ℕ). is_some o) (sym (end_there f.lengths f.held q there) ∙ ap (dirty_end f.lengths f.held) same ∙ clean))))
+          (λ apart. queue_without f h at queue q queued apart),
+    ))

@@ -1,5 +1,5 @@
 pub mod Marks
 pub mod Framed
-pub mod Slots
-pub mod Dirty
+pub mod Overlay
+pub mod Sweep
 pub mod Inside

@@ -1,12 +1,11 @@
 -- Which pages of a store are dirty, and by which entries.
-use Rattle.std.specs.Prelude.{◌≡◌, ℕ, Bool, false, List, [], ◌++◌, length, get_or, slice_get, Option, Some, None, ◌+◌, ◌-◌, ◌<◌, replicate, slice_set, IsSome}
+use Rattle.std.specs.Prelude.{◌≡◌, ℕ, Bool, false, List, [], ◌++◌, length, get_or, slice_get, Option, Some, None, ◌+◌, ◌-◌, ◌<◌, replicate, slice_set}
 use Rattle.std.specs.List.{flat_map, filter_map}
 use Rattle.std.specs.Option.{unwrap_or, is_some}
 use Rattle.std.specs.FinMap.{FinMap, get, keys, insert}
 use Rattle.std.specs.declared.cmp.Ordering.TheVariants.{Less}
 use Rattle.lsn_core.specs.declared.ids.ForkId.{ForkId}
-use Rattle.lsn_core.specs.Store.{Store, fork_cmp}
-use Rattle.lsn_core.specs.Blocks.{block_of}
+use Rattle.lsn_core.specs.Store.{fork_cmp}
 use Rattle.lsn_core.specs.declared.ids.BlockId.{BlockId}
 
 -- beside each page, where the last entry ends that touched it since it was written; None where the
@@ -61,10 +60,3 @@ pub record IsFirstDirty (marks : DirtyMarks) (at : BlockId) (end : ℕ) : Type 0
       → is_dirty marks fork block ≡ false
   -- so of all that is dirty its end is listed first
   pub first : slice_get (all_dirty_ends marks) 0 ≡ Some end
-
--- each page that is there is dirty, touched by an entry that ends there
-pub record IsAllMarked (end : ℕ) (pages : Store) (marks : DirtyMarks) : Type 0 where
-  pub there : (fork : ForkId) (block : ℕ) → IsSome (block_of pages fork block)
-      → touch_end marks fork block ≡ Some end
-  pub only : (fork : ForkId) (block other : ℕ) → touch_end marks fork block ≡ Some other
-      → other ≡ end

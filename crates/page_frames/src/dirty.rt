@@ -1,16 +1,18 @@
 //! Which frames are dirty.
 
-ghost use Rattle.std.specs.Prelude.{◌≡◌, ◌≤◌, ◌<◌, ◌^◌, [], None, IsSome, IfSome, max, length, get_or};
+ghost use Rattle.std.specs.Prelude.{◌≡◌, ◌<◌, ◌≤◌, [], None, Some, IsSome, IfSome, max, List, ℕ};
 ghost use Rattle.std.specs.List.{reduce};
-ghost use Rattle.std.specs.Option.{is_some};
-ghost use Rattle.lsn_core.specs.Blocks.{block_of};
-ghost use Rattle.page_frames.specs.Marks.{is_dirty, cleaned, IsFirstDirty, all_dirty_ends, IsAllMarked};
-ghost use Rattle.page_frames.specs.Framed.{KeepsRoom};
-ghost use Rattle.page_frames.specs.Slots.{frames_marks};
-ghost use Rattle.page_frames.specs.Dirty.{slot_frames, frames_ends, IsFirstIn, IsMarked, IsMarkedAt};
+ghost use Rattle.std.specs.FinMap.{get, insert, remove, len};
+ghost use Rattle.lsn_core.specs.declared.ids.BlockId.{BlockId};
+ghost use Rattle.page_frames.specs.declared.frames.Frame.{Frame};
+ghost use Rattle.page_frames.specs.Marks.{is_dirty, cleaned, IsFirstDirty, all_dirty_ends};
+ghost use Rattle.page_frames.specs.Framed.{Held, HoldsMore, held_mark};
+ghost use Rattle.page_frames.specs.Overlay.{pages_over, marks_over, IsBlockOf};
+ghost use Rattle.page_frames.specs.Inside.{held_in, dirty_end};
 
-use crate::frames::{Frame, Frames, Slot};
-use lsn_core::{BlockId, ForkId};
+use crate::frames::{Frame, Frames, leave_queue};
+use lsn_core::BlockId;
+use std::collections::BTreeMap;
 
 /// A dirty page.
 #[derive(Clone, Copy)]
@@ -22,37 +24,21 @@ pub struct Dirty {
 }
 
 impl Frames {
-    /// The page of a block that is there is clean.
-    pub fn clean(&mut self, at: &BlockId)
-        requires { IsSome (block_of self.old.pages at.now.fork at.now.block) }
-        ensures pages { self.new.pages ≡ self.old.pages }
-        ensures marks { self.new.marks ≡ cleaned self.old.marks at.now }
-        ensures room { KeepsRoom self.old.room self.new.room }
-    {
-        let Some(slot) = self.slots.get_mut(&at.fork) else {
-            unreachable!()
-        };
-        clean_frame(&mut slot.frames, at.block as usize);
-    }
-
-    /// Whether the page of a block is dirty. One that isn't there isn't.
+    /// Whether the page of a block is dirty. One that isn't there, or has no frame, isn't.
     pub fn is_dirty(&self, at: &BlockId) -> bool
-        ensures { result ≡ is_dirty self.now.marks at.now.fork at.now.block }
+        ensures { result ≡ is_dirty (marks_over self.now) at.now.fork at.now.block }
     {
-        match self.slots.get(&at.fork) {
-            Some(slot) => is_marked(frames_of(slot), at.block as usize),
-            None => false,
-        }
+        self.dirty_end(at).is_some()
     }
 
     /// The first dirty page, by fork and block. None exactly where no page is dirty.
     pub fn first_dirty(&self) -> Option<Dirty>
-        ensures first { IfSome result (λ d. IsFirstDirty self.now.marks d.at d.end) }
-        ensures none { result ≡ None → all_dirty_ends self.now.marks ≡ [] }
+        ensures first { IfSome result (λ d. IsFirstDirty (marks_over self.now) d.at d.end) }
+        ensures none { result ≡ None → all_dirty_ends (marks_over self.now) ≡ [] }
     {
-        for (fork, slot) in self.slots.iter() {
-            if let Some(dirty) = first_of(fork, frames_of(slot)) {
-                return Some(dirty);
+        for at in self.queue.keys() {
+            if let Some(end) = self.dirty_end(at) {
+                return Some(Dirty { at: *at, end });
             }
         }
         None
@@ -61,73 +47,79 @@ impl Frames {
     /// The greatest end of an entry that touched a dirty page, an LSN. None exactly where no page
     /// is dirty.
     pub fn newest_dirty(&self) -> Option<u64>
-        ensures { result ≡ reduce max (all_dirty_ends self.now.marks) }
+        ensures { result ≡ reduce max (all_dirty_ends (marks_over self.now)) }
     {
-        self.slots.values().filter_map(|slot| newest_of(slot)).max()
+        self.queue.keys().filter_map(|at| self.dirty_end(at)).max()
     }
 
-    /// All pages are dirty, touched by an entry that ends there, an LSN.
-    pub fn mark_all(&mut self, end: u64)
-        ensures pages { self.new.pages ≡ self.old.pages }
-        ensures marks { IsAllMarked end self.new.pages self.new.marks }
-        ensures room { KeepsRoom self.old.room self.new.room }
+    /// The page of a block that is there and has a frame is clean.
+    pub fn clean(&mut self, at: &BlockId)
+        requires there { IsBlockOf self.old.lengths at.now }
+        requires held { IsSome (get self.old.held at.now) }
+        ensures pages { (behind : BlockId → List ℕ)
+            → pages_over behind self.new ≡ pages_over behind self.old }
+        ensures marks { marks_over self.new ≡ cleaned (marks_over self.old) at.now }
+        ensures held { (frame : Held) → get self.old.held at.now ≡ Some frame
+            → self.new.held ≡ insert self.old.held at.now
+            (record { page = frame.page; mark = None; used = frame.used }) }
+        ensures count { len self.new.held ≡ len self.old.held }
+        ensures queue { self.new.queue ≡ remove self.old.queue at.now }
+        ensures shorter { IsSome (held_mark self.old.held at.now)
+            → len self.new.queue < len self.old.queue }
+        ensures lengths { self.new.lengths ≡ self.old.lengths }
+        ensures slots { self.new.slots ≡ self.old.slots }
+        ensures limit { self.new.limit ≡ self.old.limit }
     {
-        self.slots.retain(|_, slot| {
-            mark_frames(&mut slot.frames, Some(end));
-            true
-        });
+        clean_frame(&mut self.frames, at);
+        leave_queue(&mut self.queue, at);
+    }
+
+    /// Drops the blocks at the front of the queue that aren't dirty.
+    pub fn trim(&mut self)
+        ensures shorter { len self.new.queue ≤ len self.old.queue }
+        ensures lengths { self.new.lengths ≡ self.old.lengths }
+        ensures slots { self.new.slots ≡ self.old.slots }
+        ensures held { self.new.held ≡ self.old.held }
+        ensures limit { self.new.limit ≡ self.old.limit }
+    {
+        for _ in 0..self.queue.len() {
+            let Some(at) = self.first_queued() else {
+                return;
+            };
+            if self.dirty_end(&at).is_some() {
+                return;
+            }
+            leave_queue(&mut self.queue, &at);
+        }
+    }
+
+    /// The first block of the queue.
+    fn first_queued(&self) -> Option<BlockId> {
+        let (at, _) = self.queue.first_key_value()?;
+        Some(*at)
+    }
+
+    /// Where the last entry ends that touched a block that is there, since it was written.
+    fn dirty_end(&self, at: &BlockId) -> Option<u64>
+        ensures { result ≡ dirty_end self.now.lengths self.now.held at.now }
+    {
+        if self.has_block(at) {
+            self.mark(at)
+        } else {
+            None
+        }
     }
 }
 
-/// The frames of a slot that count.
-fn frames_of(slot: &Slot) -> &[Frame]
-    ensures { result.now ≡ slot_frames slot.now }
+/// The frame of a block is clean.
+fn clean_frame(frames: &mut BTreeMap<BlockId, Frame>, at: &BlockId)
+    requires { IsSome (get (held_in frames.old) at.now) }
+    ensures { (frame : Held) → get (held_in frames.old) at.now ≡ Some frame
+        → held_in frames.new ≡ insert (held_in frames.old) at.now
+        (record { page = frame.page; mark = None; used = frame.used }) }
 {
-    if slot.there { &slot.frames } else { &[] }
-}
-
-/// Whether a frame is dirty; one that is missing isn't.
-fn is_marked(frames: &[Frame], block: usize) -> bool
-    ensures { result ≡ is_some (get_or (frames_marks frames.now) block None) }
-{
-    block < frames.len() && frames[block].mark.is_some()
-}
-
-/// The first dirty page of a fork.
-fn first_of(fork: &ForkId, frames: &[Frame]) -> Option<Dirty>
-    requires { length frames.now ≤ 2 ^ 32 }
-    ensures first { IfSome result (λ d. IsFirstIn fork.now frames.now d.at d.end) }
-    ensures none { result ≡ None → frames_ends frames.now ≡ [] }
-{
-    let block = frames.iter().position(|frame| frame.mark.is_some())?;
-    let end = frames[block].mark?;
-    let at = BlockId {
-        fork: *fork,
-        block: block as u32,
+    let Some(frame) = frames.get_mut(at) else {
+        unreachable!()
     };
-    Some(Dirty { at, end })
-}
-
-/// The greatest end of an entry that touched a dirty frame of a slot.
-fn newest_of(slot: &Slot) -> Option<u64>
-    ensures { result ≡ reduce max (frames_ends (slot_frames slot.now)) }
-{
-    frames_of(slot).iter().filter_map(|frame| frame.mark).max()
-}
-
-/// One frame is clean.
-fn clean_frame(frames: &mut Vec<Frame>, block: usize)
-    requires { block < length frames.old.items }
-    ensures { IsMarkedAt block None frames.old frames.new }
-{
-    frames[block].mark = None;
-}
-
-/// Gives all frames one mark.
-fn mark_frames(frames: &mut Vec<Frame>, mark: Option<u64>)
-    ensures { IsMarked mark frames.old frames.new }
-{
-    for frame in frames.iter_mut() {
-        frame.mark = mark;
-    }
+    frame.mark = None;
 }

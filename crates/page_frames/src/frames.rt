@@ -1,94 +1,133 @@
 //! Pages in frames.
 
-ghost use Rattle.std.specs.Prelude.{◌≡◌, ◌≤◌, ◌+◌, ◌^◌, [], true, false, None, Some, IsSome, IfSome, OnOk, IfOk, box_value, length, take};
-ghost use Rattle.std.specs.FinMap.{empty, get, insert, remove, keys};
-ghost use Rattle.std.specs.Option.{option_map};
-ghost use Rattle.lsn_core.specs.Blocks.{block_of, block_count, page_put, with_block, with_fork, with_cut, without_fork};
+ghost use Rattle.std.specs.Prelude.{◌≡◌, ◌<◌, ◌≤◌, ◌+◌, ◌⊎◌, true, None, Some, IsSome, IfOk, OnOk, OnErr, List, ℕ, box_value};
+ghost use Rattle.std.specs.FinMap.{empty, get, insert, remove, len};
+ghost use Rattle.std.specs.Option.{option_map, unwrap_or};
+ghost use Rattle.byte_words.specs.Pieces.{zero_page};
+ghost use Rattle.lsn_core.specs.declared.ids.BlockId.{BlockId};
+ghost use Rattle.lsn_core.specs.Blocks.{page_put};
 ghost use Rattle.history.specs.Apply.{page_at};
-ghost use Rattle.history.specs.Pages.{page_count};
-ghost use Rattle.page_frames.specs.Marks.{fork_marks, touched, with_mark};
-ghost use Rattle.page_frames.specs.Framed.{AreFramed, HasRoom, KeepsRoom, TakesRoom, HasPlace};
-ghost use Rattle.page_frames.specs.Slots.{SlotHasPlace, framed_in, pages_in, marks_in, room_in, frames_pages, frames_marks, slot_pages, slot_block, slot_left};
+ghost use Rattle.page_frames.specs.Marks.{touched};
+ghost use Rattle.page_frames.specs.Framed.{AreFramed, Held, HoldsMore, HoldsAlike, IsAlike, held_page, held_mark, lacks};
+ghost use Rattle.page_frames.specs.Overlay.{own_pages, pages_over, marks_over, raised, HasPlace, IsBlockOf, IsReserved, KeepsReserved};
+ghost use Rattle.page_frames.specs.Inside.{has_block, held_in, queue_in};
 
-use lsn_core::{BlockId, ForkId, NoMemory};
+use crate::lengths::write_length;
+use lsn_core::{BlockId, ForkId, ForkKind, NoMemory, Rel};
 use pg_page::zero_page;
 use std::alloc::Global;
 use std::boxed::Box;
 use std::collections::BTreeMap;
 use std::marker::Model;
 
-/// A page in memory, and where the last entry ends that touched it since it was written.
+/// A frame with its page.
 #[derive(Drop)]
 pub(crate) struct Frame {
     pub page: Box<[u8; 8192]>,
-    /// None where the page is clean.
+    /// Where the last entry ends that touched the page since it was written. None where it is
+    /// clean.
     pub mark: Option<u64>,
+    /// Whether it was used since the hand passed it.
+    pub used: bool,
 }
 
-/// The frames of a fork. A slot of a fork that isn't there keeps room for its pages, and no frame
-/// in it counts.
-#[derive(Drop)]
-pub(crate) struct Slot {
-    pub there: bool,
-    pub frames: Vec<Frame>,
-}
-
-/// Pages in frames, fork by fork, with marks of which are dirty, and room for more. Contracts see
-/// a `Framed`.
+/// Pages in at most so many frames. Contracts see a `Framed`.
 #[derive(Drop)]
 pub struct Frames {
-    pub(crate) slots: BTreeMap<ForkId, Slot>,
+    /// None at a fork that isn't there, for which memory is kept.
+    pub(crate) lengths: BTreeMap<ForkId, Option<u32>>,
+    pub(crate) frames: BTreeMap<BlockId, Frame>,
+    /// The blocks among which all dirty ones are.
+    pub(crate) queue: BTreeMap<BlockId, ()>,
+    pub(crate) hand: BlockId,
+    pub(crate) limit: u32,
     alloc: Global,
 }
 
 impl Model for Frames {
     ghost use Rattle.page_frames.specs.Framed.{Framed, framed_code, AreFramed};
-    ghost use Rattle.page_frames.specs.Slots.{framed_in};
+    ghost use Rattle.page_frames.specs.Inside.{framed_in};
 
     ghost Value = { Framed };
 
     ghost coded = { framed_code };
 
-    ghost view = { λ f. framed_in f.slots };
+    ghost view = { λ f. framed_in f.lengths f.frames f.queue f.hand f.limit };
 
-    ghost invariant = { λ f. AreFramed (framed_in f.slots) };
+    ghost invariant = { λ f. AreFramed (framed_in f.lengths f.frames f.queue f.hand f.limit) };
 }
 
 impl Frames {
-    /// No frames at all.
-    pub fn new(alloc: Global) -> Frames
-        ensures pages { result.pages ≡ empty }
-        ensures marks { result.marks ≡ empty }
+    /// No fork and no frame yet, and at most so many frames.
+    pub fn new(alloc: Global, limit: u32) -> Frames
+        ensures lengths { result.lengths ≡ empty }
+        ensures held { result.held ≡ empty }
+        ensures limit { result.limit ≡ limit }
     {
+        let lengths = BTreeMap::new(alloc);
+        let frames = BTreeMap::new(alloc);
+        let queue = BTreeMap::new(alloc);
+        let hand = first_hand();
         Frames {
-            slots: BTreeMap::new(alloc),
+            lengths,
+            frames,
+            queue,
+            hand,
+            limit,
             alloc,
         }
     }
 
-    /// How many blocks a fork has. None exactly where there is no such fork.
-    pub fn blocks(&self, fork: &ForkId) -> Option<usize>
-        ensures { result ≡ block_count self.now.pages fork.now }
+    /// That each page has 8192 bytes, that there are no more frames than there may be, that a fork
+    /// has fewer blocks than a u32 counts, and that the queue has the dirty blocks.
+    pub fn know(&self)
+        ensures { AreFramed self.now }
     {
-        match self.slots.get(fork) {
-            Some(slot) => count_of(slot),
+        let _frames = &self.frames;
+    }
+
+    /// How many frames there may be.
+    pub fn limit(&self) -> u32
+        ensures limit { result ≡ self.now.limit }
+        ensures few { len self.now.held ≤ result }
+    {
+        self.limit
+    }
+
+    /// How many frames there are.
+    pub fn count(&self) -> usize
+        ensures { result ≡ len self.now.held }
+    {
+        self.frames.len()
+    }
+
+    /// The page of a block that has a frame.
+    pub fn page(&self, at: &BlockId) -> Option<&[u8; 8192]>
+        ensures { option_map (λ p. p.now) result ≡ held_page self.now.held at.now }
+    {
+        match self.frames.get(at) {
+            Some(frame) => Some(page_of(frame)),
             None => None,
         }
     }
 
-    /// The bytes of a block. None exactly where the fork has no such block, or isn't there.
+    /// The page of a block that is there and has a frame. What it answers None for is taken as a
+    /// zero page.
     pub fn block(&self, at: &BlockId) -> Option<&[u8; 8192]>
-        ensures { option_map (λ p. p.now) result ≡ block_of self.now.pages at.now.fork at.now.block }
+        ensures { unwrap_or (option_map (λ p. p.now) result) zero_page
+            ≡ page_at (own_pages self.now) at.now }
     {
-        match self.slots.get(&at.fork) {
-            Some(slot) => page_in(slot, at.block as usize),
-            None => None,
+        if self.has_block(at) {
+            self.page(at)
+        } else {
+            None
         }
     }
 
-    /// A copy of the bytes of a block, or of a zero page where there is none.
+    /// A copy of the page of a block, or of a zero page where the block isn't there or has no
+    /// frame.
     pub fn page_copy(&self, alloc: Global, at: &BlockId) -> Result<Box<[u8; 8192]>, NoMemory>
-        ensures { IfOk result (λ page. box_value page ≡ page_at self.now.pages at.now) }
+        ensures { IfOk result (λ page. box_value page ≡ page_at (own_pages self.now) at.now) }
     {
         match self.block(at) {
             Some(page) => Ok(Box::new(alloc, *page)?),
@@ -96,253 +135,195 @@ impl Frames {
         }
     }
 
-    /// The forks, in order: by database, relation and kind.
-    pub fn forks(&self, alloc: Global) -> Result<Vec<ForkId>, NoMemory>
-        ensures { IfOk result (λ forks. forks.items ≡ keys self.now.pages) }
+    /// Where the last entry ends that touched a block's page since it was written. None where the
+    /// page is clean, or has no frame.
+    pub fn mark(&self, at: &BlockId) -> Option<u64>
+        ensures { result ≡ held_mark self.now.held at.now }
     {
-        let mut forks = Vec::new(alloc);
-        for (fork, slot) in self.slots.iter() {
-            if slot.there {
-                forks.push(*fork)?;
-            }
+        match self.frames.get(at) {
+            Some(frame) => frame.mark,
+            None => None,
         }
-        Ok(forks)
     }
 
-    /// How many pages all forks have together. None where that is past the number's type, which no
-    /// memory holds.
-    pub fn page_count(&self) -> Option<u64>
-        ensures count { IfSome result (λ count. count ≡ page_count self.now.pages) }
-        ensures many { result ≡ None → 2 ^ 64 ≤ page_count self.now.pages }
+    /// Takes a clean page into a frame of its own, where there is one left. Fails where memory ran
+    /// out, and then changes nothing.
+    pub fn take_in(&mut self, at: &BlockId, page: Box<[u8; 8192]>) -> Result<(), NoMemory>
+        requires { len self.old.held < self.old.limit }
+        ensures held { OnOk result (self.new.held ≡ insert self.old.held at.now
+            (record { page = box_value page; mark = None; used = true })) }
+        ensures same { OnErr result (self.new.held ≡ self.old.held) }
+        ensures lengths { self.new.lengths ≡ self.old.lengths }
+        ensures limit { self.new.limit ≡ self.old.limit }
+        ensures slots { self.new.slots ≡ self.old.slots }
+        ensures queue { self.new.queue ≡ self.old.queue }
     {
-        let mut count: u64 = 0;
-        for slot in self.slots.values() {
-            count = count.checked_add(count_of(slot).unwrap_or(0) as u64)?;
+        // Read here, so that it is known that the page has 8192 bytes.
+        let _first = page[0];
+        put_in(&mut self.frames, at, page)
+    }
+
+    /// Gives the frame of a block up, and its place in the queue.
+    pub fn give_up(&mut self, at: &BlockId)
+        ensures held { self.new.held ≡ remove self.old.held at.now }
+        ensures lengths { self.new.lengths ≡ self.old.lengths }
+        ensures limit { self.new.limit ≡ self.old.limit }
+        ensures slots { self.new.slots ≡ self.old.slots }
+        ensures queue { self.new.queue ≡ remove self.old.queue at.now }
+    {
+        take_out(&mut self.frames, at);
+        leave_queue(&mut self.queue, at);
+    }
+
+    /// Keeps a frame for a block, and its place in the queue, so that a page may be put there
+    /// without memory. Fails where memory ran out; what was kept stays.
+    pub fn reserve(&mut self, at: &BlockId) -> Result<(), NoMemory>
+        requires { IsSome (get self.old.held at.now)
+            ⊎ ((IsBlockOf self.old.lengths at.now → ⊥) × len self.old.held < self.old.limit) }
+        ensures reserved { OnOk result (IsReserved self.new at.now) }
+        ensures kept { KeepsReserved self.old self.new }
+        ensures lengths { self.new.lengths ≡ self.old.lengths }
+        ensures limit { self.new.limit ≡ self.old.limit }
+        ensures pages { (behind : BlockId → List ℕ)
+            → pages_over behind self.new ≡ pages_over behind self.old }
+        ensures marks { marks_over self.new ≡ marks_over self.old }
+        ensures held { HoldsMore self.old.held self.new.held }
+        ensures few { len self.new.held ≤ len self.old.held + lacks self.old.held at.now }
+    {
+        enter_queue(&mut self.queue, at)?;
+        if self.frames.contains_key(at) {
+            return Ok(());
         }
-        Some(count)
+        let page = Box::new(self.alloc, zero_page())?;
+        // Read here, so that it is known that the page has 8192 bytes.
+        let _first = page[0];
+        put_in(&mut self.frames, at, page)
     }
 
-    /// Makes room for so many pages more of a fork, which need not be there. Fails where memory ran
-    /// out; what room there was stays.
-    pub fn reserve(&mut self, fork: &ForkId, count: usize) -> Result<(), NoMemory>
-        ensures room { OnOk result (HasRoom self.new.room fork.now count) }
-        ensures kept { KeepsRoom self.old.room self.new.room }
-        ensures pages { self.new.pages ≡ self.old.pages }
-        ensures marks { self.new.marks ≡ self.old.marks }
+    /// Moves a page into the frame that was kept for it, over the page that is there or behind the
+    /// last one. It is dirty, touched by an entry that ends there, an LSN. Takes no memory.
+    pub fn put(&mut self, at: &BlockId, page: Box<[u8; 8192]>, end: u64)
+        requires reserved { IsReserved self.old at.now }
+        requires place { HasPlace self.old.lengths at.now }
+        ensures pages { (behind : BlockId → List ℕ) → pages_over behind self.new
+            ≡ page_put at.now (box_value page) (pages_over behind self.old) }
+        ensures marks { marks_over self.new ≡ touched end (marks_over self.old) at.now }
+        ensures kept { KeepsReserved self.old self.new }
+        ensures lengths { self.new.lengths ≡ raised self.old.lengths at.now }
+        ensures limit { self.new.limit ≡ self.old.limit }
+        ensures held { self.new.held ≡ insert self.old.held at.now
+            (record { page = box_value page; mark = Some end; used = true }) }
     {
-        reserve_in(&mut self.slots, fork, count, self.alloc)
+        // Read here, so that it is known that the page has 8192 bytes.
+        let _first = page[0];
+        let count = self.blocks(&at.fork).unwrap_or(0);
+        write_frame(&mut self.frames, at, page, end);
+        write_length(&mut self.lengths, &at.fork, count.max(at.block + 1));
     }
 
-    /// Moves a page into the frame of its block, over the page that is there or behind the last
-    /// one. It is dirty, touched by an entry that ends there, an LSN. Takes no memory.
-    pub fn place(&mut self, at: &BlockId, page: Box<[u8; 8192]>, end: u64)
-        requires { HasPlace self.old at.now }
-        ensures pages { self.new.pages ≡ page_put at.now (box_value page) self.old.pages }
-        ensures marks { self.new.marks ≡ touched end self.old.marks at.now }
-        ensures room { TakesRoom at.now.fork self.old.room self.new.room }
+    /// The frame of a block was used.
+    pub fn note_use(&mut self, at: &BlockId)
+        ensures used { (frame : Held) → get self.old.held at.now ≡ Some frame → self.new.held
+            ≡ insert self.old.held at.now
+            (record { page = frame.page; mark = frame.mark; used = true }) }
+        ensures alike { IsAlike self.old self.new }
     {
-        // Read here, so that it is known that the page has 8192 bytes and the block is a u32.
-        let (_first, _block) = (page[0], at.block);
-        place_in(&mut self.slots, at, page, end);
+        set_used(&mut self.frames, at, true);
     }
 
-    /// Makes an empty fork, where there is room for one and none of that name. Takes no memory.
-    pub fn create(&mut self, fork: &ForkId)
-        requires room { HasRoom self.old.room fork.now 0 }
-        requires missing { get self.old.pages fork.now ≡ None }
-        ensures pages { self.new.pages ≡ with_fork self.old.pages fork.now }
-        ensures marks { self.new.marks
-            ≡ insert self.old.marks fork.now (fork_marks self.old.marks fork.now) }
-        ensures room { KeepsRoom self.old.room self.new.room }
+    /// Whether a fork has a block.
+    pub(crate) fn has_block(&self, at: &BlockId) -> bool
+        ensures { result ≡ has_block self.now.lengths at.now }
     {
-        create_in(&mut self.slots, fork);
-    }
-
-    /// Leaves the first pages of a fork that is there alone, so many, and all where it has fewer.
-    pub fn cut(&mut self, fork: &ForkId, count: usize)
-        requires { IsSome (get self.old.pages fork.now) }
-        ensures pages { self.new.pages ≡ with_cut self.old.pages fork.now count }
-        ensures marks { self.new.marks
-            ≡ insert self.old.marks fork.now (take count (fork_marks self.old.marks fork.now)) }
-        ensures room { KeepsRoom self.old.room self.new.room }
-    {
-        cut_in(&mut self.slots, fork, count);
-    }
-
-    /// Takes a fork away, with its room. Takes no memory.
-    pub fn remove(&mut self, fork: &ForkId)
-        ensures pages { self.new.pages ≡ without_fork self.old.pages fork.now }
-        ensures marks { self.new.marks ≡ remove self.old.marks fork.now }
-    {
-        remove_in(&mut self.slots, fork);
-    }
-
-    /// That each page has 8192 bytes and a mark, and that no fork has more pages than a block's
-    /// number counts.
-    pub fn know(&self)
-        ensures { AreFramed self.now }
-    {
-        let _slots = &self.slots;
-    }
-
-    /// Where the frames take their memory.
-    pub(crate) fn alloc(&self) -> Global {
-        self.alloc
+        at.block < self.blocks(&at.fork).unwrap_or(0)
     }
 }
 
-/// How many pages a slot has, where its fork is there.
-fn count_of(slot: &Slot) -> Option<usize>
-    ensures { result ≡ option_map length (slot_pages slot.now) }
-{
-    if slot.there {
-        Some(slot.frames.len())
-    } else {
-        None
-    }
-}
-
-/// The page at a block of a slot, where its fork is there and has one.
-fn page_in(slot: &Slot, block: usize) -> Option<&[u8; 8192]>
-    ensures { option_map (λ p. p.now) result ≡ slot_block slot.now block }
-{
-    if slot.there && block < slot.frames.len() {
-        Some(&*slot.frames[block].page)
-    } else {
-        None
-    }
-}
-
-/// Makes room for so many pages more of a fork in its slot.
-fn reserve_in(
-    slots: &mut BTreeMap<ForkId, Slot>,
-    fork: &ForkId,
-    count: usize,
-    alloc: Global,
-) -> Result<(), NoMemory>
-    ensures room { OnOk result (HasRoom (room_in slots.new) fork.now count) }
-    ensures kept { KeepsRoom (room_in slots.old) (room_in slots.new) }
-    ensures pages { pages_in slots.new ≡ pages_in slots.old }
-    ensures marks { marks_in slots.new ≡ marks_in slots.old }
-{
-    if let Some(slot) = slots.get_mut(fork) {
-        return reserve_slot(slot, count);
-    }
-    let slot = empty_slot(count, alloc)?;
-    slots.insert(*fork, slot)?;
-    Ok(())
-}
-
-/// Makes room for so many frames more.
-fn reserve_slot(slot: &mut Slot, count: usize) -> Result<(), NoMemory>
-    ensures room { OnOk result (count ≤ slot_left slot.new) }
-    ensures kept { slot_left slot.old ≤ slot_left slot.new }
-    ensures there { slot.new.there ≡ slot.old.there }
-    ensures frames { slot.new.frames.items ≡ slot.old.frames.items }
-{
-    slot.frames.reserve(count)?;
-    Ok(())
-}
-
-/// A slot of a fork that isn't there, with room for so many frames.
-fn empty_slot(count: usize, alloc: Global) -> Result<Slot, NoMemory>
-    ensures room { IfOk result (λ slot. count ≤ slot_left slot) }
-    ensures missing { IfOk result (λ slot. slot.there ≡ false) }
-{
-    let mut frames = Vec::new(alloc);
-    frames.reserve(count)?;
-    Ok(Slot {
-        there: false,
-        frames,
-    })
-}
-
-/// Moves a page into the frame of its block in a slot, where there is a place for it.
-fn place_in(slots: &mut BTreeMap<ForkId, Slot>, at: &BlockId, page: Box<[u8; 8192]>, end: u64)
-    requires { HasPlace (framed_in slots.old) at.now }
-    ensures pages { pages_in slots.new ≡ page_put at.now (box_value page) (pages_in slots.old) }
-    ensures marks { marks_in slots.new ≡ touched end (marks_in slots.old) at.now }
-    ensures room { TakesRoom at.now.fork (room_in slots.old) (room_in slots.new) }
-{
-    let Some(slot) = slots.get_mut(&at.fork) else {
+/// Where the hand of a clock begins; any block does.
+fn first_hand() -> BlockId {
+    let Some(rel) = Rel::new(1, 1) else {
         unreachable!()
     };
-    put_frame(slot, at.block as usize, page, end);
+    let fork = ForkId {
+        rel,
+        kind: ForkKind::Main,
+    };
+    BlockId { fork, block: 0 }
 }
 
-/// Moves a page into a frame, over the one that is there or behind the last one.
-fn put_frame(slot: &mut Slot, block: usize, page: Box<[u8; 8192]>, end: u64)
-    requires { SlotHasPlace slot.old block }
-    ensures there { slot.new.there ≡ true }
-    ensures pages { frames_pages slot.new.frames.items
-        ≡ with_block (frames_pages slot.old.frames.items) block (box_value page) }
-    ensures marks { frames_marks slot.new.frames.items
-        ≡ with_mark (frames_marks slot.old.frames.items) block (Some end) }
-    ensures room { slot_left slot.old ≤ slot_left slot.new + 1 }
+/// The page of a frame.
+fn page_of(frame: &Frame) -> &[u8; 8192]
+    ensures { result.now ≡ box_value frame.now.page }
+{
+    &frame.page
+}
+
+/// Puts a clean page into a map of frames.
+fn put_in(
+    frames: &mut BTreeMap<BlockId, Frame>,
+    at: &BlockId,
+    page: Box<[u8; 8192]>,
+) -> Result<(), NoMemory>
+    ensures held { OnOk result (held_in frames.new ≡ insert (held_in frames.old) at.now
+        (record { page = box_value page; mark = None; used = true })) }
+    ensures same { OnErr result (held_in frames.new ≡ held_in frames.old) }
 {
     let frame = Frame {
         page,
-        mark: Some(end),
+        mark: None,
+        used: true,
     };
-    if block < slot.frames.len() {
-        slot.frames[block] = frame;
-    } else {
-        slot.frames.push_reserved(frame);
+    frames.insert(*at, frame)?;
+    Ok(())
+}
+
+/// Takes a frame out of a map of frames.
+fn take_out(frames: &mut BTreeMap<BlockId, Frame>, at: &BlockId)
+    ensures { held_in frames.new ≡ remove (held_in frames.old) at.now }
+{
+    frames.remove(at);
+}
+
+/// Moves a dirty page into the frame of a block.
+fn write_frame(frames: &mut BTreeMap<BlockId, Frame>, at: &BlockId, page: Box<[u8; 8192]>, end: u64)
+    requires { IsSome (get (held_in frames.old) at.now) }
+    ensures { held_in frames.new ≡ insert (held_in frames.old) at.now
+        (record { page = box_value page; mark = Some end; used = true }) }
+{
+    let Some(frame) = frames.get_mut(at) else {
+        unreachable!()
+    };
+    *frame = Frame {
+        page,
+        mark: Some(end),
+        used: true,
+    };
+}
+
+/// Notes whether the frame of a block was used, where it has one.
+pub(crate) fn set_used(frames: &mut BTreeMap<BlockId, Frame>, at: &BlockId, used: bool)
+    ensures used { (frame : Held) → get (held_in frames.old) at.now ≡ Some frame
+        → held_in frames.new ≡ insert (held_in frames.old) at.now
+        (record { page = frame.page; mark = frame.mark; used = used }) }
+    ensures alike { HoldsAlike (held_in frames.old) (held_in frames.new) }
+{
+    if let Some(frame) = frames.get_mut(at) {
+        frame.used = used;
     }
 }
 
-/// Makes an empty fork, where there is a slot for it and no fork.
-fn create_in(slots: &mut BTreeMap<ForkId, Slot>, fork: &ForkId)
-    requires room { HasRoom (room_in slots.old) fork.now 0 }
-    requires missing { get (pages_in slots.old) fork.now ≡ None }
-    ensures pages { pages_in slots.new ≡ with_fork (pages_in slots.old) fork.now }
-    ensures marks { marks_in slots.new
-        ≡ insert (marks_in slots.old) fork.now (fork_marks (marks_in slots.old) fork.now) }
-    ensures room { KeepsRoom (room_in slots.old) (room_in slots.new) }
+/// Gives a block a place in the queue.
+fn enter_queue(queue: &mut BTreeMap<BlockId, ()>, at: &BlockId) -> Result<(), NoMemory>
+    ensures entered { OnOk result (queue_in queue.new ≡ insert (queue_in queue.old) at.now true) }
+    ensures same { OnErr result (queue_in queue.new ≡ queue_in queue.old) }
 {
-    let Some(slot) = slots.get_mut(fork) else {
-        unreachable!()
-    };
-    make_empty(slot);
+    queue.insert(*at, ())?;
+    Ok(())
 }
 
-/// Makes a slot that of an empty fork.
-fn make_empty(slot: &mut Slot)
-    ensures there { slot.new.there ≡ true }
-    ensures frames { slot.new.frames.items ≡ [] }
-    ensures room { slot_left slot.old ≤ slot_left slot.new }
+/// Takes a block out of the queue.
+pub(crate) fn leave_queue(queue: &mut BTreeMap<BlockId, ()>, at: &BlockId)
+    ensures { queue_in queue.new ≡ remove (queue_in queue.old) at.now }
 {
-    slot.there = true;
-    slot.frames.clear();
-}
-
-/// Leaves the first pages of a fork alone, so many.
-fn cut_in(slots: &mut BTreeMap<ForkId, Slot>, fork: &ForkId, count: usize)
-    requires { IsSome (get (pages_in slots.old) fork.now) }
-    ensures pages { pages_in slots.new ≡ with_cut (pages_in slots.old) fork.now count }
-    ensures marks { marks_in slots.new ≡ insert (marks_in slots.old) fork.now
-        (take count (fork_marks (marks_in slots.old) fork.now)) }
-    ensures room { KeepsRoom (room_in slots.old) (room_in slots.new) }
-{
-    let Some(slot) = slots.get_mut(fork) else {
-        unreachable!()
-    };
-    cut_slot(slot, count);
-}
-
-/// Leaves the first frames of a slot alone, so many.
-fn cut_slot(slot: &mut Slot, count: usize)
-    ensures there { slot.new.there ≡ slot.old.there }
-    ensures frames { slot.new.frames.items ≡ take count slot.old.frames.items }
-    ensures room { slot_left slot.old ≤ slot_left slot.new }
-{
-    slot.frames.truncate(count);
-}
-
-/// Takes a fork away, with its room.
-pub(crate) fn remove_in(slots: &mut BTreeMap<ForkId, Slot>, fork: &ForkId)
-    ensures pages { pages_in slots.new ≡ remove (pages_in slots.old) fork.now }
-    ensures marks { marks_in slots.new ≡ remove (marks_in slots.old) fork.now }
-{
-    slots.remove(fork);
+    queue.remove(at);
 }

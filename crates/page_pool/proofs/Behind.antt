@@ -234,7 +234,7 @@ works_done disk frames marks first works h =
       forks = λ fork. ap (there_behind works fork) (work_forks disk first.work fork) ∙ h.forks fork;
     }
 
--- a page put at a block of which all blocks before it are there
+-- a page put at a block leaves another block that is behind it, or is there
 abbrev puts : List ℕ → Rule
 puts page end old edit = Some page
 
@@ -244,13 +244,10 @@ put_effect page false true (Some x) q there e = cc
 put_effect page false true None q there e = absurd (true≢false (sym (there refl)))
 put_effect page false false o q there e = cc
 
-page_block : (store : Store) (at : BlockId) (page : List ℕ) → ((b : ℕ) → b < at.block → is_some (block_of store at.fork b) ≡ true) → (fork : ForkId) (b : ℕ)
+block_behind : (store : Store) (at : BlockId) (page : List ℕ) (fork : ForkId) (b : ℕ) → ((is_same_fork fork at.fork && nat_lt b at.block) ≡ true → is_some (block_of store fork b) ≡ true)
     → block_of (page_put at page store) fork b ≡ cond (is_same_block (record { fork = fork; block = b }) at) (Some page) (block_of store fork b)
-page_block store at page before fork b =
-    put_effect page (is_same_fork fork at.fork && (b == at.block)) (is_same_fork fork at.fork && nat_lt b at.block) (block_of store fork b) (block_of (page_put at page store) fork b)
-    (λ past.
-    let p = and_parts (is_same_fork fork at.fork) (nat_lt b at.block) past in
-    ap (λ (f : ForkId). is_some (block_of store f b)) (fork_is fork at.fork p.0) ∙ before b (ltb-true b at.block p.1))
+block_behind store at page fork b before =
+    put_effect page (is_same_fork fork at.fork && (b == at.block)) (is_same_fork fork at.fork && nat_lt b at.block) (block_of store fork b) (block_of (page_put at page store) fork b) before
     (put_view (puts page) 0 (Put page) store at page fork b refl)
 
 -- a fork has all blocks before one that it has
@@ -265,15 +262,22 @@ has_fork store fork b there =
     elim (get store fork) as (λ (o : Option ForkPages). is_some (o >>= λ pages. slice_get pages b) ≡ true → is_some o ≡ true) [ None ↦ λ e. absurd (true≢false (sym e)) | Some pages ↦ λ e. refl ] there
 
 pub pages_written : PagesAreWritten
-pages_written disk frames marks at page h there first =
+pages_written disk frames marks at page h there =
     let some = ap (λ (o : Option (List ℕ)). is_some o) there in
-    let before = λ (b : ℕ) (l : b < at.block). ap (λ (o : Option (List ℕ)). is_some o) (h.same at.fork b (first b l) refl) ∙ has_before frames at.fork b at.block some l in
     record {
-      same = λ fork b clean uncut. page_block disk at page before fork b ∙ by_test (is_same_block (record { fork = fork; block = b }) at)
-          (λ here. ap (λ c. cond c (Some page) (block_of disk fork b)) here ∙ sym there ∙ ap (λ (x : BlockId). block_of frames x.fork x.block) (sym (block_is (record { fork = fork; block = b }) at here)))
+      same = λ fork b clean uncut. by_test (is_same_block (record { fork = fork; block = b }) at)
+          (λ here.
+          block_behind disk at page fork b (λ past.
+          let p = and_parts (is_same_fork fork at.fork) (nat_lt b at.block) past in
+          absurd (let less = ltb-true b at.block p.1 in let is = ap (λ (x : BlockId). x.block) (block_is (record { fork = fork; block = b }) at here) in omega (arith, less, is)))
+          ∙ ap (λ c. cond c (Some page) (block_of disk fork b)) here ∙ sym there ∙ ap (λ (x : BlockId). block_of frames x.fork x.block) (sym (block_is (record { fork = fork; block = b }) at here)))
           (λ apart.
           let still = ap (λ (m : Option ℕ). is_some m) (mark_set marks at None fork b ∙ ap (λ c. cond c None (touch_end marks fork b)) apart) in
-          ap (λ c. cond c (Some page) (block_of disk fork b)) apart ∙ h.same fork b (sym still ∙ clean) refl);
+          let agree = h.same fork b (sym still ∙ clean) refl in
+          block_behind disk at page fork b (λ past.
+          let p = and_parts (is_same_fork fork at.fork) (nat_lt b at.block) past in
+          ap (λ (o : Option (List ℕ)). is_some o) agree ∙ ap (λ (f : ForkId). is_some (block_of frames f b)) (fork_is fork at.fork p.0) ∙ has_before frames at.fork b at.block some (ltb-true b at.block p.1))
+          ∙ ap (λ c. cond c (Some page) (block_of disk fork b)) apart ∙ agree);
       gone = λ fork b clean cut. absurd (true≢false (sym cut));
       forks = λ fork. contains_key-insert disk at.fork (with_block (pages_of disk at.fork) at.block page) fork
           ∙ ap (λ c. c || is_same_fork fork at.fork) (h.forks fork) ∙ absorbed frames at.fork fork (has_fork frames at.fork at.block some);

@@ -57,6 +57,10 @@ told None P some k = absurd (true≢false (sym some))
 over_told : {A B : Type 0} (o : Option A) (p : Option B) (P Q : Type 0) → (IsSome p → IsSome o) → (P → Q) → IfSome o (λ x. P) → IfSome p (λ x. Q)
 over_told o p P Q back f k = where_told p Q (λ some. f (told o P (back some) k))
 
+-- the same, where more follows of it
+over_more : {A B : Type 0} (o : Option A) (p : Option B) (P Q : Type 0) → (IsSome p → IsSome o) → (IsSome o → P → Q) → IfSome o (λ x. P) → IfSome p (λ x. Q)
+over_more o p P Q back f k = where_told p Q (λ some. f (back some) (told o P (back some) k))
+
 -- an entry more
 touched_last : (cut touch : Bool) (new end : ℕ) (old last : Option ℕ) → cond cut None (cond touch (Some new) old) ≡ Some end → (old ≡ Some end → last ≡ Some end) → cond touch (Some new) last ≡ Some end
 touched_last true touch new end old last e before = absurd cc
@@ -202,9 +206,9 @@ still_dirty : (here : Bool) (end : ℕ) (mark : Option ℕ) → cond here None m
 still_dirty true end mark e = absurd cc
 still_dirty false end mark e = e
 
-done_first : (done : Work) (old new : Part) → new.frames ≡ old.frames → new.point ≡ old.point → HasDone done old new → (IsSome new.disk → IsSome old.disk) → HasWritten old new
+done_first : (done : Work) (old new : Part) → new.frames ≡ old.frames → new.point ≡ old.point → HasDone done old new → is_some new.disk ≡ is_some old.disk → HasWritten old new
 done_first done old new frames point d disk = record {
-  frames = frames;
+  frames = λ some. frames;
   marks = λ fork b end m. ap (λ (ms : DirtyMarks). touch_end ms fork b) (sym d.marks) ∙ m;
   done = 1;
   works = ap (λ (ws : List Pending). drop 1 ws) (sym d.works);
@@ -214,7 +218,7 @@ done_first done old new frames point d disk = record {
 
 pub one_written : OneWrittenIsWritten
 one_written None old new w disk = record {
-  frames = w.frames;
+  frames = λ some. w.frames;
   marks = λ fork b end m. ap (λ (ms : DirtyMarks). touch_end ms fork b) (sym w.next.1) ∙ m;
   done = 0;
   works = w.next.2;
@@ -225,7 +229,7 @@ one_written (Some (wrote.Made fork)) old new w disk = done_first (Make fork) old
 one_written (Some (wrote.Cut fork count)) old new w disk = done_first (Cut fork count) old new w.frames w.point w.next disk
 one_written (Some (wrote.Removed fork)) old new w disk = done_first (Remove fork) old new w.frames w.point w.next disk
 one_written (Some (wrote.Wrote at)) old new w disk = record {
-  frames = w.frames;
+  frames = λ some. w.frames;
   marks = λ fork b end m.
       still_dirty (is_same_block (record { fork = fork; block = b }) at) end (touch_end old.marks fork b) (sym (mark_set old.marks at None fork b) ∙ ap (λ (ms : DirtyMarks). touch_end ms fork b) (sym w.next.marks) ∙ m);
   done = 0;
@@ -238,7 +242,7 @@ pub writes_followed : WritesAreFollowed
 writes_followed q history old new w f = record {
   late = subst (λ (n : ℕ). n ≤ history_end history) (sym w.point) f.late;
   unwritten = subst (λ (n : ℕ). IsSince (own_since q n history) new.marks new.works) (sym w.point) (fewer (own_since q old.point history) old new w f.unwritten);
-  made = over_told old.disk new.disk (IsMadeOf q history old.frames) (IsMadeOf q history new.frames) w.told (λ made. made ∙ ap (λ (s : Store). Some s) (sym w.frames)) f.made;
+  made = over_more old.disk new.disk (IsMadeOf q history old.frames) (IsMadeOf q history new.frames) (λ some. sym w.told ∙ some) (λ some made. made ∙ ap (λ (s : Store). Some s) (sym (w.frames some))) f.made;
 }
 
 none_since : (window : List Entry) (part : Part) → IsClean part → IsSince window part.marks part.works

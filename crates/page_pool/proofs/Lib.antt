@@ -13,8 +13,16 @@ pub mod Readied
 pub mod Doing
 pub mod Making
 mod Parted
+mod Shown
+mod Local
+mod Counts
+mod Lifted
 mod Ended
 mod OnDisk
-mod InTurn
-mod Whole
+mod Roomed
+mod Rooms
+mod Reserved
+mod Opened
+mod Applied
+pub mod InTurn
 pub mod PartsAlike

@@ -1,5 +1,5 @@
 -- What a partition holds after its disk was written, or a write of it failed.
-use Rattle.std.proofs.Common.{◌≡◌, ℕ, true, false, List, [], ◌∷◌, Option, Some, None, IsSome, IfSome, is_some, option_map, refl, ap, sym, subst, ◌∙◌, true≢false}
+use Rattle.std.proofs.Common.{◌≡◌, ℕ, ◌<◌, true, false, unwrap_or, List, [], ◌∷◌, Option, Some, None, IsSome, IfSome, is_some, option_map, refl, ap, sym, subst, ◌∙◌, true≢false}
 use Rattle.std.specs.List.{remove}
 use Rattle.std.specs.Global.{Vec}
 use Rattle.lsn_core.specs.declared.lsn.Lsn.{Lsn}
@@ -12,23 +12,44 @@ use Rattle.lsn_core.specs.Shown.{Turns}
 use Rattle.vault.specs.declared.area.Vault.{Ghosts}
 use Rattle.vault.specs.Area.{Related}
 use Rattle.vault.specs.Stops.{Event, synced, noted}
-use Rattle.vault.specs.Frame.{LeavesNow}
-use Rattle.rel_files.specs.Forks.{Holds, mended, page_over, IsTornPut, IsTornCut, IsTornRemoval}
+use Rattle.vault.specs.Frame.{AgreeBut, LeavesNow}
+use Rattle.rel_files.specs.Forks.{Holds, IsForkPath, mended, page_over, IsTornPut, IsTornCut, IsTornRemoval}
 use Rattle.rel_files.specs.Shown.{HoldsStore, KeepsOthers, Leaves, IsTornMake}
 use Rattle.rel_files.specs.declared.forks.Forks.{Forks}
-use Rattle.page_frames.specs.Marks.{DirtyMarks, is_dirty, cleaned, NoneDirtyBefore}
-use Rattle.page_frames.specs.Framed.{Framed, AreFramed}
+use Rattle.page_frames.specs.Marks.{DirtyMarks, is_dirty, cleaned}
+use Rattle.page_frames.specs.Framed.{Framed}
+use Rattle.page_frames.specs.Overlay.{pages_over, marks_over}
+use Rattle.page_frames.proofs.Overlays.{count_over, found_there}
 use Rattle.page_pool.specs.declared.work.Work.{Work}
 use Rattle.page_pool.specs.declared.work.Work.TheVariants.{Make, Cut, Remove}
 use Rattle.page_pool.specs.declared.work.Pending.{Pending}
 use Rattle.page_pool.specs.declared.partition.Partition.TheInside.{Inside}
 use Rattle.page_pool.specs.Part.{Part, LacksUnwritten}
 use Rattle.page_pool.specs.Steps.{IsClean}
-use Rattle.page_pool.specs.Calls.{HoldsFrames}
-use Rattle.page_pool.specs.Partition.{part_in, HoldsLacking, IsPartition}
+use Rattle.page_pool.specs.Told.{told_page}
+use Rattle.page_pool.specs.Calls.{AreWholePages, HoldsFrames, HasDone, SameUnwritten}
+use Rattle.page_pool.specs.Laws.{AreFramesOf}
+use Rattle.page_pool.specs.Partition.{pages_in, part_in, HoldsLacking, IsPartition}
 use Rattle.page_pool.specs.Writing.{IsFirstWork, IsNextPage}
 use Rattle.page_pool.proofs.Behind.{clean_disks}
+use Rattle.page_pool.proofs.Shown.{pages_shown}
 use Rattle.page_pool.proofs.Torn.{made_lacks, cut_lacks, removed_lacks, put_lacks, torn_make_lacks, torn_cut_lacks, torn_removal_lacks, torn_put_lacks}
+
+-- ---- the pages that are shown
+
+-- frames are of the pages that they show, whatever stands behind them
+own_frames : (behind : BlockId → List ℕ) (f : Framed) → AreFramesOf (pages_over behind f) f
+own_frames behind f = record {
+  lengths = λ fork. sym (count_over behind f fork);
+  blocks = λ at page held there is. sym (ap (λ (o : Option (List ℕ)). unwrap_or o (behind at)) is) ∙ (found_there behind f at page there).1;
+}
+
+-- and of pages that they show alike
+pub frames_alike : (behind : BlockId → List ℕ) (f h : Framed) → ((other : BlockId → List ℕ) → pages_over other h ≡ pages_over other f) → AreFramesOf (pages_over behind f) h
+frames_alike behind f h alike = subst (λ (s : Store). AreFramesOf s h) (alike behind) (own_frames behind h)
+
+pub own_shown : {V : Type 0} {Q : ℕ} (g : Ghosts V) (p : Inside V Q) {A : Type 0} → A → AreFramesOf (pages_in g p) p.frames
+own_shown g p any = own_frames (told_page p.disk.relseg (g.files p.disk.area)) p.frames
 
 -- ---- the disk was written
 
@@ -37,120 +58,199 @@ tells_back R None None r told = told
 tells_back R None (Some n) r told = absurd r
 tells_back R (Some m) y r told = refl
 
-module _ {V : Type 0} {Q : ℕ} (g : Ghosts V) (p : Inside V Q) (now : Part) (is : part_in g p ≡ now) (inv : IsPartition g p) (new : Forks V) (kept : KeepsOthers g p.disk new) where
-  before : IsSome (g.files new.area) → HoldsLacking g p
-  before told = inv (tells_back _ (g.files p.disk.area) (g.files new.area) kept.area.files told)
+-- the area's files hold a store that lacks of some pages what is dirty or pending
+pub record Lacking {V : Type 0} (g : Ghosts V) (new : Forks V) (pages : Store) (marks : DirtyMarks) (works : List Pending) : Type 0 where
+  pub raw : Store
+  pub held : HoldsStore g new raw
+  pub lacks : LacksUnwritten raw pages marks works
 
-  works_are : (work : Work) (f : IsFirstWork work now) → p.works.items ≡ f.first ∷ f.rest
-  works_are work f = ap (λ (x : Part). x.works) is ∙ f.works
+module _ {V : Type 0} {Q : ℕ} (g : Ghosts V) (p : Inside V Q) (inv : IsPartition g p) (new : Forks V) (kept : KeepsOthers g p.disk new) where
+  abbrev pages : Store
+  pages = pages_in g p
 
-  lacks_first : (work : Work) (f : IsFirstWork work now) (raw : Store) → LacksUnwritten raw p.frames.pages p.frames.marks p.works.items → LacksUnwritten raw p.frames.pages p.frames.marks (f.first ∷ f.rest)
-  lacks_first work f raw lacks = subst (λ (ws : List Pending). LacksUnwritten raw p.frames.pages p.frames.marks ws) (works_are work f) lacks
+  abbrev marks : DirtyMarks
+  marks = marks_over p.frames
 
-  first_lacks : (work : Work) (f : IsFirstWork work now) (raw : Store) → LacksUnwritten raw p.frames.pages p.frames.marks (f.first ∷ f.rest) → LacksUnwritten raw p.frames.pages p.frames.marks p.works.items
-  first_lacks work f raw lacks = subst (λ (ws : List Pending). LacksUnwritten raw p.frames.pages p.frames.marks ws) (sym (works_are work f)) lacks
+  abbrev behind : BlockId → List ℕ
+  behind = told_page p.disk.relseg (g.files p.disk.area)
 
-  rest_lacks : (work : Work) (f : IsFirstWork work now) (raw : Store) (left : Vec Pending) → left.items ≡ remove p.works.items 0 → LacksUnwritten raw p.frames.pages p.frames.marks f.rest → LacksUnwritten raw p.frames.pages p.frames.marks left.items
-  rest_lacks work f raw left e lacks = subst (λ (ws : List Pending). LacksUnwritten raw p.frames.pages p.frames.marks ws) (sym (e ∙ ap (λ (ws : List Pending). remove ws 0) (works_are work f))) lacks
+  pub before : IsSome (g.files new.area) → HoldsLacking g p
+  before told = inv.holds (tells_back _ (g.files p.disk.area) (g.files new.area) kept.area.files told)
 
-  pub make_failed : (fork : ForkId) → IsFirstWork (Make fork) now → Leaves (HoldsStore g) p.disk new (IsTornMake fork) → IsPartition {V = V} {Q = Q} g (record { disk = new; frames = p.frames; works = p.works; point = p.point })
-  make_failed fork f left told =
-      let h = before told in
-      let t = left h.raw h.held in
-      record { raw = t.0; held = t.1.0; lacks = first_lacks (Make fork) f t.0 (torn_make_lacks h.raw t.0 p.frames.pages p.frames.marks f.first f.rest fork f.is t.1.1 (lacks_first (Make fork) f h.raw h.lacks)) }
+  -- frames of the same pages show them over the new disk
+  pub shown_told : (frames : Framed) (works : List Pending) → IsSome (g.files new.area) → AreFramesOf (pages_in g p) frames → Lacking g new (pages_in g p) (marks_over frames) works → pages_over (told_page new.relseg (g.files new.area)) frames ≡ pages_in g p
+  shown_told frames works told framed l =
+      let files = l.held.files in
+      let some : 0 < new.relseg = subst (λ (n : ℕ). 0 < n) (sym kept.relseg) inv.some in
+      ap (λ (o : Option Files). pages_over (told_page new.relseg o) frames) files.are_told
+      ∙ pages_shown new.relseg files.files l.raw pages works frames some files.hold l.lacks (before told).whole framed
 
-  pub make_done : (fork : ForkId) → IsFirstWork (Make fork) now → Turns (HoldsStore g) p.disk new (λ s. with_fork s fork) → (left : Vec Pending) → left.items ≡ remove p.works.items 0
-      → IsPartition {V = V} {Q = Q} g (record { disk = new; frames = p.frames; works = left; point = p.point })
-  make_done fork f turns left e told =
-      let h = before told in
-      record { raw = with_fork h.raw fork; held = turns h.raw h.held; lacks = rest_lacks (Make fork) f (with_fork h.raw fork) left e (made_lacks h.raw p.frames.pages p.frames.marks f.first f.rest fork f.is (lacks_first (Make fork) f h.raw h.lacks)) }
+  pub holds_again : (frames : Framed) (works : Vec Pending) (point : Lsn) → (IsSome (g.files new.area) → AreFramesOf (pages_in g p) frames) → (IsSome (g.files new.area) → Lacking g new (pages_in g p) (marks_over frames) works.items)
+      → IsPartition {V = V} {Q = Q} g (record { disk = new; frames = frames; works = works; point = point })
+  holds_again frames works point framed lacks = record {
+    some = subst (λ (n : ℕ). 0 < n) (sym kept.relseg) inv.some;
+    holds = λ told.
+        let l = lacks told in
+        let shown = shown_told frames works.items told (framed told) l in
+        record {
+          raw = l.raw;
+          held = l.held;
+          lacks = subst (λ (s : Store). LacksUnwritten l.raw s (marks_over frames) works.items) (sym shown) l.lacks;
+          whole = subst AreWholePages (sym shown) (before told).whole;
+        };
+  }
 
-  pub cut_failed : (fork : ForkId) (to : ℕ) → IsFirstWork (Cut fork to) now → AreFramed p.frames → Leaves (HoldsStore g) p.disk new (IsTornCut fork to) → IsPartition {V = V} {Q = Q} g (record { disk = new; frames = p.frames; works = p.works; point = p.point })
-  cut_failed fork to f framed left told =
-      let h = before told in
-      let t = left h.raw h.held in
-      record {
-        raw = t.0;
-        held = t.1.0;
-        lacks = first_lacks (Cut fork to) f t.0 (torn_cut_lacks h.raw t.0 p.frames.pages p.frames.marks f.first f.rest fork to f.is h.held.files.hold.held framed.whole t.1.1 (lacks_first (Cut fork to) f h.raw h.lacks));
-      }
-
-  pub cut_done : (fork : ForkId) (to : ℕ) → IsFirstWork (Cut fork to) now → AreFramed p.frames → Turns (HoldsStore g) p.disk new (λ s. with_cut (mended s fork) fork to) → (left : Vec Pending) → left.items ≡ remove p.works.items 0
-      → IsPartition {V = V} {Q = Q} g (record { disk = new; frames = p.frames; works = left; point = p.point })
-  cut_done fork to f framed turns left e told =
-      let h = before told in
-      let raw = with_cut (mended h.raw fork) fork to in
-      record {
-        raw = raw;
-        held = turns h.raw h.held;
-        lacks = rest_lacks (Cut fork to) f raw left e (cut_lacks h.raw p.frames.pages p.frames.marks f.first f.rest fork to f.is h.held.files.hold.held framed.whole (lacks_first (Cut fork to) f h.raw h.lacks));
-      }
-
-  pub removal_failed : (fork : ForkId) → IsFirstWork (Remove fork) now → Leaves (HoldsStore g) p.disk new (IsTornRemoval fork) → IsPartition {V = V} {Q = Q} g (record { disk = new; frames = p.frames; works = p.works; point = p.point })
-  removal_failed fork f left told =
-      let h = before told in
-      let t = left h.raw h.held in
-      record { raw = t.0; held = t.1.0; lacks = first_lacks (Remove fork) f t.0 (torn_removal_lacks h.raw t.0 p.frames.pages p.frames.marks f.first f.rest fork f.is t.1.1 (lacks_first (Remove fork) f h.raw h.lacks)) }
-
-  pub removal_done : (fork : ForkId) → IsFirstWork (Remove fork) now → Turns (HoldsStore g) p.disk new (λ s. without_fork s fork) → (left : Vec Pending) → left.items ≡ remove p.works.items 0
-      → IsPartition {V = V} {Q = Q} g (record { disk = new; frames = p.frames; works = left; point = p.point })
-  removal_done fork f turns left e told =
-      let h = before told in
-      record { raw = without_fork h.raw fork; held = turns h.raw h.held; lacks = rest_lacks (Remove fork) f (without_fork h.raw fork) left e (removed_lacks h.raw p.frames.pages p.frames.marks f.first f.rest fork f.is (lacks_first (Remove fork) f h.raw h.lacks)) }
-
-  no_works : (at : BlockId) → IsNextPage at now → p.works.items ≡ []
-  no_works at next = ap (λ (x : Part). x.works) is ∙ next.none
-
-  lacks_none : (at : BlockId) → IsNextPage at now → (raw : Store) → LacksUnwritten raw p.frames.pages p.frames.marks p.works.items → LacksUnwritten raw p.frames.pages p.frames.marks []
-  lacks_none at next raw lacks = subst (λ (ws : List Pending). LacksUnwritten raw p.frames.pages p.frames.marks ws) (no_works at next) lacks
-
-  dirty_here : (at : BlockId) → IsNextPage at now → is_dirty p.frames.marks at.fork at.block ≡ true
-  dirty_here at next = ap (λ (x : Part). is_dirty x.marks at.fork at.block) is ∙ next.dirty
-
-  none_before : (at : BlockId) → IsNextPage at now → NoneDirtyBefore p.frames.marks at
-  none_before at next b less = ap (λ (x : Part). is_dirty x.marks at.fork b) is ∙ next.before b less
-
-  pub put_failed : (at : BlockId) (page : List ℕ) → IsNextPage at now → AreFramed p.frames → block_of p.frames.pages at.fork at.block ≡ Some page → Leaves (HoldsStore g) p.disk new (IsTornPut at)
-      → IsPartition {V = V} {Q = Q} g (record { disk = new; frames = p.frames; works = p.works; point = p.point })
-  put_failed at page next framed there left told =
-      let h = before told in
-      let t = left h.raw h.held in
-      record {
-        raw = t.0;
-        held = t.1.0;
-        lacks = subst (λ (ws : List Pending). LacksUnwritten t.0 p.frames.pages p.frames.marks ws) (sym (no_works at next))
-            (torn_put_lacks h.raw t.0 p.frames.pages p.frames.marks at page h.held.files.hold.held framed.whole (dirty_here at next) there t.1.1 (lacks_none at next h.raw h.lacks));
-      }
-
-  pub put_done : (at : BlockId) (page : List ℕ) → IsNextPage at now → AreFramed p.frames → block_of p.frames.pages at.fork at.block ≡ Some page → Turns (HoldsStore g) p.disk new (page_over at page) → (frames : Framed) → frames.pages ≡ p.frames.pages → frames.marks ≡ cleaned p.frames.marks at
-      → IsPartition {V = V} {Q = Q} g (record { disk = new; frames = frames; works = p.works; point = p.point })
-  put_done at page next framed there turns frames pages marks told =
-      let h = before told in
-      let raw = page_over at page h.raw in
-      let lacks : LacksUnwritten raw p.frames.pages (cleaned p.frames.marks at) [] = put_lacks h.raw p.frames.pages p.frames.marks at page h.held.files.hold.held framed.whole (lacks_none at next h.raw h.lacks) there (none_before at next) in
-      record {
-        raw = raw;
-        held = turns h.raw h.held;
-        lacks = subst (λ (s : Store). LacksUnwritten raw s frames.marks p.works.items) (sym pages) (subst (λ (ms : DirtyMarks). LacksUnwritten raw p.frames.pages ms p.works.items) (sym marks) (subst (λ (ws : List Pending). LacksUnwritten raw p.frames.pages (cleaned p.frames.marks at) ws) (sym (no_works at next)) lacks));
-      }
-
-  pub same_done : Turns (HoldsStore g) p.disk new (λ s. s) → (point : Lsn) → IsPartition {V = V} {Q = Q} g (record { disk = new; frames = p.frames; works = p.works; point = point })
-  same_done turns point told = let h = before told in record { raw = h.raw; held = turns h.raw h.held; lacks = h.lacks }
-
-  -- where nothing is dirty or pending the files hold the frames
-  pub frames_held : Turns (HoldsStore g) p.disk new (λ s. s) → IsClean now → (point : Lsn) → HoldsFrames (part_in {V = V} {Q = Q} g (record { disk = new; frames = p.frames; works = p.works; point = point }))
-  frames_held turns clean point = by (g.files new.area) refl
+  -- over an area that doesn't tell its files they are zeros
+  pub shown_again : (frames : Framed) (works : List Pending) → ((other : BlockId → List ℕ) → pages_over other frames ≡ pages_over other p.frames) → (IsSome (g.files new.area) → Lacking g new (pages_in g p) (marks_over frames) works)
+      → pages_over (told_page new.relseg (g.files new.area)) frames ≡ pages_in g p
+  shown_again frames works alike lacks = by (g.files p.disk.area) refl (g.files new.area) refl kept.area.files
     where
-      by : (o : Option Files) → g.files new.area ≡ o → IfSome o (λ files. Holds new.relseg files p.frames.pages)
+      by : (o : Option Files) → g.files p.disk.area ≡ o → (n : Option Files) → g.files new.area ≡ n → Related (AgreeBut IsForkPath) o n → pages_over (told_page new.relseg (g.files new.area)) frames ≡ pages_in g p
+      by None old None now r =
+          ap (λ (x : Option Files). pages_over (told_page new.relseg x) frames) now ∙ alike (told_page new.relseg None) ∙ sym (ap (λ (x : Option Files). pages_over (told_page p.disk.relseg x) p.frames) old)
+      by None old (Some f) now r = absurd r
+      by (Some m) old None now r = absurd r
+      by (Some m) old (Some f) now r =
+          let told : IsSome (g.files new.area) = ap (λ (x : Option Files). is_some x) now in
+          shown_told frames works told (frames_alike behind p.frames frames alike) (lacks told)
+
+  module _ (now : Part) (is : part_in g p ≡ now) where
+    works_are : (work : Work) (f : IsFirstWork work now) → p.works.items ≡ f.first ∷ f.rest
+    works_are work f = ap (λ (x : Part). x.works) is ∙ f.works
+
+    lacks_first : (work : Work) (f : IsFirstWork work now) (raw : Store) → LacksUnwritten raw pages marks p.works.items → LacksUnwritten raw pages marks (f.first ∷ f.rest)
+    lacks_first work f raw lacks = subst (λ (ws : List Pending). LacksUnwritten raw pages marks ws) (works_are work f) lacks
+
+    first_lacks : (work : Work) (f : IsFirstWork work now) (raw : Store) → LacksUnwritten raw pages marks (f.first ∷ f.rest) → LacksUnwritten raw pages marks p.works.items
+    first_lacks work f raw lacks = subst (λ (ws : List Pending). LacksUnwritten raw pages marks ws) (sym (works_are work f)) lacks
+
+    rest_lacks : (work : Work) (f : IsFirstWork work now) (raw : Store) (left : List Pending) → left ≡ remove p.works.items 0 → LacksUnwritten raw pages marks f.rest → LacksUnwritten raw pages marks left
+    rest_lacks work f raw left e lacks = subst (λ (ws : List Pending). LacksUnwritten raw pages marks ws) (sym (e ∙ ap (λ (ws : List Pending). remove ws 0) (works_are work f))) lacks
+
+    pub make_failed : (fork : ForkId) → IsFirstWork (Make fork) now → Leaves (HoldsStore g) p.disk new (IsTornMake fork) → IsSome (g.files new.area) → Lacking g new (pages_in g p) (marks_over p.frames) p.works.items
+    make_failed fork f left told =
+        let h = before told in
+        let t = left h.raw h.held in
+        record { raw = t.0; held = t.1.0; lacks = first_lacks (Make fork) f t.0 (torn_make_lacks h.raw t.0 pages marks f.first f.rest fork f.is t.1.1 (lacks_first (Make fork) f h.raw h.lacks)) }
+
+    pub make_done : (fork : ForkId) → IsFirstWork (Make fork) now → Turns (HoldsStore g) p.disk new (λ s. with_fork s fork) → (left : List Pending) → left ≡ remove p.works.items 0
+        → IsSome (g.files new.area) → Lacking g new (pages_in g p) (marks_over p.frames) left
+    make_done fork f turns left e told =
+        let h = before told in
+        record { raw = with_fork h.raw fork; held = turns h.raw h.held; lacks = rest_lacks (Make fork) f (with_fork h.raw fork) left e (made_lacks h.raw pages marks f.first f.rest fork f.is (lacks_first (Make fork) f h.raw h.lacks)) }
+
+    pub cut_failed : (fork : ForkId) (to : ℕ) → IsFirstWork (Cut fork to) now → Leaves (HoldsStore g) p.disk new (IsTornCut fork to) → IsSome (g.files new.area) → Lacking g new (pages_in g p) (marks_over p.frames) p.works.items
+    cut_failed fork to f left told =
+        let h = before told in
+        let t = left h.raw h.held in
+        record {
+          raw = t.0;
+          held = t.1.0;
+          lacks = first_lacks (Cut fork to) f t.0 (torn_cut_lacks h.raw t.0 pages marks f.first f.rest fork to f.is h.held.files.hold.held h.whole t.1.1 (lacks_first (Cut fork to) f h.raw h.lacks));
+        }
+
+    pub cut_done : (fork : ForkId) (to : ℕ) → IsFirstWork (Cut fork to) now → Turns (HoldsStore g) p.disk new (λ s. with_cut (mended s fork) fork to) → (left : List Pending) → left ≡ remove p.works.items 0
+        → IsSome (g.files new.area) → Lacking g new (pages_in g p) (marks_over p.frames) left
+    cut_done fork to f turns left e told =
+        let h = before told in
+        let raw = with_cut (mended h.raw fork) fork to in
+        record {
+          raw = raw;
+          held = turns h.raw h.held;
+          lacks = rest_lacks (Cut fork to) f raw left e (cut_lacks h.raw pages marks f.first f.rest fork to f.is h.held.files.hold.held h.whole (lacks_first (Cut fork to) f h.raw h.lacks));
+        }
+
+    pub removal_failed : (fork : ForkId) → IsFirstWork (Remove fork) now → Leaves (HoldsStore g) p.disk new (IsTornRemoval fork) → IsSome (g.files new.area) → Lacking g new (pages_in g p) (marks_over p.frames) p.works.items
+    removal_failed fork f left told =
+        let h = before told in
+        let t = left h.raw h.held in
+        record { raw = t.0; held = t.1.0; lacks = first_lacks (Remove fork) f t.0 (torn_removal_lacks h.raw t.0 pages marks f.first f.rest fork f.is t.1.1 (lacks_first (Remove fork) f h.raw h.lacks)) }
+
+    pub removal_done : (fork : ForkId) → IsFirstWork (Remove fork) now → Turns (HoldsStore g) p.disk new (λ s. without_fork s fork) → (left : List Pending) → left ≡ remove p.works.items 0
+        → IsSome (g.files new.area) → Lacking g new (pages_in g p) (marks_over p.frames) left
+    removal_done fork f turns left e told =
+        let h = before told in
+        record { raw = without_fork h.raw fork; held = turns h.raw h.held; lacks = rest_lacks (Remove fork) f (without_fork h.raw fork) left e (removed_lacks h.raw pages marks f.first f.rest fork f.is (lacks_first (Remove fork) f h.raw h.lacks)) }
+
+    no_works : (at : BlockId) → IsNextPage at now → p.works.items ≡ []
+    no_works at next = ap (λ (x : Part). x.works) is ∙ next.none
+
+    lacks_none : (at : BlockId) → IsNextPage at now → (raw : Store) → LacksUnwritten raw pages marks p.works.items → LacksUnwritten raw pages marks []
+    lacks_none at next raw lacks = subst (λ (ws : List Pending). LacksUnwritten raw pages marks ws) (no_works at next) lacks
+
+    dirty_here : (at : BlockId) → IsNextPage at now → is_dirty marks at.fork at.block ≡ true
+    dirty_here at next = ap (λ (x : Part). is_dirty x.marks at.fork at.block) is ∙ next.dirty
+
+    pub put_failed : (at : BlockId) (page : List ℕ) → IsNextPage at now → block_of (pages_in g p) at.fork at.block ≡ Some page → Leaves (HoldsStore g) p.disk new (IsTornPut at)
+        → IsSome (g.files new.area) → Lacking g new (pages_in g p) (marks_over p.frames) p.works.items
+    put_failed at page next there left told =
+        let h = before told in
+        let t = left h.raw h.held in
+        record {
+          raw = t.0;
+          held = t.1.0;
+          lacks = subst (λ (ws : List Pending). LacksUnwritten t.0 pages marks ws) (sym (no_works at next))
+              (torn_put_lacks h.raw t.0 pages marks at page h.held.files.hold.held h.whole (dirty_here at next) there t.1.1 (lacks_none at next h.raw h.lacks));
+        }
+
+    pub put_done : (at : BlockId) (page : List ℕ) → IsNextPage at now → block_of (pages_in g p) at.fork at.block ≡ Some page → Turns (HoldsStore g) p.disk new (page_over at page) → (after : DirtyMarks) → after ≡ cleaned (marks_over p.frames) at
+        → IsSome (g.files new.area) → Lacking g new (pages_in g p) after p.works.items
+    put_done at page next there turns after marks_are told =
+        let h = before told in
+        let raw = page_over at page h.raw in
+        let lacks : LacksUnwritten raw pages (cleaned marks at) [] = put_lacks h.raw pages marks at page h.held.files.hold.held h.whole (lacks_none at next h.raw h.lacks) there in
+        record {
+          raw = raw;
+          held = turns h.raw h.held;
+          lacks = subst (λ (ms : DirtyMarks). LacksUnwritten raw pages ms p.works.items) (sym marks_are) (subst (λ (ws : List Pending). LacksUnwritten raw pages (cleaned marks at) ws) (sym (no_works at next)) lacks);
+        }
+
+  pub same_done : Turns (HoldsStore g) p.disk new (λ s. s) → IsSome (g.files new.area) → Lacking g new (pages_in g p) (marks_over p.frames) p.works.items
+  same_done turns told = let h = before told in record { raw = h.raw; held = turns h.raw h.held; lacks = h.lacks }
+
+  -- where nothing is dirty or pending the files hold the pages
+  pub frames_held : (now : Part) → part_in g p ≡ now → Turns (HoldsStore g) p.disk new (λ s. s) → IsClean now → (point : Lsn) → HoldsFrames (part_in {V = V} {Q = Q} g (record { disk = new; frames = p.frames; works = p.works; point = point }))
+  frames_held now is turns clean point = by (g.files new.area) refl
+    where
+      by : (o : Option Files) → g.files new.area ≡ o → IfSome o (λ files. Holds new.relseg files (pages_over (told_page new.relseg (g.files new.area)) p.frames))
       by None e = tt
       by (Some files) e =
           let h = before (ap (λ (o : Option Files). is_some o) e) in
           let none : p.works.items ≡ [] = ap (λ (x : Part). x.works) is ∙ clean.works in
-          let lacks = subst (λ (ws : List Pending). LacksUnwritten h.raw p.frames.pages p.frames.marks ws) none h.lacks in
-          let same = clean_disks h.raw p.frames.pages p.frames.marks lacks (λ fork b. ap (λ (x : Part). is_dirty x.marks fork b) is ∙ clean.marks fork b) in
+          let lacks = subst (λ (ws : List Pending). LacksUnwritten h.raw pages marks ws) none h.lacks in
+          let same = clean_disks h.raw pages marks lacks (λ fork b. ap (λ (x : Part). is_dirty x.marks fork b) is ∙ clean.marks fork b) in
           let held = (turns h.raw h.held).files in
           let told : held.files ≡ files = let both : Some held.files ≡ Some files = sym held.are_told ∙ e in cc in
-          subst (λ (s : Store). Holds new.relseg files s) same (subst (λ (f : Files). Holds new.relseg f h.raw) told held.hold)
+          let shown = shown_again p.frames p.works.items (λ other. refl) (same_done turns) in
+          subst (λ (s : Store). Holds new.relseg files s) (same ∙ sym shown) (subst (λ (f : Files). Holds new.relseg f h.raw) told held.hold)
+
+-- a work was done: pages and point stay
+pub record WorkDone (work : Work) (old new : Part) : Type 0 where
+  pub frames : new.frames ≡ old.frames
+  pub point : new.point ≡ old.point
+  pub next : HasDone work old new
+
+pub work_done : {V : Type 0} {Q : ℕ} (g : Ghosts V) (p : Inside V Q) (now : Part) → part_in g p ≡ now → (new : Forks V) (work : Work) (f : IsFirstWork work now) (left : Vec Pending) → left.items ≡ remove p.works.items 0
+    → pages_over (told_page new.relseg (g.files new.area)) p.frames ≡ pages_in g p → WorkDone work now (part_in {V = V} {Q = Q} g (record { disk = new; frames = p.frames; works = left; point = p.point }))
+work_done g p now is new work f left rest shown = record {
+  frames = shown ∙ ap (λ (x : Part). x.frames) is;
+  point = ap (λ (x : Part). x.point) is;
+  next = record {
+    first = f.first;
+    is = f.is;
+    works = f.works ∙ ap (λ (ws : List Pending). f.first ∷ ws) (sym (rest ∙ ap (λ (ws : List Pending). remove ws 0) (ap (λ (x : Part). x.works) is ∙ f.works)));
+    marks = ap (λ (x : Part). x.marks) is;
+  };
+}
+
+-- what isn't written stays
+pub same_unwritten : {V : Type 0} {Q : ℕ} (g : Ghosts V) (p : Inside V Q) (now : Part) → part_in g p ≡ now → (new : Forks V) → pages_over (told_page new.relseg (g.files new.area)) p.frames ≡ pages_in g p → SameUnwritten now (part_in {V = V} {Q = Q} g (record { disk = new; frames = p.frames; works = p.works; point = p.point }))
+same_unwritten g p now is new shown = record {
+  frames = shown ∙ ap (λ (x : Part). x.frames) is;
+  marks = ap (λ (x : Part). x.marks) is;
+  works = ap (λ (x : Part). x.works) is;
+  point = ap (λ (x : Part). x.point) is;
+}
 
 -- after a sync a stop leaves the files as they are
 pub settled_now : (x : Option Files) (past new : Option (List Event)) → new ≡ noted (synced x) past → IfSome x (λ files. LeavesNow (λ left. left ≡ files) new)

@@ -1,6 +1,8 @@
 -- What is made of a command that nothing refuses is what the command does.
-use Rattle.std.proofs.Common.{◌≡◌, ℕ, ◌+◌, false, cond, List, [], ◌∷◌, ◌++◌, map, get_or, drop, Option, Some, None, option_map, refl, ap, sym, subst, ◌∙◌, box_value}
+use Rattle.std.proofs.Common.{◌≡◌, ℕ, ◌+◌, ◌<◌, false, cond, List, [], ◌∷◌, ◌++◌, map, get_or, drop, Option, Some, None, option_map, refl, ap, sym, subst, ◌∙◌, box_value}
 use Rattle.std.specs.List.{All}
+use Rattle.std.proofs.lemmas.List.Elements.{All-nil, All-cons}
+use Rattle.lsn_core.specs.Sizes.{most_blocks}
 use Rattle.byte_words.specs.Numbers.{◌>>=◌}
 use Rattle.lsn_core.specs.declared.ids.BlockId.{BlockId}
 use Rattle.lsn_core.specs.Store.{Store}
@@ -14,7 +16,6 @@ use Rattle.history.specs.declared.op.Edit.TheVariants.{Put, Patch}
 use Rattle.history.specs.declared.op.Item.{Item}
 use Rattle.history.specs.Apply.{page_at, edited, apply_item, apply_items, apply_act}
 use Rattle.history.specs.Op.{act_of_op, IsTidy, IsFitEdit, IsFitItem, IsFit}
-use Rattle.history.specs.Written.{kind_of}
 use Rattle.history.specs.Whole.{is_named}
 use Rattle.history.proofs.Names.{not_named}
 use Rattle.history.proofs.Pushes.{all_first, all_rest}
@@ -22,12 +23,12 @@ use Rattle.history.proofs.Stores.{page_apart}
 use Rattle.page_pool.specs.declared.ready.Done.{Done}
 use Rattle.page_pool.specs.declared.ready.Done.TheVariants as done
 use Rattle.page_pool.specs.declared.ready.NewPage.{NewPage}
-use Rattle.wal_record.specs.declared.record.Kind.{Kind}
-use Rattle.wal_record.specs.Spelling.{IsWritable}
+use Rattle.page_pool.specs.declared.ready.Ready.{Ready}
 use Rattle.page_pool.specs.Part.{Part}
 use Rattle.page_pool.specs.Refusals.{judged_blocks, judged_op}
-use Rattle.page_pool.specs.Ready.{HasItems, IsOfOp, HasRoomFor, IsChecked, pages_put, done_at}
-use Rattle.page_pool.specs.Inside.{page_of_edit, page_of_item, seen_page, IsDoneBy, IsCounted}
+use Rattle.page_pool.specs.Ready.{HasItems, IsOfOp, IsChecked, pages_put, done_at}
+use Rattle.page_pool.specs.Room.{blocks_of}
+use Rattle.page_pool.specs.Inside.{page_of_edit, page_of_item, seen_page, blocks_done, IsDoneBy, IsFound}
 use Rattle.page_pool.proofs.Judged.{formed, blocks_on, judged-tidy, judged-fit}
 
 -- the page that an edit leaves has the LSN set
@@ -98,18 +99,43 @@ made_named store (op.Change items) (done.Dropped rel) is = is
 made_named store (op.Drop rel) made is = is
 made_named store (op.Change items) (done.Put pages) is = ats_of store items pages.items is
 
+-- pages are put at the blocks that the command names
+pub made_blocks : (store : Store) (command : Op) (made : Done) → IsDoneBy store command made → blocks_done made ≡ blocks_of command
+made_blocks store (op.Create fork) made is = ap blocks_done is
+made_blocks store (op.Truncate rel count) made is = ap blocks_done is
+made_blocks store (op.Change items) (done.Created fork) is = absurd is
+made_blocks store (op.Change items) (done.Cut rel count) is = absurd is
+made_blocks store (op.Change items) (done.Dropped rel) is = absurd is
+made_blocks store (op.Drop rel) made is = ap blocks_done is
+made_blocks store (op.Change items) (done.Put pages) is = sym (ats_of store items pages.items is)
+
+-- none of them past what a fork may have
+fit_narrow : (store : Store) (items : List Item) → All (IsFitItem store) items → All (λ (at : BlockId). at.block < most_blocks) (map (λ (i : Item). i.at) items)
+fit_narrow store [] fit = All-nil (λ (at : BlockId). at.block < most_blocks)
+fit_narrow store (item ∷ items) fit =
+    All-cons (λ (at : BlockId). at.block < most_blocks) item.at (map (λ (i : Item). i.at) items) (all_first (IsFitItem store) item items fit).number (fit_narrow store items (all_rest (IsFitItem store) item items fit))
+
+named_narrow : (store : Store) (command : Op) → IsFit store command → All (λ (at : BlockId). at.block < most_blocks) (blocks_of command)
+named_narrow store (op.Create fork) fit = All-nil (λ (at : BlockId). at.block < most_blocks)
+named_narrow store (op.Truncate rel count) fit = All-nil (λ (at : BlockId). at.block < most_blocks)
+named_narrow store (op.Change items) fit = fit_narrow store items fit.each
+named_narrow store (op.Drop rel) fit = All-nil (λ (at : BlockId). at.block < most_blocks)
+
+pub made_narrow : (store : Store) (command : Op) (made : Done) → HasItems command → judged_op store command ≡ None → IsDoneBy store command made → All (λ (at : BlockId). at.block < most_blocks) (blocks_done made)
+made_narrow store command made number free is = subst (All (λ (at : BlockId). at.block < most_blocks)) (sym (made_blocks store command made is)) (named_narrow store command (judged-fit store command number free))
+
 -- so it was checked
-pub checked : (old new : Part) (command : Op) (redo added gone : ℕ) (kind : Kind) (made : Done) → HasItems command → judged_op old.frames command ≡ None → IsDoneBy old.frames command made → HasRoomFor new made → new.frames ≡ old.frames
-    → kind ≡ kind_of old.frames redo (act_of_op command) → IsWritable kind → IsCounted old.frames command added gone → IsChecked old new command redo (record { kind = kind; added = added; gone = gone; done = made })
-checked old new command redo added gone kind made number free is room same kind_is writable counted = record {
-  taken = free;
+pub checked : (old new : Part) (command : Op) (redo : ℕ) (ready : Ready) → HasItems command → new.frames ≡ old.frames → IsFound old.frames new.framed new.work_room command redo ready → IsChecked old new command redo ready
+checked old new command redo ready number same found = record {
+  taken = found.free;
   prepared = record {
-    tidy = subst (λ (s : Store). IsTidy s (act_of_op command)) (sym same) (judged-tidy old.frames command free);
-    same = λ end fits. subst (λ (s : Store). apply_act end s (act_of_op command) ≡ Some (done_at end made s)) (sym same) (made_same end old.frames command made number free (judged-fit old.frames command number free) is);
-    named = made_named old.frames command made is;
-    room = room;
+    tidy = subst (λ (s : Store). IsTidy s (act_of_op command)) (sym same) (judged-tidy old.frames command found.free);
+    same = λ end fits. subst (λ (s : Store). apply_act end s (act_of_op command) ≡ Some (done_at end ready.done s)) (sym same) (made_same end old.frames command ready.done number found.free (judged-fit old.frames command number found.free) found.done);
+    named = made_named old.frames command ready.done found.done;
+    good = found.good;
+    room = found.left;
   };
-  kind = kind_is;
-  writable = writable;
-  counted = counted;
+  kind = found.kind;
+  writable = found.writable;
+  counted = found.counted;
 }

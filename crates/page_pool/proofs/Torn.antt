@@ -18,7 +18,7 @@ use Rattle.history.specs.Apply.{is_same_fork}
 use Rattle.history.proofs.Stores.{by_test, fork_is}
 use Rattle.fuzzy_copies.specs.Sound.{Agree}
 use Rattle.fuzzy_copies.proofs.Pages.{block_by_pages, fork_view, contains_key-with_fork, contains_key-with_cut}
-use Rattle.page_frames.specs.Marks.{DirtyMarks, is_dirty, NoneDirtyBefore, cleaned}
+use Rattle.page_frames.specs.Marks.{DirtyMarks, is_dirty, cleaned}
 use Rattle.page_pool.specs.declared.work.Work.{Work}
 use Rattle.page_pool.specs.declared.work.Work.TheVariants.{Make, Cut, Remove}
 use Rattle.page_pool.specs.declared.work.Pending.{Pending}
@@ -106,13 +106,13 @@ cut_lacks raw frames marks first rest fork to is held whole lacks =
 pub removed_lacks : (raw frames : Store) (marks : DirtyMarks) (first : Pending) (rest : List Pending) (fork : ForkId) → first.work ≡ Remove fork → LacksUnwritten raw frames marks (first ∷ rest) → LacksUnwritten (without_fork raw fork) frames marks rest
 removed_lacks raw frames marks first rest fork is lacks = subst (λ (w : Work). LacksUnwritten (work_done w raw) frames marks rest) is (works_done raw frames marks first rest lacks)
 
-pub put_lacks : (raw frames : Store) (marks : DirtyMarks) (at : BlockId) (page : List ℕ) → HasHeldPages raw → HasWholeFrames frames → LacksUnwritten raw frames marks [] → block_of frames at.fork at.block ≡ Some page → NoneDirtyBefore marks at
+pub put_lacks : (raw frames : Store) (marks : DirtyMarks) (at : BlockId) (page : List ℕ) → HasHeldPages raw → HasWholeFrames frames → LacksUnwritten raw frames marks [] → block_of frames at.fork at.block ≡ Some page
     → LacksUnwritten (page_over at page raw) frames (cleaned marks at) []
-put_lacks raw frames marks at page held whole lacks there first = either (nat_lt at.block (length (whole_pages (pages_of raw at.fork))))
+put_lacks raw frames marks at page held whole lacks there = either (nat_lt at.block (length (whole_pages (pages_of raw at.fork))))
   where
     either : (c : Bool) → LacksUnwritten (if c then page_put at page raw else page_put at page (mended raw at.fork)) frames (cleaned marks at) []
-    either true = pages_written raw frames marks at page lacks there first
-    either false = pages_written (mended raw at.fork) frames marks at page (lacks_mended raw frames marks [] at.fork held whole lacks) there first
+    either true = pages_written raw frames marks at page lacks there
+    either false = pages_written (mended raw at.fork) frames marks at page (lacks_mended raw frames marks [] at.fork held whole lacks) there
 
 -- ---- what failed
 

@@ -68,6 +68,18 @@ pub record SameDisk (old new : Part) : Type 0 where
   pub past : new.past ≡ old.past
   pub faults : new.faults ≡ old.faults
 
+-- nothing was written: the area, and what is dirty or pending, are as they were
+pub record IsQuiet (old new : Part) : Type 0 where
+  pub files : new.disk ≡ old.disk
+  pub past : new.past ≡ old.past
+  pub marks : new.marks ≡ old.marks
+  pub works : new.works ≡ old.works
+
+-- the forks are as long as they were, and there may be as many frames
+pub record SameBounds (old new : Part) : Type 0 where
+  pub lengths : new.framed.lengths ≡ old.framed.lengths
+  pub limit : new.framed.limit ≡ old.framed.limit
+
 -- ---- what was written
 
 -- the first pending work was done

@@ -6,9 +6,9 @@ use Rattle.std.specs.List.{All}
 use Rattle.std.specs.FinMap.{get, insert}
 use Rattle.lsn_core.specs.declared.ids.ForkId.{ForkId}
 use Rattle.lsn_core.specs.declared.ids.BlockId.{BlockId}
-use Rattle.lsn_core.specs.Blocks.{block_count, pages_of, page_put}
-use Rattle.lsn_core.specs.Store.{Store, ForkPages}
-use Rattle.pg_page.specs.Header.{hole_zeroed, with_lsn}
+use Rattle.lsn_core.specs.Blocks.{block_count, pages_of}
+use Rattle.lsn_core.specs.Store.{Store}
+use Rattle.pg_page.specs.Header.{hole_zeroed}
 use Rattle.pg_page.specs.Frags.{bad_frag, written_frags}
 use Rattle.history.specs.declared.op.Op.{Op}
 use Rattle.history.specs.declared.op.Op.TheVariants as op
@@ -20,15 +20,19 @@ use Rattle.history.specs.Op.{act_of_op}
 use Rattle.history.specs.Pages.{page_count}
 use Rattle.history.specs.Whole.{is_named}
 use Rattle.page_frames.specs.Marks.{DirtyMarks, fork_marks, touched}
-use Rattle.page_frames.specs.Framed.{Framed, HasRoom}
+use Rattle.page_frames.specs.Framed.{Framed, ForkLengths}
+use Rattle.page_frames.specs.Overlay.{pages_over, marks_over, HasSlot, HasPlace, raised}
+use Rattle.page_pool.specs.Ready.{HasRoomAt, HasRoomFor, AreGoodPages}
 use Rattle.page_pool.specs.declared.ready.Done.{Done}
 use Rattle.page_pool.specs.declared.ready.Done.TheVariants as done
 use Rattle.page_pool.specs.declared.ready.NewPage.{NewPage}
+use Rattle.page_pool.specs.declared.ready.Ready.{Ready}
+use Rattle.wal_record.specs.Spelling.{IsWritable}
+use Rattle.history.specs.Written.{kind_of}
 use Rattle.page_pool.specs.declared.work.Work.TheVariants as work
 use Rattle.page_pool.specs.declared.work.Pending.{Pending}
-use Rattle.page_pool.specs.Part.{Part}
 use Rattle.page_pool.specs.Steps.{marks_dropped, works_dropped}
-use Rattle.page_pool.specs.Refusals.{most_items, judged_blocks, judged_edits}
+use Rattle.page_pool.specs.Refusals.{most_items, judged_blocks, judged_edits, judged_op}
 
 -- ---- judging
 
@@ -96,18 +100,11 @@ IsDoneBy store (op.Drop rel) made = made ≡ done.Dropped rel
 
 -- ---- what is done
 
--- a fork is there, up to the block
-pub record IsPlace (store : Store) (at : BlockId) : Type 0 where
-  pub pages : ForkPages
-  pub there : get store at.fork ≡ Some pages
-  pub within : at.block ≤ length pages
-
 -- new pages are put in turn, each at a place that the ones before it leave
-abbrev pub ArePlaces : ℕ → Store → List NewPage → Type 0
-ArePlaces end store [] = Unit {0}
-ArePlaces end store (new ∷ pages) =
-    IsPlace store new.at
-    × ArePlaces end (page_put new.at (with_lsn end (box_value new.page)) store) pages
+abbrev pub ArePlaces : ForkLengths → List NewPage → Type 0
+ArePlaces lengths [] = Unit {0}
+ArePlaces lengths (new ∷ pages) =
+    HasPlace lengths new.at × ArePlaces (raised lengths new.at) pages
 
 abbrev pub pages_touched : ℕ → DirtyMarks → List NewPage → DirtyMarks
 pages_touched end marks [] = marks
@@ -130,28 +127,45 @@ works_done end frames works (done.Cut rel count) =
 works_done end frames works (done.Put pages) = works
 works_done end frames works (done.Dropped rel) = works_dropped end frames works (rel ∷ [])
 
--- what was made ready may be done on a partition, without memory
-abbrev pub MayBeDone : ℕ → Part → Done → Type 0
-MayBeDone end part (done.Created fork) =
-    HasRoom part.page_room fork 0 × (get part.frames fork ≡ None) × (1 ≤ part.work_room)
-MayBeDone end part (done.Cut rel count) =
-    IsSome (get part.frames (main_fork rel)) × (1 ≤ part.work_room)
-MayBeDone end part (done.Dropped rel) = 2 ≤ part.work_room
-MayBeDone end part (done.Put pages) =
-    ArePlaces end part.frames pages.items
-    × All (λ p. HasRoom part.page_room p.at.fork (length pages.items)) pages.items
+-- what was made ready may be done on frames and pending works, for which there is so much room,
+-- without memory
+abbrev pub MayBeDone : Framed → ℕ → Done → Type 0
+MayBeDone f room (done.Created fork) =
+    HasSlot f fork × (get f.lengths fork ≡ None) × (1 ≤ room)
+MayBeDone f room (done.Cut rel count) =
+    IsSome (get f.lengths (main_fork rel)) × (1 ≤ room)
+MayBeDone f room (done.Dropped rel) = 2 ≤ room
+MayBeDone f room (done.Put pages) =
+    ArePlaces f.lengths pages.items × All (λ p. HasRoomAt f p.at) pages.items
 
--- a partition of which frames and pending works alone are known
-abbrev pub bare : Framed → Vec Pending → Part
-bare frames works = record {
-  frames = frames.pages;
-  marks = frames.marks;
-  works = works.items;
-  point = 0;
-  page_room = frames.room;
-  work_room = vec_capacity works - vec_len works;
-  relseg = 0;
-  disk = None;
-  past = None;
-  faults = 0;
-}
+-- the blocks at which it puts pages
+abbrev pub blocks_done : Done → List BlockId
+blocks_done (done.Created fork) = []
+blocks_done (done.Cut rel count) = []
+blocks_done (done.Put pages) = map (λ p. p.at) pages.items
+blocks_done (done.Dropped rel) = []
+
+-- ---- what stays of frames
+
+-- pages, whatever stands behind the frames, marks, and lengths are as they were
+pub record ShowsAlike (old new : Framed) : Type 0 where
+  pub pages : (behind : BlockId → List ℕ) → pages_over behind new ≡ pages_over behind old
+  pub marks : marks_over new ≡ marks_over old
+  pub lengths : new.lengths ≡ old.lengths
+
+-- how many works may be entered without memory
+abbrev pub room_in : Vec Pending → ℕ
+room_in works = vec_capacity works - vec_len works
+
+-- ---- what was found
+
+-- a command that nothing refuses, made of some pages and ready for frames and works as they are
+pub record IsFound (pages : Store) (f : Framed) (room : ℕ) (command : Op) (redo : ℕ) (ready : Ready)
+    : Type 0 where
+  pub free : judged_op pages command ≡ None
+  pub done : IsDoneBy pages command ready.done
+  pub good : AreGoodPages ready.done
+  pub kind : ready.kind ≡ kind_of pages redo (act_of_op command)
+  pub writable : IsWritable ready.kind
+  pub counted : IsCounted pages command ready.added ready.gone
+  pub left : HasRoomFor f room ready.done

@@ -1,26 +1,32 @@
 -- Laws of a partition's frames and disk.
-use Rattle.std.specs.Prelude.{◌≡◌, ℕ, ◌+◌, ◌≤◌, ◌==◌, max, true, false, List, [], ◌∷◌, ◌++◌, map, length, Option, Some, None, IsSome, IfSome}
+use Rattle.std.specs.Prelude.{◌≡◌, ℕ, ◌+◌, ◌≤◌, ◌<◌, ◌==◌, max, true, false, List, [], ◌∷◌, ◌++◌, map, length, Option, Some, None, IsSome, IfSome}
+use Rattle.std.specs.Option.{is_some}
 use Rattle.std.specs.List.{list_any}
-use Rattle.std.specs.FinMap.{empty}
+use Rattle.std.specs.FinMap.{empty, get}
 use Rattle.lsn_core.specs.declared.ids.ForkId.{ForkId}
 use Rattle.lsn_core.specs.declared.ids.BlockId.{BlockId}
 use Rattle.lsn_core.specs.Store.{Store}
-use Rattle.lsn_core.specs.Blocks.{block_of, page_put}
+use Rattle.lsn_core.specs.Files.{Files}
+use Rattle.lsn_core.specs.Blocks.{block_of, block_count, page_put}
 use Rattle.history.specs.declared.op.Op.{Op}
 use Rattle.history.specs.Entry.{Act, Entry}
 use Rattle.history.specs.Apply.{apply_act, apply_all}
 use Rattle.history.specs.Op.{act_of_op, IsTidy}
 use Rattle.history.specs.Pages.{page_count}
+use Rattle.rel_files.specs.Forks.{Holds}
 use Rattle.partitions.specs.Parts.{is_of, part_of, IsPart, concerns, ConcernsNoOther}
 use Rattle.fuzzy_copies.specs.Covers.{Covers}
 use Rattle.fuzzy_copies.specs.CoverLaws.{MakesTidily}
-use Rattle.page_frames.specs.Marks.{DirtyMarks, is_dirty, cleaned, NoneDirtyBefore}
+use Rattle.page_frames.specs.Marks.{DirtyMarks, is_dirty, cleaned}
+use Rattle.page_frames.specs.Framed.{Framed, held_page}
+use Rattle.page_frames.specs.Overlay.{pages_over, marks_over}
 use Rattle.page_pool.specs.declared.work.Pending.{Pending}
 use Rattle.page_pool.specs.declared.turn.Wrote.{Wrote}
 use Rattle.page_pool.specs.Part.{Part, LacksUnwritten, IsMended, next_end, newest_end}
 use Rattle.page_pool.specs.Steps.{marks_after, works_after, HasApplied, work_done, ChangedWhereUnwritten, HasWritten, IsClean}
 use Rattle.page_pool.specs.Facts.{history_end, Follows}
-use Rattle.page_pool.specs.Calls.{IsOneWritten}
+use Rattle.page_pool.specs.Calls.{AreWholePages, IsOneWritten}
+use Rattle.page_pool.specs.Told.{told_page}
 use Rattle.page_pool.specs.Refusals.{judged_op}
 
 -- a tidy act done in frames: the disk lacks what it lacked, and what the act touched or entered
@@ -39,13 +45,13 @@ WorksAreDone =
     → LacksUnwritten disk frames marks (first ∷ works)
     → LacksUnwritten (work_done first.work disk) frames marks works
 
--- where no work is pending and no earlier block of its fork is dirty, a page that was written is
--- clean
+-- where no work is pending, a page that was written is clean, also before earlier ones of its fork:
+-- zeros that a write fills in stand at blocks that are dirty themselves
 abbrev pub PagesAreWritten : Type 0
 PagesAreWritten =
     (disk frames : Store) (marks : DirtyMarks) (at : BlockId) (page : List ℕ)
     → LacksUnwritten disk frames marks [] → block_of frames at.fork at.block ≡ Some page
-    → NoneDirtyBefore marks at → LacksUnwritten (page_put at page disk) frames (cleaned marks at) []
+    → LacksUnwritten (page_put at page disk) frames (cleaned marks at) []
 
 -- after writes that failed it is dirty or pending what was so before
 abbrev pub TornWritesStayUnwritten : Type 0
@@ -72,6 +78,22 @@ CleanDisksAreFrames =
 -- and a disk that is so lacks nothing
 abbrev pub FramesLackNothing : Type 0
 FramesLackNothing = (frames : Store) (marks : DirtyMarks) → LacksUnwritten frames frames marks []
+
+-- frames are of these pages: their lengths are those of the forks, and no frame of a block that is
+-- there has another page
+pub record AreFramesOf (pages : Store) (f : Framed) : Type 0 where
+  pub lengths : (fork : ForkId) → get f.lengths fork ≡ block_count pages fork
+  pub blocks : (at : BlockId) (page held : List ℕ) → block_of pages at.fork at.block ≡ Some page
+      → held_page f.held at ≡ Some held → held ≡ page
+
+-- where files hold a store that lacks of some pages only what is dirty or pending, the pages in
+-- frames of theirs over these files are those: whatever was written, given up or read
+abbrev pub PagesAreShown : Type 0
+PagesAreShown =
+    (relseg : ℕ) (files : Files) (raw pages : Store) (works : List Pending) (f : Framed)
+    → 0 < relseg → Holds relseg files raw → LacksUnwritten raw pages (marks_over f) works
+    → AreWholePages pages → AreFramesOf pages f
+    → pages_over (told_page relseg (Some files)) f ≡ pages
 
 -- a partition that has a history's pages, and nothing dirty or pending, follows the history, from
 -- each point up to the history's end
@@ -100,7 +122,7 @@ OtherEntriesAreFollowed =
 abbrev pub OneWrittenIsWritten : Type 0
 OneWrittenIsWritten =
     (what : Option Wrote) (old new : Part) → IsOneWritten what old new
-    → (IsSome new.disk → IsSome old.disk) → HasWritten old new
+    → is_some new.disk ≡ is_some old.disk → HasWritten old new
 
 -- it follows its history still when pages and works are written
 abbrev pub WritesAreFollowed : Type 0

@@ -1,11 +1,14 @@
 pub mod Part
+pub mod Told
 pub mod Steps
 pub mod Facts
 pub mod Laws
 pub mod Refusals
 pub mod Ready
+pub mod Room
 pub mod Calls
 pub mod Inside
 pub mod PartCode
 pub mod Writing
+pub mod Opening
 pub mod Partition

@@ -10,18 +10,18 @@ use Rattle.vault.specs.Stops.{Event}
 use Rattle.history.specs.Apply.{is_same_fork}
 use Rattle.fuzzy_copies.specs.Sound.{Agree}
 use Rattle.page_frames.specs.Marks.{DirtyMarks, is_dirty, dirty_ends}
-use Rattle.page_frames.specs.Framed.{PageRoom}
+use Rattle.page_frames.specs.Framed.{Framed}
 use Rattle.page_pool.specs.declared.work.Work.{Work}
 use Rattle.page_pool.specs.declared.work.Work.TheVariants.{Make, Cut, Remove}
 use Rattle.page_pool.specs.declared.work.Pending.{Pending}
 
 -- what a partition holds
 pub record Part : Type 0 where
-  pub frames : Store  -- its pages, as they are now
+  pub frames : Store  -- its pages, as they are now: those in frames over the blocks of its area
   pub marks : DirtyMarks  -- which of them are dirty
   pub works : List Pending  -- what is to be done before dirty pages are written, in order
   pub point : ℕ  -- replay from here on makes good what isn't written
-  pub page_room : PageRoom  -- where pages may be added without memory
+  pub framed : Framed  -- which blocks have a frame, and what for others room is kept
   pub work_room : ℕ  -- how many works may be entered without memory
   pub relseg : ℕ  -- blocks a segment file
   pub disk : Option Files  -- the files of its area, where that tells them

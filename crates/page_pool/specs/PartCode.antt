@@ -7,7 +7,9 @@ use Rattle.lsn_core.specs.Files.{Files}
 use Rattle.lsn_core.specs.Store.{Store}
 use Rattle.vault.specs.Stops.{Event}
 use Rattle.page_frames.specs.Marks.{DirtyMarks}
-use Rattle.page_frames.specs.Framed.{PageRoom, store_code, marks_code, room_code}
+use Rattle.lsn_core.specs.contracts.ids.ForkId as fork_row
+use Rattle.history.specs.Pages.{store_code}
+use Rattle.page_frames.specs.Framed.{Framed, framed_code}
 use Rattle.page_pool.specs.declared.work.Pending.{Pending}
 use Rattle.page_pool.specs.contracts.work.Pending.{the_row}
 use Rattle.page_pool.specs.Part.{Part}
@@ -21,9 +23,12 @@ event_code =
     (coded⊎ (coded× (coded_list coded_ℕ) coded_ℕ)
     (coded⊎ (coded_list coded_ℕ) (coded_option files_code)))
 
+abbrev pub marks_code : Coded DirtyMarks
+marks_code = code fork_row.the_row.coded (coded_list (coded_option coded_ℕ))
+
 -- what is held in memory, and what is told of the area, as pairs
 abbrev pub Pool : Type 0
-Pool = Store × (DirtyMarks × (List Pending × (ℕ × (PageRoom × ℕ))))
+Pool = Store × (DirtyMarks × (List Pending × (ℕ × (Framed × ℕ))))
 
 abbrev pub Told : Type 0
 Told = ℕ × (Option Files × (Option (List Event) × ℕ))
@@ -31,7 +36,7 @@ Told = ℕ × (Option Files × (Option (List Event) × ℕ))
 abbrev pub pool_code : Coded Pool
 pool_code =
     coded× store_code (coded× marks_code (coded× (coded_list the_row.coded)
-    (coded× coded_ℕ (coded× room_code coded_ℕ))))
+    (coded× coded_ℕ (coded× framed_code coded_ℕ))))
 
 abbrev pub told_code : Coded Told
 told_code =
@@ -39,7 +44,7 @@ told_code =
     (coded× (coded_option (coded_list event_code)) coded_ℕ))
 
 abbrev pub pool_of : Part → Pool
-pool_of p = (p.frames, (p.marks, (p.works, (p.point, (p.page_room, p.work_room)))))
+pool_of p = (p.frames, (p.marks, (p.works, (p.point, (p.framed, p.work_room)))))
 
 abbrev pub told_of : Part → Told
 told_of p = (p.relseg, (p.disk, (p.past, p.faults)))
@@ -50,7 +55,7 @@ part_of_pairs p t = record {
   marks = p.1.0;
   works = p.1.1.0;
   point = p.1.1.1.0;
-  page_room = p.1.1.1.1.0;
+  framed = p.1.1.1.1.0;
   work_room = p.1.1.1.1.1;
   relseg = t.0;
   disk = t.1.0;

@@ -1,9 +1,10 @@
 -- A command that is ready to be done on a partition, and its doing.
 use Rattle.std.specs.Prelude.{◌≡◌, ℕ, ◌+◌, ◌≤◌, ◌<◌, ◌^◌, List, [], ◌∷◌, map, length, Some, None, Result, Ok, Err, box_value}
 use Rattle.std.specs.List.{All}
+use Rattle.lsn_core.specs.declared.ids.BlockId.{BlockId}
 use Rattle.lsn_core.specs.Store.{Store}
 use Rattle.lsn_core.specs.Blocks.{page_put, with_fork, with_cut}
-use Rattle.pg_page.specs.Header.{with_lsn}
+use Rattle.pg_page.specs.Header.{IsGood, with_lsn}
 use Rattle.wal_record.specs.Spelling.{IsWritable}
 use Rattle.history.specs.declared.op.Op.{Op}
 use Rattle.history.specs.declared.op.Op.TheVariants as op
@@ -11,7 +12,9 @@ use Rattle.history.specs.Apply.{main_fork, without_rel, apply_act}
 use Rattle.history.specs.Op.{act_of_op, IsTidy}
 use Rattle.history.specs.Pages.{page_count}
 use Rattle.history.specs.Written.{kind_of}
-use Rattle.page_frames.specs.Framed.{HasRoom}
+use Rattle.lsn_core.specs.Sizes.{most_blocks}
+use Rattle.page_frames.specs.Framed.{Framed}
+use Rattle.page_frames.specs.Overlay.{HasSlot, IsReserved}
 use Rattle.page_pool.specs.declared.fault.OpFault.{OpFault}
 use Rattle.page_pool.specs.declared.ready.Ready.{Ready}
 use Rattle.page_pool.specs.declared.ready.Done.{Done}
@@ -43,13 +46,25 @@ IsOfOp (op.Change items) (Dropped rel) = ⊥
 IsOfOp (op.Change items) (Put pages) = map (λ i. i.at) items ≡ map (λ p. p.at) pages.items
 IsOfOp (op.Drop rel) done = done ≡ Dropped rel
 
--- it takes no memory: there is room for a fork, for a work (for a drop two), and for as many pages as there are
-abbrev pub HasRoomFor : Part → Done → Type 0
-HasRoomFor part (Created fork) = HasRoom part.page_room fork 0 × (1 ≤ part.work_room)
-HasRoomFor part (Cut rel count) = 1 ≤ part.work_room
-HasRoomFor part (Dropped rel) = 2 ≤ part.work_room
-HasRoomFor part (Put pages) =
-    All (λ p. HasRoom part.page_room p.at.fork (length pages.items)) pages.items
+-- a page may be put at the block without memory: its frame is there, and no block is past what a
+-- fork may have
+pub record HasRoomAt (f : Framed) (at : BlockId) : Type 0 where
+  pub reserved : IsReserved f at
+  pub narrow : at.block < most_blocks
+
+-- each page that it puts is good
+abbrev pub AreGoodPages : Done → Type 0
+AreGoodPages (Created fork) = Unit {0}
+AreGoodPages (Cut rel count) = Unit {0}
+AreGoodPages (Put pages) = All (λ p. IsGood (box_value p.page)) pages.items
+AreGoodPages (Dropped rel) = Unit {0}
+
+-- it takes no memory: there is room for a fork, for a work (for a drop two), and for each page
+abbrev pub HasRoomFor : Framed → ℕ → Done → Type 0
+HasRoomFor f room (Created fork) = HasSlot f fork × (1 ≤ room)
+HasRoomFor f room (Cut rel count) = 1 ≤ room
+HasRoomFor f room (Dropped rel) = 2 ≤ room
+HasRoomFor f room (Put pages) = All (λ p. HasRoomAt f p.at) pages.items
 
 -- a command is ready to be done on a partition as it is
 pub record IsReady (part : Part) (command : Op) (ready : Ready) : Type 0 where
@@ -57,7 +72,8 @@ pub record IsReady (part : Part) (command : Op) (ready : Ready) : Type 0 where
   pub same : (end : ℕ) → end < 2 ^ 64
       → apply_act end part.frames (act_of_op command) ≡ Some (done_at end ready.done part.frames)
   pub named : IsOfOp command ready.done
-  pub room : HasRoomFor part ready.done
+  pub good : AreGoodPages ready.done
+  pub room : HasRoomFor part.framed part.work_room ready.done
 
 -- the command may be done: it is ready, with the kind of its WAL entry, by the pages before it and
 -- the latest redo point, and how many pages it adds and takes away

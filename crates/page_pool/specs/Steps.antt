@@ -1,5 +1,6 @@
 -- What entries and writes leave of a partition.
 use Rattle.std.specs.Prelude.{◌≡◌, ℕ, false, List, [], ◌∷◌, ◌++◌, take, drop, Some, IsSome, if◌then◌else◌}
+use Rattle.std.specs.Option.{is_some}
 use Rattle.std.specs.FinMap.{insert, remove, contains_key}
 use Rattle.lsn_core.specs.Relation.{Relation}
 use Rattle.lsn_core.specs.declared.ids.ForkId.{ForkId}
@@ -86,15 +87,16 @@ pub record ChangedWhereUnwritten (old new : Store) (marks : DirtyMarks) (works :
   pub forks : (fork : ForkId) → is_to_settle works fork ≡ false
       → contains_key new fork ≡ contains_key old fork
 
--- a partition after some of it was written, of its works the first ones
+-- a partition after some of it was written, of its works the first ones. Of an area that doesn't tell
+-- its files it isn't known that it gives back what was written
 pub record HasWritten (old new : Part) : Type 0 where
-  pub frames : new.frames ≡ old.frames
+  pub frames : IsSome old.disk → new.frames ≡ old.frames
   pub marks : (fork : ForkId) (block end : ℕ) → touch_end new.marks fork block ≡ Some end
       → touch_end old.marks fork block ≡ Some end
   pub done : ℕ
   pub works : new.works ≡ drop done old.works
   pub point : new.point ≡ old.point
-  pub told : IsSome new.disk → IsSome old.disk
+  pub told : is_some new.disk ≡ is_some old.disk
 
 -- nothing is dirty or pending
 pub record IsClean (part : Part) : Type 0 where

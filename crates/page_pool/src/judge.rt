@@ -11,6 +11,7 @@ ghost use Rattle.pg_page.specs.Frags.{bad_frag, written_frags, is_good};
 ghost use Rattle.history.specs.declared.op.Op.TheVariants as op;
 ghost use Rattle.history.specs.Apply.{page_at};
 ghost use Rattle.history.specs.Whole.{is_named};
+ghost use Rattle.page_frames.specs.Overlay.{own_pages};
 ghost use Rattle.page_pool.specs.Refusals.{most_items, judged_edit, judged_found, judged_items, judged_op};
 ghost use Rattle.page_pool.specs.Ready.{HasItems};
 ghost use Rattle.page_pool.specs.Inside.{grown, IsBehind, HasGoodFrags, IsFormed, IsCounted, item_adds};
@@ -32,8 +33,8 @@ pub(crate) struct Counts {
 /// Whether a command may be done on the pages. Takes no memory, and copies no page.
 pub(crate) fn judge(frames: &Frames, op: &Op) -> Result<Counts, OpFault>
     requires { HasItems op.now }
-    ensures judged { result_err result ≡ judged_op frames.now.pages op.now }
-    ensures counted { IfOk result (λ c. IsCounted frames.now.pages op.now c.added c.gone) }
+    ensures judged { result_err result ≡ judged_op (own_pages frames.now) op.now }
+    ensures counted { IfOk result (λ c. IsCounted (own_pages frames.now) op.now c.added c.gone) }
 {
     match op {
         Op::Create(fork) => judge_creation(frames, fork),
@@ -45,9 +46,9 @@ pub(crate) fn judge(frames: &Frames, op: &Op) -> Result<Counts, OpFault>
 
 /// Whether a fork may be created.
 fn judge_creation(frames: &Frames, fork: &ForkId) -> Result<Counts, OpFault>
-    ensures judged { result_err result ≡ judged_op frames.now.pages (op.Create fork.now) }
+    ensures judged { result_err result ≡ judged_op (own_pages frames.now) (op.Create fork.now) }
     ensures counted { IfOk result
-        (λ c. IsCounted frames.now.pages (op.Create fork.now) c.added c.gone) }
+        (λ c. IsCounted (own_pages frames.now) (op.Create fork.now) c.added c.gone) }
 {
     match frames.blocks(fork) {
         Some(_) => Err(OpFault::ForkExists),
@@ -57,17 +58,15 @@ fn judge_creation(frames: &Frames, fork: &ForkId) -> Result<Counts, OpFault>
 
 /// Whether the main fork of a relation may be cut to so many blocks.
 fn judge_cut(frames: &Frames, rel: Rel, blocks: u32) -> Result<Counts, OpFault>
-    ensures judged { result_err result ≡ judged_op frames.now.pages (op.Truncate rel blocks) }
+    ensures judged { result_err result ≡ judged_op (own_pages frames.now) (op.Truncate rel blocks) }
     ensures counted { IfOk result
-        (λ c. IsCounted frames.now.pages (op.Truncate rel blocks) c.added c.gone) }
+        (λ c. IsCounted (own_pages frames.now) (op.Truncate rel blocks) c.added c.gone) }
 {
     match frames.blocks(&main_fork(rel)) {
         None => Err(OpFault::NoFork),
-        Some(length) if length < blocks as usize || blocks > MOST_BLOCKS => {
-            Err(OpFault::CutPastEnd)
-        }
+        Some(length) if length < blocks || blocks > MOST_BLOCKS => Err(OpFault::CutPastEnd),
         Some(length) => {
-            let gone = (length - blocks as usize) as u64;
+            let gone = u64::from(length - blocks);
             Ok(Counts { added: 0, gone })
         }
     }
@@ -75,9 +74,9 @@ fn judge_cut(frames: &Frames, rel: Rel, blocks: u32) -> Result<Counts, OpFault>
 
 /// Whether a relation may be dropped.
 fn judge_drop(frames: &Frames, rel: Rel) -> Result<Counts, OpFault>
-    ensures judged { result_err result ≡ judged_op frames.now.pages (op.Drop rel) }
+    ensures judged { result_err result ≡ judged_op (own_pages frames.now) (op.Drop rel) }
     ensures counted { IfOk result
-        (λ c. IsCounted frames.now.pages (op.Drop rel) c.added c.gone) }
+        (λ c. IsCounted (own_pages frames.now) (op.Drop rel) c.added c.gone) }
 {
     if !is_there(frames, &main_fork(rel)) && !is_there(frames, &init_fork(rel)) {
         return Err(OpFault::NoFork);
@@ -88,19 +87,19 @@ fn judge_drop(frames: &Frames, rel: Rel) -> Result<Counts, OpFault>
 
 /// Whether a fork is there.
 fn is_there(frames: &Frames, fork: &ForkId) -> bool
-    ensures { result ≡ is_some (get frames.now.pages fork.now) }
+    ensures { result ≡ is_some (get (own_pages frames.now) fork.now) }
 {
     frames.blocks(fork).is_some()
 }
 
 /// How many pages a fork has; a missing fork has none.
 fn pages_in(frames: &Frames, fork: &ForkId) -> u64
-    ensures count { result ≡ length (pages_of frames.now.pages fork.now) }
+    ensures count { result ≡ length (pages_of (own_pages frames.now) fork.now) }
     ensures few { result ≤ 2 ^ 32 }
 {
     frames.know();
     match frames.blocks(fork) {
-        Some(count) => count as u64,
+        Some(count) => u64::from(count),
         None => 0,
     }
 }
@@ -108,9 +107,9 @@ fn pages_in(frames: &Frames, fork: &ForkId) -> u64
 /// Whether blocks may be changed.
 fn judge_change(frames: &Frames, items: &[Item]) -> Result<Counts, OpFault>
     requires { HasItems (op.Change items.now) }
-    ensures judged { result_err result ≡ judged_op frames.now.pages (op.Change items.now) }
+    ensures judged { result_err result ≡ judged_op (own_pages frames.now) (op.Change items.now) }
     ensures counted { IfOk result
-        (λ c. IsCounted frames.now.pages (op.Change items.now) c.added c.gone) }
+        (λ c. IsCounted (own_pages frames.now) (op.Change items.now) c.added c.gone) }
 {
     judge_blocks(items)?;
     judge_edits(items)?;
@@ -121,9 +120,9 @@ fn judge_change(frames: &Frames, items: &[Item]) -> Result<Counts, OpFault>
 /// Whether items may be done in turn, each behind those before it: how many pages they add.
 fn judge_items(frames: &Frames, items: &[Item]) -> Result<u64, OpFault>
     requires { IsFormed items.now }
-    ensures judged { result_err result ≡ judged_items 0 frames.now.pages items.now }
+    ensures judged { result_err result ≡ judged_items 0 (own_pages frames.now) items.now }
     ensures counted { IfOk result
-        (λ added. IsCounted frames.now.pages (op.Change items.now) added 0) }
+        (λ added. IsCounted (own_pages frames.now) (op.Change items.now) added 0) }
 {
     let mut added = 0;
     for at in 0..items.len() {
@@ -138,16 +137,16 @@ fn judge_item(frames: &Frames, before: &[Item], item: &Item) -> Result<u64, OpFa
     requires few { length before.now < most_items }
     requires apart { is_named item.now.at (map (λ i. i.at) before.now) ≡ false }
     requires frags { HasGoodFrags item.now.edit }
-    ensures judged { (store : Store) → IsBehind frames.now.pages before.now store
+    ensures judged { (store : Store) → IsBehind (own_pages frames.now) before.now store
         → result_err result
         ≡ judged_found (length before.now) item.now (get store item.now.at.fork) }
     ensures added { IfOk result (λ added. (store : Store)
-        → IsBehind frames.now.pages before.now store → added ≡ item_adds store item.now) }
+        → IsBehind (own_pages frames.now) before.now store → added ≡ item_adds store item.now) }
 {
     let Some(found) = frames.blocks(&item.at.fork) else {
         return Err(OpFault::NoFork);
     };
-    let length = grown(before, &item.at.fork, found);
+    let length = grown(before, &item.at.fork, found as usize);
     judge_edit(frames, before.len() as u32, length, item)?;
     let end = item.at.block as usize + 1;
     if length.max(end) > MOST_BLOCKS as usize {
@@ -173,7 +172,7 @@ fn grown(items: &[Item], fork: &ForkId, length: usize) -> usize
 fn judge_edit(frames: &Frames, number: u32, size: usize, item: &Item) -> Result<(), OpFault>
     requires { HasGoodFrags item.now.edit }
     ensures { (fork : ForkPages) → length fork ≡ size
-        → get_or fork item.now.at.block zero_page ≡ page_at frames.now.pages item.now.at
+        → get_or fork item.now.at.block zero_page ≡ page_at (own_pages frames.now) item.now.at
         → result_err result ≡ judged_edit number fork item.now.at.block item.now.edit }
 {
     let block = item.at.block as usize;
@@ -194,7 +193,7 @@ fn judge_edit(frames: &Frames, number: u32, size: usize, item: &Item) -> Result<
 /// Whether good fragments leave the page at a block a good header.
 fn leaves_header(frames: &Frames, at: &BlockId, frags: &[Frag]) -> bool
     requires { bad_frag frags.now ≡ None }
-    ensures { result ≡ is_good (written_frags frags.now (page_at frames.now.pages at.now)) }
+    ensures { result ≡ is_good (written_frags frags.now (page_at (own_pages frames.now) at.now)) }
 {
     match frames.block(at) {
         Some(page) => keeps_header(page, frags),

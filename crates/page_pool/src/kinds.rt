@@ -9,6 +9,8 @@ ghost use Rattle.history.specs.declared.op.Op.TheVariants as op;
 ghost use Rattle.history.specs.Apply.{page_at};
 ghost use Rattle.history.specs.Op.{act_of_op, IsFitItem, AreFit, IsFit};
 ghost use Rattle.history.specs.Written.{kind_of, body_of, block_of_item};
+ghost use Rattle.page_frames.specs.Overlay.{own_pages};
+ghost use Rattle.page_pool.specs.Ready.{AreGoodPages};
 ghost use Rattle.page_pool.specs.Inside.{page_of_edit, IsDoneBy};
 
 use crate::ready::{Done, NewPage};
@@ -31,10 +33,11 @@ pub(crate) struct Made {
 /// Makes what a command does to the pages, all pages but for their LSN, and the kind of entry that
 /// it is written as, by the pages before it and the latest redo point.
 pub(crate) fn make(alloc: Global, frames: &Frames, op: &Op, redo: Lsn) -> Result<Made, NoMemory>
-    requires { IsFit frames.now.pages op.now }
-    ensures done { IfOk result (λ made. IsDoneBy frames.now.pages op.now made.done) }
+    requires { IsFit (own_pages frames.now) op.now }
+    ensures done { IfOk result (λ made. IsDoneBy (own_pages frames.now) op.now made.done) }
+    ensures good { IfOk result (λ made. AreGoodPages made.done) }
     ensures kind { IfOk result
-        (λ made. made.kind ≡ kind_of frames.now.pages redo.0 (act_of_op op.now)) }
+        (λ made. made.kind ≡ kind_of (own_pages frames.now) redo.0 (act_of_op op.now)) }
     ensures writable { IfOk result (λ made. IsWritable made.kind) }
 {
     match op {
@@ -59,11 +62,12 @@ pub(crate) fn make(alloc: Global, frames: &Frames, op: &Op, redo: Lsn) -> Result
 
 /// Makes the pages that items leave, and the blocks that they are written as.
 fn make_change(alloc: Global, frames: &Frames, items: &[Item], redo: Lsn) -> Result<Made, NoMemory>
-    requires { AreFit frames.now.pages items.now }
+    requires { AreFit (own_pages frames.now) items.now }
     ensures done { IfOk result
-        (λ made. IsDoneBy frames.now.pages (op.Change items.now) made.done) }
+        (λ made. IsDoneBy (own_pages frames.now) (op.Change items.now) made.done) }
+    ensures good { IfOk result (λ made. AreGoodPages made.done) }
     ensures kind { IfOk result (λ made. made.kind
-        ≡ kind_of frames.now.pages redo.0 (act_of_op (op.Change items.now))) }
+        ≡ kind_of (own_pages frames.now) redo.0 (act_of_op (op.Change items.now))) }
     ensures writable { IfOk result (λ made. IsWritable made.kind) }
 {
     let mut pages = Vec::with_capacity(alloc, items.len())?;
@@ -80,9 +84,9 @@ fn make_change(alloc: Global, frames: &Frames, items: &[Item], redo: Lsn) -> Res
 
 /// The page that an item leaves at its block, but for its LSN.
 fn new_page(alloc: Global, frames: &Frames, item: &Item) -> Result<Box<[u8; 8192]>, NoMemory>
-    requires { IsFitItem frames.now.pages item.now }
+    requires { IsFitItem (own_pages frames.now) item.now }
     ensures page { IfOk result (λ page. box_value page
-        ≡ page_of_edit (page_at frames.now.pages item.now.at) item.now.edit) }
+        ≡ page_of_edit (page_at (own_pages frames.now) item.now.at) item.now.edit) }
     ensures writable { IfOk result (λ page. IsWritableBody (Image (box_value page))) }
 {
     match &item.edit {
@@ -109,9 +113,9 @@ fn patched_page(
     frags: &Frags,
 ) -> Result<Box<[u8; 8192]>, NoMemory>
     requires good { bad_frag frags.now ≡ None }
-    requires header { is_good (written_frags frags.now (page_at frames.now.pages at.now)) ≡ true }
+    requires header { is_good (written_frags frags.now (page_at (own_pages frames.now) at.now)) ≡ true }
     ensures page { IfOk result (λ copy. box_value copy
-        ≡ hole_zeroed (written_frags frags.now (page_at frames.now.pages at.now))) }
+        ≡ hole_zeroed (written_frags frags.now (page_at (own_pages frames.now) at.now))) }
     ensures writable { IfOk result (λ copy. IsWritableBody (Image (box_value copy))) }
 {
     let mut copy = frames.page_copy(alloc, at)?;
@@ -128,12 +132,12 @@ fn block(
     page: &[u8; 8192],
     redo: Lsn,
 ) -> Result<BlockRef, NoMemory>
-    requires fit { IsFitItem frames.now.pages item.now }
+    requires fit { IsFitItem (own_pages frames.now) item.now }
     requires page { page.now
-        ≡ page_of_edit (page_at frames.now.pages item.now.at) item.now.edit }
+        ≡ page_of_edit (page_at (own_pages frames.now) item.now.at) item.now.edit }
     requires image { IsWritableBody (Image page.now) }
     ensures block { IfOk result
-        (λ b. b ≡ block_of_item frames.now.pages redo.0 item.now) }
+        (λ b. b ≡ block_of_item (own_pages frames.now) redo.0 item.now) }
     ensures writable { IfOk result IsWritableBlock }
 {
     know(&item.at.fork.rel);
@@ -150,12 +154,12 @@ fn body(
     page: &[u8; 8192],
     redo: Lsn,
 ) -> Result<Body, NoMemory>
-    requires fit { IsFitItem frames.now.pages item.now }
+    requires fit { IsFitItem (own_pages frames.now) item.now }
     requires page { page.now
-        ≡ page_of_edit (page_at frames.now.pages item.now.at) item.now.edit }
+        ≡ page_of_edit (page_at (own_pages frames.now) item.now.at) item.now.edit }
     requires image { IsWritableBody (Image page.now) }
     ensures body { IfOk result (λ b. b
-        ≡ body_of redo.0 (page_at frames.now.pages item.now.at) item.now.edit) }
+        ≡ body_of redo.0 (page_at (own_pages frames.now) item.now.at) item.now.edit) }
     ensures writable { IfOk result IsWritableBody }
 {
     match &item.edit {
@@ -173,7 +177,7 @@ fn body(
 
 /// The LSN of the page at a block; 0 where there is none.
 fn lsn_at(frames: &Frames, at: &BlockId) -> u64
-    ensures { result ≡ lsn_of (page_at frames.now.pages at.now) }
+    ensures { result ≡ lsn_of (page_at (own_pages frames.now) at.now) }
 {
     match frames.block(at) {
         Some(page) => lsn_of(page),

@@ -1,6 +1,6 @@
 //! Laws of a partition's frames and disk: each is the contract of a function that does nothing.
 
-ghost use Rattle.page_pool.specs.Laws.{ActsAreEntered, WorksAreDone, PagesAreWritten, TornWritesStayUnwritten, MendedDisksLackNoMore, CleanDisksAreFrames, FramesLackNothing, CleanPartsFollow, CleanPartsHaveNoNext, OwnEntriesAreFollowed, OtherEntriesAreFollowed, OneWrittenIsWritten, WritesAreFollowed, CleaningIsFollowed, UnwrittenIsOfHistory, FollowersCover, PartsJudgeAlike, PartsCountAlike};
+ghost use Rattle.page_pool.specs.Laws.{ActsAreEntered, WorksAreDone, PagesAreWritten, TornWritesStayUnwritten, MendedDisksLackNoMore, CleanDisksAreFrames, FramesLackNothing, CleanPartsFollow, CleanPartsHaveNoNext, OwnEntriesAreFollowed, OtherEntriesAreFollowed, PagesAreShown, OneWrittenIsWritten, WritesAreFollowed, CleaningIsFollowed, UnwrittenIsOfHistory, FollowersCover, PartsJudgeAlike, PartsCountAlike};
 
 /// A tidy act done in frames: the disk lacks of them what it lacked before, and what the act
 /// touched or entered.
@@ -9,13 +9,19 @@ pub fn acts_are_entered()
 {}
 
 /// What was written isn't dirty or pending any more: the first pending work, or, where no work is
-/// pending, the first dirty page of a fork. What a failed write left unknown still is, also
+/// pending, any dirty page. What a failed write left unknown still is, also
 /// where a short page is left out.
 pub fn writes_leave_less()
     ensures works { WorksAreDone }
     ensures pages { PagesAreWritten }
     ensures torn { TornWritesStayUnwritten }
     ensures mended { MendedDisksLackNoMore }
+{}
+
+/// The pages in frames over an area's files are those of which the files lack only what is dirty or
+/// pending.
+pub fn pages_are_shown()
+    ensures { PagesAreShown }
 {}
 
 /// Where nothing is dirty or pending the disk is what stands in frames, a disk that is so lacks

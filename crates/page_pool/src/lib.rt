@@ -19,6 +19,7 @@ mod kinds;
 mod laws;
 mod partition;
 mod ready;
+mod room;
 mod turn;
 mod work;
 mod writing;
@@ -27,10 +28,10 @@ pub use fault::OpFault;
 pub use form::judge_alone;
 pub use laws::{
     acts_are_entered, clean_partitions_lack_nothing, entries_are_followed, followers_cover,
-    parts_count_alike, parts_judge_alike, unwritten_is_of_history, writes_are_followed,
-    writes_leave_less,
+    pages_are_shown, parts_count_alike, parts_judge_alike, unwritten_is_of_history,
+    writes_are_followed, writes_leave_less,
 };
-pub use partition::Partition;
+pub use partition::{Partition, Unopened};
 pub use ready::Ready;
 pub use turn::{Cleaned, Turn, Wrote};
 pub use work::{Pending, Work};

@@ -1,27 +1,33 @@
 //! A partition of a store over its area.
 
-ghost use Rattle.std.specs.Prelude.{◌≡◌, [], IfOk, OnOk, OnErr, IsSome, map, max};
+ghost use Rattle.std.specs.Prelude.{◌≡◌, ◌≤◌, IfOk, IfErr, OnOk, OnErr, IsSome, map, max};
 ghost use Rattle.std.specs.List.{reduce};
-ghost use Rattle.std.specs.FinMap.{empty};
+ghost use Rattle.std.specs.FinMap.{empty, len};
 ghost use Rattle.std.specs.Option.{option_map};
-ghost use Rattle.lsn_core.specs.Causes.{HasCause};
+ghost use Rattle.lsn_core.specs.Causes.{HasCause, Rose};
+ghost use Rattle.lsn_core.specs.declared.fault.AreaFault.TheVariants.{Failed};
+ghost use Rattle.lsn_core.specs.Segment.{IsRelseg};
+ghost use Rattle.lsn_core.specs.Shown.{Turns};
+ghost use Rattle.lsn_core.specs.Store.{Store};
+ghost use Rattle.vault.specs.Frame.{OnlyReads};
+ghost use Rattle.rel_files.specs.Forks.{fork_lengths};
 ghost use Rattle.rel_files.specs.Shown.{HoldsStore, AreFilesOf, ListsForks, ReadsWhole};
-ghost use Rattle.page_frames.specs.Marks.{all_dirty_ends};
 ghost use Rattle.page_pool.specs.Part.{next_end, newest_end};
 ghost use Rattle.page_pool.specs.Steps.{IsClean};
-ghost use Rattle.page_pool.specs.Calls.{AreWholePages, IsHeld, SameUnwritten, SameDisk, ReadsDisk, MayWriteAll};
-ghost use Rattle.page_pool.specs.Writing.{later_end, works_making};
+ghost use Rattle.page_pool.specs.Opening.{HoldsWhole, ShowsPages, AreLengths};
+ghost use Rattle.page_pool.specs.Calls.{AreWholePages, IsHeld, SameUnwritten, ReadsDisk};
+ghost use Rattle.page_pool.specs.Writing.{later_end};
 
-use crate::work::{Pending, Work};
-use lsn_core::{AreaFault, BlockId, ForkId, ForkLen, Lsn, NoMemory, Pages};
+use crate::work::Pending;
+use lsn_core::{AreaFault, BlockId, ForkLen, Lsn, NoMemory, Pages};
 use page_frames::Frames;
 use rel_files::Forks;
 use std::alloc::Global;
 use std::marker::Model;
 use vault::Vault;
 
-/// A partition of a store: all its pages in frames, and its area, which lacks of them what is dirty
-/// or pending. Contracts see a `Part`. What was written before a fault stays written, and what
+/// A partition of a store: its pages, some in frames and the others in its area alone, which lacks of
+/// them what is dirty or pending. Contracts see a `Part`. What was written before a fault stays written, and what
 /// wasn't stays dirty or pending.
 #[derive(Drop)]
 pub struct Partition<V: Vault, const Q: u32> {
@@ -48,56 +54,68 @@ impl<V: Vault, const Q: u32> Model for Partition<V, Q> {
     ghost invariant = { λ p. IsPartition V.Vault p };
 }
 
+/// Why an area wasn't opened as a partition's, with the area.
+#[derive(Drop)]
+pub struct Unopened<V: Vault> {
+    /// The area.
+    pub area: V,
+    /// Why it wasn't.
+    pub why: AreaFault,
+}
+
 impl<V: Vault, const Q: u32> Partition<V, Q> {
-    /// The partition of an area that has just these pages, which are clean.
-    pub fn new(alloc: Global, disk: Forks<V>, frames: Frames, point: Lsn) -> Partition<V, Q>
-        requires held { IsSome (V.files disk.area) → HoldsStore V.Vault disk frames.pages }
-        requires clean { all_dirty_ends frames.marks ≡ [] }
-        ensures frames { result.frames ≡ frames.pages }
-        ensures clean { IsClean result }
-        ensures point { result.point ≡ point.0 }
-        ensures relseg { result.relseg ≡ disk.relseg }
-        ensures disk { result.disk ≡ V.files disk.area }
-        ensures past { result.past ≡ V.past disk.area }
-        ensures faults { result.faults ≡ V.faults disk.area }
+    /// The partition of an area that has these pages, which are clean: the lengths of its forks are
+    /// read, and no page is in a frame yet, of so many.
+    pub fn open(
+        alloc: Global,
+        disk: Forks<V>,
+        frames: u32,
+        point: Lsn,
+    ) -> Result<Partition<V, Q>, Unopened<V>>
+        requires relseg { IsRelseg disk.relseg }
+        requires whole { IsSome (V.files disk.area) → HoldsWhole V.Vault disk }
+        ensures frames { IfOk result (λ part. ShowsPages V.Vault disk part.frames) }
+        ensures clean { IfOk result IsClean }
+        ensures limit { IfOk result (λ part. part.framed.limit ≡ frames) }
+        ensures point { IfOk result (λ part. part.point ≡ point.0) }
+        ensures relseg { IfOk result (λ part. part.relseg ≡ disk.relseg) }
+        ensures disk { IfOk result (λ part. part.disk ≡ V.files disk.area) }
+        ensures past { IfOk result (λ part. part.past ≡ V.past disk.area) }
+        ensures faults { IfOk result (λ part. V.faults disk.area ≤ part.faults) }
+        ensures still { IfErr result (λ u. OnlyReads V.Vault disk.area u.area) }
+        ensures cause { IfErr result
+            (λ u. u.why ≡ Failed → Rose (V.faults disk.area) (V.faults u.area)) }
     {
-        Partition {
-            disk,
-            frames,
-            works: Vec::new(alloc),
-            point,
+        let mut disk = disk;
+        match read_lengths(alloc, &mut disk, frames) {
+            Ok(frames) => Ok(Partition {
+                disk,
+                frames,
+                works: Vec::new(alloc),
+                point,
+            }),
+            Err(why) => Err(Unopened {
+                area: disk.area(),
+                why,
+            }),
         }
     }
 
-    /// Puts these pages in the place of none, all of them to be written: they are of entries that
-    /// end there at the latest.
-    pub fn load(&mut self, alloc: Global, frames: Frames, end: Lsn) -> Result<(), NoMemory>
-        requires none { self.old.frames ≡ empty }
-        requires clean { IsClean self.old }
-        ensures frames { OnOk result (self.new.frames ≡ frames.pages) }
-        ensures newest { OnOk result (MayWriteAll self.new end.0) }
-        ensures none { OnErr result (SameUnwritten self.old self.new) }
-        ensures point { self.new.point ≡ self.old.point }
-        ensures area { SameDisk self.old self.new }
+    /// The area again.
+    pub fn into_area(self) -> V
+        ensures files { V.files result ≡ self.disk }
+        ensures past { V.past result ≡ self.past }
+        ensures faults { V.faults result ≡ self.faults }
     {
-        let forks = frames.forks(alloc)?;
-        let works = makes(alloc, &forks, end)?;
-        let mut frames = frames;
-        frames.mark_all(end.0);
-        self.frames = frames;
-        self.works = works;
-        Ok(())
+        self.disk.area()
     }
 
-    /// The area, and the frames.
-    pub fn into_parts(self) -> (V, Frames)
-        ensures frames { result.1.pages ≡ self.frames }
-        ensures marks { result.1.marks ≡ self.marks }
-        ensures files { V.files result.0 ≡ self.disk }
-        ensures past { V.past result.0 ≡ self.past }
-        ensures faults { V.faults result.0 ≡ self.faults }
+    /// The most pages that are in frames at any time.
+    pub fn frames(&self) -> u32
+        ensures limit { result ≡ self.now.framed.limit }
+        ensures few { len self.now.framed.held ≤ result }
     {
-        (self.disk.area(), self.frames)
+        self.frames.limit()
     }
 
     /// Where replay has to begin to make good what isn't written.
@@ -163,22 +181,40 @@ impl<V: Vault, const Q: u32> Partition<V, Q> {
     }
 }
 
-/// Works that make these forks, entered by an entry that ends there.
-fn makes(alloc: Global, forks: &[ForkId], end: Lsn) -> Result<Vec<Pending>, NoMemory>
-    ensures { IfOk result (λ works. works.items ≡ works_making end forks.now) }
+/// The lengths of an area's forks, beside no page in a frame, of so many.
+fn read_lengths<V: Vault>(
+    alloc: Global,
+    disk: &mut Forks<V>,
+    limit: u32,
+) -> Result<Frames, AreaFault>
+    ensures lengths { IfOk result (λ frames. (s : Store) → HoldsStore V.Vault disk.old s
+        → AreLengths (fork_lengths s) frames.lengths) }
+    ensures none { IfOk result (λ frames. frames.held ≡ empty) }
+    ensures limit { IfOk result (λ frames. frames.limit ≡ limit) }
+    ensures held { Turns (HoldsStore V.Vault) disk.old disk.new (λ s. s) }
+    ensures reads { OnlyReads V.Vault disk.old.area disk.new.area }
+    ensures relseg { disk.new.relseg ≡ disk.old.relseg }
+    ensures cause { HasCause (V.faults disk.old.area) (V.faults disk.new.area) result }
 {
-    let mut works = Vec::new(alloc);
-    for fork in forks {
-        works.push(Pending {
-            work: Work::Make(*fork),
-            end,
-        })?;
+    let list = disk.list()?;
+    Ok(frames_of(alloc, &list, limit)?)
+}
+
+/// Frames of forks of these lengths, with no page in one, of so many.
+fn frames_of(alloc: Global, list: &[ForkLen], limit: u32) -> Result<Frames, NoMemory>
+    ensures lengths { IfOk result (λ frames. AreLengths list.now frames.lengths) }
+    ensures none { IfOk result (λ frames. frames.held ≡ empty) }
+    ensures limit { IfOk result (λ frames. frames.limit ≡ limit) }
+{
+    let mut frames = Frames::new(alloc, limit);
+    for len in list {
+        frames.set_length(&len.fork, len.blocks)?;
     }
-    Ok(works)
+    Ok(frames)
 }
 
 /// The greatest end of the entries that entered these works.
-fn newest_work(works: &[Pending]) -> Option<u64>
+pub(crate) fn newest_work(works: &[Pending]) -> Option<u64>
     ensures { result ≡ reduce max (map (λ w. w.end.0) works.now) }
 {
     let mut newest = None;
@@ -189,7 +225,7 @@ fn newest_work(works: &[Pending]) -> Option<u64>
 }
 
 /// The greater one of two ends.
-fn later(first: Option<u64>, second: Option<u64>) -> Option<u64>
+pub(crate) fn later(first: Option<u64>, second: Option<u64>) -> Option<u64>
     ensures { result ≡ later_end first second }
 {
     match (first, second) {

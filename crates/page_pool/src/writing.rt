@@ -1,23 +1,20 @@
 //! Writing what a partition has dirty or pending.
 
-ghost use Rattle.std.specs.Prelude.{◌≡◌, ◌<◌, ◌^◌, [], None, Some, IfOk, OnOk, OnErr, IfSome};
-ghost use Rattle.std.specs.FinMap.{keys};
+ghost use Rattle.std.specs.Prelude.{◌≡◌, ◌<◌, [], None, Some, IfOk, OnOk, OnErr, IfSome};
+ghost use Rattle.std.specs.FinMap.{len};
 ghost use Rattle.lsn_core.specs.Causes.{HasCause};
-ghost use Rattle.page_frames.specs.Marks.{is_dirty, all_dirty_ends};
-ghost use Rattle.page_frames.specs.Framed.{AreFramed};
+ghost use Rattle.page_frames.specs.Marks.{all_dirty_ends};
 ghost use Rattle.page_pool.specs.declared.work.Work.TheVariants as work;
 ghost use Rattle.page_pool.specs.declared.turn.Wrote.TheVariants as wrote;
 ghost use Rattle.page_pool.specs.Steps.{HasWritten, IsClean};
-ghost use Rattle.page_pool.specs.Calls.{SameUnwritten, ChangesForks, IsOneWritten, IsAllWritten};
-ghost use Rattle.page_pool.specs.Calls.{MayWriteNext, MayWriteAll};
-ghost use Rattle.page_pool.specs.Writing.{framed_of, IsFirstWork, IsFirstPage};
-ghost use Rattle.page_pool.specs.Writing.{IsNextPage, HasCleaned, NoneDirtyFrom, IsForkClean};
+ghost use Rattle.page_pool.specs.Calls.{SameUnwritten, SameDisk, SameBounds, ChangesForks};
+ghost use Rattle.page_pool.specs.Calls.{IsOneWritten, IsAllWritten, MayWriteNext, MayWriteAll};
+ghost use Rattle.page_pool.specs.Writing.{IsFirstWork, IsFirstPage, IsNextPage, HasCleaned};
 
 use crate::partition::Partition;
 use crate::turn::{Cleaned, Turn, Wrote};
 use crate::work::Work;
-use lsn_core::{AreaFault, BlockId, ForkId, Lsn, NoMemory, Pages};
-use std::alloc::Global;
+use lsn_core::{AreaFault, BlockId, ForkId, Lsn, Pages};
 use vault::Vault;
 use wal_writer::Flushed;
 
@@ -37,12 +34,7 @@ impl<V: Vault, const Q: u32> Partition<V, Q> {
 
     /// Writes all that is dirty or pending, syncs the area, and raises the point to that redo point.
     /// After a fault some of it may be written, and the point stands.
-    pub fn clean_all(
-        &mut self,
-        alloc: Global,
-        redo: Lsn,
-        mark: &Flushed,
-    ) -> Result<Cleaned, AreaFault>
+    pub fn clean_all(&mut self, redo: Lsn, mark: &Flushed) -> Result<Cleaned, AreaFault>
         requires { MayWriteAll self.old mark.now.to.0 }
         ensures part { IfOk result (λ cleaned. cleaned.part ≡ Q) }
         ensures redo { IfOk result (λ cleaned. cleaned.redo ≡ redo) }
@@ -52,7 +44,7 @@ impl<V: Vault, const Q: u32> Partition<V, Q> {
         ensures cause { HasCause self.old.faults self.new.faults result }
     {
         self.finish_works()?;
-        self.write_pages(alloc)?;
+        self.write_pages()?;
         self.settle(redo)?;
         Ok(Cleaned { part: Q, redo })
     }
@@ -68,6 +60,7 @@ impl<V: Vault, const Q: u32> Partition<V, Q> {
             return Ok(Some(self.do_work(work)?));
         }
         let Some(at) = self.next_page() else {
+            self.trim();
             return Ok(None);
         };
         self.write_page(&at)?;
@@ -75,8 +68,11 @@ impl<V: Vault, const Q: u32> Partition<V, Q> {
     }
 
     /// Does all pending works, in their order.
-    fn finish_works(&mut self) -> Result<(), AreaFault>
+    pub(crate) fn finish_works(&mut self) -> Result<(), AreaFault>
         ensures none { OnOk result (self.new.works ≡ []) }
+        ensures alike { self.new.framed ≡ self.old.framed }
+        ensures marks { self.new.marks ≡ self.old.marks }
+        ensures frames { self.new.frames ≡ self.old.frames }
         ensures kept { HasWritten self.old self.new }
         ensures area { ChangesForks self.old self.new }
         ensures cause { HasCause self.old.faults self.new.faults result }
@@ -87,38 +83,17 @@ impl<V: Vault, const Q: u32> Partition<V, Q> {
         Ok(())
     }
 
-    /// Writes all dirty pages, fork by fork, where no work is pending.
-    fn write_pages(&mut self, alloc: Global) -> Result<(), AreaFault>
+    /// Writes all dirty pages, the first one first, where no work is pending.
+    fn write_pages(&mut self) -> Result<(), AreaFault>
         requires { self.old.works ≡ [] }
         ensures clean { OnOk result (IsClean self.new) }
+        ensures frames { self.new.frames ≡ self.old.frames }
         ensures kept { HasWritten self.old self.new }
         ensures area { ChangesForks self.old self.new }
         ensures cause { HasCause self.old.faults self.new.faults result }
     {
-        self.know_frames();
-        let forks = self.forks_held(alloc)?;
-        for fork in &forks {
-            self.write_fork(fork)?;
-        }
-        Ok(())
-    }
-
-    /// Writes the dirty pages of a fork, where no work is pending.
-    fn write_fork(&mut self, fork: &ForkId) -> Result<(), AreaFault>
-        requires { self.old.works ≡ [] }
-        ensures clean { OnOk result (IsForkClean self.new fork.now) }
-        ensures none { self.new.works ≡ [] }
-        ensures kept { HasWritten self.old self.new }
-        ensures area { ChangesForks self.old self.new }
-        ensures cause { HasCause self.old.faults self.new.faults result }
-    {
-        let fork = *fork;
-        let blocks = self.blocks_held(&fork)?;
-        for block in 0..blocks {
-            let at = BlockId { fork, block };
-            if self.is_dirty(&at) {
-                self.write_page(&at)?;
-            }
+        while let Some(at) = self.next_page() {
+            self.write_page(&at)?;
         }
         Ok(())
     }
@@ -139,41 +114,19 @@ impl<V: Vault, const Q: u32> Partition<V, Q> {
         Some(self.frames.first_dirty()?.at)
     }
 
-    /// The forks in frames, in order.
-    fn forks_held(&self, alloc: Global) -> Result<Vec<ForkId>, NoMemory>
-        ensures { IfOk result (λ forks. forks.items ≡ keys self.now.frames) }
+    /// Drops from the frames' queue what isn't dirty any more.
+    fn trim(&mut self)
+        ensures same { SameUnwritten self.old self.new }
+        ensures area { SameDisk self.old self.new }
     {
-        self.frames.forks(alloc)
-    }
-
-    /// How many blocks a fork has in frames: none from there on is dirty. Fails where that is past
-    /// the number's type, which no memory holds.
-    fn blocks_held(&self, fork: &ForkId) -> Result<u32, NoMemory>
-        ensures { IfOk result (NoneDirtyFrom self.now fork.now) }
-    {
-        self.frames.know();
-        let count = self.frames.blocks(fork).unwrap_or(0);
-        u32::try_from(count).map_err(|_| NoMemory)
-    }
-
-    /// Whether a block is dirty.
-    fn is_dirty(&self, at: &BlockId) -> bool
-        ensures { result ≡ is_dirty self.now.marks at.now.fork at.now.block }
-    {
-        self.frames.is_dirty(at)
-    }
-
-    /// That each page has 8192 bytes and a mark.
-    fn know_frames(&self)
-        ensures { AreFramed (framed_of self.now) }
-    {
-        self.frames.know();
+        self.frames.trim();
     }
 
     /// Does the first pending work.
     fn do_work(&mut self, work: Work) -> Result<Wrote, AreaFault>
         requires { IsFirstWork work self.old }
         ensures written { IfOk result (λ wrote. IsOneWritten (Some wrote) self.old self.new) }
+        ensures alike { self.new.framed ≡ self.old.framed }
         ensures kept { OnErr result (SameUnwritten self.old self.new) }
         ensures area { ChangesForks self.old self.new }
         ensures cause { HasCause self.old.faults self.new.faults result }
@@ -198,6 +151,7 @@ impl<V: Vault, const Q: u32> Partition<V, Q> {
     fn make_fork(&mut self, fork: &ForkId) -> Result<(), AreaFault>
         requires { IsFirstWork (work.Make fork.now) self.old }
         ensures made { OnOk result (IsOneWritten (Some (wrote.Made fork.now)) self.old self.new) }
+        ensures alike { self.new.framed ≡ self.old.framed }
         ensures kept { OnErr result (SameUnwritten self.old self.new) }
         ensures area { ChangesForks self.old self.new }
         ensures cause { HasCause self.old.faults self.new.faults result }
@@ -212,6 +166,7 @@ impl<V: Vault, const Q: u32> Partition<V, Q> {
         requires { IsFirstWork (work.Cut fork.now count) self.old }
         ensures cut { OnOk result
             (IsOneWritten (Some (wrote.Cut fork.now count)) self.old self.new) }
+        ensures alike { self.new.framed ≡ self.old.framed }
         ensures kept { OnErr result (SameUnwritten self.old self.new) }
         ensures area { ChangesForks self.old self.new }
         ensures cause { HasCause self.old.faults self.new.faults result }
@@ -227,6 +182,7 @@ impl<V: Vault, const Q: u32> Partition<V, Q> {
         requires { IsFirstWork (work.Remove fork.now) self.old }
         ensures gone { OnOk result
             (IsOneWritten (Some (wrote.Removed fork.now)) self.old self.new) }
+        ensures alike { self.new.framed ≡ self.old.framed }
         ensures kept { OnErr result (SameUnwritten self.old self.new) }
         ensures area { ChangesForks self.old self.new }
         ensures cause { HasCause self.old.faults self.new.faults result }
@@ -237,10 +193,13 @@ impl<V: Vault, const Q: u32> Partition<V, Q> {
         Ok(())
     }
 
-    /// Writes the first dirty page of a fork, where no work is pending.
-    fn write_page(&mut self, at: &BlockId) -> Result<(), AreaFault>
+    /// Writes a dirty page, where no work is pending.
+    pub(crate) fn write_page(&mut self, at: &BlockId) -> Result<(), AreaFault>
         requires { IsNextPage at.now self.old }
         ensures written { OnOk result (HasCleaned at.now self.old self.new) }
+        ensures fewer { OnOk result
+            (len self.new.framed.queue < len self.old.framed.queue) }
+        ensures bounds { SameBounds self.old self.new }
         ensures kept { OnErr result (SameUnwritten self.old self.new) }
         ensures area { ChangesForks self.old self.new }
         ensures cause { HasCause self.old.faults self.new.faults result }
@@ -250,9 +209,8 @@ impl<V: Vault, const Q: u32> Partition<V, Q> {
             return Err(AreaFault::NoMemory);
         }
         self.frames.know();
-        let Some(page) = self.frames.block(at) else {
-            // no dirty block is missing
-            return Ok(());
+        let Some(page) = self.frames.page(at) else {
+            unreachable!()
         };
         self.disk.write_block(*at, page)?;
         self.frames.clean(at);

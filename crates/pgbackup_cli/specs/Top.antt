@@ -24,7 +24,8 @@ abbrev pub DoesAsked : Option Asked → Outside → Outside → Answer → Type 
 DoesAsked None old new came = (came ≡ answer.Usage) × LeavesSite old new
 DoesAsked (Some (Init options)) old new came =
     (r : InitResult) × (came ≡ answer.Init r) × InitDoes options old new r
-DoesAsked (Some Run) old new came = (r : RunResult) × (came ≡ answer.Run r) × RunDoes old new r
+DoesAsked (Some (Run frames)) old new came =
+    (r : RunResult) × (came ≡ answer.Run r) × RunDoes old new r
 DoesAsked (Some (Replay upto name)) old new came =
     (r : ReplayResult) × (came ≡ answer.Replay r) × ReplayDoes upto name old new r
 DoesAsked (Some (Verify name)) old new came =
@@ -84,12 +85,12 @@ status_of came (Err why) = area_status why
 
 -- `run` alone reads the input
 abbrev pub ReadsInput : Option Asked → Type 0
-ReadsInput words = words ≡ Some Run
+ReadsInput words = (frames : ℕ) × (words ≡ Some (Run frames))
 
 -- `run` and `combine` read the clock, and `init`, where no system identifier is given
 abbrev pub ReadsClock : Option Asked → Type 0
 ReadsClock words =
-    (words ≡ Some Run)
+    ((frames : ℕ) × (words ≡ Some (Run frames)))
     ⊎ ((out : List ℕ) × (names : List (List ℕ)) × (words ≡ Some (Combine out names)))
     ⊎ ((options : InitOptions) × (words ≡ Some (Init options)) × (options.system ≡ None))
 

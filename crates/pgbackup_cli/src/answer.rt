@@ -48,7 +48,7 @@ fn output_asked(alloc: Global, words: &[Text]) -> Result<Text, NoMemory>
         Some(Command::Replay(_, name) | Command::Restore(_, name, _)) => output_name(alloc, name),
         Some(
             Command::Init(_)
-            | Command::Run
+            | Command::Run(_)
             | Command::Verify(_)
             | Command::Combine(_, _)
             | Command::Walsummary(_, _),
@@ -65,7 +65,7 @@ fn backup_asked(words: &[Text]) -> &[u8]
         Some(Command::Verify(name) | Command::Combine(name, _)) => name,
         Some(
             Command::Init(_)
-            | Command::Run
+            | Command::Run(_)
             | Command::Replay(_, _)
             | Command::Restore(_, _, _)
             | Command::Walsummary(_, _),
@@ -82,7 +82,7 @@ fn members_asked(words: &[Text]) -> MemberNames<'_>
         Some(Command::Restore(_, _, members) | Command::Combine(_, members)) => members,
         Some(
             Command::Init(_)
-            | Command::Run
+            | Command::Run(_)
             | Command::Replay(_, _)
             | Command::Verify(_)
             | Command::Walsummary(_, _),

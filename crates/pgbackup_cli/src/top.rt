@@ -41,7 +41,7 @@ fn work<S: Site, I: Source, C: Clock>(
     match command_of(words) {
         None => Answer::Usage,
         Some(Command::Init(options)) => Answer::Init(init(alloc, options, site, clock)),
-        Some(Command::Run) => Answer::Run(run(alloc, site, input, clock)),
+        Some(Command::Run(frames)) => Answer::Run(run(alloc, frames, site, input, clock)),
         Some(Command::Replay(upto, name)) => Answer::Replay(replay(alloc, upto, name, site)),
         Some(Command::Verify(name)) => Answer::Verify(verify(alloc, name, site)),
         Some(Command::Restore(upto, out, members)) => {

@@ -4,12 +4,18 @@ use Rattle.std.proofs.Common.{◌∙◌, arith}
 use Rattle.lsn_core.specs.Files.{Files}
 use Rattle.vault.specs.declared.area.Vault.{Ghosts}
 use Rattle.vault.specs.Area.{Related}
+use Rattle.vault.specs.Stops.{Event}
 use Rattle.vault.specs.Frame.{AgreeBut, IsAmong}
 use Rattle.vault.proofs.Through.{adds_none}
 use Rattle.vault.proofs.Changed.{changes_on}
 use Rattle.rel_files.specs.Forks.{IsForkPath}
 use Rattle.rel_files.specs.Shown.{KeepsOthers}
 use Rattle.rel_files.specs.declared.forks.Forks.{Forks}
+
+-- the ghost members of a type of areas, as a law of an implementation has them
+abbrev pub ghosts_of : {V : Type 0}
+    → (V → Option Files) → (V → ℕ) → (V → Option (List Event)) → Ghosts V
+ghosts_of files faults past = record { files = files; faults = faults; past = past }
 
 agree_none : (Among : List ℕ → Type 0) (x : Option Files) → Related (AgreeBut Among) x x
 agree_none Among None = tt

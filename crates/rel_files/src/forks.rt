@@ -12,7 +12,7 @@ ghost use Rattle.rel_files.specs.Forks.{mended, page_over, IsTornPut, IsTornCut,
 ghost use Rattle.rel_files.specs.Shown.{AreFilesOf, HoldsStore, ShowsStore, KeepsOthers, Leaves};
 ghost use Rattle.rel_files.specs.Shown.{CountsWhole, ReadsWhole, IsTornMake, HoldAlike};
 ghost use Rattle.rel_files.specs.Shown.{AddsPut, AddsMake, AddsCut, AddsRemoval};
-ghost use Rattle.rel_files.specs.Kept.{keeps_none, keeps_on};
+ghost use Rattle.rel_files.specs.Kept.{ghosts_of, keeps_none, keeps_on};
 
 use crate::raw_calls::RawCalls;
 use crate::relseg::Relseg;
@@ -86,9 +86,10 @@ impl<V: Vault> Pages for Forks<V> {
 
     ghost faults = { λ forks. V.faults forks.area };
 
-    ghost keeps_refl = { λ forks. keeps_none V.Vault forks };
+    ghost keeps_refl = { λ forks. keeps_none (ghosts_of V.files V.faults V.past) forks };
 
-    ghost keeps_trans = { λ a b c first second. keeps_on V.Vault a b c first second };
+    ghost keeps_trans = { λ a b c first second.
+        keeps_on (ghosts_of V.files V.faults V.past) a b c first second };
 
     /// A page that a failed write left short isn't counted.
     fn blocks(&mut self, fork: ForkId) -> Result<Option<u32>, AreaFault>

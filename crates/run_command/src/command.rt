@@ -67,10 +67,11 @@ impl From<NoMemory> for RunFault {
     }
 }
 
-/// Runs a script on the store of a site, at this moment. All memory that a refusal would need is taken
+/// Runs a script on the store of a site with so many frames of each partition, at this moment. All memory that a refusal would need is taken
 /// before the areas are, and these are given back in any case.
 fn run_in<S: Site>(
     alloc: Global,
+    frames: u32,
     script: Script,
     when: u64,
     site: &mut S,
@@ -86,7 +87,7 @@ fn run_in<S: Site>(
     let names = run_names(alloc, lines_in(&work.task))?;
     let line = new_line(alloc)?;
     let (held, names, areas) = take_run(alloc, site, names)?;
-    let (held, areas, answer) = run_areas(alloc, line, areas, held, when, work);
+    let (held, areas, answer) = run_areas(alloc, line, areas, frames, held, when, work);
     give_store(site, names, areas);
     give_all(site, held);
     match answer {
@@ -114,9 +115,11 @@ fn script_of<I: Source>(alloc: Global, input: &mut I) -> Result<Script, RunFault
     }
 }
 
-/// `run`: reads the clock and the script of the input, and runs it on the store of a site.
+/// `run`: reads the clock and the script of the input, and runs it on the store of a site with so many
+/// frames of each partition.
 pub fn run<S: Site, I: Source, C: Clock>(
     alloc: Global,
+    frames: u32,
     site: &mut S,
     input: &mut I,
     clock: &mut C,
@@ -128,7 +131,7 @@ pub fn run<S: Site, I: Source, C: Clock>(
 {
     let when = clock.now();
     let script = script_of(alloc, input)?;
-    run_in(alloc, script, when, site)
+    run_in(alloc, frames, script, when, site)
 }
 
 fn script_text(alloc: Global, line: u32, why: Why) -> Result<Text, NoMemory>

@@ -125,11 +125,12 @@ fn only_pass<J: OfCrew>(crew: Vec<Pass<J>>) -> Pass<J>
     }
 }
 
-/// Runs a script on the areas of a store: begins it, runs the lines, and closes it.
+/// Runs a script on the areas of a store, with so many frames of each partition: begins it, runs the lines, and closes it.
 fn run_named<J: OfCrew, V: Vault>(
     alloc: Global,
     line: Opened<HistoryEntry>,
     areas: StoreAreas<V>,
+    frames: u32,
     held: &mut [Held<V>],
     when: u64,
     work: Work,
@@ -146,7 +147,7 @@ fn run_named<J: OfCrew, V: Vault>(
     ensures later { NoneFell (faults_of V.Vault areas) (faults_of V.Vault result.0) }
     ensures held_later { AreLater V.Vault held.old held.new }
 {
-    let began = match Store::<J, V>::begin(alloc, line, areas, 1) {
+    let began = match Store::<J, V>::begin(alloc, line, areas, 1, frames) {
         Ok(began) => began,
         Err(fault) => return (fault.areas, Err(fault.why)),
     };
@@ -169,6 +170,7 @@ fn run_branded<V: Vault>(
     alloc: Global,
     line: Opened<HistoryEntry>,
     areas: StoreAreas<V>,
+    frames: u32,
     held: &mut [Held<V>],
     when: u64,
     work: Work,
@@ -182,7 +184,7 @@ fn run_branded<V: Vault>(
     ensures later { NoneFell (faults_of V.Vault areas) (faults_of V.Vault result.0) }
     ensures held_later { AreLater V.Vault held.old held.new }
 {
-    run_named::<Brand, V>(alloc, line, areas, held, when, work)
+    run_named::<Brand, V>(alloc, line, areas, frames, held, when, work)
 }
 
 /// The same, with the areas of the backups as they are handed on.
@@ -190,6 +192,7 @@ pub fn run_areas<V: Vault>(
     alloc: Global,
     line: Opened<HistoryEntry>,
     areas: StoreAreas<V>,
+    frames: u32,
     held: Vec<Held<V>>,
     when: u64,
     work: Work,
@@ -204,6 +207,6 @@ pub fn run_areas<V: Vault>(
     ensures held_later { AreLater V.Vault held.items result.0.items }
 {
     let mut held = held;
-    let (areas, answer) = run_branded(alloc, line, areas, &mut held, when, work);
+    let (areas, answer) = run_branded(alloc, line, areas, frames, &mut held, when, work);
     (held, areas, answer)
 }

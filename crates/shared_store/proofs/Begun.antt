@@ -1,6 +1,6 @@
 -- An open store that was begun on areas, and areas that are handed back.
-use Rattle.std.proofs.Common.{◌≡◌, ℕ, zero, suc, ◌<◌, ◌≤◌, Bool, true, false, cond, List, [], ◌∷◌, map, length, replicate, Option, Some, None, IfSome, IsSome, is_some, refl, sym, ap, subst, ◌∙◌, arith}
-use Rattle.std.specs.Prelude.{◌==◌}
+use Rattle.std.proofs.Common.{◌≡◌, ℕ, zero, suc, ◌<◌, ◌≤◌, Bool, true, false, cond, List, [], ◌∷◌, map, length, replicate, Option, Some, None, IfSome, IsSome, is_some, inl, inr, refl, sym, ap, subst, ◌∙◌, arith}
+use Rattle.std.specs.Prelude.{◌==◌, ◌⊎◌, box_value}
 use Rattle.std.specs.FinMap.{get, empty, get-empty}
 use Rattle.std.proofs.lemmas.List.{length-map, length-replicate}
 use Rattle.std.proofs.lemmas.List.Elements.{All-nil, All-cons}
@@ -31,15 +31,19 @@ use Rattle.page_pool.specs.Facts.{history_end}
 use Rattle.page_pool.proofs.Followed.{clean_follow}
 use Rattle.data_areas.specs.declared.areas.DataAreas.{DataAreas}
 use Rattle.data_areas.specs.Areas.{area_of, FaultsGrow, DataCause}
-use Rattle.data_areas.specs.declared.store_frames.StoreFrames.{StoreFrames}
-use Rattle.data_areas.specs.declared.rebuilding.Partitions.{Partitions}
-use Rattle.data_areas.specs.Rebuilt.{IsRebuilt, AreRebuilt}
+use Rattle.data_areas.specs.declared.boxed.BoxedArea.{BoxedArea}
+use Rattle.data_areas.specs.declared.settling.Partitions.{Partitions}
+use Rattle.data_areas.specs.Boxed.{on_heap}
+use Rattle.data_areas.specs.Clearing.{ClearedSoFar}
+use Rattle.data_areas.specs.Phases.{CameSoFar}
+use Rattle.data_areas.specs.Rebuilt.{HoldsPages, IsRebuilt, AreRebuilt}
+use Rattle.recovery.specs.Causes.{HasSettings}
 use Rattle.shared_store.specs.declared.areas.StoreAreas.{StoreAreas}
 use Rattle.shared_store.specs.declared.begin.BeginWhy.TheVariants as why
 use Rattle.shared_store.specs.Seen.{Seen}
 use Rattle.shared_store.specs.Opened.{Faults, Opened, AreCounts, IsPartOf, IsOpen, data_count, NoneFell, opened_of}
-use Rattle.shared_store.specs.Begin.{faults_of, AllTell, fresh_passes, IsBegun, IsUnbegun, DataFails}
-use Rattle.shared_store.specs.Found.{areas_with, ShowsHistory, IsFound}
+use Rattle.shared_store.specs.Begin.{faults_of, data_of, fresh_passes, IsWalPart, IsBegun, IsUnbegun, DataFails}
+use Rattle.shared_store.specs.Found.{areas_with, HoldHistory, IsFound}
 use Rattle.shared_store.proofs.Found.{whole_wal, found_some, found_ended, found_tells, none_counted}
 
 -- ---- a partition that was rebuilt follows the history that was found
@@ -56,15 +60,18 @@ part_made q history last pages made part =
     let after = parts_fold q empty last empty history (empty_part q) made in
     subst (λ (s : Store). apply_all empty (map (part_of q) history) ≡ Some s) (one_part q last after.0 pages after.2 part) after.1
 
-told_always : (o : Option Files) (P : Type 0) → P → IfSome o (λ files. P)
-told_always None P p = tt
-told_always (Some m) P p = p
+when_some : (o : Option Files) (P : Type 0) → (IsSome o → P) → IfSome o (λ files. P)
+when_some None P leads = tt
+when_some (Some m) P leads = leads refl
 
-pub part_begun : (q relseg from faults : ℕ) (tells : Type 0) (told : Option Files) (history : List Entry) (last pages : Store) (part : Part) → IsRebuilt relseg from faults told pages part → apply_all empty history ≡ Some last → IsPart q last pages
+pub part_begun : (q relseg from faults : ℕ) (tells : Type 0) (told : Option Files) (history : List Entry) (part : Part) → IsRebuilt relseg from faults told part → (IsSome told → (last : Store) × ((apply_all empty history ≡ Some last) × ((pages : Store) × (IsPart q last pages × HoldsPages relseg told pages))))
     → from ≤ history_end history → (tells → AreOwnFrom from history) → (tells → is_some told ≡ true) → IsPartOf q relseg tells history part
-part_begun q relseg from faults tells told history last pages part rebuilt made shown late own tell = record {
+part_begun q relseg from faults tells told history part rebuilt made late own tell = record {
   follows = clean_follow q history part
-      (told_always part.disk (apply_all empty (map (part_of q) history) ≡ Some part.frames) (part_made q history last pages made shown ∙ ap (λ (s : Store). Some s) (sym rebuilt.frames)))
+      (when_some part.disk (apply_all empty (map (part_of q) history) ≡ Some part.frames) (λ some.
+      let has = made (sym rebuilt.tells ∙ some) in
+      let pages = has.1.1.0 in
+      part_made q history has.0 pages has.1.0 has.1.1.1.0 ∙ ap (λ (s : Store). Some s) (sym (rebuilt.frames pages has.1.1.1.1))))
       rebuilt.clean (subst (λ (n : ℕ). n ≤ history_end history) (sym rebuilt.point) late);
   relseg_is = rebuilt.relseg_is;
   own = λ t. subst (λ (n : ℕ). AreOwnFrom n history) (sym rebuilt.point) (own t);
@@ -113,23 +120,23 @@ fell_none g old new w e0 e1 e2 e3 (Data q) = go (q == 0) (q == 1) (q == 2) (q ==
     go false false false true = e3
     go false false false false = omega arith
 
-pub fell_boxed : {V : Type 0} (g : Ghosts V) (wal back : V) (old new : DataAreas V) → g.faults wal ≤ g.faults back → FaultsGrow g old new → NoneFell (faults_of g (areas_with wal old)) (faults_of g (areas_with back new))
+pub fell_boxed : {V : Type 0} (g : Ghosts V) (wal back : V) (old new : DataAreas (BoxedArea V)) → g.faults wal ≤ g.faults back → FaultsGrow (on_heap g) old new → NoneFell (faults_of g (areas_with wal old)) (faults_of g (areas_with back new))
 fell_boxed g wal back old new later grow = fell_none g (areas_with wal old) (faults_of g (areas_with back new)) later (grow 0) (grow 1) (grow 2) (grow 3)
 
-data_there : {V : Type 0} (g : Ghosts V) (wal : V) (areas : DataAreas V) (q : ℕ) → q < 4 → data_count q (faults_of g (areas_with wal areas)) ≡ g.faults (area_of areas q)
+data_there : {V : Type 0} (g : Ghosts V) (wal : V) (areas : DataAreas (BoxedArea V)) (q : ℕ) → q < 4 → data_count q (faults_of g (areas_with wal areas)) ≡ (on_heap g).faults (area_of areas q)
 data_there g wal areas zero below = refl
 data_there g wal areas (suc zero) below = refl
 data_there g wal areas (suc (suc zero)) below = refl
 data_there g wal areas (suc (suc (suc zero))) below = refl
 data_there g wal areas (suc (suc (suc (suc q)))) below = absurd (omega (arith, below))
 
-pub cause_boxed : {V : Type 0} (g : Ghosts V) (wal back : V) (old new : DataAreas V) (fault : StoreFault) → DataCause g old new fault → DataFails (faults_of g (areas_with wal old)) (faults_of g (areas_with back new)) fault
+pub cause_boxed : {V : Type 0} (g : Ghosts V) (wal back : V) (old new : DataAreas (BoxedArea V)) (fault : StoreFault) → DataCause (on_heap g) old new fault → DataFails (faults_of g (areas_with wal old)) (faults_of g (areas_with back new)) fault
 cause_boxed g wal back old new (store.Failed (Data q)) cause = (
   q,
   cause.0,
   refl,
   subst (λ (n : ℕ). Rose n (data_count q (faults_of g (areas_with back new)))) (sym (data_there g wal old q cause.0))
-      (subst (λ (n : ℕ). Rose (g.faults (area_of old q)) n) (sym (data_there g back new q cause.0)) cause.1),
+      (subst (λ (n : ℕ). Rose ((on_heap g).faults (area_of old q)) n) (sym (data_there g back new q cause.0)) cause.1),
 )
 cause_boxed g wal back old new (store.Failed Wal) cause = absurd cause
 cause_boxed g wal back old new (store.Failed Sums) cause = absurd cause
@@ -148,7 +155,7 @@ begun_at g areas workers opened crew tip history pages found told flushed wal cr
     archive = whole_wal opened.settings (g.files areas.wal) found.has.found tip found.has.read.archive;
     history = told ∙ found.has.history_is;
     pages = found.has.store;
-    made = ap (λ (es : List Entry). apply_all empty es) told ∙ found.has.made;
+    made = λ some. ap (λ (es : List Entry). apply_all empty es) told ∙ found.has.made some;
     flushed = flushed;
     wal = wal;
     crew_is = crew_is ∙ ap (fresh_passes workers) (sym told);
@@ -157,56 +164,61 @@ begun_at g areas workers opened crew tip history pages found told flushed wal cr
 }
 
 -- the parts of a store that is opened: its journal, and the partitions that were rebuilt
-pub record AreFitting {V : Type 0} (g : Ghosts V) (wal : V) (areas : DataAreas V) (s : StoreSettings) (tells : Type 0) (frames : StoreFrames) (tip : Tip) (journal : Written V) (parts : Partitions V) : Type 0 where
+pub record AreFitting {V : Type 0} (g : Ghosts V) (wal : V) (areas : DataAreas (BoxedArea V)) (s : StoreSettings) (tells : Type 0) (tip : Tip) (journal : Written V) (parts : Partitions V) : Type 0 where
   pub pages : ℕ
   pub found : IsFound (g.files wal) s journal.pen pages tip
-  pub shown : ShowsHistory frames journal.pen
-  pub rebuilt : AreRebuilt g s.relseg tip.end areas frames parts
+  pub held : HoldHistory (on_heap g) s.relseg (g.files wal) areas journal.pen
+  pub rebuilt : AreRebuilt (on_heap g) s.relseg tip.end areas parts
   pub area : journal.wal.area ≡ wal
   pub log : journal.wal.tail ≡ log_at s tip
   pub known : IsLog (log_at s tip)
-  pub tell : tells → AllTell g (areas_with wal areas)
+  pub tell : tells → IsSome (g.files wal)
+  pub alike : (v : V) → is_some (g.files v) ≡ is_some (g.files wal)
 
-pub fits : {V : Type 0} (g : Ghosts V) (wal : V) (areas : DataAreas V) (s : StoreSettings) (tells : Type 0) (frames : StoreFrames) (tip : Tip) (journal : Written V) (parts : Partitions V) (history : List Entry) (pages relseg end : ℕ)
-    → IsFound (g.files wal) s history pages tip → ShowsHistory frames history → AreRebuilt g relseg end areas frames parts → relseg ≡ s.relseg → end ≡ tip.end → journal.pen ≡ history → journal.wal.area ≡ wal → journal.wal.tail ≡ log_at s tip → IsLog (log_at s tip)
-    → (tells → AllTell g (areas_with wal areas)) → AreFitting g wal areas s tells frames tip journal parts
-fits g wal areas s tells frames tip journal parts history pages relseg end found shown rebuilt size at pen area log known tell = record {
+pub fits : {V : Type 0} (g : Ghosts V) (wal : V) (areas : DataAreas (BoxedArea V)) (s : StoreSettings) (tells : Type 0) (tip : Tip) (journal : Written V) (parts : Partitions V) (history : List Entry) (pages relseg end : ℕ)
+    → IsFound (g.files wal) s history pages tip → HoldHistory (on_heap g) s.relseg (g.files wal) areas history → AreRebuilt (on_heap g) relseg end areas parts → relseg ≡ s.relseg → end ≡ tip.end → journal.pen ≡ history → journal.wal.area ≡ wal → journal.wal.tail ≡ log_at s tip → IsLog (log_at s tip)
+    → (tells → IsSome (g.files wal)) → ((v : V) → is_some (g.files v) ≡ is_some (g.files wal)) → AreFitting g wal areas s tells tip journal parts
+fits g wal areas s tells tip journal parts history pages relseg end found held rebuilt size at pen area log known tell alike = record {
   pages = pages;
   found = subst (λ (es : List Entry). IsFound (g.files wal) s es pages tip) (sym pen) found;
-  shown = subst (ShowsHistory frames) (sym pen) shown;
-  rebuilt = subst (λ (r : ℕ). AreRebuilt g r tip.end areas frames parts) size (subst (λ (n : ℕ). AreRebuilt g relseg n areas frames parts) at rebuilt);
+  held = subst (HoldHistory (on_heap g) s.relseg (g.files wal) areas) (sym pen) held;
+  rebuilt = subst (λ (r : ℕ). AreRebuilt (on_heap g) r tip.end areas parts) size (subst (λ (n : ℕ). AreRebuilt (on_heap g) relseg n areas parts) at rebuilt);
   area = area;
   log = log;
   known = known;
   tell = tell;
+  alike = alike;
 }
 
-module _ {V : Type 0} (g : Ghosts V) (wal : V) (areas : DataAreas V) (s : StoreSettings) (tells : Type 0) (frames : StoreFrames) (tip : Tip) (journal : Written V) (parts : Partitions V) (fit : AreFitting g wal areas s tells frames tip journal parts) where
-  part_at : (q faults : ℕ) (told : Option Files) (pages : Store) (part : Part) → IsPart q fit.found.has.store pages → IsRebuilt s.relseg tip.end faults told pages part → (tells → is_some told ≡ true) → IsPartOf q s.relseg tells journal.pen part
-  part_at q faults told pages part shown rebuilt tell =
+module _ {V : Type 0} (g : Ghosts V) (wal : V) (areas : DataAreas (BoxedArea V)) (s : StoreSettings) (tells : Type 0) (tip : Tip) (journal : Written V) (parts : Partitions V) (fit : AreFitting g wal areas s tells tip journal parts) where
+  part_at : (q faults : ℕ) (part : Part) → q < 4 → IsRebuilt s.relseg tip.end faults ((on_heap g).files (area_of areas q)) part → IsPartOf q s.relseg tells journal.pen part
+  part_at q faults part below rebuilt =
+      let told : Option Files = (on_heap g).files (area_of areas q) in
+      let alike : is_some told ≡ is_some (g.files wal) = fit.alike (box_value (area_of areas q).area) in
       let ended : EndsWith (log_at s tip) journal.pen = found_ended (g.files wal) s journal.pen fit.pages tip fit.found in
       let some = found_some (g.files wal) s journal.pen fit.pages tip fit.found in
       let long : 0 < length journal.pen = subst (λ (es : List Entry). 0 < length es) (sym fit.found.has.history_is) (omega (arith, some, length-map fit.found.has.found entry_of)) in
-      part_begun q s.relseg tip.end faults tells told journal.pen fit.found.has.store pages part rebuilt fit.found.has.made shown (omega (arith, ended.end, end_at s.segment journal.pen long))
-      (λ t. told_own (log_at s tip) (g.files wal) journal.pen fit.pages ended (found_tells (g.files wal) s journal.pen fit.pages tip fit.known (fit.tell t).wal fit.found)) tell
+      part_begun q s.relseg tip.end faults tells told journal.pen part rebuilt
+      (λ t. (let there = sym alike ∙ t in let made = fit.found.has.made there in (fit.found.has.store, (made, fit.held there fit.found.has.store made q below))))
+      (omega (arith, ended.end, end_at s.segment journal.pen long))
+      (λ t. told_own (log_at s tip) (g.files wal) journal.pen fit.pages ended (found_tells (g.files wal) s journal.pen fit.pages tip fit.known (fit.tell t) fit.found))
+      (λ t. alike ∙ fit.tell t)
 
   pub opens : (workers : ℕ) (counts : List ℕ) (mark : ℕ) → counts ≡ replicate workers 0 → mark ≡ tip.end → IsOpen g s tells workers journal parts.part0 parts.part1 parts.part2 parts.part3 counts mark
-  opens workers counts mark none marked =
-      let shown = fit.shown fit.found.has.store fit.found.has.made in
-      record {
-        wal = record {
-          segment = ap (λ (log : Log). log.mib) fit.log;
-          system = ap (λ (log : Log). log.system) fit.log;
-          flushed = (let at = ap (λ (log : Log). log.flushed) fit.log in omega (arith, marked, at));
-          told = λ t. subst (λ (v : V). IsSome (g.files v)) (sym fit.area) (fit.tell t).wal;
-        };
-        first = part_at 0 _ _ _ parts.part0 shown.part0 fit.rebuilt.part0 (λ t. (fit.tell t).pages 0 (omega arith));
-        second = part_at 1 _ _ _ parts.part1 shown.part1 fit.rebuilt.part1 (λ t. (fit.tell t).pages 1 (omega arith));
-        third = part_at 2 _ _ _ parts.part2 shown.part2 fit.rebuilt.part2 (λ t. (fit.tell t).pages 2 (omega arith));
-        fourth = part_at 3 _ _ _ parts.part3 shown.part3 fit.rebuilt.part3 (λ t. (fit.tell t).pages 3 (omega arith));
-        counted = subst (λ (ns : List ℕ). AreCounts ns journal.pen) (sym none) (subst (AreCounts (replicate workers 0)) (sym fit.found.has.history_is) (none_counted workers fit.found.has.found));
-        crew = ap (λ (ns : List ℕ). length ns) none ∙ length-replicate {A = ℕ} workers 0;
-      }
+  opens workers counts mark none marked = record {
+    wal = record {
+      segment = ap (λ (log : Log). log.mib) fit.log;
+      system = ap (λ (log : Log). log.system) fit.log;
+      flushed = (let at = ap (λ (log : Log). log.flushed) fit.log in omega (arith, marked, at));
+      told = λ t. subst (λ (v : V). IsSome (g.files v)) (sym fit.area) (fit.tell t);
+    };
+    first = part_at 0 _ parts.part0 (omega arith) fit.rebuilt.part0;
+    second = part_at 1 _ parts.part1 (omega arith) fit.rebuilt.part1;
+    third = part_at 2 _ parts.part2 (omega arith) fit.rebuilt.part2;
+    fourth = part_at 3 _ parts.part3 (omega arith) fit.rebuilt.part3;
+    counted = subst (λ (ns : List ℕ). AreCounts ns journal.pen) (sym none) (subst (AreCounts (replicate workers 0)) (sym fit.found.has.history_is) (none_counted workers fit.found.has.found));
+    crew = ap (λ (ns : List ℕ). length ns) none ∙ length-replicate {A = ℕ} workers 0;
+  }
 
   same_count : {a b : V} → a ≡ b → g.faults b ≤ g.faults a
   same_count e = (let same = ap g.faults e in omega (arith, same))
@@ -217,10 +229,40 @@ module _ {V : Type 0} (g : Ghosts V) (wal : V) (areas : DataAreas V) (s : StoreS
       begun_at g (areas_with wal areas) workers opened crew tip journal.pen fit.pages fit.found refl (ap (λ (log : Log). log.flushed) fit.log) (ap g.files fit.area) fresh
       (fell_none g (areas_with wal areas) opened.faults (same_count fit.area) fit.rebuilt.part0.later fit.rebuilt.part1.later fit.rebuilt.part2.later fit.rebuilt.part3.later)
 
--- a data area failed: the areas are handed back
-pub unbegun_at : {V : Type 0} (g : Ghosts V) (wal back : V) (old new : DataAreas V) (areas : StoreAreas V) (fault : StoreFault) → areas ≡ areas_with back new → back ≡ wal → FaultsGrow g old new → DataCause g old new fault
-    → IsUnbegun g (areas_with wal old) (record { areas = areas; why = why.Data fault })
-unbegun_at {V} g wal back old new areas fault is same grow cause =
-    let later : g.faults wal ≤ g.faults back = (let e = ap g.faults same in omega (arith, e)) in
-    subst (λ (a : StoreAreas V). IsUnbegun g (areas_with wal old) (record { areas = a; why = why.Data fault })) (sym is)
-    (record { wal = ap g.files same; later = fell_boxed g wal back old new later grow; cause = cause_boxed g wal back old new fault cause })
+-- ---- not begun
+
+data_at : {V : Type 0} (wal : V) (pages : DataAreas (BoxedArea V)) → DataAreas V
+data_at wal pages = data_of (areas_with wal pages)
+
+-- a rebuilding over areas on the heap is one over the areas
+pub came_at : {V : Type 0} (g : Ghosts V) (relseg : ℕ) (held : ℕ → Store → Type 0) (wal back : V) (x y : DataAreas (BoxedArea V)) → CameSoFar (on_heap g) relseg held x y → CameSoFar g relseg held (data_of (areas_with wal x)) (data_of (areas_with back y))
+came_at {V} g relseg held wal back x y (inl mark) = inl (record {
+  data0 = record { files = mark.data0.files; past = mark.data0.past; faults = mark.data0.faults };
+  data1 = ap (λ (b : BoxedArea V). box_value b.area) mark.data1;
+  data2 = ap (λ (b : BoxedArea V). box_value b.area) mark.data2;
+  data3 = ap (λ (b : BoxedArea V). box_value b.area) mark.data3;
+})
+came_at g relseg held wal back x y (inr (inl since)) = inr (inl since)
+came_at g relseg held wal back x y (inr (inr done)) = inr (inr (
+  record {
+    data1 = record { tells = done.0.data1.tells; files = done.0.data1.files; settled = done.0.data1.settled };
+    data2 = record { tells = done.0.data2.tells; files = done.0.data2.files; settled = done.0.data2.settled };
+    data3 = record { tells = done.0.data3.tells; files = done.0.data3.files; settled = done.0.data3.settled };
+  },
+  done.1,
+))
+
+-- the data areas weren't cleared
+pub uncleared : {V : Type 0} (g : Ghosts V) (s : StoreSettings) (wal : V) (x y : DataAreas (BoxedArea V)) (areas : StoreAreas V) (fault : StoreFault) → areas ≡ areas_with wal y → HasSettings (g.files wal) s → FaultsGrow (on_heap g) x y → DataCause (on_heap g) x y fault → ClearedSoFar (on_heap g) x y
+    → IsUnbegun g (areas_with wal x) (record { areas = areas; why = why.Data fault })
+uncleared {V} g s wal x y areas fault is given grow cause so_far =
+    subst (λ (a : StoreAreas V). IsUnbegun g (areas_with wal x) (record { areas = a; why = why.Data fault })) (sym is)
+    (record {
+      wal = refl;
+      later = fell_boxed g wal wal x y (omega arith) grow;
+      cause = (cause_boxed g wal wal x y fault cause, record { settings = s; given = given; came = came_at g s.relseg (IsWalPart (g.files wal) s) wal wal x y (go so_far) });
+    })
+  where
+    go : ClearedSoFar (on_heap g) x y → CameSoFar (on_heap g) s.relseg (IsWalPart (g.files wal) s) x y
+    go (inl mark) = inl mark
+    go (inr since) = inr (inl since)

@@ -9,12 +9,12 @@ use Rattle.shared_store.specs.declared.fault.InsertFault.{InsertFault}
 use Rattle.shared_store.specs.declared.fault.InsertFault.TheVariants as insert
 use Rattle.shared_store.specs.Opened.{Faults, count_of}
 use Rattle.shared_store.specs.Calls.{InsertCause}
-use Rattle.shared_store.specs.Inside.{AreaCause, CommandCause, NamesNoArea, insert_fault}
+use Rattle.shared_store.specs.Inside.{WriteCause, CommandCause, NamesNoArea, insert_fault}
 
--- the WAL's failed
-pub flush_cause : (which : StoreArea) (wal_before wal_now before now : ℕ) (why : StoreFault) → AreaCause Wal wal_before wal_now why → CommandCause which wal_before wal_now before now (insert_fault why)
-flush_cause which wal_before wal_now before now (store.Failed area) cause = inl cause
-flush_cause which wal_before wal_now before now store.NoMemory cause = tt
+-- the WAL's failed, or this one
+pub write_cause : (which : StoreArea) (wal_before wal_now before now : ℕ) (why : StoreFault) → WriteCause which wal_before wal_now before now why → CommandCause which wal_before wal_now before now (insert_fault why)
+write_cause which wal_before wal_now before now (store.Failed area) cause = cause
+write_cause which wal_before wal_now before now store.NoMemory cause = tt
 
 -- none did
 pub no_cause : (which : StoreArea) (wal_before wal_now before now : ℕ) (why : InsertFault) → NamesNoArea why → CommandCause which wal_before wal_now before now why

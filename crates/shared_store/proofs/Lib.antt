@@ -10,7 +10,9 @@ pub mod Rounds
 pub mod Closed
 pub mod Found
 pub mod Begun
+pub mod Unbegun
 pub mod RedoPoints
 pub mod Copies
 pub mod Pieces
 pub mod Staying
+pub mod Refilled

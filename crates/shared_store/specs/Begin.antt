@@ -17,7 +17,12 @@ use Rattle.history.specs.Entry.{Entry}
 use Rattle.history.specs.Apply.{apply_all}
 use Rattle.history.specs.Whole.{entry_of}
 use Rattle.recovery.specs.Causes.{RecoveryCauses, CauseOf, HasSettings, wal_causes}
+use Rattle.recovery.specs.Reading.{IsReadTo}
 use Rattle.recovery.specs.declared.fault.RecoveryFault.{RecoveryFault}
+use Rattle.recovery.specs.declared.fault.RecoveryFault.TheVariants as recovery
+use Rattle.partitions.specs.Parts.{IsPart}
+use Rattle.data_areas.specs.declared.areas.DataAreas.{DataAreas}
+use Rattle.data_areas.specs.Phases.{HaveMarkSince, CameSoFar}
 use Rattle.shared_store.specs.declared.areas.StoreAreas.{StoreAreas}
 use Rattle.shared_store.specs.declared.begin.BeginWhy.{BeginWhy}
 use Rattle.shared_store.specs.declared.begin.BeginWhy.TheVariants as why
@@ -59,7 +64,8 @@ fresh_passes (suc worker) history =
     ++ (record { worker = worker; accepted = 0; list = history } ∷ [])
 
 -- the store's history is the entries that its WAL was found to have, of which there is one at least
--- and which make a store's pages, and all of it is flushed; every worker has seen it
+-- and which make a store's pages, where areas tell their files, and all of it is flushed; every
+-- worker has seen it
 pub record HasBegun (files : Option Files) (workers : ℕ) (store : Opened) (crew : List Seen)
     (tip : Tip) : Type 0 where
   pub given : HasSettings files store.settings
@@ -69,7 +75,7 @@ pub record HasBegun (files : Option Files) (workers : ℕ) (store : Opened) (cre
   pub archive : IfSome files (λ m. IsWal store.settings m found tip)
   pub history : store.history ≡ map entry_of found
   pub pages : Store
-  pub made : apply_all empty store.history ≡ Some pages
+  pub made : IsSome files → apply_all empty store.history ≡ Some pages
   pub flushed : store.flushed ≡ tip.end
   pub wal : store.wal ≡ files
   pub crew_is : crew ≡ fresh_passes workers store.history
@@ -97,12 +103,53 @@ begin_causes files = record (wal_causes None files) {
 abbrev pub BeginCause : Option Files → ℕ → ℕ → RecoveryFault → Type 0
 BeginCause files before now fault = CauseOf (begin_causes files) before now fault
 
+-- of what a WAL is refused for only this comes once it was read whole
+abbrev pub MayComeLate : RecoveryFault → Type 0
+MayComeLate (recovery.Damaged mib damage) = ⊥
+MayComeLate (recovery.Short end target) = ⊥
+MayComeLate (recovery.BadDelta place) = Unit {0}
+MayComeLate recovery.SettingsDamaged = ⊥
+MayComeLate (recovery.Timeline name) = ⊥
+MayComeLate recovery.NotInit = ⊥
+MayComeLate recovery.Failed = Unit {0}
+MayComeLate recovery.NoMemory = Unit {0}
+
+-- ---- the data areas
+
 -- the data areas are untouched
 pub record SameData {V : Type 0} (old new : StoreAreas V) : Type 0 where
   pub data0 : new.data0 ≡ old.data0
   pub data1 : new.data1 ≡ old.data1
   pub data2 : new.data2 ≡ old.data2
   pub data3 : new.data3 ≡ old.data3
+
+-- a store's data areas
+abbrev pub data_of : {V : Type 0} → StoreAreas V → DataAreas V
+data_of areas = record {
+  data0 = areas.data0;
+  data1 = areas.data1;
+  data2 = areas.data2;
+  data3 = areas.data3;
+}
+
+-- the pages of a partition that the entries of a WAL make, where its area tells its files
+pub record IsWalPart (files : Option Files) (s : StoreSettings) (q : ℕ) (pages : Store)
+    : Type 0 where
+  pub told : IsSome files
+  pub entries : List Record
+  pub tip : Tip
+  pub read : IsReadTo s files None entries tip
+  pub store : Store
+  pub made : apply_all empty (map entry_of entries) ≡ Some store
+  pub part_is : IsPart q store pages
+
+-- rebuilding them from the WAL came so far: nothing but the mark of the first one was touched; or it
+-- has its mark still; or all four have just their files, and it may be gone
+pub record RebuildsSoFar {V : Type 0} (g : Ghosts V) (old new : StoreAreas V) : Type 0 where
+  pub settings : StoreSettings
+  pub given : HasSettings (g.files old.wal) settings
+  pub came : CameSoFar g settings.relseg (IsWalPart (g.files old.wal) settings)
+      (data_of old) (data_of new)
 
 -- a data area failed, and only where its count rose, which at its type's end stays; want of memory
 -- may come at any time
@@ -111,12 +158,18 @@ DataFails old new (store.Failed area) =
     (q : ℕ) × (q < 4) × (area ≡ Data q) × Rose (data_count q old) (data_count q new)
 DataFails old new store.NoMemory = Unit {0}
 
--- the WAL can't be begun on, and the data areas are untouched; or a data area failed, or memory ran
--- out while these were rebuilt
+-- the WAL can't be begun on, and the data areas are untouched; or it was read, and can't be
+-- replayed, and the first data area has the mark of areas that are rebuilt; or a data area failed, or
+-- memory ran out while these were rebuilt
 abbrev pub BeginsNot : {V : Type 0} → Ghosts V → StoreAreas V → StoreAreas V → BeginWhy → Type 0
 BeginsNot g old new (why.Wal fault) =
     BeginCause (g.files old.wal) (g.faults old.wal) (g.faults new.wal) fault × SameData old new
-BeginsNot g old new (why.Data fault) = DataFails (faults_of g old) (faults_of g new) fault
+BeginsNot g old new (why.Replay fault) =
+    BeginCause (g.files old.wal) (g.faults old.wal) (g.faults new.wal) fault
+    × (IfSome (g.files old.wal) (λ m. MayComeLate fault)
+    × HaveMarkSince g (data_of old) (data_of new))
+BeginsNot g old new (why.Data fault) =
+    DataFails (faults_of g old) (faults_of g new) fault × RebuildsSoFar g old new
 
 -- no store was begun on these areas, which are handed back; the WAL has the files that it had
 pub record IsUnbegun {V : Type 0} (g : Ghosts V) (areas : StoreAreas V) (fault : BeginFault V)

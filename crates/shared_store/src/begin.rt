@@ -1,23 +1,26 @@
 //! A store begun on its areas.
 
-ghost use Rattle.std.specs.Prelude.{◌≡◌, ◌≤◌, true, IfOk, IfErr, OnOk, IsSome, replicate};
+ghost use Rattle.std.specs.Prelude.{◌≡◌, true, IfOk, IfErr, IsSome, replicate};
 ghost use Rattle.vault.specs.Frame.{IsDurable};
 ghost use Rattle.wal_writer.specs.Log.{IsLog, log_at};
-ghost use Rattle.shared_store.specs.Begin.{AllTell, IsBegun, IsUnbegun, BeginCause, fresh_passes};
+ghost use Rattle.data_areas.specs.Boxed.{on_heap};
+ghost use Rattle.data_areas.specs.Clearing.{AreBare};
+ghost use Rattle.shared_store.specs.Begin.{AllTell, IsBegun, IsUnbegun, fresh_passes};
 ghost use Rattle.shared_store.specs.Opened.{IsLawfulOf};
-ghost use Rattle.shared_store.specs.Found.{areas_with, IsFound, ShowsHistory};
+ghost use Rattle.shared_store.specs.Found.{areas_with, IsChecked, IsFound, AreFilledBy};
+ghost use Rattle.shared_store.specs.Found.{IsUnsettled, IsUnfilled};
 
 use crate::areas::StoreAreas;
 use crate::boxing::{BoxedAreas, boxed, unboxed};
-use crate::crew::{Crew, enlist};
-use crate::finding::{Found, find};
+use crate::crew::Crew;
+use crate::finding::{Found, check, find};
 use crate::naming::OfCrew;
 use crate::pass::Pass;
 use crate::store::Store;
-use data_areas::rebuild;
+use data_areas::{StoreForks, clear, settle};
 use journal::{HistoryEntry, Journal};
 use lsn_core::{Settings, StoreFault, WalTip};
-use recovery::RecoveryFault;
+use recovery::{RecoveryFault, ReplayFault};
 use std::alloc::Global;
 use timeline::{Opened, Pen};
 use vault::Vault;
@@ -26,8 +29,11 @@ use wal_writer::{Flushed, WalState};
 /// Why a store was not begun.
 #[derive(Clone, Copy, Debug, PartialEq, Eq)]
 pub enum BeginWhy {
-    /// Its WAL can't be replayed or has no entry, or memory ran out before a data area was touched.
+    /// Its WAL can't be read or has no entry, or memory ran out before a data area was touched.
     Wal(RecoveryFault),
+    /// Its WAL, which was read, can't be replayed: an entry has a bad delta, its area failed, or
+    /// memory ran out. The data areas were cleared by then.
+    Replay(RecoveryFault),
     /// A data area failed, or memory ran out, while the data areas were rebuilt.
     Data(StoreFault),
 }
@@ -45,31 +51,6 @@ pub struct Began<J: OfCrew, V: Vault> {
     pub store: Store<J, V>,
     pub crew: Vec<Pass<J>>,
     pub tip: WalTip,
-}
-
-/// Reads the WAL of a store, and enlists its workers.
-fn prepare<J: OfCrew, V: Vault>(
-    alloc: Global,
-    opened: Opened<HistoryEntry>,
-    wal: &mut V,
-    workers: u32,
-) -> Result<(Found<J>, Crew<J>), RecoveryFault>
-    requires name { opened ≡ J.table }
-    requires crew { workers ≡ J.workers }
-    ensures found { IfOk result (λ x.
-        IsFound (V.files wal.old) x.0.settings x.0.pen x.0.pages x.0.tip) }
-    ensures shown { IfOk result (λ x. ShowsHistory x.0.frames x.0.pen) }
-    ensures passes { IfOk result (λ x. x.1.passes.items ≡ fresh_passes workers x.0.pen) }
-    ensures counts { IfOk result (λ x. x.1.counts.items ≡ replicate workers 0) }
-    ensures refused { IfErr result
-        (BeginCause (V.files wal.old) (V.faults wal.old) (V.faults wal.new)) }
-    ensures same { V.files wal.new ≡ V.files wal.old }
-    ensures durable { OnOk result (IsDurable (V.files wal.new) (V.past wal.new)) }
-    ensures later { V.faults wal.old ≤ V.faults wal.new }
-{
-    let mut found = find(alloc, opened, wal)?;
-    let crew = enlist(alloc, &found.line, &mut found.pen, workers)?;
-    Ok((found, crew))
 }
 
 /// The journal of a WAL that was found, and that it is flushed up to its end.
@@ -98,34 +79,29 @@ fn attach<J: OfCrew, V: Vault>(
     (journal, mark)
 }
 
-/// Rebuilds the data areas of a store whose WAL was found, and opens it.
+/// Opens a store on its WAL, which was found, and on the data areas into which that was replayed.
 fn open<J: OfCrew, V: Vault>(
     alloc: Global,
     areas: BoxedAreas<V>,
+    settings: Settings,
     found: Found<J>,
     crew: Crew<J>,
+    frames: u32,
 ) -> Result<Began<J, V>, BeginFault<V>>
-    requires found { IsFound (V.files areas.wal) found.settings found.pen found.pages found.tip }
-    requires shown { ShowsHistory found.frames found.pen }
+    requires found { IsFound (V.files areas.wal) settings found.pen found.pages found.tip }
+    requires filled { AreFilledBy V.Vault settings.relseg (V.files areas.wal) found.pen areas.pages }
     requires passes { crew.passes.items ≡ fresh_passes J.workers found.pen }
     requires counts { crew.counts.items ≡ replicate J.workers 0 }
-    requires told { J.tells ≡ true → AllTell V.Vault (areas_with areas.wal areas.pages) }
+    requires told { J.tells ≡ true → IsSome (V.files areas.wal) }
     requires durable { IsDurable (V.files areas.wal) (V.past areas.wal) }
     ensures begun { IfOk result (λ began. IsBegun V.Vault (areas_with areas.wal areas.pages)
         J.workers began.store began.crew.items began.tip) }
     ensures lawful { IfOk result (λ began. IsLawfulOf (J.tells ≡ true) began.store) }
-    ensures refused { IfErr result (IsUnbegun V.Vault (areas_with areas.wal areas.pages)) }
+    ensures refused { IfErr result (IsUnsettled V.Vault settings.relseg areas) }
 {
-    let (settings, tip) = (found.settings, found.tip);
+    let tip = found.tip;
     let (journal, mark) = attach(alloc, areas.wal, settings, tip, found.pen, found.pages);
-    match rebuild(
-        alloc,
-        areas.pages,
-        settings.relseg(),
-        found.frames,
-        tip.end,
-        &mark,
-    ) {
+    match settle(alloc, areas.pages, settings.relseg(), frames, tip.end) {
         Ok(parts) => {
             let store = Store::new(
                 found.line,
@@ -152,16 +128,92 @@ fn open<J: OfCrew, V: Vault>(
     }
 }
 
+/// Replays the WAL of a store, which was read, into cleared data areas, and opens it.
+fn refill<J: OfCrew, V: Vault>(
+    alloc: Global,
+    line: Opened<HistoryEntry>,
+    areas: BoxedAreas<V>,
+    settings: Settings,
+    workers: u32,
+    frames: u32,
+) -> Result<Began<J, V>, BeginFault<V>>
+    requires name { line ≡ J.table }
+    requires crew { workers ≡ J.workers }
+    requires checked { IsChecked (V.files areas.wal) settings }
+    requires bare { AreBare (on_heap V.Vault) areas.pages }
+    requires told { J.tells ≡ true → IsSome (V.files areas.wal) }
+    requires durable { IsDurable (V.files areas.wal) (V.past areas.wal) }
+    ensures begun { IfOk result (λ began. IsBegun V.Vault (areas_with areas.wal areas.pages)
+        workers began.store began.crew.items began.tip) }
+    ensures lawful { IfOk result (λ began. IsLawfulOf (J.tells ≡ true) began.store) }
+    ensures refused { IfErr result (IsUnfilled V.Vault settings areas) }
+{
+    let mut wal = areas.wal;
+    let mut forks = StoreForks::new(alloc, areas.pages, settings.relseg());
+    match find(alloc, line, &mut wal, &settings, &mut forks, workers) {
+        Ok((found, crew)) => {
+            let pages = forks.into_areas();
+            open(
+                alloc,
+                BoxedAreas { wal, pages },
+                settings,
+                found,
+                crew,
+                frames,
+            )
+        }
+        Err(fault) => {
+            let why = match fault {
+                ReplayFault::Wal(why) => BeginWhy::Replay(why),
+                ReplayFault::Out(why) => BeginWhy::Data(forks.fault(why)),
+            };
+            let areas = unboxed(wal, forks.into_areas());
+            Err(BeginFault { areas, why })
+        }
+    }
+}
+
+/// Clears the data areas of a store whose WAL was read, replays that into them, and opens it.
+fn rebuild<J: OfCrew, V: Vault>(
+    alloc: Global,
+    line: Opened<HistoryEntry>,
+    areas: BoxedAreas<V>,
+    settings: Settings,
+    workers: u32,
+    frames: u32,
+) -> Result<Began<J, V>, BeginFault<V>>
+    requires name { line ≡ J.table }
+    requires crew { workers ≡ J.workers }
+    requires checked { IsChecked (V.files areas.wal) settings }
+    requires told { J.tells ≡ true → IsSome (V.files areas.wal) }
+    requires durable { IsDurable (V.files areas.wal) (V.past areas.wal) }
+    ensures begun { IfOk result (λ began. IsBegun V.Vault (areas_with areas.wal areas.pages)
+        workers began.store began.crew.items began.tip) }
+    ensures lawful { IfOk result (λ began. IsLawfulOf (J.tells ≡ true) began.store) }
+    ensures refused { IfErr result (IsUnbegun V.Vault (areas_with areas.wal areas.pages)) }
+{
+    let mut areas = areas;
+    if let Err(why) = clear(alloc, &mut areas.pages) {
+        return Err(BeginFault {
+            areas: unboxed(areas.wal, areas.pages),
+            why: BeginWhy::Data(why),
+        });
+    }
+    refill(alloc, line, areas, settings, workers, frames)
+}
+
 impl<J: OfCrew, V: Vault> Store<J, V> {
-    /// Begins a store on its areas, with so many workers. It reads the settings, syncs the area of
-    /// the WAL and replays the WAL whole into memory; then it rebuilds the data areas from the
-    /// pages (`data_areas::rebuild`). Every refusal hands the areas back; where the WAL is why, no
-    /// data area was touched.
+    /// Begins a store on its areas, with so many workers and so many frames a partition. It reads
+    /// the settings, syncs the area of the WAL and reads the WAL whole; then it clears the data
+    /// areas, replays the WAL into them, and makes them durable (`data_areas`). Every refusal hands
+    /// the areas back. Where the WAL can't be read no data area was touched; meanwhile the first
+    /// data area has the file `rebuilding`.
     pub fn begin(
         alloc: Global,
         line: Opened<HistoryEntry>,
         areas: StoreAreas<V>,
         workers: u32,
+        frames: u32,
     ) -> Result<Began<J, V>, BeginFault<V>>
         requires name { line ≡ J.table }
         requires crew { workers ≡ J.workers }
@@ -180,8 +232,8 @@ impl<J: OfCrew, V: Vault> Store<J, V> {
                 });
             }
         };
-        match prepare(alloc, line, &mut areas.wal, workers) {
-            Ok((found, crew)) => open(alloc, areas, found, crew),
+        match check(alloc, &mut areas.wal) {
+            Ok(settings) => rebuild(alloc, line, areas, settings, workers, frames),
             Err(why) => Err(BeginFault {
                 areas: unboxed(areas.wal, areas.pages),
                 why: BeginWhy::Wal(why),

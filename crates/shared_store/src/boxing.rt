@@ -13,7 +13,7 @@ use vault::Vault;
 #[derive(Drop)]
 pub(crate) struct BoxedAreas<V: Vault> {
     pub wal: V,
-    pub pages: DataAreas<V>,
+    pub pages: DataAreas<BoxedArea<V>>,
 }
 
 /// Moves the data areas of a store to the heap. Where memory runs out it hands the areas back.
@@ -78,7 +78,7 @@ fn box_two<V: Vault>(
 }
 
 /// The areas of a store, with the data areas moved back from the heap.
-pub(crate) fn unboxed<V: Vault>(wal: V, pages: DataAreas<V>) -> StoreAreas<V>
+pub(crate) fn unboxed<V: Vault>(wal: V, pages: DataAreas<BoxedArea<V>>) -> StoreAreas<V>
     ensures { result ≡ areas_with wal pages }
 {
     StoreAreas {

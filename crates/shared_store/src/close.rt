@@ -31,10 +31,10 @@ impl<J: OfCrew, V: Vault> Store<J, V> {
         let settings = self.settings;
         let mut journal = self.journal;
         let flushed = flush_whole(alloc, &mut journal);
-        let (data0, written) = close_part(alloc, settings, &journal, self.part0, flushed);
-        let (data1, written) = close_part(alloc, settings, &journal, self.part1, written);
-        let (data2, written) = close_part(alloc, settings, &journal, self.part2, written);
-        let (data3, written) = close_part(alloc, settings, &journal, self.part3, written);
+        let (data0, written) = close_part(settings, &journal, self.part0, flushed);
+        let (data1, written) = close_part(settings, &journal, self.part1, written);
+        let (data2, written) = close_part(settings, &journal, self.part2, written);
+        let (data3, written) = close_part(settings, &journal, self.part3, written);
         journal.know();
         let areas = StoreAreas {
             wal: journal.detach(),
@@ -72,7 +72,6 @@ fn flush_whole<J: OfStore, V: Vault>(
 
 /// Takes the area out of a partition, of which all is written before, unless a fault came earlier.
 fn close_part<J: OfStore, V: Vault, const Q: u32>(
-    alloc: Global,
     settings: Settings,
     journal: &Journal<J, V>,
     part: Partition<BoxedArea<V>, Q>,
@@ -85,15 +84,13 @@ fn close_part<J: OfStore, V: Vault, const Q: u32>(
         (V.files result.0) (V.past result.0) (V.faults result.0) earlier result.1 }
 {
     let mut part = part;
-    let written = write_whole(alloc, settings, journal, &mut part, earlier);
-    let (boxed, _frames) = part.into_parts();
-    (Box::into_inner(boxed.area), written)
+    let written = write_whole(settings, journal, &mut part, earlier);
+    (Box::into_inner(part.into_area().area), written)
 }
 
 /// Writes all that a partition has dirty or pending, and syncs its area, unless a fault came
 /// earlier: that is answered.
 fn write_whole<J: OfStore, V: Vault, W: Vault, const Q: u32>(
-    alloc: Global,
     settings: Settings,
     journal: &Journal<J, V>,
     part: &mut Partition<W, Q>,
@@ -112,7 +109,7 @@ fn write_whole<J: OfStore, V: Vault, W: Vault, const Q: u32>(
         Ok(mark) => mark,
         Err(fault) => return Err(fault),
     };
-    match part.clean_all(alloc, mark.to(), &mark) {
+    match part.clean_all(mark.to(), &mark) {
         Ok(_cleaned) => Ok(mark),
         Err(fault) => Err(fault_of(StoreArea::Data(Q), fault)),
     }

@@ -1,14 +1,20 @@
-//! The WAL of a store as it is found: read whole into memory, with the history that it tells.
+//! The WAL of a store as it is found: read, and replayed into data areas, with the history that it
+//! tells.
 
-ghost use Rattle.std.specs.Prelude.{◌≡◌, ◌<◌, ◌≤◌, [], Some, IfOk, IfErr, OnOk};
+ghost use Rattle.std.specs.Prelude.{◌≡◌, ◌<◌, ◌≤◌, [], Some, None, IfOk, IfErr, OnOk, IsSome, replicate};
+ghost use Rattle.std.specs.FinMap.{empty};
 ghost use Rattle.vault.specs.Frame.{OnlyReads, IsDurable};
-ghost use Rattle.shared_store.specs.Begin.{BeginCause};
-ghost use Rattle.shared_store.specs.Found.{HasRead, ShowsHistory, ReplayCause, IsFound};
+ghost use Rattle.data_areas.specs.Boxed.{on_heap};
+ghost use Rattle.data_areas.specs.Stored.{ShowsParts, KeepsAll};
+ghost use Rattle.shared_store.specs.Begin.{BeginCause, fresh_passes};
+ghost use Rattle.shared_store.specs.Found.{IsChecked, IsFound, ShowsHistory, IsUnreplayed};
 
-use data_areas::StoreFrames;
+use crate::crew::{Crew, enlist};
+use crate::naming::OfCrew;
+use data_areas::{BoxedArea, StoreForks};
 use journal::{HistoryEntry, append_found};
 use lsn_core::{Settings, WalTip};
-use recovery::{Listener, RecoveryFault, ReplayFault, Replayed, replay_heard, settings_of};
+use recovery::{Listener, RecoveryFault, ReplayFault, read_through, replay_heard, settings_of};
 use std::alloc::Global;
 use std::marker::Brand;
 use timeline::{OfTimeline, Opened, Pen, Timeline};
@@ -43,53 +49,21 @@ impl<J: OfTimeline> Listener for Finding<J> {
     }
 }
 
-/// The WAL of a store, read whole: its settings, the pages that its entries make and their number,
-/// where it ends, and its history.
+/// The WAL of a store that was replayed whole: how many pages its entries make, where it ends, and
+/// its history.
 #[derive(Drop)]
 pub(crate) struct Found<J: OfTimeline> {
-    pub settings: Settings,
-    pub frames: StoreFrames,
     pub pages: u64,
     pub tip: WalTip,
     pub line: Timeline<HistoryEntry, J>,
     pub pen: Pen<HistoryEntry, J>,
 }
 
-/// Reads the WAL of these settings whole into frames.
-fn read_whole<J: OfTimeline, V: Vault>(
-    alloc: Global,
-    wal: &mut V,
-    settings: &Settings,
-    finding: &mut Finding<J>,
-) -> Result<(StoreFrames, Replayed), RecoveryFault>
-    requires { finding.old.pen ≡ [] }
-    ensures read { IfOk result (λ x.
-        HasRead settings.now (V.files wal.old) finding.new.pen x.1.pages x.1.tip) }
-    ensures shown { IfOk result (λ x. ShowsHistory x.0 finding.new.pen) }
-    ensures refused { IfErr result
-        (ReplayCause settings.now (V.files wal.old) (V.faults wal.old) (V.faults wal.new)) }
-    ensures reads { OnlyReads V.Vault wal.old wal.new }
-{
-    let mut frames = StoreFrames::new(alloc);
-    match replay_heard(alloc, wal, settings, None, &mut frames, finding) {
-        Ok(replayed) => Ok((frames, replayed)),
-        Err(ReplayFault::Wal(why)) => Err(why),
-        // frames in memory fail where memory runs out, and nowhere else
-        Err(ReplayFault::Out(_)) => Err(RecoveryFault::NoMemory),
-    }
-}
-
-/// Reads the settings and the whole WAL of a store, which has an entry. What was found is made
-/// durable before it is read, so that new entries follow none that a stop could take away.
-pub(crate) fn find<J: OfTimeline, V: Vault>(
-    alloc: Global,
-    opened: Opened<HistoryEntry>,
-    wal: &mut V,
-) -> Result<Found<J>, RecoveryFault>
-    requires { opened ≡ J.table }
-    ensures found { IfOk result (λ found.
-        IsFound (V.files wal.old) found.settings found.pen found.pages found.tip) }
-    ensures shown { IfOk result (λ found. ShowsHistory found.frames found.pen) }
+/// Reads the settings and the whole WAL of a store, which has an entry: of what replay refuses only
+/// a bad delta may be left. What was found is made durable before it is read, so that new entries
+/// follow none that a stop could take away.
+pub(crate) fn check<V: Vault>(alloc: Global, wal: &mut V) -> Result<Settings, RecoveryFault>
+    ensures checked { IfOk result (IsChecked (V.files wal.old)) }
     ensures refused { IfErr result
         (BeginCause (V.files wal.old) (V.faults wal.old) (V.faults wal.new)) }
     ensures same { V.files wal.new ≡ V.files wal.old }
@@ -98,17 +72,48 @@ pub(crate) fn find<J: OfTimeline, V: Vault>(
 {
     let settings = settings_of(alloc, wal)?;
     wal.sync()?;
-    let mut finding = Finding::new(opened);
-    let (frames, replayed) = read_whole(alloc, wal, &settings, &mut finding)?;
-    if replayed.tip.count == 0 {
+    let tip = read_through(alloc, wal, &settings, None)?;
+    if tip.count == 0 {
         return Err(RecoveryFault::NotInit);
     }
-    Ok(Found {
-        settings,
-        frames,
+    Ok(settings)
+}
+
+/// Replays the whole WAL of a store into data areas that show no pages, and enlists its workers.
+pub(crate) fn find<J: OfCrew, V: Vault>(
+    alloc: Global,
+    opened: Opened<HistoryEntry>,
+    wal: &mut V,
+    settings: &Settings,
+    forks: &mut StoreForks<BoxedArea<V>>,
+    workers: u32,
+) -> Result<(Found<J>, Crew<J>), ReplayFault>
+    requires name { opened ≡ J.table }
+    requires crew { workers ≡ J.workers }
+    requires checked { IsChecked (V.files wal.old) settings.now }
+    requires fresh { IsSome (V.files wal.old) → ShowsParts (on_heap V.Vault) forks.old empty }
+    ensures found { IfOk result (λ x.
+        IsFound (V.files wal.old) settings.now x.0.pen x.0.pages x.0.tip) }
+    ensures shown { IfOk result
+        (λ x. ShowsHistory (on_heap V.Vault) (V.files wal.old) forks.new x.0.pen) }
+    ensures passes { IfOk result (λ x. x.1.passes.items ≡ fresh_passes workers x.0.pen) }
+    ensures counts { IfOk result (λ x. x.1.counts.items ≡ replicate workers 0) }
+    ensures refused { IfErr result (IsUnreplayed (V.files wal.old) (V.faults wal.old)
+        (V.faults wal.new) forks.old.faults.count forks.new.faults.count) }
+    ensures reads { OnlyReads V.Vault wal.old wal.new }
+    ensures kept { KeepsAll (on_heap V.Vault) forks.old forks.new }
+{
+    let mut finding = Finding::new(opened);
+    let replayed = replay_heard(alloc, wal, settings, None, forks, &mut finding)?;
+    if replayed.tip.count == 0 {
+        return Err(ReplayFault::Wal(RecoveryFault::NotInit));
+    }
+    let crew = enlist(alloc, &finding.line, &mut finding.pen, workers)?;
+    let found = Found {
         pages: replayed.pages,
         tip: replayed.tip,
         line: finding.line,
         pen: finding.pen,
-    })
+    };
+    Ok((found, crew))
 }

@@ -1,11 +1,10 @@
 //! Flushing the WAL of an open store, and writing what a partition has dirty or pending.
 
-ghost use Rattle.std.specs.Prelude.{◌≡◌, ◌+◌, ◌≤◌, true, IfOk, OnOk, IfErr};
+ghost use Rattle.std.specs.Prelude.{◌≡◌, ◌≤◌, true, IfOk, OnOk, IfErr};
 ghost use Rattle.lsn_core.specs.declared.fault.StoreArea.TheVariants.{Wal, Data};
 ghost use Rattle.journal.specs.Journal.{IsEndOf};
 ghost use Rattle.page_pool.specs.Calls.{MayWriteNext};
 ghost use Rattle.shared_store.specs.Opened.{IsPartOf};
-ghost use Rattle.shared_store.specs.Calls.{most_waiting};
 ghost use Rattle.shared_store.specs.Inside.{AreaCause, WriteCause, KeepsWal, written_end};
 
 use crate::fault::fault_of;
@@ -15,9 +14,6 @@ use page_pool::{Partition, Turn};
 use std::alloc::Global;
 use vault::Vault;
 use wal_writer::Flushed;
-
-/// The most bytes of the WAL that wait to be flushed before a command (profile).
-const MOST_WAITING: u64 = 4_194_304;
 
 /// Flushes the WAL up to where an entry of the history ends, and keeps how far it is flushed.
 pub(crate) fn flush<J: OfStore, V: Vault>(
@@ -89,28 +85,6 @@ pub(crate) fn flush_past<J: OfStore, V: Vault>(
 {
     let _tip = journal.tip();
     if to <= mark.to() {
-        return Ok(());
-    }
-    flush_whole(alloc, journal, mark)
-}
-
-/// Flushes the WAL up to its end, where more of it waits than may before a command: what waits is held
-/// in memory.
-pub(crate) fn flush_waiting<J: OfStore, V: Vault>(
-    alloc: Global,
-    journal: &mut Journal<J, V>,
-    mark: &mut Flushed,
-) -> Result<(), StoreFault>
-    requires { mark.old.to.0 ≤ journal.old.wal.tail.flushed }
-    ensures wal { KeepsWal V.Vault journal.old journal.new }
-    ensures marked { mark.new.to.0 ≤ journal.new.wal.tail.flushed }
-    ensures few { OnOk result
-        (written_end journal.old ≤ journal.new.wal.tail.flushed + most_waiting) }
-    ensures cause { IfErr result (AreaCause Wal (V.faults journal.old.wal.area)
-        (V.faults journal.new.wal.area)) }
-{
-    let tip = journal.tip();
-    if tip.end.0 - mark.to().0 <= MOST_WAITING {
         return Ok(());
     }
     flush_whole(alloc, journal, mark)

@@ -8,6 +8,7 @@ ghost use Rattle.wal_writer.specs.Answers.{AppendAnswer};
 ghost use Rattle.partitions.specs.Parts.{ConcernsNoOther};
 ghost use Rattle.journal.specs.Journal.{MayFollow, entry_at};
 ghost use Rattle.page_pool.specs.Ready.{HasItems, IsChecked, IsReady};
+ghost use Rattle.page_pool.specs.Room.{blocks_of, HasFrames};
 ghost use Rattle.page_pool.specs.Calls.{SameUnwritten, SameDisk};
 ghost use Rattle.shared_store.specs.Refusals.{judged_form, judged_itself, IsRefusedBehind};
 ghost use Rattle.shared_store.specs.Opened.{IsPartOf, AreCounts};
@@ -16,9 +17,9 @@ ghost use Rattle.shared_store.specs.Inside.{pages_behind, is_over, IsAdmitted, A
 ghost use Rattle.shared_store.specs.Inside.{CommandCause, GrowsWal, NamesNoArea, written_end};
 
 use crate::fault::{InsertFault, fault_at, insert_fault};
-use crate::flush::flush_waiting;
 use crate::form::{judge_form, partition_of_op};
 use crate::receipt::Receipt;
+use crate::room::prepare;
 use history::Op;
 use journal::{HistoryEntry, Journal, OfStore, know_pages};
 use lsn_core::Place;
@@ -32,9 +33,10 @@ use wal_writer::{AppendFault, Flushed};
 /// The most pages of a store (profile).
 const MOST_PAGES: u64 = 65_536;
 
-/// Inserts a command of a worker that concerns this partition alone: flushes the WAL where too much
-/// of it waits, judges the command, appends its entry, changes the pages, and counts it. A refusal is
-/// the first one in order, but for an area that fails, and leaves history and pages as they are.
+/// Inserts a command of a worker that concerns this partition alone: makes room in the partition, the
+/// WAL flushed before, judges the command, appends its entry, changes the pages, and counts it. A
+/// refusal is the first one in order, but for an area that fails, and leaves history and pages as
+/// they are.
 pub(crate) fn insert_in<J: OfStore, V: Vault, W: Vault, const Q: u32>(
     alloc: Global,
     line: &Timeline<HistoryEntry, J>,
@@ -73,13 +75,13 @@ pub(crate) fn insert_in<J: OfStore, V: Vault, W: Vault, const Q: u32>(
 {
     journal.know();
     let _tip = journal.tip();
-    if let Err(fault) = flush_waiting(alloc, journal, mark) {
+    if let Err(fault) = prepare(alloc, journal, part, mark, op) {
         return Err(insert_fault(fault));
     }
     insert_prepared(alloc, line, journal, part, counts, worker, op)
 }
 
-/// The same, where the WAL is flushed far enough: a refusal changes nothing.
+/// The same, where room is made: a refusal changes nothing.
 fn insert_prepared<J: OfStore, V: Vault, W: Vault, const Q: u32>(
     alloc: Global,
     line: &Timeline<HistoryEntry, J>,
@@ -93,6 +95,7 @@ fn insert_prepared<J: OfStore, V: Vault, W: Vault, const Q: u32>(
     requires items { HasItems op.now }
     requires alone { ConcernsNoOther Q (act_of_op op.now) }
     requires part { IsPartOf Q part.old.relseg (J.tells ≡ true) journal.old.pen part.old }
+    requires room { HasFrames part.old.framed (blocks_of op.now) }
     requires counts { AreCounts counts.old.items journal.old.pen }
     requires worker { worker < length counts.old.items }
     ensures accepted { IfOk result (IsReceipt worker op.now journal.old.pen journal.new.pen) }
@@ -166,6 +169,7 @@ fn check_in<J: OfStore, V: Vault, W: Vault, const Q: u32>(
     requires items { HasItems op.now }
     requires alone { ConcernsNoOther Q (act_of_op op.now) }
     requires part { IsPartOf Q part.old.relseg (J.tells ≡ true) journal.now.pen part.old }
+    requires room { HasFrames part.old.framed (blocks_of op.now) }
     ensures checked { IfOk result (λ r.
         IsChecked part.old part.new op.now journal.now.wal.tail.tip.redo r.0) }
     ensures next { J.tells ≡ true → IfOk result (λ r.

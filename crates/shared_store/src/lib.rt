@@ -33,6 +33,7 @@ mod naming;
 mod pass;
 mod receipt;
 mod records;
+mod room;
 mod store;
 mod sweep;
 

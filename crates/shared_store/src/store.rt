@@ -106,8 +106,9 @@ impl<J: OfCrew, V: Vault> Store<J, V> {
         let _tip = self.journal.tip();
     }
 
-    /// Inserts a command: judges its form and what it shows by itself, flushes the WAL up to its end
-    /// where more than 4 MiB of it wait, judges the command on the pages, appends its entry to the
+    /// Inserts a command: judges its form and what it shows by itself, makes room for its pages in
+    /// the partition, before which the WAL is flushed past what is written for that, and up to its
+    /// end where more than 4 MiB of it wait, judges the command on the pages, appends its entry to the
     /// WAL and the history, and changes the pages. The entry isn't durable before a flush. A refusal
     /// is the first one in order, but for an area that fails, and leaves history and pages as they
     /// are; one that a command shows by itself changes nothing.

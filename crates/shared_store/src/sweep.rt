@@ -48,7 +48,6 @@ fn flush_newest<J: OfStore, V: Vault, W: Vault, const Q: u32>(
 /// Writes all that a partition has dirty or pending, before which the WAL is flushed, syncs its
 /// area, and raises its point to the redo point.
 fn write_all<J: OfStore, V: Vault, W: Vault, const Q: u32>(
-    alloc: Global,
     journal: &Journal<J, V>,
     part: &mut Partition<W, Q>,
     mark: &Flushed,
@@ -64,7 +63,7 @@ fn write_all<J: OfStore, V: Vault, W: Vault, const Q: u32>(
     ensures later { part.old.faults ≤ part.new.faults }
     ensures cause { IfErr result (AreaCause (Data Q) part.old.faults part.new.faults) }
 {
-    match part.clean_all(alloc, redo, mark) {
+    match part.clean_all(redo, mark) {
         Ok(cleaned) => Ok(cleaned),
         Err(fault) => Err(fault_of(StoreArea::Data(Q), fault)),
     }
@@ -94,5 +93,5 @@ pub(crate) fn clean_in<J: OfStore, V: Vault, W: Vault, const Q: u32>(
         (V.faults journal.new.wal.area) part.old.faults part.new.faults) }
 {
     flush_newest(alloc, journal, part, mark, redo)?;
-    write_all(alloc, journal, part, mark, redo)
+    write_all(journal, part, mark, redo)
 }

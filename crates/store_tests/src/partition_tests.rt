@@ -2,13 +2,13 @@
 //! which order, and that a call that failed is made good by the next. Places of entries are those
 //! of an independent implementation of the formats, and so is the order of what a flush writes.
 
-ghost use Rattle.std.specs.Prelude.{IfOk};
+ghost use Rattle.std.specs.Prelude.{IfOk, OnOk};
 ghost use Rattle.page_pool.specs.Ready.{HasItems};
+ghost use Rattle.page_pool.specs.Room.{blocks_of, HasFrames};
 
 use crate::flushed::{PUT, flushed, page_of};
 use history::{Edit, Item, Items, Op, init_fork};
 use lsn_core::{AreaFault, BlockId, ForkId, ForkKind, ForkLen, Lsn, NoMemory};
-use page_frames::Frames;
 use page_pool::{OpFault, Partition, Wrote};
 use pg_page::{Frag, Frags};
 use rel_files::Forks;
@@ -24,6 +24,12 @@ type Part = Partition<MemVault, 0>;
 /// How many device calls write a fork with three pages in two files and remove it: a look whether it
 /// is there, one for each file and page that is made, and one for each file that is removed.
 const CALLS: u64 = 7;
+
+/// How many device calls open a partition over an empty area.
+const OPENING: u64 = 1;
+
+/// How many pages it holds in memory.
+const FRAMES: u32 = 16;
 
 /// The start of the first entry, which is the redo point at first.
 const FIRST: Lsn = Lsn(0x100028);
@@ -139,9 +145,27 @@ fn op_of(alloc: Global, does: Does) -> Result<Op, Wrong>
     }
 }
 
+/// Makes room for a command, where the WAL is flushed so far.
+fn make_room(alloc: Global, part: &mut Part, mark: &Flushed, op: &Op) -> Result<(), AreaFault>
+    requires { HasItems op.now }
+    ensures { OnOk result (HasFrames part.new.framed (blocks_of op.now)) }
+{
+    match part.room_lsn(op) {
+        Some(newest) if newest > mark.to() => Err(AreaFault::NoMemory),
+        _ => part.make_room(alloc, op, mark),
+    }
+}
+
 /// Does a command, by an entry that ends there, unless it is refused.
-fn take(alloc: Global, part: &mut Part, does: Does, end: Lsn) -> Result<Option<OpFault>, Wrong> {
+fn take(
+    alloc: Global,
+    part: &mut Part,
+    mark: &Flushed,
+    does: Does,
+    end: Lsn,
+) -> Result<Option<OpFault>, Wrong> {
     let op = op_of(alloc, does)?;
+    make_room(alloc, part, mark, &op)?;
     match part.check_op(alloc, &op, FIRST) {
         Ok(ready) => {
             part.apply_op(ready, end);
@@ -177,11 +201,11 @@ fn write(part: &mut Part, mark: &Flushed) -> Result<Writes, AreaFault> {
 }
 
 /// Writes all, where the WAL is flushed so far: the redo point behind it.
-fn clean(alloc: Global, part: &mut Part, redo: Lsn, mark: &Flushed) -> Result<Lsn, AreaFault> {
+fn clean(part: &mut Part, redo: Lsn, mark: &Flushed) -> Result<Lsn, AreaFault> {
     match part.newest_lsn() {
         Some(newest) if newest > mark.to() => Err(AreaFault::NoMemory),
         _ => {
-            let cleaned = part.clean_all(alloc, redo, mark)?;
+            let cleaned = part.clean_all(redo, mark)?;
             if cleaned.part() == 0 && cleaned.redo() == redo {
                 Ok(part.redo_point())
             } else {
@@ -214,13 +238,13 @@ fn reads(part: &mut Part, block: u32, end: Option<Lsn>) -> Result<bool, Wrong> {
 /// Takes a step, and says whether it is so.
 fn takes(alloc: Global, part: &mut Part, mark: &Flushed, step: PartStep) -> Result<bool, Wrong> {
     match step {
-        PartStep::Takes(does, end) => Ok(take(alloc, part, does, end)?.is_none()),
-        PartStep::Refuses(does, fault) => Ok(take(alloc, part, does, PUT)? == Some(fault)),
+        PartStep::Takes(does, end) => Ok(take(alloc, part, mark, does, end)?.is_none()),
+        PartStep::Refuses(does, fault) => Ok(take(alloc, part, mark, does, PUT)? == Some(fault)),
         PartStep::Unwritten(next, newest) => {
             Ok(part.next_lsn() == next && part.newest_lsn() == newest)
         }
         PartStep::Written(wanted) => Ok(write(part, mark)? == wanted),
-        PartStep::Cleans(redo) => Ok(clean(alloc, part, redo, mark)? == redo),
+        PartStep::Cleans(redo) => Ok(clean(part, redo, mark)? == redo),
         PartStep::Lists(blocks) => lists(part, blocks),
         PartStep::Reads(block, end) => reads(part, block, end),
     }
@@ -244,8 +268,10 @@ fn take_all(
 /// A new partition over an area of which these calls fail.
 fn partition(alloc: Global, fails: &[u64]) -> Result<Part, AreaFault> {
     let area = MemVault::new(alloc, fails)?;
-    let forks = Forks::new(alloc, area, 2);
-    Ok(Partition::new(alloc, forks, Frames::new(alloc), FIRST))
+    match Partition::open(alloc, Forks::new(alloc, area, 2), FRAMES, FIRST) {
+        Ok(part) => Ok(part),
+        Err(unopened) => Err(unopened.why),
+    }
 }
 
 /// A fork is created and a page is put: refusals in their order, and what two flushes write.
@@ -433,14 +459,14 @@ fn failed(part: &mut Part, mark: &Flushed) -> u32 {
     failed
 }
 
-/// Where one of the first four device calls fails, so does one write, and the next one makes it
+/// Where one of the first four device calls behind the opening fails, so does one write, and the next one makes it
 /// good: there are four writes, of one call at least.
 #[test]
 fn failed_writes_are_made_good(rt: HostRuntime) -> Result<(), Fail> {
     let alloc = rt.alloc();
     let mark = flushed(alloc)?;
     for call in 1..=4 {
-        let mut part = partition(alloc, &[call])?;
+        let mut part = partition(alloc, &[OPENING + call])?;
         take_all(alloc, &mut part, &mark, &CUT[..7])?;
         assert!(rt; failed(&mut part, &mark) == 1);
         take_all(alloc, &mut part, &mark, &CUT[13..])?;
@@ -448,10 +474,10 @@ fn failed_writes_are_made_good(rt: HostRuntime) -> Result<(), Fail> {
     Ok(())
 }
 
-/// How many writes fail of a fork and of its removal, where a device call fails. The fork is removed
+/// How many writes fail of a fork and of its removal, where a device call behind the opening fails. The fork is removed
 /// all the same, and created anew.
 fn failed_removals(alloc: Global, mark: &Flushed, call: u64) -> Result<(u32, u32), Wrong> {
-    let mut part = partition(alloc, &[call])?;
+    let mut part = partition(alloc, &[OPENING + call])?;
     take_all(alloc, &mut part, mark, &REMOVED[..3])?;
     let before = failed(&mut part, mark);
     take_all(alloc, &mut part, mark, &REMOVED[3..4])?;

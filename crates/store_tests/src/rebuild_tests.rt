@@ -1,20 +1,20 @@
 //! Data areas in memory that are rebuilt. Names and sizes of the files follow from the layout
 //! alone: a fork always has its first file, and a further one exactly where its blocks go on in it.
 
-use crate::flushed::flushed;
-use data_areas::{BoxedArea, DataAreas, RebuildFault, StoreFrames, rebuild};
-use lsn_core::{AreaFault, BlockId, ForkId, Pages, StoreArea, StoreFault};
+use data_areas::{BoxedArea, DataAreas, RebuildFault, StoreForks, clear, settle};
+use lsn_core::{AreaFault, BlockId, ForkId, Lsn, Pages, StoreArea, StoreFault};
 use std::alloc::Global;
 use std::boxed::Box;
 use std::test::Fail;
-use test_areas::{Change, Step, Wrong, main_fork, take_steps};
+use test_areas::{Step, Wrong, main_fork, take_steps};
 use vault::{MemVault, Vault};
-use wal_writer::Flushed;
 
-type Areas = DataAreas<MemVault>;
+type Area = BoxedArea<MemVault>;
+
+type Areas = DataAreas<Area>;
 
 /// A page is to stand at each of the first three blocks of a fork.
-fn put_pages(pages: &mut StoreFrames, fork: &ForkId) -> Result<(), AreaFault> {
+fn put_pages(pages: &mut StoreForks<Area>, fork: &ForkId) -> Result<(), AreaFault> {
     pages.write_block(
         BlockId {
             fork: *fork,
@@ -39,17 +39,13 @@ fn put_pages(pages: &mut StoreFrames, fork: &ForkId) -> Result<(), AreaFault> {
 }
 
 /// Three pages of the first partition, and an empty fork of the second.
-fn frames(alloc: Global) -> Result<StoreFrames, Wrong> {
-    let mut frames = StoreFrames::new(alloc);
-    let first = main_fork(16384).ok_or(Wrong::Step(0))?;
-    let second = main_fork(16385).ok_or(Wrong::Step(0))?;
-    put_pages(&mut frames, &first)?;
-    frames.make(second)?;
-    Ok(frames)
+fn put_all(pages: &mut StoreForks<Area>, first: &ForkId, second: &ForkId) -> Result<(), AreaFault> {
+    put_pages(pages, first)?;
+    pages.make(*second)
 }
 
 /// An area with these files, of which this call behind their making fails.
-fn area(alloc: Global, fails: u64, names: &[&[u8]]) -> Result<BoxedArea<MemVault>, AreaFault> {
+fn area(alloc: Global, fails: u64, names: &[&[u8]]) -> Result<Area, AreaFault> {
     let call = if fails == 0 {
         0
     } else {
@@ -87,43 +83,51 @@ static SECOND: [Step; 2] = [
     Step::Size(b"base/5/16385", Some(0)),
 ];
 
-/// Rebuilds areas, two blocks in a file: they have just the files of the pages afterwards.
-fn rebuilds(
-    alloc: Global,
-    areas: Areas,
-    mark: &Flushed,
-) -> Result<Result<(), RebuildFault<MemVault>>, Wrong> {
-    let parts = match rebuild(alloc, areas, 2, frames(alloc)?, mark.to(), mark) {
+/// Fills cleared areas, two blocks in a file, and opens them.
+fn fills(alloc: Global, areas: Areas) -> Result<Result<(), RebuildFault<MemVault>>, Wrong> {
+    let first = main_fork(16384).ok_or(Wrong::Step(0))?;
+    let second = main_fork(16385).ok_or(Wrong::Step(0))?;
+    let mut pages = StoreForks::new(alloc, areas, 2);
+    if let Err(why) = put_all(&mut pages, &first, &second) {
+        let why = pages.fault(why);
+        let areas = pages.into_areas();
+        return Ok(Err(RebuildFault { areas, why }));
+    }
+    let parts = match settle(alloc, pages.into_areas(), 2, 4, Lsn(96)) {
         Ok(parts) => parts,
         Err(fault) => return Ok(Err(fault)),
     };
-    let (mut first, _) = parts.part0.into_parts();
-    take_steps(alloc, &mut first, &FIRST)?;
-    let (mut second, _) = parts.part1.into_parts();
-    take_steps(alloc, &mut second, &SECOND)?;
-    let (mut third, _) = parts.part2.into_parts();
-    take_steps(alloc, &mut third, &[Step::Names(b"")])?;
-    let (mut fourth, _) = parts.part3.into_parts();
-    take_steps(alloc, &mut fourth, &[Step::Names(b"")])?;
+    take_steps(alloc, &mut parts.part0.into_area(), &FIRST)?;
+    take_steps(alloc, &mut parts.part1.into_area(), &SECOND)?;
+    take_steps(alloc, &mut parts.part2.into_area(), &[Step::Names(b"")])?;
+    take_steps(alloc, &mut parts.part3.into_area(), &[Step::Names(b"")])?;
     Ok(Ok(()))
+}
+
+/// Rebuilds areas: they have just the files of the pages afterwards.
+fn rebuilds(alloc: Global, areas: Areas) -> Result<Result<(), RebuildFault<MemVault>>, Wrong> {
+    let mut areas = areas;
+    if let Err(why) = clear(alloc, &mut areas) {
+        return Ok(Err(RebuildFault { areas, why }));
+    }
+    fills(alloc, areas)
 }
 
 #[test]
 fn stray_files_are_removed(rt: HostRuntime) -> Result<(), Fail> {
     let alloc = rt.alloc();
-    let mark = flushed(alloc)?;
-    let done = rebuilds(alloc, areas(alloc, 0, 0)?, &mark)?;
+    let done = rebuilds(alloc, areas(alloc, 0, 0)?)?;
     assert!(rt; done.is_ok());
     Ok(())
 }
 
 /// The area that fails is named, and the areas that are handed back can be rebuilt.
-fn is_made_good(alloc: Global, mark: &Flushed, number: u32, call: u64) -> Result<bool, Wrong> {
-    match rebuilds(alloc, areas(alloc, number, call)?, mark)? {
+fn is_made_good(alloc: Global, number: u32, call: u64) -> Result<bool, Wrong> {
+    match rebuilds(alloc, areas(alloc, number, call)?)? {
         Ok(()) => Ok(false),
         Err(fault) => {
             let named = fault.why == StoreFault::Failed(StoreArea::Data(number));
-            Ok(named && rebuilds(alloc, fault.areas, mark)?.is_ok())
+            Ok(named && rebuilds(alloc, fault.areas)?.is_ok())
         }
     }
 }
@@ -131,10 +135,9 @@ fn is_made_good(alloc: Global, mark: &Flushed, number: u32, call: u64) -> Result
 #[test]
 fn a_failed_call_names_its_area(rt: HostRuntime) -> Result<(), Fail> {
     let alloc = rt.alloc();
-    let mark = flushed(alloc)?;
     for number in 0..4 {
-        assert!(rt; is_made_good(alloc, &mark, number, 1)?);
-        assert!(rt; is_made_good(alloc, &mark, number, 2)?);
+        assert!(rt; is_made_good(alloc, number, 1)?);
+        assert!(rt; is_made_good(alloc, number, 2)?);
     }
     Ok(())
 }

@@ -1,7 +1,7 @@
 //! The calls of the system on files and folders, by their paths.
 
 ghost use Rattle.std.specs.Prelude.{◌≡◌, ◌≢◌, ◌+◌, ◌<◌, ◌^◌, ◌≤◌, ℕ, List, [], length, Option, IfOk, IfSome, IfNone, OnOk, OnErr};
-ghost use Rattle.std.specs.Option.{option_map};
+ghost use Rattle.std.specs.Option.{is_some, option_map};
 ghost use Rattle.lsn_core.specs.Files.{Files};
 ghost use Rattle.vault.specs.Area.{IsTorn, IsUndecided, Related, after_write, after_remove};
 ghost use Rattle.system_calls.specs.System.{TellsKind, ListsAll, IsMissingIn, ReadsSome, MakesFile, AreShort, Stays, after_resize};
@@ -96,4 +96,7 @@ pub trait System: Drop {
     fn sync(&mut self, path: &str) -> io::Result<()>
         ensures same { files self.new ≡ files self.old }
         ensures open { Stays is_at self.old self.new };
+
+    /// All systems of the type tell their files, or none does.
+    ghost tells_alike: { (a b : Self) → is_some (files a) ≡ is_some (files b) };
 }

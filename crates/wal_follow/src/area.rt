@@ -161,7 +161,7 @@ impl<'a> WindowArea<'a> {
 }
 
 impl<'a> Vault for WindowArea<'a> {
-    ghost use Rattle.std.specs.Prelude.{Some, None};
+    ghost use Rattle.std.specs.Prelude.{Some, None, refl};
     ghost use Rattle.stream_laws.specs.Windows.{span_files};
 
     ghost files = { λ w. Some (span_files w) };
@@ -169,6 +169,8 @@ impl<'a> Vault for WindowArea<'a> {
     ghost faults = { λ w. 0 };
 
     ghost past = { λ w. None };
+
+    ghost tells_alike = { λ a b. refl };
 
     fn names(&mut self, alloc: Global) -> Result<Vec<Text>, AreaFault> {
         // known: a segment has 1 to 1024 MiB

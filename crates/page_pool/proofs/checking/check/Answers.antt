@@ -1,14 +1,30 @@
 -- A command that nothing refuses can be made, and what was made is what it does.
-use Rattle.std.proofs.Common.{sym}
-use Rattle.page_pool.specs.Inside.{bare}
+use Rattle.std.proofs.Common.{sym, subst}
+use Rattle.std.specs.List.{All}
+use Rattle.lsn_core.specs.declared.ids.BlockId.{BlockId}
+use Rattle.lsn_core.specs.Sizes.{most_blocks}
+use Rattle.page_frames.specs.Overlay.{own_pages}
+use Rattle.page_pool.specs.Room.{HasFrames, blocks_of}
 use Rattle.page_pool.proofs.Judged.{judged-fit}
-use Rattle.page_pool.proofs.Readied.{checked}
+use Rattle.page_pool.proofs.Readied.{made_blocks, made_narrow}
 use Rattle.page_pool.proofs.checking.check.Goals as goal
 
 pub make-requires : goal.make-requires
-make-requires c = judged-fit c.args.frames.now.pages c.args.op.now c.requires (sym c.in_ok-counts.ensures.judged)
+make-requires c = judged-fit (own_pages c.args.frames.now) c.args.op.now c.requires.items (sym c.in_ok-counts.ensures.judged)
 
-pub returns-clause-answer : goal.returns-clause-answer
-returns-clause-answer c =
-    checked (bare c.args.frames.now c.args.works.now) (bare c.reserve.new.frames c.reserve.new.works) c.args.op.now c.args.redo.0 c.in_ok-counts.counts.added c.in_ok-counts.counts.gone c.in_ok-made.made.kind c.in_ok-made.made.done
-    c.requires (sym c.in_ok-counts.ensures.judged) c.in_ok-made.ensures.done c.in_ok-reserve.ensures.room c.reserve.ensures.same.frames c.in_ok-made.ensures.kind c.in_ok-made.ensures.writable c.in_ok-counts.ensures.counted
+pub reserve-requires-clause-frames : goal.reserve-requires-clause-frames
+reserve-requires-clause-frames c = subst (λ (blocks : _). HasFrames c.args.frames.now blocks) (sym (made_blocks (own_pages c.args.frames.now) c.args.op.now c.in_ok-made.made.done c.in_ok-made.ensures.done)) c.requires.room
+
+pub reserve-requires-clause-narrow : goal.reserve-requires-clause-narrow
+reserve-requires-clause-narrow c = made_narrow (own_pages c.args.frames.now) c.args.op.now c.in_ok-made.made.done c.requires.items (sym c.in_ok-counts.ensures.judged) c.in_ok-made.ensures.done
+
+pub returns-clause-found : goal.returns-clause-found
+returns-clause-found c = record {
+  free = sym c.in_ok-counts.ensures.judged;
+  done = c.in_ok-made.ensures.done;
+  good = c.in_ok-made.ensures.good;
+  kind = c.in_ok-made.ensures.kind;
+  writable = c.in_ok-made.ensures.writable;
+  counted = c.in_ok-counts.ensures.counted;
+  left = c.in_ok-reserve.ensures.room;
+}

@@ -1,20 +1,15 @@
-use Rattle.std.proofs.Common.{Option, Some, None, sym, ap, ◌∙◌}
-use Rattle.std.specs.Prelude.{slice_get}
-use Rattle.lsn_core.specs.Store.{ForkPages}
-use Rattle.byte_words.specs.Numbers.{◌>>=◌}
-use Rattle.lsn_core.specs.Blocks.{block_of}
-use Rattle.page_frames.specs.Framed.{Framed}
-use Rattle.page_frames.specs.Slots.{slot_pages}
-use Rattle.page_frames.proofs.SeenBy.{get_seen}
+use Rattle.std.proofs.Common.{ℕ, List, Option, sym, ap, ◌∙◌}
+use Rattle.std.specs.Option.{unwrap_or}
+use Rattle.byte_words.specs.Pieces.{zero_page}
+use Rattle.lsn_core.specs.declared.ids.BlockId.{BlockId}
+use Rattle.page_frames.proofs.Overlays.{has_block_true, has_block_false, page_there, page_past}
 use Rattle.page_frames.proofs.frames.Frames.block.Goals as goal
 
-pub returns-in-Some : goal.returns-in-Some
-returns-in-Some c =
-    c.page_in.ensures
-    ∙ sym (ap (λ (o : Option ForkPages). o >>= λ ps. slice_get ps c.args.at.now.block) (get_seen slot_pages c.self.inside.slots c.args.at.now.fork (Some c.in-Some.slot.now) c.in-Some.ensures.value))
-    ∙ ap (λ (f : Framed). block_of f.pages c.args.at.now.fork c.args.at.now.block) c.self.view_is
+pub returns-then-has_block : goal.returns-then-has_block
+returns-then-has_block c =
+    ap (λ (o : Option (List ℕ)). unwrap_or o zero_page) c.page.ensures
+    ∙ sym (page_there (λ (at : BlockId). zero_page) c.args.self.now c.args.at.now (has_block_true c.args.self.now.lengths c.args.at.now (sym c.has_block.ensures ∙ c.if-has_block.true)))
 
-pub returns-in-None : goal.returns-in-None
-returns-in-None c =
-    sym (ap (λ (o : Option ForkPages). o >>= λ ps. slice_get ps c.args.at.now.block) (get_seen slot_pages c.self.inside.slots c.args.at.now.fork None c.in-None.ensures.value))
-    ∙ ap (λ (f : Framed). block_of f.pages c.args.at.now.fork c.args.at.now.block) c.self.view_is
+pub returns-else-has_block : goal.returns-else-has_block
+returns-else-has_block c =
+    sym (page_past (λ (at : BlockId). zero_page) c.args.self.now c.args.at.now (has_block_false c.args.self.now.lengths c.args.at.now (sym c.has_block.ensures ∙ c.if-has_block.false)))

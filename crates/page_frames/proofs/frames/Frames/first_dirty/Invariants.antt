@@ -1,8 +1,10 @@
-use Rattle.std.proofs.Common.{◌≡◌}
-use Rattle.std.specs.List.{flat_map}
-use Rattle.page_frames.specs.Marks.{all_dirty_ends}
-use Rattle.page_frames.proofs.DirtyEnds.{entry_ends}
+use Rattle.std.specs.List.Sorted.{IsStrictlySortedBy}
+use Rattle.page_frames.specs.Framed.{block_cmp}
+use Rattle.page_frames.proofs.Queue.{HasDirty}
 use Rattle.page_frames.proofs.frames.Frames.first_dirty.Given as goal
 
-abbrev pub invariant-loop-fork : goal.invariant-loop-fork
-invariant-loop-fork l = flat_map entry_ends l.fork-iterator ≡ all_dirty_ends l.self.marks
+abbrev pub invariant-loop-at : goal.invariant-loop-at
+invariant-loop-at l = record {
+  dirty : HasDirty l.self l.at-iterator;
+  sorted : IsStrictlySortedBy block_cmp l.at-iterator;
+}

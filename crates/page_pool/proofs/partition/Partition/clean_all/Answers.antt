@@ -1,3 +1,4 @@
+use Rattle.std.proofs.Common.{◌∙◌}
 use Rattle.page_pool.specs.Steps.{HasWritten}
 use Rattle.page_pool.proofs.InTurn.{changes_on, written_on, same_written, all_written_on, on_err}
 use Rattle.page_pool.proofs.partition.Partition.clean_all.Goals as goal
@@ -27,5 +28,5 @@ returns-clause-area g c =
 
 pub returns-clause-written : goal.returns-clause-written
 returns-clause-written g c =
-    all_written_on c.args.redo.0 c.args.self.now c.write_pages.new.self c.settle.new.self
+    all_written_on c.args.redo.0 c.args.self.now c.write_pages.new.self c.settle.new.self (c.write_pages.ensures.frames ∙ c.finish_works.ensures.frames)
     (written_on c.args.self.now c.finish_works.new.self c.write_pages.new.self c.finish_works.ensures.kept c.write_pages.ensures.kept) c.in_ok-settle.ensures.settled

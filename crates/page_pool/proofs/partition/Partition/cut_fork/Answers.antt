@@ -1,10 +1,40 @@
-use Rattle.page_pool.proofs.OnDisk.{cut_failed, cut_done}
+use Rattle.std.proofs.Common.{refl}
+use Rattle.page_pool.specs.declared.work.Work.TheVariants.{Cut}
+use Rattle.page_pool.proofs.OnDisk.{holds_again, shown_again, frames_alike, own_shown, work_done, same_unwritten, cut_failed, cut_done}
+use Rattle.page_pool.proofs.InTurn.{on_err}
 use Rattle.page_pool.proofs.partition.Partition.cut_fork.Goals as goal
 
 pub invariant_of-self : goal.invariant_of-self
 invariant_of-self g c =
-    cut_failed g.V.Vault c.self.inside c.args.self.now c.self.view_is c.self.invariant c.cut.new.self c.in_err-cut.ensures.kept c.args.fork.now c.args.count c.requires c.know.ensures c.in_err-cut.ensures.torn
+    let p = c.self.inside in
+    let new = c.cut.new.self in
+    let kept = c.in_err-cut.ensures.kept in
+    holds_again g.V.Vault p c.self.invariant new kept p.frames p.works p.point (own_shown g.V.Vault p)
+    (cut_failed g.V.Vault p c.self.invariant new kept c.args.self.now c.self.view_is c.args.fork.now c.args.count c.requires c.in_err-cut.ensures.torn)
+
+pub returns-in_err-cut-clause-kept : goal.returns-in_err-cut-clause-kept
+returns-in_err-cut-clause-kept g c =
+    let p = c.self.inside in
+    let new = c.cut.new.self in
+    let kept = c.in_err-cut.ensures.kept in
+    on_err c.from_residual.result _ (same_unwritten g.V.Vault p c.args.self.now c.self.view_is new
+    (shown_again g.V.Vault p c.self.invariant new kept p.frames p.works.items (λ other. refl)
+    (cut_failed g.V.Vault p c.self.invariant new kept c.args.self.now c.self.view_is c.args.fork.now c.args.count c.requires c.in_err-cut.ensures.torn)))
 
 pub invariant_of-self-2 : goal.invariant_of-self-2
 invariant_of-self-2 g c =
-    cut_done g.V.Vault c.self.inside c.args.self.now c.self.view_is c.self.invariant c.cut.new.self c.in_ok-cut.ensures.kept c.args.fork.now c.args.count c.requires c.know.ensures c.in_ok-cut.ensures.left c.remove.new.self c.remove.ensures.items
+    let p = c.self.inside in
+    let new = c.cut.new.self in
+    let kept = c.in_ok-cut.ensures.kept in
+    holds_again g.V.Vault p c.self.invariant new kept p.frames c.remove.new.self p.point (own_shown g.V.Vault p)
+    (cut_done g.V.Vault p c.self.invariant new kept c.args.self.now c.self.view_is c.args.fork.now c.args.count c.requires c.in_ok-cut.ensures.left c.remove.new.self.items c.remove.ensures.items)
+
+pub returns-clause-cut : goal.returns-clause-cut
+returns-clause-cut g c =
+    let p = c.self.inside in
+    let new = c.cut.new.self in
+    let kept = c.in_ok-cut.ensures.kept in
+    let shown = shown_again g.V.Vault p c.self.invariant new kept p.frames c.remove.new.self.items (λ other. refl)
+    (cut_done g.V.Vault p c.self.invariant new kept c.args.self.now c.self.view_is c.args.fork.now c.args.count c.requires c.in_ok-cut.ensures.left c.remove.new.self.items c.remove.ensures.items) in
+    let d = work_done g.V.Vault p c.args.self.now c.self.view_is new (Cut c.args.fork.now c.args.count) c.requires c.remove.new.self c.remove.ensures.items shown in
+    record { frames = d.frames; point = d.point; next = d.next }

@@ -1,4 +1,5 @@
-use Rattle.page_pool.proofs.InTurn.{changes_on, written_on, same_written, one_written}
+use Rattle.std.proofs.Common.{◌∙◌}
+use Rattle.page_pool.proofs.InTurn.{changes_on, written_on, same_written, one_written, work_marks}
 use Rattle.page_pool.proofs.partition.Partition.finish_works.Goals as goal
 
 pub loop-work-preserved : goal.loop-work-preserved
@@ -8,7 +9,22 @@ loop-work-preserved g c =
     let d = c.do_work.new.self in
     let inv = c.loop-work.invariant in
     let e = c.in_ok-do_work.ensures in
-    record { written = written_on a b d inv.written (one_written c.in_ok-do_work.field-0 b d e.written e.area); area = changes_on a b d inv.area e.area }
+    record {
+      alike = e.alike ∙ inv.alike;
+      marks = work_marks c.in-Some.work b d c.in_ok-do_work.field-0 e.written c.in-Some.ensures.first ∙ inv.marks;
+      frames = e.written.frames ∙ inv.frames;
+      written = written_on a b d inv.written (one_written c.in_ok-do_work.field-0 b d e.written e.area);
+      area = changes_on a b d inv.area e.area;
+    }
+
+pub returns-in_err-do_work-clause-alike : goal.returns-in_err-do_work-clause-alike
+returns-in_err-do_work-clause-alike g c = c.in_err-do_work.ensures.alike ∙ c.loop-work.invariant.alike
+
+pub returns-in_err-do_work-clause-marks : goal.returns-in_err-do_work-clause-marks
+returns-in_err-do_work-clause-marks g c = c.in_err-do_work.ensures.kept.marks ∙ c.loop-work.invariant.marks
+
+pub returns-in_err-do_work-clause-frames : goal.returns-in_err-do_work-clause-frames
+returns-in_err-do_work-clause-frames g c = c.in_err-do_work.ensures.kept.frames ∙ c.loop-work.invariant.frames
 
 pub returns-in_err-do_work-clause-kept : goal.returns-in_err-do_work-clause-kept
 returns-in_err-do_work-clause-kept g c =

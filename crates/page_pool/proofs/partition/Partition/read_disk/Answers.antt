@@ -1,11 +1,16 @@
-use Rattle.std.proofs.Common.{IfOk, subst}
+use Rattle.std.proofs.Common.{IfOk, refl, sym, subst}
 use Rattle.rel_files.specs.Shown.{AreFilesOf, HoldsStore, ReadsWhole}
 use Rattle.page_pool.specs.Part.{Part}
-use Rattle.page_pool.proofs.Parted.{ok_map, known, read_on, each_held}
+use Rattle.page_pool.specs.Calls.{AreWholePages}
+use Rattle.page_pool.proofs.Parted.{ok_map, known, whole_pages, each_held}
+use Rattle.page_pool.proofs.OnDisk.{holds_again, shown_again, own_shown, same_done, same_unwritten}
 use Rattle.page_pool.proofs.partition.Partition.read_disk.Goals as goal
 
 pub invariant_of-self : goal.invariant_of-self
-invariant_of-self g c = read_on g.V.Vault c.self.inside c.read_block.new.self c.read_block.ensures.reads c.read_block.ensures.held c.self.invariant
+invariant_of-self g c =
+    let p = c.self.inside in
+    let e = c.read_block.ensures in
+    holds_again g.V.Vault p c.self.invariant c.read_block.new.self e.kept p.frames p.works p.point (own_shown g.V.Vault p) (same_done g.V.Vault p c.self.invariant c.read_block.new.self e.kept e.held)
 
 pub returns-clause-read : goal.returns-clause-read
 returns-clause-read g c =
@@ -15,4 +20,21 @@ returns-clause-read g c =
     (λ there reads s told. reads s (each_held g.V.Vault p c.self.invariant c.know_all.ensures s told)) c.read_block.ensures.whole)
 
 pub returns-clause-known : goal.returns-clause-known
-returns-clause-known g c = known g.V.Vault (record { disk = c.read_block.new.self; frames = c.self.inside.frames; works = c.self.inside.works; point = c.self.inside.point }) (read_on g.V.Vault c.self.inside c.read_block.new.self c.read_block.ensures.reads c.read_block.ensures.held c.self.invariant)
+returns-clause-known g c =
+    let p = c.self.inside in
+    let e = c.read_block.ensures in
+    known g.V.Vault (record { disk = c.read_block.new.self; frames = p.frames; works = p.works; point = p.point })
+    (holds_again g.V.Vault p c.self.invariant c.read_block.new.self e.kept p.frames p.works p.point (own_shown g.V.Vault p) (same_done g.V.Vault p c.self.invariant c.read_block.new.self e.kept e.held))
+
+pub returns-clause-whole : goal.returns-clause-whole
+returns-clause-whole g c =
+    let p = c.self.inside in
+    let e = c.read_block.ensures in
+    subst AreWholePages (sym (shown_again g.V.Vault p c.self.invariant c.read_block.new.self e.kept p.frames p.works.items (λ other. refl) (same_done g.V.Vault p c.self.invariant c.read_block.new.self e.kept e.held)))
+    (whole_pages g.V.Vault p c.know.ensures c.self.invariant)
+
+pub returns-clause-same : goal.returns-clause-same
+returns-clause-same g c =
+    let p = c.self.inside in
+    let e = c.read_block.ensures in
+    same_unwritten g.V.Vault p c.args.self.now c.self.view_is c.read_block.new.self (shown_again g.V.Vault p c.self.invariant c.read_block.new.self e.kept p.frames p.works.items (λ other. refl) (same_done g.V.Vault p c.self.invariant c.read_block.new.self e.kept e.held))

@@ -1,10 +1,40 @@
-use Rattle.page_pool.proofs.OnDisk.{removal_failed, removal_done}
+use Rattle.std.proofs.Common.{refl}
+use Rattle.page_pool.specs.declared.work.Work.TheVariants.{Remove}
+use Rattle.page_pool.proofs.OnDisk.{holds_again, shown_again, frames_alike, own_shown, work_done, same_unwritten, removal_failed, removal_done}
+use Rattle.page_pool.proofs.InTurn.{on_err}
 use Rattle.page_pool.proofs.partition.Partition.remove_fork.Goals as goal
 
 pub invariant_of-self : goal.invariant_of-self
 invariant_of-self g c =
-    removal_failed g.V.Vault c.self.inside c.args.self.now c.self.view_is c.self.invariant c.remove.new.self c.in_err-remove.ensures.kept c.args.fork.now c.requires c.in_err-remove.ensures.torn
+    let p = c.self.inside in
+    let new = c.remove.new.self in
+    let kept = c.in_err-remove.ensures.kept in
+    holds_again g.V.Vault p c.self.invariant new kept p.frames p.works p.point (own_shown g.V.Vault p)
+    (removal_failed g.V.Vault p c.self.invariant new kept c.args.self.now c.self.view_is c.args.fork.now c.requires c.in_err-remove.ensures.torn)
+
+pub returns-in_err-remove-clause-kept : goal.returns-in_err-remove-clause-kept
+returns-in_err-remove-clause-kept g c =
+    let p = c.self.inside in
+    let new = c.remove.new.self in
+    let kept = c.in_err-remove.ensures.kept in
+    on_err c.from_residual.result _ (same_unwritten g.V.Vault p c.args.self.now c.self.view_is new
+    (shown_again g.V.Vault p c.self.invariant new kept p.frames p.works.items (λ other. refl)
+    (removal_failed g.V.Vault p c.self.invariant new kept c.args.self.now c.self.view_is c.args.fork.now c.requires c.in_err-remove.ensures.torn)))
 
 pub invariant_of-self-2 : goal.invariant_of-self-2
 invariant_of-self-2 g c =
-    removal_done g.V.Vault c.self.inside c.args.self.now c.self.view_is c.self.invariant c.remove.new.self c.in_ok-remove.ensures.kept c.args.fork.now c.requires c.in_ok-remove.ensures.away c.remove-2.new.self c.remove-2.ensures.items
+    let p = c.self.inside in
+    let new = c.remove.new.self in
+    let kept = c.in_ok-remove.ensures.kept in
+    holds_again g.V.Vault p c.self.invariant new kept p.frames c.remove-2.new.self p.point (own_shown g.V.Vault p)
+    (removal_done g.V.Vault p c.self.invariant new kept c.args.self.now c.self.view_is c.args.fork.now c.requires c.in_ok-remove.ensures.away c.remove-2.new.self.items c.remove-2.ensures.items)
+
+pub returns-clause-gone : goal.returns-clause-gone
+returns-clause-gone g c =
+    let p = c.self.inside in
+    let new = c.remove.new.self in
+    let kept = c.in_ok-remove.ensures.kept in
+    let shown = shown_again g.V.Vault p c.self.invariant new kept p.frames c.remove-2.new.self.items (λ other. refl)
+    (removal_done g.V.Vault p c.self.invariant new kept c.args.self.now c.self.view_is c.args.fork.now c.requires c.in_ok-remove.ensures.away c.remove-2.new.self.items c.remove-2.ensures.items) in
+    let d = work_done g.V.Vault p c.args.self.now c.self.view_is new (Remove c.args.fork.now) c.requires c.remove-2.new.self c.remove-2.ensures.items shown in
+    record { frames = d.frames; point = d.point; next = d.next }

@@ -1,36 +1,29 @@
-use Rattle.std.proofs.Common.{List, length, sym, subst, ◌∙◌, arith}
-use Rattle.lsn_core.specs.declared.ids.ForkId.{ForkId}
-use Rattle.page_pool.proofs.InTurn.{AreCleanBefore, changes_on, written_on, all_clean, more_clean}
+use Rattle.std.proofs.Common.{Option, ℕ, is_some, ap, ◌∙◌}
+use Rattle.page_frames.proofs.Ends.{none_dirty}
+use Rattle.page_pool.proofs.InTurn.{changes_on, written_on, same_written, page_written, is_none}
 use Rattle.page_pool.proofs.partition.Partition.write_pages.Goals as goal
 
-pub returns-in_err-write_fork-clause-kept : goal.returns-in_err-write_fork-clause-kept
-returns-in_err-write_fork-clause-kept g c = written_on c.args.self.now c.loop-fork.self c.write_fork.new.self c.loop-fork.invariant.written c.in_err-write_fork.ensures.kept
-
-pub returns-in_err-write_fork-clause-area : goal.returns-in_err-write_fork-clause-area
-returns-in_err-write_fork-clause-area g c = changes_on c.args.self.now c.loop-fork.self c.write_fork.new.self c.loop-fork.invariant.area c.in_err-write_fork.ensures.area
-
-pub loop-fork-preserved : goal.loop-fork-preserved
-loop-fork-preserved g c =
+pub loop-at-preserved : goal.loop-at-preserved
+loop-at-preserved g c =
     let a = c.args.self.now in
-    let b = c.loop-fork.self in
-    let d = c.write_fork.new.self in
-    let forks = c.deref-fork-items.result.now in
-    let inv = c.loop-fork.invariant in
-    let e = c.in_ok-write_fork.ensures in
+    let b = c.loop-at.self in
+    let d = c.write_page.new.self in
+    let inv = c.loop-at.invariant in
+    let e = c.in_ok-write_page.ensures in
     record {
-      none = e.none;
-      clean = more_clean b d forks c.loop-fork.fork-index c.fork-item.result e.kept inv.clean c.loop-fork-test.true (sym c.fork-item.is) e.clean;
-      written = written_on a b d inv.written e.kept;
+      none = e.written.works;
+      frames = e.written.frames ∙ inv.frames;
+      written = written_on a b d inv.written (page_written c.in-Some.at b d inv.none e.written e.area);
       area = changes_on a b d inv.area e.area;
     }
 
+pub returns-in_err-write_page-clause-kept : goal.returns-in_err-write_page-clause-kept
+returns-in_err-write_page-clause-kept g c =
+    let e = c.in_err-write_page.ensures in
+    written_on c.args.self.now c.loop-at.self c.write_page.new.self c.loop-at.invariant.written (same_written c.loop-at.self c.write_page.new.self e.kept e.area)
+
+pub returns-in_err-write_page-clause-area : goal.returns-in_err-write_page-clause-area
+returns-in_err-write_page-clause-area g c = changes_on c.args.self.now c.loop-at.self c.write_page.new.self c.loop-at.invariant.area c.in_err-write_page.ensures.area
+
 pub returns-clause-clean : goal.returns-clause-clean
-returns-clause-clean g c =
-    let a = c.args.self.now in
-    let b = c.loop-fork.self in
-    let inv = c.loop-fork.invariant in
-    let forks = c.deref-fork-items.ensures.value ∙ c.in_ok-forks.ensures in
-    record {
-      marks = all_clean a b c.know_frames.ensures inv.written (λ k less d. subst (λ (fs : List ForkId). AreCleanBefore b fs (length fs)) forks (λ i l x. inv.clean i (omega (arith, l, c.loop-fork-test.false)) x) k less d);
-      works = inv.none;
-    }
+returns-clause-clean g c = record { marks = none_dirty c.loop-at.self.marks (c.next_page.ensures.none (is_none c.next_page.result c.in_default.not-Some)); works = c.loop-at.invariant.none }

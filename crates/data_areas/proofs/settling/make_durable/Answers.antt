@@ -1,0 +1,37 @@
+-- Synced areas hold what they did; then the first one has no mark.
+use Rattle.std.proofs.Common.{inr, inl}
+use Rattle.data_areas.proofs.Settled.{settled_of, unmarked_of, ended_of, others_rebuilt}
+use Rattle.data_areas.proofs.settling.make_durable.Goals as goal
+
+pub returns-in-Ok-clause-settled : goal.returns-in-Ok-clause-settled
+returns-in-Ok-clause-settled g c =
+    let v = g.V.Vault in
+    let relseg = c.args.relseg in
+    let old = c.args.areas.now in
+    let mid = c.sync_all.new.areas in
+    let synced = c.in_ok-sync_all.ensures.synced in
+    let filled = c.requires.filled in
+    record {
+      data0 = unmarked_of v relseg old.data0 mid.data0 c.unmark_rebuilding.new.area filled.data0 synced.data0 c.in-Ok.ensures.changes c.in-Ok.ensures.gone c.in-Ok.ensures.settled;
+      data1 = settled_of v relseg old.data1 mid.data1 filled.data1 synced.data1;
+      data2 = settled_of v relseg old.data2 mid.data2 filled.data2 synced.data2;
+      data3 = settled_of v relseg old.data3 mid.data3 filled.data3 synced.data3;
+    }
+
+pub returns-in-Ok-clause-ended : goal.returns-in-Ok-clause-ended
+returns-in-Ok-clause-ended g c =
+    ended_of g.V.Vault c.args.relseg c.args.areas.now.data0 c.sync_all.new.areas.data0 c.unmark_rebuilding.new.area c.requires.relseg.least c.requires.filled.data0 c.in_ok-sync_all.ensures.synced.data0 c.in-Ok.ensures.changes
+
+pub returns-in-Err-clause-so_far : goal.returns-in-Err-clause-so_far
+returns-in-Err-clause-so_far g c =
+    let v = g.V.Vault in
+    let relseg = c.args.relseg in
+    let old = c.args.areas.now in
+    let mid = c.sync_all.new.areas in
+    let synced = c.in_ok-sync_all.ensures.synced in
+    let filled = c.requires.filled in
+    inr (
+      others_rebuilt v relseg old _ c.requires.relseg.least (settled_of v relseg old.data1 mid.data1 filled.data1 synced.data1) (settled_of v relseg old.data2 mid.data2 filled.data2 synced.data2)
+          (settled_of v relseg old.data3 mid.data3 filled.data3 synced.data3),
+      ended_of v relseg old.data0 mid.data0 c.unmark_rebuilding.new.area c.requires.relseg.least filled.data0 synced.data0 c.in-Err.ensures.changes,
+    )

@@ -1,0 +1,24 @@
+use Rattle.std.proofs.Common.{◌≡◌, true, ap, sym, subst, ◌∙◌}
+use Rattle.page_frames.specs.Marks.{DirtyMarks, is_dirty}
+use Rattle.page_pool.proofs.InTurn.{changes_on, written_on, bounds_on, framed_bounds, same_written, page_written, cleaned_here, cause_on}
+use Rattle.page_pool.proofs.partition.Partition.write_out.Goals as goal
+
+pub returns-in_err-write_page-clause-written : goal.returns-in_err-write_page-clause-written
+returns-in_err-write_page-clause-written g c =
+    let e = c.in_err-write_page.ensures in
+    written_on c.args.self.now c.finish_works.new.self c.write_page.new.self c.finish_works.ensures.kept (same_written c.finish_works.new.self c.write_page.new.self e.kept e.area)
+
+pub returns-in_err-write_page-clause-area : goal.returns-in_err-write_page-clause-area
+returns-in_err-write_page-clause-area g c = changes_on c.args.self.now c.finish_works.new.self c.write_page.new.self c.finish_works.ensures.area c.in_err-write_page.ensures.area
+
+pub returns-clause-clean : goal.returns-clause-clean
+returns-clause-clean g c = cleaned_here c.args.at.now c.finish_works.new.self c.write_page.new.self c.in_ok-write_page.ensures.written
+
+pub returns-clause-written : goal.returns-clause-written
+returns-clause-written g c =
+    let e = c.in_ok-write_page.ensures in
+    written_on c.args.self.now c.finish_works.new.self c.write_page.new.self c.finish_works.ensures.kept
+    (page_written c.args.at.now c.finish_works.new.self c.write_page.new.self c.in_ok-finish_works.ensures.none e.written e.area)
+
+pub returns-clause-area : goal.returns-clause-area
+returns-clause-area g c = changes_on c.args.self.now c.finish_works.new.self c.write_page.new.self c.finish_works.ensures.area c.in_ok-write_page.ensures.area

@@ -1,0 +1,20 @@
+-- Areas are cleared, and what comes of them then comes of those before.
+use Rattle.std.proofs.Common.{refl}
+use Rattle.shared_store.specs.declared.boxing.BoxedAreas.{BoxedAreas}
+use Rattle.shared_store.specs.Begin.{IsUnbegun}
+use Rattle.shared_store.specs.Found.{areas_with, IsUnfilled}
+use Rattle.data_areas.proofs.Turned.{on_fault}
+use Rattle.shared_store.proofs.Begun.{uncleared}
+use Rattle.shared_store.proofs.Unbegun.{unbegun_of}
+use Rattle.shared_store.proofs.begin.rebuild.Goals as goal
+
+pub returns-in-Err-clause-refused : goal.returns-in-Err-clause-refused
+returns-in-Err-clause-refused g c =
+    uncleared g.V.Vault c.args.settings c.args.areas.wal c.args.areas.pages c.clear.new.areas c.unboxed.result c.in-Err.why c.unboxed.ensures c.requires.checked.given c.in-Err.ensures.later c.in-Err.ensures.cause c.in-Err.ensures.so_far
+
+pub returns-clause-refused : goal.returns-clause-refused
+returns-clause-refused g c =
+    let old = c.args.areas in
+    let mid : BoxedAreas g.row.V.Denot = record { wal = old.wal; pages = c.clear.new.areas } in
+    on_fault c.refill.result (IsUnfilled g.V.Vault c.args.settings mid) (IsUnbegun g.V.Vault (areas_with old.wal old.pages))
+    (λ f unfilled. unbegun_of g.V.Vault c.args.settings old.wal old.pages mid f refl c.requires.checked.given c.in_default.ensures.later c.in_default.ensures.cleared.tell c.in_default.ensures.begun unfilled) c.refill.ensures.refused
