@@ -3,7 +3,7 @@
 
 use pgbackup_cli::Status;
 use test_areas::{SiteStep, Wrong, take_site_steps};
-use test_calls::{Call, INIT, make_calls};
+use test_calls::{Call, INIT, make_calls, make_calls_in_few_frames};
 use vault::MemSite;
 
 /// A full backup and two incremental ones on it, the second where nothing changed; and what
@@ -79,6 +79,13 @@ static CHAIN_FILES: [SiteStep; 4] = [
 fn blocks_that_changed_are_sent(rt: HostRuntime) -> Result<(), Wrong> {
     let mut site = MemSite::new(rt.alloc(), &[])?;
     make_calls(rt.alloc(), &mut site, &CHAIN)?;
+    take_site_steps(rt.alloc(), &mut site, &CHAIN_FILES)
+}
+
+#[test]
+fn they_are_sent_with_few_frames(rt: HostRuntime) -> Result<(), Wrong> {
+    let mut site = MemSite::new(rt.alloc(), &[])?;
+    make_calls_in_few_frames(rt.alloc(), &mut site, &CHAIN)?;
     take_site_steps(rt.alloc(), &mut site, &CHAIN_FILES)
 }
 

@@ -6,20 +6,24 @@ ghost use Rattle.vault.specs.Site.{AllHome};
 use pgbackup_cli::Status;
 use std::alloc::Global;
 use test_areas::Wrong;
-use test_calls::{Call, make_calls};
+use test_calls::{Call, make_calls, make_calls_in_few_frames};
 use vault::{MemSite, Site, read_in};
+
+/// The calls that make a store of one entry, and run a script on it.
+fn calls_of<'a>(script: &'a str, printed: &'a str) -> [Call<'a>; 2] {
+    let init = "init --segment-mib 1 --system-id 7";
+    [
+        (init, "", Status::Done, "initialised 0/100060\n"),
+        ("run", script, Status::Done, printed),
+    ]
+}
 
 /// Makes a store of one entry, and runs a script on it.
 fn run_anew<S: Site>(alloc: Global, site: &mut S, script: &str, printed: &str) -> Result<(), Wrong>
     requires { AllHome (S.areas site.old) }
     ensures { AllHome (S.areas site.new) }
 {
-    let init = "init --segment-mib 1 --system-id 7";
-    let calls: [Call; 2] = [
-        (init, "", Status::Done, "initialised 0/100060\n"),
-        ("run", script, Status::Done, printed),
-    ];
-    make_calls(alloc, site, &calls)
+    make_calls(alloc, site, &calls_of(script, printed))
 }
 
 /// Scripts on a store of one entry, and what each prints.
@@ -152,10 +156,12 @@ wal 0/1022E0
     ),
 ];
 
-/// Runs a script on a store of its own.
+/// Runs a script on a store of its own, and on another one with few frames.
 fn runs(alloc: Global, script: &str, printed: &str) -> Result<(), Wrong> {
     let mut site = MemSite::new(alloc, &[])?;
-    run_anew(alloc, &mut site, script, printed)
+    run_anew(alloc, &mut site, script, printed)?;
+    let mut few = MemSite::new(alloc, &[])?;
+    make_calls_in_few_frames(alloc, &mut few, &calls_of(script, printed))
 }
 
 #[test]

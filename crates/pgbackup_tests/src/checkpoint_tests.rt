@@ -8,7 +8,7 @@ use lsn_core::AreaFault;
 use pgbackup_cli::Status;
 use std::alloc::Global;
 use test_areas::{SiteStep, Wrong, take_site_steps};
-use test_calls::{Call, make_calls};
+use test_calls::{Call, make_calls, make_calls_in_few_frames};
 use vault::{MemSite, Site, read_in};
 
 const INIT: &str = "init --segment-mib 1 --system-id 7";
@@ -138,30 +138,49 @@ wal 0/100110
     ),
 ];
 
+/// The calls that make a store of one entry, run a script on it, and replay its WAL.
+fn calls_of<'a>(row: &Row<'a>) -> [Call<'a>; 3] {
+    let (script, printed, replayed) = *row;
+    [
+        (INIT, "", Status::Done, "initialised 0/100060\n"),
+        ("run", script, Status::Done, printed),
+        ("replay p", "", Status::Done, replayed),
+    ]
+}
+
 /// Makes a store of one entry, runs a script on it, and replays its WAL.
 pub(crate) fn run_anew<S: Site>(alloc: Global, site: &mut S, row: &Row) -> Result<(), Wrong>
     requires { AllHome (S.areas site.old) }
     ensures { AllHome (S.areas site.new) }
 {
-    let (script, printed, replayed) = *row;
-    let calls: [Call; 3] = [
-        (INIT, "", Status::Done, "initialised 0/100060\n"),
-        ("run", script, Status::Done, printed),
-        ("replay p", "", Status::Done, replayed),
-    ];
-    make_calls(alloc, site, &calls)
+    make_calls(alloc, site, &calls_of(row))
 }
 
-/// The same over a site of its own.
+/// The same with few frames.
+fn run_in_few_frames<S: Site>(alloc: Global, site: &mut S, row: &Row) -> Result<(), Wrong>
+    requires { AllHome (S.areas site.old) }
+    ensures { AllHome (S.areas site.new) }
+{
+    make_calls_in_few_frames(alloc, site, &calls_of(row))
+}
+
+/// The first over a site of its own.
 pub(crate) fn is_run(alloc: Global, row: &Row) -> Result<(), Wrong> {
     let mut site = MemSite::new(alloc, &[])?;
     run_anew(alloc, &mut site, row)
+}
+
+/// The second over a site of its own.
+fn is_run_in_few_frames(alloc: Global, row: &Row) -> Result<(), Wrong> {
+    let mut site = MemSite::new(alloc, &[])?;
+    run_in_few_frames(alloc, &mut site, row)
 }
 
 #[test]
 fn lines_are_answered_as_elsewhere(rt: HostRuntime) -> Result<(), Wrong> {
     for row in &ROWS {
         is_run(rt.alloc(), row)?;
+        is_run_in_few_frames(rt.alloc(), row)?;
     }
     Ok(())
 }
@@ -197,13 +216,26 @@ fn is_held<S: Site>(
     Ok(!found.is_empty() && found.as_slice() == wanted.as_slice())
 }
 
+/// The data areas hold what replay gives, and what was in the way is gone.
+fn are_held<S: Site>(alloc: Global, site: &mut S) -> Result<bool, Wrong>
+    requires { AllHome (S.areas site.old) }
+    ensures { AllHome (S.areas site.new) }
+{
+    take_site_steps(alloc, site, &CLEARED)?;
+    let first = is_held(alloc, site, b"data0", b"base/5/16384")?;
+    let last = is_held(alloc, site, b"data3", b"base/5/16387_init")?;
+    Ok(first && last)
+}
+
 #[test]
 fn data_areas_hold_what_replay_gives(rt: HostRuntime) -> Result<(), Wrong> {
     let mut site = MemSite::new(rt.alloc(), &[])?;
     take_site_steps(rt.alloc(), &mut site, &STRAY)?;
     run_anew(rt.alloc(), &mut site, &ROWS[3])?;
-    take_site_steps(rt.alloc(), &mut site, &CLEARED)?;
-    assert!(rt; is_held(rt.alloc(), &mut site, b"data0", b"base/5/16384")?);
-    assert!(rt; is_held(rt.alloc(), &mut site, b"data3", b"base/5/16387_init")?);
+    assert!(rt; are_held(rt.alloc(), &mut site)?);
+    let mut few = MemSite::new(rt.alloc(), &[])?;
+    take_site_steps(rt.alloc(), &mut few, &STRAY)?;
+    run_in_few_frames(rt.alloc(), &mut few, &ROWS[3])?;
+    assert!(rt; are_held(rt.alloc(), &mut few)?);
     Ok(())
 }

@@ -4,14 +4,14 @@
 use lsn_core::NoMemory;
 use pgbackup_cli::Status;
 use std::alloc::Global;
-use test_calls::{NONE, run};
+use test_calls::{FEW_FRAMES, NONE, run};
 use vault::MemSite;
 
 /// Whether a script on a new store is answered by a line of these words.
-fn is_answered(alloc: Global, script: &str, line: &str) -> Result<bool, NoMemory> {
+fn is_answered(alloc: Global, words: &str, script: &str, line: &str) -> Result<bool, NoMemory> {
     let mut site = MemSite::new(alloc, &[])?;
     let (_, _) = run(alloc, &mut site, "init --system-id 7", "", NONE)?;
-    let (status, printed) = run(alloc, &mut site, "run", script, NONE)?;
+    let (status, printed) = run(alloc, &mut site, words, script, NONE)?;
     let mut lines = printed.split(|byte| *byte == b'\n');
     Ok(status == Status::Done && lines.any(|one| one == line.as_bytes()))
 }
@@ -41,7 +41,11 @@ grow 5/1@0 32769 24,8192,0
 #[test]
 fn forks_and_stores_have_limits(rt: HostRuntime) -> Result<(), NoMemory> {
     for (script, line) in &LIMITS {
-        assert!(rt; is_answered(rt.alloc(), script, line)?, "{line}");
+        assert!(rt; is_answered(rt.alloc(), "run", script, line)?, "{line}");
+        assert!(rt;
+            is_answered(rt.alloc(), FEW_FRAMES, script, line)?,
+            "{line}"
+        );
     }
     Ok(())
 }

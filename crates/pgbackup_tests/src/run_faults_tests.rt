@@ -1,4 +1,5 @@
-//! A run with a flush and a checkpoint of which each call of an area, or one of the input, fails.
+//! Runs of which each call of an area, or one of the input, fails: one with a flush and a checkpoint,
+//! and one with few frames, which takes backups.
 
 ghost use Rattle.std.specs.Prelude.{IfOk};
 ghost use Rattle.vault.specs.Site.{AllHome};
@@ -8,8 +9,8 @@ use lsn_core::AreaFault;
 use pgbackup_cli::Status;
 use std::alloc::Global;
 use test_areas::{Change, NEW_WAL, SEGMENT, SETTINGS, make_all};
-use test_calls::{Failing, run};
-use vault::{MemSite, MemVault};
+use test_calls::{FEW_FRAMES, Failing, NONE, run};
+use vault::{MemSite, MemVault, Site};
 
 /// Forks of each partition, which are written by a flush, by a checkpoint, and at the end.
 const SCRIPT: &str = "worker w
@@ -117,6 +118,72 @@ fn fails_in_turn(alloc: Global, area: &str, calls: u64) -> Result<bool, AreaFaul
 fn each_device_call_of_a_run_fails_in_turn(rt: HostRuntime) -> Result<(), AreaFault> {
     for (area, calls) in &CALLS {
         assert!(rt; fails_in_turn(rt.alloc(), area, *calls)?, "{area}");
+    }
+    Ok(())
+}
+
+/// Fourteen pages in four frames: commands write pages of others, cut and removed forks too, and read
+/// pages again.
+const SWEPT: &str = "worker w
+create 5/4
+grow 5/4@0 10 24,8192,1
+change 5/4@0+24:61
+full f1
+change 5/4@0+24:62 5/4@3+24:62 5/4@6+24:62 5/4@9+24:62
+truncate 5/4 2
+grow 5/4@2 4 24,8192,1
+create 5/8
+grow 5/8@0 4 24,8192,2
+drop 5/8
+incr i1 f1
+change 5/4@0+24:63
+flush 2
+checkpoint
+";
+
+/// Whether a run of that is done in which a call of an area fails. Else the fault of the area is what
+/// is told last.
+fn swept_is_done<S: Site>(alloc: Global, site: &mut S, area: &str) -> Result<bool, AreaFault>
+    requires { AllHome (S.areas site.old) }
+    ensures { AllHome (S.areas site.new) }
+{
+    let (status, printed) = run(alloc, site, FEW_FRAMES, SWEPT, NONE)?;
+    if status == Status::Done {
+        return Ok(true);
+    }
+    let line = format!(in alloc; "refused 60 DeviceFault {area}\n")?;
+    if status == Status::Device && printed.ends_with(line.as_bytes()) {
+        Ok(false)
+    } else {
+        Err(AreaFault::Failed)
+    }
+}
+
+/// A run makes fewer calls of each area.
+const TRIED: u64 = 400;
+
+/// How many calls that run makes of an area: each of them fails in turn, and the run is done where the
+/// next one were to.
+fn swept_calls(alloc: Global, area: &str) -> Result<u64, AreaFault> {
+    for fails in 1..TRIED {
+        let mut site = new_site(alloc, area.as_bytes(), fails)?;
+        if swept_is_done(alloc, &mut site, area)? {
+            return Ok(fails - 1);
+        }
+    }
+    Ok(TRIED)
+}
+
+/// The areas, and how many calls of each the run makes at least. Of the area of the forks it is, beside
+/// what any run makes of it, six pages that are written for the growth, one that is read for each
+/// patch, and ten that are read for the backup.
+static SWEPT_CALLS: [(&str, u64); 4] = [("wal", 17), ("data0", 28), ("sums", 5), ("b/f1", 6)];
+
+#[test]
+fn each_device_call_fails_in_turn_with_few_frames(rt: HostRuntime) -> Result<(), AreaFault> {
+    for (area, least) in &SWEPT_CALLS {
+        let calls = swept_calls(rt.alloc(), area)?;
+        assert!(rt; *least <= calls && calls < TRIED, "{area} {calls}");
     }
     Ok(())
 }

@@ -21,10 +21,22 @@ static NEW_STORE: [Call; 2] = [
 ];
 
 /// What that store answers.
-static ONE_ENTRY: [Call; 3] = [
+static ONE_ENTRY: [Call; 5] = [
     (INIT, "", Status::Refused, "refused 42 AlreadyInit\n"),
     ("replay p", "", Status::Done, "replayed 0/100060 0 0\n"),
     ("run", "", Status::Done, "opened 0/100060\nwal 0/100060\n"),
+    (
+        "run --frames 4",
+        "",
+        Status::Done,
+        "opened 0/100060\nwal 0/100060\n",
+    ),
+    (
+        "run --frames 16384",
+        "",
+        Status::Done,
+        "opened 0/100060\nwal 0/100060\n",
+    ),
 ];
 
 #[test]
@@ -126,7 +138,7 @@ fn a_run_appends_what_it_accepts(rt: HostRuntime) -> Result<(), Wrong> {
 }
 
 /// Words that aren't taken.
-static OTHER_WORDS: [&str; 16] = [
+static OTHER_WORDS: [&str; 25] = [
     "",
     "replay P",
     "replay p q",
@@ -139,6 +151,15 @@ static OTHER_WORDS: [&str; 16] = [
     "init --system-id",
     "init --relseg 1 --relseg 1",
     "init x",
+    "init --frames 4",
+    "run x",
+    "run --frames",
+    "run --frames 3",
+    "run --frames 16385",
+    "run --frames x",
+    "run --frames 04",
+    "run --frames 4 --frames 4",
+    "run --frames 4 x",
     "init --target 0/1",
     "replay --target 0/1",
     "replay --target 123456789/1 p",

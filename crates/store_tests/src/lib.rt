@@ -11,6 +11,8 @@ mod anew_tests;
 #[cfg(test)]
 mod dropped_tests;
 #[cfg(test)]
+mod eviction_tests;
+#[cfg(test)]
 mod flushed;
 #[cfg(test)]
 mod incremental_tests;

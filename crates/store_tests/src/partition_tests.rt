@@ -15,7 +15,7 @@ use rel_files::Forks;
 use std::alloc::Global;
 use std::test::Fail;
 use test_areas::{Wrong, main_fork};
-use vault::MemVault;
+use vault::{MemVault, Vault};
 use wal_writer::Flushed;
 
 /// The partition of 5/16384.
@@ -31,6 +31,9 @@ const OPENING: u64 = 1;
 /// How many pages it holds in memory.
 const FRAMES: u32 = 16;
 
+/// How many it holds at least.
+const FEW: u32 = 4;
+
 /// The start of the first entry, which is the redo point at first.
 const FIRST: Lsn = Lsn(0x100028);
 
@@ -39,7 +42,7 @@ const CREATED: Lsn = Lsn(0x100090);
 
 /// A command on 5/16384: on its main fork, where nothing else is said.
 #[derive(Clone, Copy)]
-enum Does {
+pub enum Does {
     Creates,
     /// It creates the init fork.
     CreatesInit,
@@ -48,6 +51,8 @@ enum Does {
     PutsTwo(u32, u32),
     /// It writes two bytes over those at a place of a page.
     Patches(u32, u16),
+    /// It does so with four pages, from this block on.
+    PatchesFour(u32, u16),
     Cuts(u32),
     /// It drops the relation.
     Drops,
@@ -129,7 +134,20 @@ fn change_two(alloc: Global, first: Item, second: Item) -> Result<Op, NoMemory>
     Ok(Op::Change(Items::from_vec(items)))
 }
 
-fn op_of(alloc: Global, does: Does) -> Result<Op, Wrong>
+/// Patches four pages of a fork, from this block on.
+fn patch_four(alloc: Global, fork: ForkId, first: u32, at: u16) -> Result<Op, AreaFault>
+    ensures { IfOk result HasItems }
+{
+    let mut items = Vec::new(alloc);
+    items.push(patch(alloc, fork, first, at)?)?;
+    items.push(patch(alloc, fork, first.saturating_add(1), at)?)?;
+    items.push(patch(alloc, fork, first.saturating_add(2), at)?)?;
+    items.push(patch(alloc, fork, first.saturating_add(3), at)?)?;
+    Ok(Op::Change(Items::from_vec(items)))
+}
+
+/// The command that does this.
+pub fn op_of(alloc: Global, does: Does) -> Result<Op, Wrong>
     ensures { IfOk result HasItems }
 {
     match does {
@@ -140,13 +158,19 @@ fn op_of(alloc: Global, does: Does) -> Result<Op, Wrong>
             Ok(change_two(alloc, put(alloc, first, 1)?, put(alloc, second, 2)?)?)
         }
         Does::Patches(block, at) => Ok(change(alloc, patch(alloc, fork()?, block, at)?)?),
+        Does::PatchesFour(first, at) => Ok(patch_four(alloc, fork()?, first, at)?),
         Does::Cuts(count) => Ok(Op::Truncate(fork()?.rel, count)),
         Does::Drops => Ok(Op::Drop(fork()?.rel)),
     }
 }
 
 /// Makes room for a command, where the WAL is flushed so far.
-fn make_room(alloc: Global, part: &mut Part, mark: &Flushed, op: &Op) -> Result<(), AreaFault>
+pub fn make_room<V: Vault>(
+    alloc: Global,
+    part: &mut Partition<V, 0>,
+    mark: &Flushed,
+    op: &Op,
+) -> Result<(), AreaFault>
     requires { HasItems op.now }
     ensures { OnOk result (HasFrames part.new.framed (blocks_of op.now)) }
 {
@@ -157,9 +181,9 @@ fn make_room(alloc: Global, part: &mut Part, mark: &Flushed, op: &Op) -> Result<
 }
 
 /// Does a command, by an entry that ends there, unless it is refused.
-fn take(
+pub fn take<V: Vault>(
     alloc: Global,
-    part: &mut Part,
+    part: &mut Partition<V, 0>,
     mark: &Flushed,
     does: Does,
     end: Lsn,
@@ -267,8 +291,13 @@ fn take_all(
 
 /// A new partition over an area of which these calls fail.
 fn partition(alloc: Global, fails: &[u64]) -> Result<Part, AreaFault> {
+    partition_of(alloc, fails, FRAMES)
+}
+
+/// The same with so many frames.
+fn partition_of(alloc: Global, fails: &[u64], frames: u32) -> Result<Part, AreaFault> {
     let area = MemVault::new(alloc, fails)?;
-    match Partition::open(alloc, Forks::new(alloc, area, 2), FRAMES, FIRST) {
+    match Partition::open(alloc, Forks::new(alloc, area, 2), frames, FIRST) {
         Ok(part) => Ok(part),
         Err(unopened) => Err(unopened.why),
     }
@@ -403,6 +432,58 @@ static REMOVED: [PartStep; 10] = [
     PartStep::Reads(0, None),
 ];
 
+/// Ten pages in four frames: a page is written as another one needs its frame, and what was entered
+/// before it is written first. At the end all are as they were put and patched.
+static FEW_FRAMES: [PartStep; 38] = [
+    PartStep::Takes(Does::Creates, CREATED),
+    PartStep::Takes(Does::Puts(0, 1), Lsn(0x100098)),
+    PartStep::Takes(Does::Puts(1, 2), Lsn(0x1000A0)),
+    PartStep::Takes(Does::Puts(2, 3), Lsn(0x1000A8)),
+    PartStep::Takes(Does::Puts(3, 4), Lsn(0x1000B0)),
+    PartStep::Lists(None),
+    PartStep::Takes(Does::Puts(4, 5), Lsn(0x1000B8)),
+    PartStep::Lists(Some(1)),
+    PartStep::Unwritten(Some(Lsn(0x1000A0)), Some(Lsn(0x1000B8))),
+    PartStep::Takes(Does::Puts(5, 6), Lsn(0x1000C0)),
+    PartStep::Takes(Does::Puts(6, 7), Lsn(0x1000C8)),
+    PartStep::Takes(Does::Puts(7, 8), Lsn(0x1000D0)),
+    PartStep::Takes(Does::Puts(8, 9), Lsn(0x1000D8)),
+    PartStep::Takes(Does::Puts(9, 10), Lsn(0x1000E0)),
+    PartStep::Lists(Some(6)),
+    PartStep::Reads(0, Some(Lsn(0x100098))),
+    PartStep::Reads(5, Some(Lsn(0x1000C0))),
+    PartStep::Reads(6, None),
+    PartStep::Refuses(Does::PatchesFour(7, 24), OpFault::NoBlock),
+    PartStep::Takes(Does::PatchesFour(0, 24), Lsn(0x1000E8)),
+    PartStep::Lists(Some(10)),
+    PartStep::Reads(0, Some(Lsn(0x100098))),
+    PartStep::Takes(Does::PatchesFour(6, 8190), Lsn(0x1000F0)),
+    PartStep::Reads(0, Some(Lsn(0x1000E8))),
+    PartStep::Reads(3, Some(Lsn(0x1000E8))),
+    PartStep::Takes(Does::Cuts(7), Lsn(0x1000F8)),
+    PartStep::Lists(Some(10)),
+    PartStep::Takes(Does::PatchesFour(2, 24), Lsn(0x100100)),
+    PartStep::Lists(Some(7)),
+    PartStep::Reads(6, Some(Lsn(0x1000F0))),
+    PartStep::Takes(Does::PutsTwo(0, 7), PUT),
+    PartStep::Refuses(Does::PutsTwo(0, 9), OpFault::PastEnd),
+    PartStep::Cleans(PUT),
+    PartStep::Lists(Some(8)),
+    PartStep::Reads(0, Some(PUT)),
+    PartStep::Reads(1, Some(Lsn(0x1000E8))),
+    PartStep::Reads(5, Some(Lsn(0x100100))),
+    PartStep::Reads(7, Some(PUT)),
+];
+
+#[test]
+fn pages_without_frames_are_kept(rt: HostRuntime) -> Result<(), Fail> {
+    let alloc = rt.alloc();
+    let mark = flushed(alloc)?;
+    let mut part = partition_of(alloc, &[], FEW)?;
+    take_all(alloc, &mut part, &mark, &FEW_FRAMES)?;
+    Ok(())
+}
+
 #[test]
 fn the_first_page_is_written_behind_its_fork(rt: HostRuntime) -> Result<(), Fail> {
     let alloc = rt.alloc();
@@ -471,6 +552,82 @@ fn failed_writes_are_made_good(rt: HostRuntime) -> Result<(), Fail> {
         assert!(rt; failed(&mut part, &mark) == 1);
         take_all(alloc, &mut part, &mark, &CUT[13..])?;
     }
+    Ok(())
+}
+
+/// Ten pages in four frames, of which some are patched, cut off and put again.
+static SWEPT: [PartStep; 23] = [
+    PartStep::Takes(Does::Creates, CREATED),
+    PartStep::Takes(Does::Puts(0, 1), Lsn(0x100098)),
+    PartStep::Takes(Does::Puts(1, 2), Lsn(0x1000A0)),
+    PartStep::Takes(Does::Puts(2, 3), Lsn(0x1000A8)),
+    PartStep::Takes(Does::Puts(3, 4), Lsn(0x1000B0)),
+    PartStep::Takes(Does::Puts(4, 5), Lsn(0x1000B8)),
+    PartStep::Takes(Does::Puts(5, 6), Lsn(0x1000C0)),
+    PartStep::Takes(Does::Puts(6, 7), Lsn(0x1000C8)),
+    PartStep::Takes(Does::Puts(7, 8), Lsn(0x1000D0)),
+    PartStep::Takes(Does::Puts(8, 9), Lsn(0x1000D8)),
+    PartStep::Takes(Does::Puts(9, 10), Lsn(0x1000E0)),
+    PartStep::Takes(Does::PatchesFour(0, 24), Lsn(0x1000E8)),
+    PartStep::Takes(Does::PatchesFour(6, 8190), Lsn(0x1000F0)),
+    PartStep::Takes(Does::Cuts(7), Lsn(0x1000F8)),
+    PartStep::Takes(Does::PatchesFour(2, 24), Lsn(0x100100)),
+    PartStep::Takes(Does::PutsTwo(0, 7), PUT),
+    PartStep::Cleans(PUT),
+    PartStep::Lists(Some(8)),
+    PartStep::Reads(0, Some(PUT)),
+    PartStep::Reads(1, Some(Lsn(0x1000E8))),
+    PartStep::Reads(5, Some(Lsn(0x100100))),
+    PartStep::Reads(6, Some(Lsn(0x1000F0))),
+    PartStep::Reads(7, Some(PUT)),
+];
+
+/// Takes steps in turn, each a second time where a call of it failed. How many calls failed.
+fn take_again(
+    alloc: Global,
+    part: &mut Part,
+    mark: &Flushed,
+    steps: &[PartStep],
+) -> Result<u32, Wrong> {
+    let mut failed: u32 = 0;
+    for at in 0..steps.len() {
+        let mut taken = takes(alloc, part, mark, steps[at]);
+        if matches!(taken, Err(Wrong::Call(AreaFault::Failed))) {
+            failed = failed.saturating_add(1);
+            taken = takes(alloc, part, mark, steps[at]);
+        }
+        if !taken? {
+            return Err(Wrong::Step(at));
+        }
+    }
+    Ok(failed)
+}
+
+/// How many device calls these steps make at least: the fork is made, six pages are written for the
+/// puts, and four read and four written for each of the first patches.
+const LEAST: u64 = 23;
+
+/// Steps make fewer device calls.
+const TRIED: u64 = 200;
+
+/// How many device calls these steps make: where one of them fails, so does one step, which is taken
+/// when it is asked for again.
+fn swept_calls(alloc: Global, mark: &Flushed) -> Result<u64, Wrong> {
+    for call in 1..TRIED {
+        let mut part = partition_of(alloc, &[OPENING + call], FEW)?;
+        if take_again(alloc, &mut part, mark, &SWEPT)? == 0 {
+            return Ok(call - 1);
+        }
+    }
+    Err(Wrong::Step(SWEPT.len()))
+}
+
+#[test]
+fn commands_without_room_are_taken_again(rt: HostRuntime) -> Result<(), Fail> {
+    let alloc = rt.alloc();
+    let mark = flushed(alloc)?;
+    let calls = swept_calls(alloc, &mark)?;
+    assert!(rt; LEAST <= calls, "{calls}");
     Ok(())
 }
 

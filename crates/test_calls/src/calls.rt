@@ -86,6 +86,37 @@ pub fn make_calls<S: Site>(alloc: Global, site: &mut S, calls: &[Call]) -> Resul
     Ok(())
 }
 
+/// The words of a run with as few frames as there may be.
+pub const FEW_FRAMES: &str = "run --frames 4";
+
+/// The same call, but that a run has as few frames as there may be.
+fn in_few_frames<'a>(call: &Call<'a>) -> Call<'a> {
+    let (line, script, status, printed) = *call;
+    if line == "run" {
+        (FEW_FRAMES, script, status, printed)
+    } else {
+        (line, script, status, printed)
+    }
+}
+
+/// Makes calls of the program in turn, over one site, of which a run has as few frames as there may
+/// be. The first one that isn't answered so is the error.
+pub fn make_calls_in_few_frames<S: Site>(
+    alloc: Global,
+    site: &mut S,
+    calls: &[Call],
+) -> Result<(), Wrong>
+    requires { AllHome (S.areas site.old) }
+    ensures { AllHome (S.areas site.new) }
+{
+    for (number, call) in calls.iter().enumerate() {
+        if !is_answered(alloc, site, &in_few_frames(call))? {
+            return Err(Wrong::Step(number));
+        }
+    }
+    Ok(())
+}
+
 /// Makes calls of the program in turn, over a new site, and takes an area from it.
 pub fn take_behind(alloc: Global, calls: &[Call], area: &[u8]) -> Result<MemVault, Wrong> {
     let mut site = MemSite::new(alloc, &[])?;

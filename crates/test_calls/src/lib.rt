@@ -5,4 +5,7 @@
 
 mod calls;
 
-pub use calls::{Call, Failing, INIT, NONE, is_answered, make_calls, run, take_behind, words_in};
+pub use calls::{
+    Call, FEW_FRAMES, Failing, INIT, NONE, is_answered, make_calls, make_calls_in_few_frames, run,
+    take_behind, words_in,
+};
