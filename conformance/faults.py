@@ -135,6 +135,16 @@ def run_over_a_full_wal(program):
     return ("wal", "write", "wal/" + SEGMENT[:-1] + "6", "No space left on device (os error 28)"), called
 
 
+def run_without_room_for_a_page(program):
+    """A command that needs the frame of a page which can't be written names the area; 16 KiB have room for two pages."""
+    program.store(CREATIONS)
+    with mounted(program.at("data1"), "size=16k"):
+        called = program.call(["run", "--frames", "4"], "worker w\ngrow 5/1@0 12 24,8192,65\n")
+    if called[1][-2:-1] != ["w 2 stopped 6 12 DeviceFault data1"]:
+        raise RuntimeError("no command failed: %s" % (called,))
+    return ("data1", "write", "data1/base/5/1", "No space left on device (os error 28)"), called
+
+
 def replay_into_a_read_only_folder(program):
     program.store(CREATIONS)
     os.mkdir(program.at("o"))
@@ -212,6 +222,7 @@ CASES = [
     run_where_the_mark_is_a_folder,
     run_over_a_full_data_area,
     run_over_a_full_wal,
+    run_without_room_for_a_page,
     replay_into_a_read_only_folder,
     replay_onto_a_read_only_disk,
     replay_onto_a_full_disk,
