@@ -1,10 +1,10 @@
-"""Measures an open store of the program `run`: its commands, its checkpoint, and its beginning.
+"""Measures an open store of the program `run`: its commands, its checkpoint, its flushes, its memory, and its beginning.
 
     python3 bench/store.py PROGRAM [ROUNDS [OLD]]
 
-OLD is the program of another checkout, whose flushes are measured beside these. Prints the best time of
-each way over rounds, the rates, the ratio of a checkpoint to `dd` of the same bytes with one fsync, and
-the peak memory of the program beside the pages that the store holds.
+OLD is the program of another checkout, which is measured beside this one, in turn; it need not know `--frames`. Prints
+the best time of each way over rounds, the rates, the ratio of a checkpoint to `dd` of the same bytes with one fsync,
+what each takes of the time of OLD, and the greatest peak memory beside what the frames may take.
 """
 import os
 import shutil
@@ -14,15 +14,25 @@ import tempfile
 from wal import MIB, Best, timed
 
 PAGES = 20_000
+PATCHES = 50_000
 # A page without a hole, so that each put is a whole image; and 256 MiB of them.
 SHAPE = "8192,8192,7"
 BIG = 32_768
+# Pages that a growth adds before as many are flushed.
+FLUSHED = (1_000, 4_000, 8_000, 16_000, BIG)
+# A full store has so many pages, in four forks, one of each partition.
+FULL = 65_536
+# How many frames each partition has where none are asked for, and fewer; and what may be taken beside them.
+FRAMES = (4_096, 64)
+BESIDE = 24
+# So many flushes of four pages where nothing is to be written.
+IDLE = 20_000
 
 
 def written(lines):
     """A script of one worker, in a file of its own."""
     with open("script", "w") as script:
-        script.write("worker w\ncreate 5/16384\n")
+        script.write("worker w\n")
         script.writelines(line + "\n" for line in lines)
 
 
@@ -32,97 +42,163 @@ def new_store(program):
     timed([program, "init", "--system-id", "1"])
 
 
-def run(best, way, program):
+def run(best, way, program, *words):
     with open("script", "rb") as script:
-        return best.take(way, [program, "run"], script)
+        return best.take(way, [program, "run"] + list(words), script)
 
 
-def commands(program, rounds, what, lines, count, pages):
-    """How many commands a second `run` accepts, of a script of these lines on an empty store."""
-    best = Best()
-    written(lines)
-    for _ in range(rounds):
-        new_store(program)
-        run(best, "run", program)
-    took, memory = best.seconds["run"], best.memory["run"]
-    beside = memory - pages * 8192 / MIB
-    print("%d %s: %.2f s, %.0f commands/s, %.0f MiB of memory, %.0f beside the pages" %
-          (count, what, took, count / took, memory, beside))
+class Bench:
+    """The programs by the name of their way, and how often each is measured."""
 
+    def __init__(self, program, rounds, old):
+        self.ways = [("now", program)] + ([("before", old)] if old else [])
+        self.rounds = rounds
 
-def checkpoint(program, rounds):
-    """What a checkpoint of dirty pages takes, beside `dd` of the same bytes with one fsync.
+    def anew(self, *scripts):
+        """The best of each program over new stores, of scripts by their names, each `SCRIPT WAY`."""
+        best = Best()
+        for _ in range(self.rounds):
+            for way, program in self.ways:
+                for name, lines in scripts:
+                    new_store(program)
+                    written(["create 5/16384"] + lines)
+                    run(best, name + way, program)
+        return best
 
-    Two runs put the same pages twice, and have a checkpoint at the end; one has another between the puts.
-    What that run takes longer is the checkpoint.
-    """
-    best, grow = Best(), "grow 5/16384@0 %d %s" % (PAGES, SHAPE)
-    for _ in range(rounds):
-        for way, lines in (("one", [grow, grow, "checkpoint"]), ("two", [grow, "checkpoint", grow, "checkpoint"])):
-            new_store(program)
-            written(lines)
-            run(best, way, program)
-        best.take("dd", ["dd", "if=/dev/zero", "of=zeros", "bs=8192", "count=%d" % PAGES, "conv=fsync",
-                         "status=none"])
-    took, dd = best.seconds["two"] - best.seconds["one"], best.seconds["dd"]
-    print("checkpoint of %d dirty pages: %.2f s, dd %.2f s: %.2f of it" % (PAGES, took, dd, took / dd))
+    def old_of(self, took):
+        """What was taken of what the program of before takes, as a text."""
+        if len(self.ways) == 1:
+            return ""
+        return ", %.2f of before" % (took("now") / took("before"))
 
+    def commands(self, what, lines, count):
+        """How many commands a second `run` accepts, of a script of these lines on an empty store."""
+        best = self.anew(("", lines))
+        for way, _ in self.ways:
+            took = best.seconds[way]
+            print("%d %s, %s: %.2f s, %.0f commands/s, %.0f MiB of memory" %
+                  (count, what, way, took, count / took, best.memory[way]))
+        print("%d %s: %.2f s%s" % (count, what, best.seconds["now"], self.old_of(best.seconds.get)))
 
-def flushes(program, rounds, old):
-    """What `flush N` behind a growth of N whole pages takes: the run longer than one without that line.
+    def checkpoint(self):
+        """What a checkpoint of dirty pages takes, beside `dd` of the same bytes with one fsync.
 
-    What isn't flushed is written at the run's end, so the difference is what N flushes cost beside that.
-    """
-    for count in (1_000, 4_000, BIG):
-        best, grow = Best(), "grow 5/16384@0 %d %s" % (count, SHAPE)
-        ways = [("", program)] + ([("before ", old)] if old else [])
-        for _ in range(rounds):
-            for name, one in ways:
-                for way, lines in (("grow", [grow]), ("flush", [grow, "flush %d" % count])):
-                    new_store(one)
+        Two runs put the same pages twice, and have a checkpoint at the end; one has another between the puts.
+        What that run takes longer is the checkpoint.
+        """
+        grow = "grow 5/16384@0 %d %s" % (PAGES, SHAPE)
+        best = self.anew(("one ", [grow, grow, "checkpoint"]), ("two ", [grow, "checkpoint", grow, "checkpoint"]))
+        for _ in range(self.rounds):
+            best.take("dd", ["dd", "if=/dev/zero", "of=zeros", "bs=8192", "count=%d" % PAGES, "conv=fsync",
+                             "status=none"])
+        for way, _ in self.ways:
+            took, dd = best.seconds["two " + way] - best.seconds["one " + way], best.seconds["dd"]
+            print("checkpoint of %d pages, %s: %.2f s, dd %.2f s: %.2f of it" % (PAGES, way, took, dd, took / dd))
+
+    def flushes(self):
+        """What `flush N` behind a growth of N whole pages takes: the run longer than one without that line.
+
+        The pages are those of four partitions, which a flush takes in turn. What isn't flushed is written at the run's
+        end, so the difference is what N flushes cost beside that.
+        """
+        others = ["create 5/%d" % (16384 + q) for q in range(1, 4)]
+        for count in FLUSHED:
+            grow = others + ["grow 5/%d@0 %d %s" % (16384 + q, count // 4, SHAPE) for q in range(4)]
+            best = self.anew(("grow ", grow), ("flush ", grow + ["flush %d" % count]))
+            for way, _ in self.ways:
+                took, without = best.seconds["flush " + way], best.seconds["grow " + way]
+                print("flush of %d pages behind their growth, %s: %.2f s, %.2f s more than without" %
+                      (count, way, took, took - without))
+
+    def full_store(self):
+        """A full store, clean: what runs over it take, and their memory, by the number of frames."""
+        first = self.ways[0][1]
+        new_store(first)
+        lines = ["create 5/%d" % (16384 + q) for q in range(4)]
+        written(lines + ["grow 5/%d@0 %d 24,8192,7" % (16384 + q, FULL // 4) for q in range(4)])
+        timed_run(first)
+        self.memory()
+        self.idle("a full store")
+        new_store(first)
+        self.idle("an empty store")
+
+    def memory(self):
+        """The peak memory of a run that changes each page of the store."""
+        best = Best()
+        written(["change " + " ".join("5/%d@%d+24:%02x" % (16384 + q, block + n, block % 251) for n in range(4))
+                 for block in range(0, FULL // 4, 4) for q in range(4)])
+        for _ in range(self.rounds):
+            for frames in FRAMES:
+                run(best, "%d" % frames, self.ways[0][1], "--frames", str(frames))
+            for way, program in self.ways[1:]:
+                run(best, way, program)
+        for frames in FRAMES:
+            most = 4 * frames * 8192 / MIB
+            memory = best.memory["%d" % frames]
+            print("each of %d pages changed with %d frames: %.2f s, %.0f MiB of memory, %.0f beside the frames (%d)%s" %
+                  (FULL, frames, best.seconds["%d" % frames], memory, memory - most, BESIDE,
+                   "" if memory - most <= BESIDE else ": MORE"))
+        for way, _ in self.ways[1:]:
+            print("each of %d pages changed, %s: %.2f s, %.0f MiB of memory" %
+                  (FULL, way, best.seconds[way], best.memory[way]))
+
+    def idle(self, what):
+        """What a flush takes where nothing is to be written: a run of many longer than one of none."""
+        best = Best()
+        for _ in range(self.rounds):
+            for way, program in self.ways:
+                for name, lines in (("none ", []), ("many ", IDLE * ["flush 4"])):
                     written(lines)
-                    run(best, name + way, one)
-        print("flush %d behind a growth of %d pages:" % (count, count), "; ".join(
-            "%s%.2f s, %.2f s more than without" % (name, best.seconds[name + "flush"],
-                                                    best.seconds[name + "flush"] - best.seconds[name + "grow"])
-            for name, _ in ways))
+                    run(best, name + way, program)
+        for way, _ in self.ways:
+            took = best.seconds["many " + way] - best.seconds["none " + way]
+            print("flush 4 over %s, %s: %.1f microseconds, the difference of runs of %.2f s" %
+                  (what, way, took / IDLE * 1e6, best.seconds["none " + way]))
+
+    def begin(self):
+        """What a `run` of no line takes on a store of 256 MiB: it reads the WAL, and rebuilds the data areas."""
+        best, first = Best(), self.ways[0][1]
+        new_store(first)
+        written(["create 5/16384", "grow 5/16384@0 %d %s" % (BIG, SHAPE)])
+        timed_run(first)
+        written([])
+        for _ in range(self.rounds):
+            for way, program in self.ways:
+                run(best, way, program)
+            shutil.rmtree("copy", ignore_errors=True)
+            best.take("cp", ["cp", "-r", "data0", "copy"])
+        for way, _ in self.ways:
+            took = best.seconds[way]
+            print("begin over %.0f MiB of pages, %s: %.2f s, %.2f of cp of the data area, %.0f MiB of memory" %
+                  (BIG * 8192 / MIB, way, took, took / best.seconds["cp"], best.memory[way]))
+        print("begin: %.2f s%s" % (best.seconds["now"], self.old_of(best.seconds.get)))
 
 
-def begin(program, rounds):
-    """What a `run` of no line takes on a store of 256 MiB: it reads the WAL, and rebuilds the data areas."""
-    best = Best()
-    new_store(program)
-    written(["grow 5/16384@0 %d %s" % (BIG, SHAPE)])
-    run(best, "grow", program)
-    written([])
-    for _ in range(rounds):
-        run(best, "begin", program)
-        shutil.rmtree("copy", ignore_errors=True)
-        best.take("cp", ["cp", "-r", "data0", "copy"])
-    took, memory = best.seconds["begin"], best.memory["begin"]
-    print("begin over %.0f MiB of pages: %.2f s, %.2f of cp of the data area, %.0f MiB of memory, %.0f beside the pages" %
-          (BIG * 8192 / MIB, took, took / best.seconds["cp"], memory, memory - BIG * 8192 / MIB))
+def timed_run(program):
+    """A run of the script that isn't measured."""
+    with open("script", "rb") as script:
+        timed([program, "run"], script)
 
 
 def main():
     program = os.path.abspath(sys.argv[1])
     rounds = int(sys.argv[2]) if len(sys.argv) > 2 else 3
     old = os.path.abspath(sys.argv[3]) if len(sys.argv) > 3 else None
+    bench = Bench(program, rounds, old)
     folder = tempfile.mkdtemp(dir=os.getcwd())
     os.chdir(folder)
     try:
         for name in ("sums", "o"):
             os.mkdir(name)
-        puts = ["change 5/16384@%d=%s" % (block, SHAPE) for block in range(PAGES)]
-        commands(program, rounds, "puts of new pages", puts, PAGES, PAGES)
+        bench.commands("puts of new pages", ["change 5/16384@%d=%s" % (block, SHAPE) for block in range(PAGES)], PAGES)
         few = ["grow 5/16384@0 %d 8192,8192,0" % PAGES]
-        patches = ["change 5/16384@%d+%d:%016x" % (n * 7919 % PAGES, 24 + n % 8160, n) for n in range(50_000)]
-        commands(program, rounds, "small patches of %d pages, grown first" % PAGES, few + patches, PAGES + 50_000,
-                 PAGES)
-        commands(program, rounds, "blocks grown", ["grow 5/16384@0 %d %s" % (PAGES, SHAPE)], PAGES, PAGES)
-        checkpoint(program, rounds)
-        flushes(program, rounds, old)
-        begin(program, rounds)
+        patches = ["change 5/16384@%d+%d:%016x" % (n * 7919 % PAGES, 24 + n % 8160, n) for n in range(PATCHES)]
+        bench.commands("small patches and %d pages that are grown first" % PAGES, few + patches, PAGES + PATCHES)
+        bench.commands("blocks grown", ["grow 5/16384@0 %d %s" % (BIG, SHAPE)], BIG)
+        bench.checkpoint()
+        bench.flushes()
+        bench.full_store()
+        bench.begin()
     finally:
         os.chdir("/")
         shutil.rmtree(folder)
