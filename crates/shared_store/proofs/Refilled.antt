@@ -1,7 +1,6 @@
 -- Cleared areas into which a WAL is replayed.
-use Rattle.std.proofs.Common.{◌≡◌, ℕ, ◌<◌, ◌≤◌, List, map, Option, IfSome, IsSome, is_some, inl, refl, sym, ap, subst, ◌∙◌, arith}
+use Rattle.std.proofs.Common.{◌≡◌, ℕ, ◌<◌, ◌≤◌, List, map, Option, IfSome, IsSome, is_some, inl, sym, subst, ◌∙◌, arith}
 use Rattle.std.specs.Prelude.{box_value}
-use Rattle.std.specs.FinMap.{empty}
 use Rattle.lsn_core.specs.Causes.{Rose}
 use Rattle.lsn_core.specs.Files.{Files}
 use Rattle.lsn_core.specs.Segment.{StoreSettings}
@@ -34,7 +33,7 @@ use Rattle.shared_store.specs.declared.begin.BeginFault.{BeginFault}
 use Rattle.shared_store.specs.declared.begin.BeginWhy.{BeginWhy}
 use Rattle.shared_store.specs.declared.begin.BeginWhy.TheVariants as why
 use Rattle.shared_store.specs.Seen.{Seen}
-use Rattle.shared_store.specs.Opened.{Opened, NoneFell}
+use Rattle.shared_store.specs.Opened.{Opened}
 use Rattle.shared_store.specs.Begin.{faults_of, data_of, BeginCause, MayComeLate, IsWalPart, DataFails, BeginsNot, HasBegun, IsBegun, IsUnbegun}
 use Rattle.shared_store.specs.Found.{areas_with, IsFound, ShowsHistory, HoldHistory, AreFilledBy, IsUnsettled, IsUnfilled}
 use Rattle.shared_store.proofs.Begun.{fell_boxed}
