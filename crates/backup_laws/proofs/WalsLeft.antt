@@ -200,6 +200,7 @@ answer_on when script before left (Err (run.Script line why)) told answer = stay
 answer_on when script before left (Err run.NoMemory) told answer = stayed _ _ (wal_of_areas before.areas left.areas answer.0)
 answer_on when script before left (Err (run.Site fault)) told answer = stayed _ _ (wal_of_areas before.areas left.areas answer.1.0)
 answer_on when script before left (Err (run.Begin (begin.Wal why))) told answer = stayed _ _ (answer.1.0 wal_name (one_back wal_name (backups_asked script) store_asks (inl refl)))
+answer_on when script before left (Err (run.Begin (begin.Replay why))) told answer = stayed _ _ answer.1.1.0
 answer_on when script before left (Err (run.Begin (begin.Data why))) told answer = stayed _ _ answer.1.1
 
 pub runs_go_on : RunsGoOn

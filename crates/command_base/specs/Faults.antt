@@ -118,6 +118,7 @@ wal_text wal.NoMemory = memory_text
 -- no store can be begun
 abbrev pub begin_text : BeginWhy → List ℕ
 begin_text (begin.Wal why) = wal_text why
+begin_text (begin.Replay why) = wal_text why
 begin_text (begin.Data why) = store_text why
 
 -- the status of a fault
@@ -141,6 +142,7 @@ wal_status wal.NoMemory = status.Memory
 
 abbrev pub begin_status : BeginWhy → Status
 begin_status (begin.Wal why) = wal_status why
+begin_status (begin.Replay why) = wal_status why
 begin_status (begin.Data why) = store_status why
 
 -- the number that the process ends with

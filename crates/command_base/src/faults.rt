@@ -213,6 +213,7 @@ pub fn begin_text(alloc: Global, why: BeginWhy) -> Result<Text, NoMemory>
 {
     match why {
         BeginWhy::Wal(fault) => wal_text(alloc, fault),
+        BeginWhy::Replay(fault) => wal_text(alloc, fault),
         BeginWhy::Data(fault) => store_text(alloc, fault),
     }
 }
@@ -259,6 +260,7 @@ pub fn begin_status(why: BeginWhy) -> Status
 {
     match why {
         BeginWhy::Wal(fault) => wal_status(fault),
+        BeginWhy::Replay(fault) => wal_status(fault),
         BeginWhy::Data(fault) => store_status(fault),
     }
 }

@@ -1,5 +1,5 @@
 -- Files of forks alone, and the mark beside them.
-use Rattle.std.proofs.Common.{◌≡◌, ℕ, ◌<◌, true≢false, Bool, true, false, List, [], ◌∷◌, get_or, Option, None, Some, IfSome, IsSome, is_some, refl, sym, ap, ◌∙◌, arith}
+use Rattle.std.proofs.Common.{◌≡◌, ℕ, ◌<◌, true≢false, Bool, true, false, List, get_or, Option, None, Some, IfSome, IsSome, is_some, refl, sym, ap, ◌∙◌, arith}
 use Rattle.std.specs.Prelude.{◌≢◌, bytes_eq}
 use Rattle.std.specs.Ordering.{nat_cmp}
 use Rattle.std.specs.Cmp.Lexicographic.{slice_cmp}

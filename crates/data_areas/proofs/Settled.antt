@@ -1,6 +1,6 @@
 -- Filled areas that are made durable, and opened.
-use Rattle.std.proofs.Common.{◌≡◌, ℕ, ◌<◌, ◌≤◌, Bool, true, false, cond, is_some, inl, inr, List, length, Option, Some, None, IfSome, IsSome, Result, Ok, Err, refl, sym, ap, subst, ◌∙◌, arith}
-use Rattle.std.specs.Prelude.{slice_get, IfOk, IfErr, OnOk, OnErr, ◌==◌}
+use Rattle.std.proofs.Common.{◌≡◌, ℕ, ◌<◌, ◌≤◌, Bool, true, false, cond, is_some, inr, List, length, Option, Some, None, IfSome, IsSome, Result, Ok, Err, refl, sym, ap, subst, ◌∙◌, arith}
+use Rattle.std.specs.Prelude.{slice_get, IfOk, OnOk, OnErr, ◌==◌}
 use Rattle.std.specs.FinMap.{get}
 use Rattle.lsn_core.specs.Files.{Files}
 use Rattle.lsn_core.specs.declared.fault.AreaFault.{AreaFault}
@@ -28,7 +28,7 @@ use Rattle.data_areas.specs.Areas.{area_of, FaultsGrow}
 use Rattle.data_areas.specs.Marking.{rebuilding_name, IsMark, IsOther}
 use Rattle.data_areas.specs.Phases.{first_past, HasEnded, HasFilesOf, AreOthersRebuilt}
 use Rattle.data_areas.specs.Rebuilt.{HoldsPages, held_by, IsRebuilt, AreRebuilt}
-use Rattle.data_areas.specs.Settling.{HasOnlyForksAndMark, HasPages, AreFilled, IsSettled, AreSettled, IsSynced, AreSynced, HaveEnded, SettledSoFar, IsOpened, AreOpened, IsLeft, AreLeft}
+use Rattle.data_areas.specs.Settling.{HasOnlyForksAndMark, HasPages, AreFilled, IsSettled, AreSettled, IsSynced, HaveEnded, SettledSoFar, IsOpened, AreOpened, IsLeft, AreLeft}
 use Rattle.data_areas.proofs.Exact.{tells_alike, exact, apart, exact_but_mark, unmarked_only}
 use Rattle.data_areas.proofs.Marks.{left_seen}
 

@@ -1,32 +1,31 @@
 -- Areas into which a WAL was replayed.
-use Rattle.std.proofs.Common.{◌≡◌, ℕ, zero, suc, ◌+◌, ◌<◌, ◌≤◌, Bool, true, false, cond, inl, inr, List, [], ◌∷◌, map, Option, None, Some, IfSome, IsSome, is_some, refl, ap, sym, subst, ◌∙◌, arith}
+use Rattle.std.proofs.Common.{◌≡◌, ℕ, zero, suc, ◌<◌, ◌≤◌, Bool, true, false, cond, inl, inr, List, [], ◌∷◌, map, Option, None, Some, IfSome, IsSome, is_some, refl, ap, sym, subst, ◌∙◌, arith}
 use Rattle.std.specs.Prelude.{◌==◌, ◌⊎◌, slice_get}
 use Rattle.std.specs.Option.{option_map}
-use Rattle.std.specs.FinMap.{get, empty}
+use Rattle.std.specs.FinMap.{empty}
 use Rattle.lsn_core.specs.Causes.{Rose}
 use Rattle.lsn_core.specs.Files.{Files}
-use Rattle.lsn_core.specs.Store.{Store, fork_cmp}
+use Rattle.lsn_core.specs.Store.{Store}
 use Rattle.lsn_core.specs.declared.fault.AreaFault.{AreaFault}
 use Rattle.lsn_core.specs.declared.fault.AreaFault.TheVariants.{Failed, NoMemory}
 use Rattle.vault.specs.declared.area.Vault.{Ghosts}
 use Rattle.vault.specs.Area.{Related}
-use Rattle.vault.specs.Stops.{Event}
-use Rattle.vault.specs.Frame.{AgreeBut, ChangesOnly, Adds, IsAmong}
+use Rattle.vault.specs.Frame.{AgreeBut, ChangesOnly}
 use Rattle.partitions.specs.Parts.{IsPart}
 use Rattle.rel_files.specs.Forks.{IsForkPath}
-use Rattle.rel_files.specs.Laws.{HasOnlyForks, HasNoForks}
-use Rattle.rel_files.specs.Shown.{AreFilesOf, HoldsStore, ShowsStore, KeepsOthers}
+use Rattle.rel_files.specs.Laws.{HasOnlyForks}
+use Rattle.rel_files.specs.Shown.{AreFilesOf, ShowsStore, KeepsOthers}
 use Rattle.rel_files.specs.declared.forks.Forks.{Forks}
 use Rattle.data_areas.specs.declared.areas.DataAreas.{DataAreas}
 use Rattle.data_areas.specs.declared.store_forks.StoreForks.{StoreForks}
 use Rattle.data_areas.specs.declared.store_forks.AreaFaults.{AreaFaults}
 use Rattle.data_areas.specs.Areas.{area_of, listed, FaultsGrow, TellAlike, data_fault, DataCause}
 use Rattle.data_areas.specs.Clearing.{AreBare}
-use Rattle.data_areas.specs.Marking.{rebuilding_name, HasOnly, IsOther}
+use Rattle.data_areas.specs.Marking.{rebuilding_name, HasOnly}
 use Rattle.data_areas.specs.Phases.{first_past, HaveMarkSince}
-use Rattle.data_areas.specs.Rebuilt.{HoldsPages, held_by}
+use Rattle.data_areas.specs.Rebuilt.{HoldsPages}
 use Rattle.data_areas.specs.Settling.{HasOnlyForksAndMark, HasPages, AreFilled}
-use Rattle.data_areas.specs.Stored.{ShowsPart, ShowsParts, AreForksOf, KeepEach, count_at, NamesFault, KeepsAll}
+use Rattle.data_areas.specs.Stored.{ShowsParts, AreForksOf, KeepEach, count_at, NamesFault, KeepsAll}
 use Rattle.data_areas.proofs.Exact.{empty_none, tells_alike, when_related}
 use Rattle.data_areas.proofs.Phases.{forks_are_others, begun_on}
 

@@ -1,5 +1,5 @@
 -- A call on the files of a partition, of the pages of four.
-use Rattle.std.proofs.Common.{◌≡◌, ℕ, zero, suc, ◌+◌, ◌<◌, ◌≤◌, ◌^◌, min, Bool, true, false, cond, inl, inr, List, [], ◌∷◌, map, length, Option, None, Some, Result, Ok, Err, OnOk, IfSome, IsSome, refl, ap, sym, subst, ◌∙◌, arith}
+use Rattle.std.proofs.Common.{◌≡◌, ℕ, zero, suc, ◌<◌, ◌^◌, Bool, true, false, cond, inl, inr, List, [], ◌∷◌, length, Option, None, Some, Result, Ok, Err, OnOk, IfSome, IsSome, refl, ap, sym, subst, ◌∙◌, arith}
 use Rattle.std.specs.Prelude.{◌==◌, ◌≢◌, ◌⊎◌, slice_get, slice_set, slice_index_or, IfOk, IfErr}
 use Rattle.std.proofs.lemmas.Option.{slice_get-get_or}
 use Rattle.std.specs.Option.{option_map}
@@ -11,7 +11,7 @@ use Rattle.lsn_core.specs.Causes.{Rose, HasCause}
 use Rattle.lsn_core.specs.declared.ids.ForkId.{ForkId}
 use Rattle.lsn_core.specs.declared.ids.BlockId.{BlockId}
 use Rattle.lsn_core.specs.Store.{Store, ForkPages, fork_cmp}
-use Rattle.lsn_core.specs.Blocks.{block_of, block_count, pages_of, with_block, page_put, with_fork, with_cut, without_fork}
+use Rattle.lsn_core.specs.Blocks.{block_of, pages_of, with_block, page_put, with_fork, with_cut, without_fork}
 use Rattle.lsn_core.proofs.ForkOrder.{fork_cmp_total}
 use Rattle.lsn_core.specs.Shown.{Turns, BlockAnswer, CountsBlocks, ReadsBlock}
 use Rattle.lsn_core.specs.declared.fault.AreaFault.{AreaFault}

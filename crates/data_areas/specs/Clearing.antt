@@ -6,7 +6,7 @@ use Rattle.lsn_core.specs.Files.{Files}
 use Rattle.vault.specs.declared.area.Vault.{Ghosts}
 use Rattle.vault.specs.Frame.{ChangesOnly}
 use Rattle.data_areas.specs.declared.areas.DataAreas.{DataAreas}
-use Rattle.data_areas.specs.Areas.{area_of, TellAlike}
+use Rattle.data_areas.specs.Areas.{TellAlike}
 use Rattle.data_areas.specs.Marking.{rebuilding_name, HasOnly, IsMark}
 use Rattle.data_areas.specs.Phases.{HasMarkSince, HaveMarkSince, TouchesMark}
 

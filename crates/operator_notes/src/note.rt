@@ -62,7 +62,7 @@ fn run_note(alloc: Global, fault: &RunFault) -> Result<Text, NoMemory> {
         RunFault::Input(why) => area_note(alloc, b"standard input", *why),
         RunFault::Script(line, why) => script_note(alloc, *line, *why),
         RunFault::Site(fault) => take_note(alloc, fault),
-        RunFault::Begin(BeginWhy::Wal(fault)) => wal_note(alloc, *fault),
+        RunFault::Begin(BeginWhy::Wal(fault) | BeginWhy::Replay(fault)) => wal_note(alloc, *fault),
         RunFault::Begin(BeginWhy::Data(fault)) => store_note(alloc, *fault),
         RunFault::NoMemory => memory_note(alloc),
     }

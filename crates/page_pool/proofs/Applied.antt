@@ -1,7 +1,6 @@
 -- What a partition holds after a command was applied.
-use Rattle.std.proofs.Common.{◌≡◌, ℕ, ◌<◌, ◌^◌, List, refl, ap, sym, subst, ◌∙◌}
+use Rattle.std.proofs.Common.{◌≡◌, ℕ, ◌<◌, ◌^◌, List, refl, sym, subst}
 use Rattle.std.specs.Global.{Vec}
-use Rattle.lsn_core.specs.Store.{Store}
 use Rattle.vault.specs.declared.area.Vault.{Ghosts}
 use Rattle.history.specs.Op.{act_of_op}
 use Rattle.history.specs.declared.op.Op.{Op}
@@ -11,11 +10,11 @@ use Rattle.page_frames.specs.Overlay.{pages_over, marks_over}
 use Rattle.page_pool.specs.declared.ready.Ready.{Ready}
 use Rattle.page_pool.specs.declared.work.Pending.{Pending}
 use Rattle.page_pool.specs.declared.partition.Partition.TheInside.{Inside}
-use Rattle.page_pool.specs.Part.{Part, LacksUnwritten}
+use Rattle.page_pool.specs.Part.{LacksUnwritten}
 use Rattle.page_pool.specs.Told.{told_page}
 use Rattle.page_pool.specs.Calls.{AreWholePages}
 use Rattle.page_pool.specs.Partition.{pages_in, part_in, IsPartition}
-use Rattle.page_pool.specs.Steps.{marks_after, works_after}
+use Rattle.page_pool.specs.Steps.{marks_after}
 use Rattle.page_pool.specs.Ready.{IsReady, done_at}
 use Rattle.page_pool.specs.Inside.{marks_done, works_done}
 use Rattle.page_pool.proofs.Behind.{acts_entered}

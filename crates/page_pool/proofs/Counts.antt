@@ -1,5 +1,5 @@
 -- How many pages a store has, by how long its forks are.
-use Rattle.std.proofs.Common.{◌≡◌, ℕ, Bool, true, false, cond, T, ◌&&◌, List, [], ◌∷◌, map, length, Option, Some, None, option_map, refl, sym, ap, subst, ◌∙◌}
+use Rattle.std.proofs.Common.{◌≡◌, ℕ, true, false, cond, T, ◌&&◌, List, [], ◌∷◌, map, length, Option, Some, option_map, refl, sym, ap, subst, ◌∙◌}
 use Rattle.std.specs.Prelude.{sum}
 use Rattle.std.specs.Ordering.{is_eq, is_lt}
 use Rattle.std.specs.FinMap.{FinMap, find, get, entries, entries_sorted, from_sorted, is_sorted, get-entries, get-from_sorted, entries-from_sorted, same_map}

@@ -1,16 +1,14 @@
 -- What was made ready may be done, and leaves what its command leaves.
-use Rattle.std.proofs.Common.{◌≡◌, ℕ, ◌+◌, ◌<◌, ◌≤◌, ◌^◌, Bool, true, false, cond, List, [], ◌∷◌, map, length, get_or, drop, Option, Some, None, IsSome, is_some, option_map, unwrap_or, refl, ap, sym, subst, ◌∙◌, box_value, arith}
-use Rattle.std.specs.Prelude.{max, if◌then◌else◌}
+use Rattle.std.proofs.Common.{◌≡◌, ℕ, ◌+◌, ◌<◌, ◌≤◌, ◌^◌, cond, List, [], ◌∷◌, map, length, get_or, drop, Option, Some, None, IsSome, is_some, option_map, unwrap_or, refl, ap, sym, subst, ◌∙◌, arith}
+use Rattle.std.specs.Prelude.{max}
 use Rattle.std.specs.FinMap.{get, insert, get-insert, contains_key}
 use Rattle.lsn_core.proofs.ForkOrder.{fork_cmp_total}
 use Rattle.std.specs.List.{All}
-use Rattle.std.proofs.lemmas.List.Elements.{All-nil, All-cons}
 use Rattle.byte_words.proofs.Fields.{bind_some}
 use Rattle.lsn_core.specs.declared.ids.ForkId.{ForkId}
 use Rattle.lsn_core.specs.declared.ids.BlockId.{BlockId}
 use Rattle.lsn_core.specs.Store.{Store, ForkPages}
 use Rattle.lsn_core.specs.Blocks.{block_count, pages_of, page_put}
-use Rattle.pg_page.specs.Header.{with_lsn}
 use Rattle.history.specs.declared.op.Op.{Op}
 use Rattle.history.specs.declared.op.Op.TheVariants as op
 use Rattle.history.specs.declared.op.Edit.{Edit}

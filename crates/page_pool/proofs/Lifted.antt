@@ -1,16 +1,16 @@
 -- What was found of a command by the pages in frames alone is so by all pages of a partition.
-use Rattle.std.proofs.Common.{◌≡◌, ℕ, zero, suc, ◌+◌, ◌<◌, Result, Ok, Err, IsSome, Bool, true, false, cond, ◌||◌, List, [], ◌∷◌, map, length, take, Option, Some, None, is_some, option_map, unwrap_or, inl, inr, refl, ap, sym, subst, ◌∙◌, arith, true≢false, box_value, length-take}
+use Rattle.std.proofs.Common.{◌≡◌, ℕ, zero, suc, ◌+◌, Result, Ok, Err, IsSome, Bool, true, false, cond, ◌||◌, List, [], ◌∷◌, map, length, take, Option, Some, None, is_some, option_map, unwrap_or, refl, ap, sym, subst, ◌∙◌, arith, true≢false, box_value, length-take}
 use Rattle.std.specs.Prelude.{max, min, slice_get}
 use Rattle.std.specs.List.{All}
 use Rattle.std.specs.Result.{IfOk, IfErr}
 use Rattle.std.proofs.lemmas.List.Elements.{All-nil, All-cons}
-use Rattle.std.specs.FinMap.{get, insert, remove, get-remove, contains_key}
+use Rattle.std.specs.FinMap.{get, insert, get-remove}
 use Rattle.byte_words.specs.Numbers.{◌>>=◌}
 use Rattle.byte_words.specs.Pieces.{zero_page}
 use Rattle.lsn_core.specs.declared.ids.ForkId.{ForkId}
 use Rattle.lsn_core.specs.declared.ids.BlockId.{BlockId}
 use Rattle.lsn_core.specs.Store.{Store, ForkPages}
-use Rattle.lsn_core.specs.Blocks.{block_of, block_count, pages_of, page_put, with_fork, with_cut, with_cut_pages, without_fork}
+use Rattle.lsn_core.specs.Blocks.{block_count, pages_of, page_put, with_fork, with_cut, with_cut_pages, without_fork}
 use Rattle.lsn_core.proofs.ForkOrder.{fork_cmp_total}
 use Rattle.pg_page.specs.Header.{IsGood, with_lsn}
 use Rattle.pg_page.proofs.HeaderLaws.{IsGood-with_lsn}
@@ -20,11 +20,10 @@ use Rattle.history.specs.declared.op.Op.{Op}
 use Rattle.history.specs.declared.op.Op.TheVariants as op
 use Rattle.history.specs.declared.op.Item.{Item}
 use Rattle.history.specs.Apply.{is_same_fork, is_same_block, page_at, main_fork, init_fork, apply_act}
-use Rattle.history.specs.Op.{act_of_op, IsFit}
+use Rattle.history.specs.Op.{act_of_op}
 use Rattle.history.specs.Pages.{page_count}
 use Rattle.history.specs.Whole.{is_named}
-use Rattle.history.specs.Written.{kind_of}
-use Rattle.history.proofs.Stores.{by_test, fork_is, get_here, get_there, block_is, block_self, page_found, page_missing}
+use Rattle.history.proofs.Stores.{by_test, fork_is, get_here, get_there, block_is, block_self}
 use Rattle.history.proofs.Pushes.{all_first, all_rest}
 use Rattle.page_frames.specs.Framed.{Framed, Held}
 use Rattle.page_frames.specs.Overlay.{pages_over, own_pages, page_over}
@@ -40,7 +39,7 @@ use Rattle.page_pool.specs.declared.ready.Ready.{Ready}
 use Rattle.page_pool.specs.Refusals.{judged_op, IsRefusedOp}
 use Rattle.page_pool.specs.Room.{blocks_of, HasFrame}
 use Rattle.page_pool.specs.Ready.{HasItems, CheckAnswer, AreGoodPages, pages_put, done_at}
-use Rattle.page_pool.specs.Inside.{page_of_item, page_of_edit, seen_page, IsDoneBy, IsCounted, IsFound}
+use Rattle.page_pool.specs.Inside.{page_of_item, page_of_edit, IsDoneBy, IsCounted, IsFound}
 use Rattle.page_pool.proofs.Judged.{AreAsLong, judged-fit}
 use Rattle.page_pool.proofs.Local.{AreAlikeAt, commands_alike, count_put}
 use Rattle.page_pool.proofs.Counts.{counted_alike}

@@ -1,5 +1,5 @@
 -- A partition that is opened over its area: it has the pages that the area's files hold.
-use Rattle.std.proofs.Common.{◌≡◌, ℕ, suc, ◌+◌, ◌<◌, Bool, true, false, cond, T, ◌&&◌, List, [], ◌∷◌, ◌++◌, map, fold, take, length, get_or, arith, Option, Some, None, IsSome, is_some, option_map, refl, ap, sym, subst, ◌∙◌, true≢false}
+use Rattle.std.proofs.Common.{◌≡◌, ℕ, suc, ◌+◌, ◌<◌, Bool, true, false, cond, T, ◌&&◌, List, [], ◌∷◌, ◌++◌, map, fold, take, length, get_or, arith, Option, Some, None, IsSome, option_map, refl, ap, sym, subst, ◌∙◌}
 use Rattle.std.specs.Global.{Vec}
 use Rattle.std.specs.declared.cmp.Ordering.{Ordering}
 use Rattle.std.specs.declared.cmp.Ordering.TheVariants.{Less, Equal, Greater}
@@ -26,11 +26,9 @@ use Rattle.rel_files.specs.declared.forks.Forks.{Forks}
 use Rattle.rel_files.proofs.WholePages.{whole_all}
 use Rattle.history.specs.Apply.{is_same_fork}
 use Rattle.history.proofs.Stores.{by_test, fork_is}
-use Rattle.page_frames.specs.Marks.{is_dirty}
 use Rattle.page_frames.specs.Framed.{Framed, Held, HeldFrames, ForkLengths, held_page, block_cmp}
 use Rattle.page_frames.specs.Overlay.{pages_over, marks_over}
 use Rattle.page_pool.specs.declared.work.Pending.{Pending}
-use Rattle.page_pool.specs.declared.partition.Partition.TheInside.{Inside}
 use Rattle.page_pool.specs.Part.{LacksUnwritten}
 use Rattle.page_pool.specs.Told.{told_page}
 use Rattle.page_pool.specs.Steps.{IsClean}

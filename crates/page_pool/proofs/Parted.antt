@@ -1,11 +1,9 @@
 -- What is known of a partition as it is held, and what reads leave of it.
 use Rattle.std.proofs.Common.{◌≡◌, ℕ, List, Option, Some, None, IsSome, IfSome, length, unwrap_or, option_map, Result, Ok, Err, IfOk, refl, ap, sym, subst, ◌∙◌}
 use Rattle.std.specs.FinMap.{get}
-use Rattle.lsn_core.specs.declared.ids.ForkId.{ForkId}
 use Rattle.lsn_core.specs.declared.ids.BlockId.{BlockId}
 use Rattle.lsn_core.specs.Files.{Files}
 use Rattle.lsn_core.specs.Store.{Store}
-use Rattle.lsn_core.specs.Blocks.{block_of}
 use Rattle.vault.specs.declared.area.Vault.{Ghosts}
 use Rattle.rel_files.specs.Forks.{Holds}
 use Rattle.rel_files.proofs.ZeroPages.{zero_size}

@@ -4,10 +4,8 @@ use Rattle.std.specs.List.{All}
 use Rattle.std.specs.FinMap.{get, len}
 use Rattle.std.proofs.lemmas.List.Elements.{All-nil, All-cons}
 use Rattle.lsn_core.specs.declared.ids.BlockId.{BlockId}
-use Rattle.lsn_core.specs.Store.{Store}
 use Rattle.lsn_core.specs.Sizes.{most_blocks}
 use Rattle.history.proofs.Pushes.{all_first, all_rest}
-use Rattle.page_frames.specs.Marks.{DirtyMarks}
 use Rattle.page_frames.specs.Framed.{Framed, Held, HeldFrames, ForkLengths, HoldsMore, held_page, lacks}
 use Rattle.page_frames.specs.Overlay.{pages_over, marks_over, IsBlockOf}
 use Rattle.page_pool.specs.declared.ready.NewPage.{NewPage}

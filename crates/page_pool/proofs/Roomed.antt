@@ -1,13 +1,10 @@
 -- Frames given up and pages read into frames: the pages stay.
-use Rattle.std.proofs.Common.{◌≡◌, ℕ, zero, suc, ◌+◌, ◌<◌, ◌≤◌, max, Bool, true, false, cond, List, [], ◌∷◌, ◌++◌, map, take, length, get_or, Option, Some, None, IsSome, is_some, option_map, unwrap_or, inl, inr, refl, ap, sym, subst, ◌∙◌, arith, true≢false}
+use Rattle.std.proofs.Common.{◌≡◌, ℕ, true, false, List, length, Option, Some, None, IsSome, is_some, option_map, unwrap_or, inl, inr, refl, ap, sym, subst, ◌∙◌, arith, true≢false}
 use Rattle.std.specs.Prelude.{slice_get}
-use Rattle.std.specs.List.{All, filter_map, reduce}
-use Rattle.std.specs.FinMap.{get, insert, remove, len}
-use Rattle.std.specs.Ordering.{eq_by_cmp}
+use Rattle.std.specs.FinMap.{get, insert, remove}
 use Rattle.std.specs.Global.{Vec}
 use Rattle.std.proofs.lemmas.Bool.{cases_lt}
 use Rattle.byte_words.specs.Numbers.{◌>>=◌}
-use Rattle.lsn_core.specs.declared.ids.ForkId.{ForkId}
 use Rattle.lsn_core.specs.declared.ids.BlockId.{BlockId}
 use Rattle.lsn_core.specs.Files.{Files}
 use Rattle.lsn_core.specs.Store.{Store, ForkPages}
@@ -21,7 +18,7 @@ use Rattle.rel_files.specs.Shown.{HoldsStore, KeepsOthers}
 use Rattle.rel_files.specs.declared.forks.Forks.{Forks}
 use Rattle.rel_files.proofs.ForkStores.{mended_block}
 use Rattle.page_frames.specs.Marks.{DirtyMarks, touch_end, is_dirty}
-use Rattle.page_frames.specs.Framed.{Framed, Held, HeldFrames, held_page, held_mark, block_cmp}
+use Rattle.page_frames.specs.Framed.{Framed, Held, HeldFrames, held_page, held_mark}
 use Rattle.page_frames.specs.Overlay.{page_over, pages_over, marks_over, IsBlockOf}
 use Rattle.page_frames.proofs.Orders.{block_cmp_total}
 use Rattle.page_frames.proofs.Keys.{put_here, put_there, gone_here, gone_there}
@@ -29,8 +26,7 @@ use Rattle.page_frames.proofs.Holding.{by_block, page_put_here, page_put_there, 
 use Rattle.page_frames.proofs.Overlays.{block_over, mark_over, pages_alike, marks_alike}
 use Rattle.page_pool.specs.declared.work.Pending.{Pending}
 use Rattle.page_pool.specs.declared.partition.Partition.TheInside.{Inside}
-use Rattle.page_pool.specs.Told.{told_page}
-use Rattle.page_pool.specs.Part.{Part, LacksUnwritten}
+use Rattle.page_pool.specs.Part.{LacksUnwritten}
 use Rattle.page_pool.specs.Steps.{HasWritten}
 use Rattle.page_pool.specs.Calls.{ReadsDisk, IsQuiet}
 use Rattle.page_pool.specs.Laws.{AreFramesOf}

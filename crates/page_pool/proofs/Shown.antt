@@ -1,5 +1,5 @@
 -- The pages in frames over an area that lacks only what is dirty or pending.
-use Rattle.std.proofs.Common.{◌≡◌, ℕ, ◌<◌, ◌≤◌, Bool, true, false, List, [], length, Option, Some, None, is_some, option_map, inl, inr, ◌⊎◌, unwrap_or, get_or, refl, sym, ap, subst, ◌∙◌, arith, true≢false}
+use Rattle.std.proofs.Common.{◌≡◌, ℕ, ◌<◌, Bool, true, false, List, [], length, Option, Some, None, is_some, option_map, inl, inr, unwrap_or, get_or, refl, sym, ap, ◌∙◌}
 use Rattle.std.specs.Prelude.{slice_get}
 use Rattle.std.proofs.lemmas.Bool.{cases_lt}
 use Rattle.std.proofs.lemmas.Option.{slice_get-get_or}
@@ -14,14 +14,13 @@ use Rattle.rel_files.specs.Forks.{Holds, whole_pages}
 use Rattle.rel_files.proofs.SegmentFiles.{block_is_read}
 use Rattle.page_frames.specs.Marks.{DirtyMarks, is_dirty}
 use Rattle.page_frames.specs.Framed.{Framed, Held, held_page}
-use Rattle.page_frames.specs.Overlay.{page_over, pages_over, marks_over}
+use Rattle.page_frames.specs.Overlay.{page_over, marks_over}
 use Rattle.page_frames.proofs.EachFork.{each_is}
 use Rattle.page_frames.proofs.Overlays.{either_block, mark_over, mark_past}
 use Rattle.page_pool.specs.declared.work.Pending.{Pending}
 use Rattle.page_pool.specs.Part.{LacksUnwritten, is_to_cut}
 use Rattle.page_pool.specs.Told.{told_page}
-use Rattle.page_pool.specs.Calls.{AreWholePages}
-use Rattle.page_pool.specs.Laws.{AreFramesOf, PagesAreShown}
+use Rattle.page_pool.specs.Laws.{PagesAreShown}
 use Rattle.page_pool.proofs.Torn.{past_whole}
 
 -- a whole page that files hold is what they give

@@ -1,5 +1,5 @@
 -- A partition that is opened over its area.
-use Rattle.std.specs.Prelude.{◌≡◌, ℕ, List, [], ◌∷◌, Option, Some, None, IsSome, if◌then◌else◌}
+use Rattle.std.specs.Prelude.{◌≡◌, ℕ, List, Option, Some, None, IsSome, if◌then◌else◌}
 use Rattle.std.specs.List.{fold}
 use Rattle.std.specs.FinMap.{get}
 use Rattle.lsn_core.specs.declared.ids.ForkId.{ForkId}

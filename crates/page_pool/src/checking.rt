@@ -2,7 +2,6 @@
 
 ghost use Rattle.std.specs.Prelude.{◌≡◌, ◌+◌, ◌-◌, ◌<◌, ◌≤◌, [], ◌∷◌, ◌++◌, ℕ, List, IfOk, IfErr, OnOk, map, box_value, vec_len, vec_capacity};
 ghost use Rattle.std.specs.List.{All};
-ghost use Rattle.std.specs.FinMap.{get};
 ghost use Rattle.lsn_core.specs.declared.ids.BlockId.{BlockId};
 ghost use Rattle.lsn_core.specs.Blocks.{page_put, without_fork};
 ghost use Rattle.lsn_core.specs.Sizes.{most_blocks};

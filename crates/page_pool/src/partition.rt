@@ -1,6 +1,6 @@
 //! A partition of a store over its area.
 
-ghost use Rattle.std.specs.Prelude.{◌≡◌, ◌≤◌, IfOk, IfErr, OnOk, OnErr, IsSome, map, max};
+ghost use Rattle.std.specs.Prelude.{◌≡◌, ◌≤◌, IfOk, IfErr, IsSome, map, max};
 ghost use Rattle.std.specs.List.{reduce};
 ghost use Rattle.std.specs.FinMap.{empty, len};
 ghost use Rattle.std.specs.Option.{option_map};

@@ -1,13 +1,13 @@
 -- A script that is run on what an area holds begins in one way.
 use Rattle.std.proofs.Common.{take, ◌≡◌, ℕ, ◌+◌, ◌<◌, ◌≤◌, ◌⊎◌, inl, inr, List, [], ◌∷◌, map, length, Option, Some, None, Result, Ok, Err, refl, sym, ap, subst, ◌∙◌, arith}
-use Rattle.std.specs.Prelude.{codes}
+use Rattle.std.specs.Prelude.{IfSome, IsSome, codes}
 use Rattle.std.specs.FinMap.{get, empty}
 use Rattle.lsn_core.specs.Files.{Files}
 use Rattle.lsn_core.specs.Store.{Store}
 use Rattle.lsn_core.specs.declared.lsn.Lsn.{Lsn}
 use Rattle.lsn_core.specs.Segment.{IsSegmentMib, StoreSettings}
 use Rattle.lsn_core.specs.Tip.{Tip}
-use Rattle.vault.specs.Site.{AreaState}
+use Rattle.vault.specs.Site.{Areas, AreaState}
 use Rattle.wal_record.specs.declared.record.Record.{Record}
 use Rattle.wal_record.specs.Tips.{first_tip, tip_after}
 use Rattle.wal_archive.specs.Rules.{End}
@@ -28,7 +28,7 @@ use Rattle.recovery.specs.Onward.{AllEndBy, ending_by}
 use Rattle.recovery.specs.Replay.{last_end, Reads, IsRead, IsReadWal}
 use Rattle.recovery.proofs.SoFar.{all_kept}
 use Rattle.recovery.proofs.OneWal.{same_lsn, one_wal}
-use Rattle.shared_store.specs.Begin.{BeginCause, HasNoEntry}
+use Rattle.shared_store.specs.Begin.{BeginCause, MayComeFirst, MayComeLate, HasNoEntry}
 use Rattle.shared_store.specs.declared.begin.BeginWhy.TheVariants as begin
 use Rattle.crew.specs.declared.script.Task.{Task}
 use Rattle.crew.specs.declared.why.Why.{Why}
@@ -186,7 +186,7 @@ done_or_refused old new other files when a f told done cause own =
     let given : HasSettings (Some files) s = subst (λ (o : Option Files). HasSettings o s) told done.given in
     let here : HasFound s done.found files = at_told w.files files (HasFound s done.found) told done.archive in
     elim (cause_at w (other.areas wal_name) files f told cause) [
-      | inl why ↦ read_or_refused files s done.found done.base w.faults (other.areas wal_name).faults f given here done.made why own
+      | inl why ↦ read_or_refused files s done.found done.base w.faults (other.areas wal_name).faults f given here (done.made (subst (λ (o : Option Files). IsSome o) (sym told) refl)) why own
       | inr none ↦ some_or_empty files s done.found given here done.some none.0
     ]
 
@@ -239,6 +239,27 @@ same_line left now other whole n m why also told first second =
 refused_for : RecoveryFault → RunFault
 refused_for fault = run.Begin (begin.Wal fault)
 
+unreplayed_for : RecoveryFault → RunFault
+unreplayed_for fault = run.Begin (begin.Replay fault)
+
+-- of what the files decide, nothing comes before the data areas are touched and behind that
+first_or_late : (f : RecoveryFault) → MayComeFirst f → MayComeLate f → IsOfFiles f → ⊥
+first_or_late (wal.Damaged mib damage) first late own = late
+first_or_late (wal.Short end target) first late own = late
+first_or_late (wal.BadDelta place) first late own = first
+first_or_late wal.SettingsDamaged first late own = late
+first_or_late (wal.Timeline name) first late own = late
+first_or_late wal.NotInit first late own = late
+first_or_late wal.Failed first late own = own.0 refl
+first_or_late wal.NoMemory first late own = own.1 refl
+
+read_or_unreplayed : (old new other : Areas) (files : Files) (f g : RecoveryFault) → (old wal_name).files ≡ Some files → MayComeFirst f × BeginCause (old wal_name).files (old wal_name).faults (new wal_name).faults f
+    → IfSome (old wal_name).files (λ m. MayComeLate g) × BeginCause (old wal_name).files (old wal_name).faults (other wal_name).faults g → IsOfFiles f → IsOfFiles g → ⊥
+read_or_unreplayed old new other files f g told first second own also =
+    let same : f ≡ g = same_refusal (old wal_name) (new wal_name) (other wal_name) files f g told first.1 second.1 own also in
+    let late : MayComeLate g = at_told (old wal_name).files files (λ m. MayComeLate g) told second.0 in
+    first_or_late f first.0 (subst MayComeLate (sym same) late) own
+
 -- a run that was done, and one that was refused
 one_done : (old new other : Outside) (files : Files) (whole : List ℕ) (when then : ℕ) (script again : List Task) (a : RunReport) (f : RunFault) → (old.areas wal_name).files ≡ Some files → old.left ≡ Some whole → RunAnswer when script old new (Ok a) → RunAnswer then again old other (Err f)
     → IsOfOutside f → ⊥
@@ -246,13 +267,14 @@ one_done old new other files whole when then script again a (run.Input why) told
 one_done old new other files whole when then script again a (run.Script n why) told input first second own = taken_or_refused old.left new.left other.left whole script n why input first.1 second.1
 one_done old new other files whole when then script again a run.NoMemory told input first second own = own
 one_done old new other files whole when then script again a (run.Site fault) told input first second own = own
-one_done old new other files whole when then script again a (run.Begin (begin.Wal why)) told input first second own = done_or_refused old new other files when a why told first.2 second.1.1 own
+one_done old new other files whole when then script again a (run.Begin (begin.Wal why)) told input first second own = done_or_refused old new other files when a why told first.2 second.1.1.1 own
+one_done old new other files whole when then script again a (run.Begin (begin.Replay why)) told input first second own = done_or_refused old new other files when a why told first.2 second.1.1.1.1 own
 one_done old new other files whole when then script again a (run.Begin (begin.Data why)) told input first second own = own
 
 -- two runs that were refused
 both_refused : (old new other : Outside) (files : Files) (whole : List ℕ) (when then : ℕ) (script again : List Task) (f g : RunFault) → (old.areas wal_name).files ≡ Some files → old.left ≡ Some whole → RunAnswer when script old new (Err f) → RunAnswer then again old other (Err g)
     → IsOfOutside f → IsOfOutside g → f ≡ g
-unfolding refused_line refused_for
+unfolding refused_line refused_for unreplayed_for
 both_refused old new other files whole when then script again (run.Input why) g told input first second own also = absurd own
 both_refused old new other files whole when then script again run.NoMemory g told input first second own also = absurd own
 both_refused old new other files whole when then script again (run.Site fault) g told input first second own also = absurd own
@@ -262,14 +284,26 @@ both_refused old new other files whole when then script again (run.Script n why)
 both_refused old new other files whole when then script again (run.Script n why) run.NoMemory told input first second own also = absurd also
 both_refused old new other files whole when then script again (run.Script n why) (run.Site w) told input first second own also = absurd also
 both_refused old new other files whole when then script again (run.Script n why) (run.Begin (begin.Wal w)) told input first second own also = absurd (taken_or_refused old.left other.left new.left whole again n why input second.0 first.1)
+both_refused old new other files whole when then script again (run.Script n why) (run.Begin (begin.Replay w)) told input first second own also = absurd (taken_or_refused old.left other.left new.left whole again n why input second.0 first.1)
 both_refused old new other files whole when then script again (run.Script n why) (run.Begin (begin.Data w)) told input first second own also = absurd also
 both_refused old new other files whole when then script again (run.Begin (begin.Wal why)) (run.Input w) told input first second own also = absurd also
 both_refused old new other files whole when then script again (run.Begin (begin.Wal why)) (run.Script m w) told input first second own also = absurd (taken_or_refused old.left new.left other.left whole script m w input first.0 second.1)
 both_refused old new other files whole when then script again (run.Begin (begin.Wal why)) run.NoMemory told input first second own also = absurd also
 both_refused old new other files whole when then script again (run.Begin (begin.Wal why)) (run.Site w) told input first second own also = absurd also
 both_refused old new other files whole when then script again (run.Begin (begin.Wal why)) (run.Begin (begin.Wal w)) told input first second own also =
-    ap refused_for (same_refusal (old.areas wal_name) (new.areas wal_name) (other.areas wal_name) files why w told first.1.1 second.1.1 own also)
+    ap refused_for (same_refusal (old.areas wal_name) (new.areas wal_name) (other.areas wal_name) files why w told first.1.1.1 second.1.1.1 own also)
+both_refused old new other files whole when then script again (run.Begin (begin.Wal why)) (run.Begin (begin.Replay w)) told input first second own also =
+    absurd (read_or_unreplayed old.areas new.areas other.areas files why w told first.1.1 second.1.1.1 own also)
 both_refused old new other files whole when then script again (run.Begin (begin.Wal why)) (run.Begin (begin.Data w)) told input first second own also = absurd also
+both_refused old new other files whole when then script again (run.Begin (begin.Replay why)) (run.Input w) told input first second own also = absurd also
+both_refused old new other files whole when then script again (run.Begin (begin.Replay why)) (run.Script m w) told input first second own also = absurd (taken_or_refused old.left new.left other.left whole script m w input first.0 second.1)
+both_refused old new other files whole when then script again (run.Begin (begin.Replay why)) run.NoMemory told input first second own also = absurd also
+both_refused old new other files whole when then script again (run.Begin (begin.Replay why)) (run.Site w) told input first second own also = absurd also
+both_refused old new other files whole when then script again (run.Begin (begin.Replay why)) (run.Begin (begin.Wal w)) told input first second own also =
+    absurd (read_or_unreplayed old.areas other.areas new.areas files w why told second.1.1 first.1.1.1 also own)
+both_refused old new other files whole when then script again (run.Begin (begin.Replay why)) (run.Begin (begin.Replay w)) told input first second own also =
+    ap unreplayed_for (same_refusal (old.areas wal_name) (new.areas wal_name) (other.areas wal_name) files why w told first.1.1.1.1 second.1.1.1.1 own also)
+both_refused old new other files whole when then script again (run.Begin (begin.Replay why)) (run.Begin (begin.Data w)) told input first second own also = absurd also
 
 begin_alike : (old new other : Outside) (files : Files) (whole : List ℕ) (when then : ℕ) (script again : List Task) (a b : RunResult) → (old.areas wal_name).files ≡ Some files → old.left ≡ Some whole → RunAnswer when script old new a → RunAnswer then again old other b → BeginAlike a b
 begin_alike old new other files whole when then script again (Ok a) (Ok b) told input first second = (

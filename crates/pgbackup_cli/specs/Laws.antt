@@ -43,6 +43,7 @@ IsOfOutside (run.Script line why) = Unit {0}
 IsOfOutside run.NoMemory = ⊥
 IsOfOutside (run.Site fault) = ⊥
 IsOfOutside (run.Begin (begin.Wal why)) = IsOfFiles why
+IsOfOutside (run.Begin (begin.Replay why)) = IsOfFiles why
 IsOfOutside (run.Begin (begin.Data why)) = ⊥
 
 -- two runs were refused for one reason, or both of them began: of one script, where the WAL ended

@@ -1,18 +1,19 @@
 -- Why `run` comes to its answer, seen from the site.
-use Rattle.std.proofs.Common.{◌≡◌, ℕ, List, [], ◌∷◌, ◌++◌, Option, Result, Ok, Err, sym, ap, subst, ◌∙◌, inl, inr}
+use Rattle.std.proofs.Common.{◌≡◌, ℕ, List, [], ◌∷◌, ◌++◌, Option, Result, Ok, Err, IfSome, sym, ap, subst, ◌∙◌, inl, inr}
 use Rattle.std.specs.Result.{IsErrAnd}
 use Rattle.lsn_core.specs.Files.{Files}
 use Rattle.vault.specs.declared.area.Vault.{Ghosts as Vaults}
 use Rattle.vault.specs.declared.site.Site.{Ghosts as Sites}
 use Rattle.vault.specs.Site.{Areas, AreaState, state_in}
 use Rattle.vault.specs.Lending.{Names, IsOneOf, IsNoneOf}
+use Rattle.recovery.specs.declared.fault.RecoveryFault.{RecoveryFault}
 use Rattle.shared_store.specs.declared.areas.StoreAreas.{StoreAreas}
 use Rattle.shared_store.specs.declared.begin.BeginWhy.{BeginWhy}
 use Rattle.shared_store.specs.declared.begin.BeginWhy.TheVariants as begin
 use Rattle.lsn_core.specs.declared.fault.StoreArea.TheVariants.{Data}
 use Rattle.lsn_core.specs.declared.fault.StoreFault.{StoreFault}
 use Rattle.lsn_core.specs.declared.fault.StoreFault.TheVariants as store
-use Rattle.shared_store.specs.Begin.{IsUnbegun, BeginCause, DataFails, SameData, faults_of}
+use Rattle.shared_store.specs.Begin.{IsUnbegun, BeginCause, MayComeLate, DataFails, SameData, faults_of}
 use Rattle.crew.specs.declared.script.Task.{Task}
 use Rattle.run_command.specs.declared.command.RunReport.{RunReport}
 use Rattle.run_command.specs.declared.command.RunFault.TheVariants as run
@@ -55,20 +56,34 @@ both_keep front rest old new first last name one =
       | inr is ↦ last name is
     ]
 
-pub cant_begin : {V : Type 0} (g : Vaults V) (script : List Task) (old new : Areas) (a b : StoreAreas V) (why : BeginWhy) → KeepAll (backups_asked script) old new → AreAt g old a → AreAt g new b → IsUnbegun g a (record { areas = b; why = why }) → CantBegin script old new why
-cant_begin g script old new a b (begin.Wal fault) backups was at un =
-    let wal : (new wal_name).files ≡ (old wal_name).files = wal_files g new b at ∙ (un.wal ∙ sym (wal_files g old a was)) in
-    let same : SameData a b = un.cause.1 in
-    let cause : BeginCause (old wal_name).files (old wal_name).faults (new wal_name).faults fault =
+wal_cause : {V : Type 0} (g : Vaults V) (old new : Areas) (a b : StoreAreas V) (fault : RecoveryFault) → AreAt g old a → AreAt g new b → BeginCause (g.files a.wal) (g.faults a.wal) (g.faults b.wal) fault → BeginCause (old wal_name).files (old wal_name).faults (new wal_name).faults fault
+wal_cause g old new a b fault was at cause =
     subst (λ (n : ℕ). BeginCause (old wal_name).files (old wal_name).faults n fault) (sym (wal_faults g new b at))
     (subst (λ (n : ℕ). BeginCause (old wal_name).files n (g.faults b.wal) fault) (sym (wal_faults g old a was))
-    (subst (λ (f : Option Files). BeginCause f (g.faults a.wal) (g.faults b.wal) fault) (sym (wal_files g old a was)) un.cause.0)) in (
+    (subst (λ (f : Option Files). BeginCause f (g.faults a.wal) (g.faults b.wal) fault) (sym (wal_files g old a was)) cause))
+
+wal_kept : {V : Type 0} (g : Vaults V) (old new : Areas) (a b : StoreAreas V) → AreAt g old a → AreAt g new b → g.files b.wal ≡ g.files a.wal → Keeps (old wal_name) (new wal_name)
+wal_kept g old new a b was at same = wal_files g new b at ∙ (same ∙ sym (wal_files g old a was))
+
+pub cant_begin : {V : Type 0} (g : Vaults V) (script : List Task) (old new : Areas) (a b : StoreAreas V) (why : BeginWhy) → KeepAll (backups_asked script) old new → AreAt g old a → AreAt g new b → IsUnbegun g a (record { areas = b; why = why }) → CantBegin script old new why
+cant_begin g script old new a b (begin.Wal fault) backups was at un =
+    let same : SameData a b = un.cause.1.1 in (
       both_keep (backups_asked script) store_asks old new backups
-          (keeps_one old new store_asks (wal, (same_area g (old (data_name 0)) (new (data_name 0)) a.data0 b.data0 was.data0 at.data0 same.data0, (same_area g (old (data_name 1)) (new (data_name 1)) a.data1 b.data1 was.data1 at.data1 same.data1, (same_area g (old (data_name 2)) (new (data_name 2)) a.data2 b.data2 was.data2 at.data2 same.data2, (same_area g (old (data_name 3)) (new (data_name 3)) a.data3 b.data3 was.data3 at.data3 same.data3, tt)))))),
-      cause,
+          (keeps_one old new store_asks (wal_kept g old new a b was at un.wal, (same_area g (old (data_name 0)) (new (data_name 0)) a.data0 b.data0 was.data0 at.data0 same.data0, (same_area g (old (data_name 1)) (new (data_name 1)) a.data1 b.data1 was.data1 at.data1 same.data1, (same_area g (old (data_name 2)) (new (data_name 2)) a.data2 b.data2 was.data2 at.data2 same.data2, (same_area g (old (data_name 3)) (new (data_name 3)) a.data3 b.data3 was.data3 at.data3 same.data3, tt)))))),
+      (un.cause.1.0, wal_cause g old new a b fault was at un.cause.0),
     )
+cant_begin g script old new a b (begin.Replay fault) backups was at un = (
+  backups,
+  (
+    wal_kept g old new a b was at un.wal,
+    (
+      subst (λ (f : Option Files). IfSome f (λ m. MayComeLate fault)) (sym (wal_files g old a was)) un.cause.1.0,
+      wal_cause g old new a b fault was at un.cause.0,
+    ),
+  ),
+)
 cant_begin g script old new a b (begin.Data fault) backups was at un =
-    (backups, wal_files g new b at ∙ (un.wal ∙ sym (wal_files g old a was)), data_fails g old new a b fault was at un.cause)
+    (backups, wal_kept g old new a b was at un.wal, data_fails g old new a b fault was at un.cause.0)
 
 -- ---- the answers
 

@@ -2,7 +2,7 @@
 use Rattle.std.proofs.Common.{◌≡◌, ℕ, zero, suc, ◌-◌, ◌≤◌, Bool, true, List, [], ◌∷◌, ◌++◌, map, length, get_or, take, Option, Some, None, Result, Ok, Err, IfSome, refl, sym, ap, subst, ◌∙◌, arith, inl, inr}
 use Rattle.std.specs.List.{All, slice_get}
 use Rattle.std.specs.FinMap.{empty, get}
-use Rattle.std.specs.Prelude.{codes}
+use Rattle.std.specs.Prelude.{IsSome, codes}
 use Rattle.std.proofs.lemmas.List.{length-map}
 use Rattle.std.proofs.lemmas.List.Elements.{All-nil, All-cons}
 use Rattle.std.proofs.lemmas.Option.{slice_get-get_or}
@@ -350,7 +350,8 @@ run_done g tells when old new a b held kept report was at were are quiet leads r
     let there : IfSome (old wal_name).files (HasFound s has.found) =
     subst (λ (t : Tip). IfSome (old wal_name).files (λ m. IsWal s m has.found t)) has.tip_is
     (subst (λ (o : Option Files). IfSome o (λ m. IsWal s m has.found ran.tip)) (sym wal) has.archive) in
-    let begun : apply_all empty (map entry_of has.found) ≡ Some has.pages = ap (apply_all empty) (sym has.history) ∙ has.made in
+    let begun : IsSome (old wal_name).files → apply_all empty (map entry_of has.found) ≡ Some has.pages =
+    λ told. ap (apply_all empty) (sym has.history) ∙ has.made (subst (λ (o : Option Files). IsSome o) wal told) in
     let may : MayWriteWal s.segment ran.begun.flushed (wal_top ran.left) ran.begun.wal (g.files b.wal) = came.wal (g.files b.wal) (faults_of g b) ran.closes.wal ran.closes.later in
     let leaves : LeavesWal s has.found ran.left.history (old wal_name) (new wal_name) =
     subst (λ (x : StoreSettings). MayWriteWal s.segment (found_tip s has.found).end (tip_of x.segment ran.left.history).end (old wal_name).files (new wal_name).files) came.settings
@@ -387,7 +388,7 @@ run_done g tells when old new a b held kept report was at were are quiet leads r
       closing = closing g tells s has.found ran.left a b old new report.closed came.settings was at leads later ran.closes.answer
           (λ told holds. let files = some_told (old wal_name).files (told wal_name (inl refl)) in
           subst (λ (x : StoreSettings). HoldsRun x has.found ran.left.history new) came.settings
-          (holds_run g ran.left b old new has.found came.own has.pages files.0 at holds came.grown came.owns begun files.1
+          (holds_run g ran.left b old new has.found came.own has.pages files.0 at holds came.grown came.owns (begun (told wal_name (inl refl))) files.1
           (subst (λ (x : StoreSettings). HasSettings (old wal_name).files x) (sym came.settings) given)
           (subst (λ (x : StoreSettings). HasFound x has.found files.0) (sym came.settings) (at_told (old wal_name).files files.0 (HasFound s has.found) files.1 there))
           (subst (λ (x : StoreSettings). LeavesWal x has.found ran.left.history (old wal_name) (new wal_name)) (sym came.settings) leaves)));

@@ -25,7 +25,7 @@ use Rattle.history.specs.Written.{wal_of, tip_of}
 use Rattle.journal.specs.Lawful.{IsLawful}
 use Rattle.recovery.specs.Causes.{HasSettings}
 use Rattle.shared_store.specs.Calls.{MayWriteWal}
-use Rattle.shared_store.specs.Begin.{BeginCause}
+use Rattle.shared_store.specs.Begin.{BeginCause, MayComeFirst, MayComeLate}
 use Rattle.shared_store.specs.Close.{HoldsRecords, HoldsPart}
 use Rattle.shared_store.specs.declared.begin.BeginWhy.{BeginWhy}
 use Rattle.shared_store.specs.declared.begin.BeginWhy.TheVariants as begin
@@ -211,15 +211,16 @@ KeepsHonest found history old new told =
     AreTold old → first_told told ≡ None
     → IsHonestFor found (old sums_name) → IsHonestFor history (new sums_name)
 
--- a script was run on a store whose WAL has an entry, and whose entries make a store, at a moment, and
--- came to a history. Whatever else came, the answers are true of that
+-- a script was run on a store whose WAL has an entry, and whose entries make a store where its area
+-- tells its files, at a moment, and came to a history. Whatever else came, the answers are true of
+-- that
 pub record RunDone (when : ℕ) (old new : Areas) (report : RunReport) : Type 0 where
   pub settings : StoreSettings
   pub given : HasSettings (old wal_name).files settings
   pub found : List Record
   pub some : 0 < length found
   pub base : Store
-  pub made : apply_all empty (map entry_of found) ≡ Some base
+  pub made : IsSome (old wal_name).files → apply_all empty (map entry_of found) ≡ Some base
   pub archive : IfSome (old wal_name).files (HasFound settings found)
   pub opened : report.opened.0 ≡ (found_tip settings found).end
   pub history : List Entry
@@ -241,12 +242,18 @@ pub record RunDone (when : ℕ) (old new : Areas) (report : RunReport) : Type 0 
 -- ---- what `run` comes to
 
 -- no store was begun, and the areas of the backups and of summaries are as they were: its WAL can't be
--- begun on, and all is as it was; or a data area failed, or memory ran out while the data areas were
--- rebuilt, and the WAL is as it was
+-- begun on, and all is as it was; or it was read, and can't be replayed into the data areas; or one of
+-- these failed, or memory ran out while they were rebuilt. The WAL is as it was
 abbrev pub CantBegin : List Task → Areas → Areas → BeginWhy → Type 0
 CantBegin script old new (begin.Wal why) =
     KeepAll (run_asks script) old new
-    × BeginCause (old wal_name).files (old wal_name).faults (new wal_name).faults why
+    × (MayComeFirst why
+    × BeginCause (old wal_name).files (old wal_name).faults (new wal_name).faults why)
+CantBegin script old new (begin.Replay why) =
+    KeepAll (backups_asked script) old new
+    × (Keeps (old wal_name) (new wal_name)
+    × (IfSome (old wal_name).files (λ m. MayComeLate why)
+    × BeginCause (old wal_name).files (old wal_name).faults (new wal_name).faults why))
 CantBegin script old new (begin.Data why) =
     KeepAll (backups_asked script) old new
     × Keeps (old wal_name) (new wal_name) × DataAreaFails old new why

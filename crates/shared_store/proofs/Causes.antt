@@ -1,8 +1,7 @@
 -- Which area failed where a command was refused for one.
-use Rattle.std.proofs.Common.{◌≡◌, ℕ, sym, subst, inl, inr}
+use Rattle.std.proofs.Common.{ℕ, sym, subst, inl, inr}
 use Rattle.lsn_core.specs.Causes.{Rose}
 use Rattle.lsn_core.specs.declared.fault.StoreArea.{StoreArea}
-use Rattle.lsn_core.specs.declared.fault.StoreArea.TheVariants.{Wal}
 use Rattle.lsn_core.specs.declared.fault.StoreFault.{StoreFault}
 use Rattle.lsn_core.specs.declared.fault.StoreFault.TheVariants as store
 use Rattle.shared_store.specs.declared.fault.InsertFault.{InsertFault}

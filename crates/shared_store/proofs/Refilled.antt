@@ -1,7 +1,6 @@
 -- Cleared areas into which a WAL is replayed.
-use Rattle.std.proofs.Common.{◌≡◌, ℕ, ◌<◌, ◌≤◌, List, map, Option, IfSome, IsSome, is_some, inl, refl, sym, ap, subst, ◌∙◌, arith}
+use Rattle.std.proofs.Common.{◌≡◌, ℕ, ◌<◌, ◌≤◌, List, map, Option, IfSome, IsSome, is_some, inl, sym, subst, ◌∙◌, arith}
 use Rattle.std.specs.Prelude.{box_value}
-use Rattle.std.specs.FinMap.{empty}
 use Rattle.lsn_core.specs.Causes.{Rose}
 use Rattle.lsn_core.specs.Files.{Files}
 use Rattle.lsn_core.specs.Segment.{StoreSettings}
@@ -34,7 +33,7 @@ use Rattle.shared_store.specs.declared.begin.BeginFault.{BeginFault}
 use Rattle.shared_store.specs.declared.begin.BeginWhy.{BeginWhy}
 use Rattle.shared_store.specs.declared.begin.BeginWhy.TheVariants as why
 use Rattle.shared_store.specs.Seen.{Seen}
-use Rattle.shared_store.specs.Opened.{Opened, NoneFell}
+use Rattle.shared_store.specs.Opened.{Opened}
 use Rattle.shared_store.specs.Begin.{faults_of, data_of, BeginCause, MayComeLate, IsWalPart, DataFails, BeginsNot, HasBegun, IsBegun, IsUnbegun}
 use Rattle.shared_store.specs.Found.{areas_with, IsFound, ShowsHistory, HoldHistory, AreFilledBy, IsUnsettled, IsUnfilled}
 use Rattle.shared_store.proofs.Begun.{fell_boxed}
@@ -80,7 +79,7 @@ unbegun_before {V} g wal now pages fault same counted is = record {
     data_at store.NoMemory cause = tt
 
     go : (w : BeginWhy) → BeginsNot g (areas_with now pages) fault.areas w → BeginsNot g (areas_with wal pages) fault.areas w
-    go (why.Wal f) c = (cause_at f c.0, record { data0 = c.1.data0; data1 = c.1.data1; data2 = c.1.data2; data3 = c.1.data3 })
+    go (why.Wal f) c = (cause_at f c.0, (c.1.0, record { data0 = c.1.1.data0; data1 = c.1.1.data1; data2 = c.1.1.data2; data3 = c.1.1.data3 }))
     go (why.Replay f) c = (cause_at f c.0, (subst (λ (o : Option Files). IfSome o (λ m. MayComeLate f)) same c.1.0, c.1.1))
     go (why.Data f) c = (
       data_at f c.0,
@@ -90,17 +89,6 @@ unbegun_before {V} g wal now pages fault same counted is = record {
         came = subst (λ (o : Option Files). CameSoFar g c.1.settings.relseg (IsWalPart o c.1.settings) (data_of (areas_with wal pages)) (data_of fault.areas)) same c.1.came;
       },
     )
-
--- the WAL wasn't read
-pub unread : {V : Type 0} (g : Ghosts V) (areas : StoreAreas V) (wal now : V) (pages : DataAreas (BoxedArea V)) (back : StoreAreas V) (f : RecoveryFault) → areas_with wal pages ≡ areas → back ≡ areas_with now pages → g.files now ≡ g.files wal → g.faults wal ≤ g.faults now
-    → BeginCause (g.files wal) (g.faults wal) (g.faults now) f → IsUnbegun g areas (record { areas = back; why = why.Wal f })
-unread {V} g areas wal now pages back f boxed is same counted cause =
-    subst (λ (a : StoreAreas V). IsUnbegun g a (record { areas = back; why = why.Wal f })) boxed
-    (subst (λ (n : StoreAreas V). IsUnbegun g (areas_with wal pages) (record { areas = n; why = why.Wal f })) (sym is) (record {
-      wal = same;
-      later = fell_boxed g wal now pages pages counted (λ q. omega arith);
-      cause = (cause, record { data0 = refl; data1 = refl; data2 = refl; data3 = refl });
-    }))
 
 -- ---- what comes of the areas
 

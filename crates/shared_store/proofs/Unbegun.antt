@@ -1,22 +1,17 @@
 -- Areas that are handed back where no store was begun.
-use Rattle.std.proofs.Common.{◌≡◌, ℕ, ◌<◌, ◌≤◌, inl, inr, List, map, Option, Some, None, IfSome, IsSome, is_some, refl, sym, ap, subst, ◌∙◌, arith}
-use Rattle.std.specs.Prelude.{◌⊎◌, box_value}
+use Rattle.std.proofs.Common.{◌≡◌, ℕ, ◌<◌, ◌≤◌, List, map, Option, Some, None, IfSome, IsSome, refl, sym, ap, subst, ◌∙◌, arith}
+use Rattle.std.specs.Prelude.{box_value}
 use Rattle.std.specs.FinMap.{empty}
-use Rattle.lsn_core.specs.Causes.{Rose}
 use Rattle.lsn_core.specs.Files.{Files}
 use Rattle.lsn_core.specs.Segment.{StoreSettings}
 use Rattle.lsn_core.specs.Store.{Store}
 use Rattle.lsn_core.specs.Tip.{Tip}
-use Rattle.lsn_core.specs.declared.fault.AreaFault.{AreaFault}
-use Rattle.lsn_core.specs.declared.fault.AreaFault.TheVariants.{Failed}
 use Rattle.lsn_core.specs.declared.fault.StoreFault.{StoreFault}
 use Rattle.vault.specs.declared.area.Vault.{Ghosts}
-use Rattle.vault.specs.Frame.{Adds, IsAmong, OnlyReads}
-use Rattle.wal_record.specs.declared.record.Record.{Record}
+use Rattle.vault.specs.Frame.{Adds, IsAmong}
 use Rattle.history.specs.Entry.{Entry}
 use Rattle.history.specs.Apply.{apply_all}
 use Rattle.history.specs.Whole.{entry_of}
-use Rattle.partitions.specs.Parts.{IsPart}
 use Rattle.partitions.proofs.Puts.{one_part}
 use Rattle.recovery.specs.Causes.{HasSettings}
 use Rattle.recovery.specs.Reading.{IsReadTo}
@@ -24,7 +19,7 @@ use Rattle.recovery.specs.declared.fault.RecoveryFault.{RecoveryFault}
 use Rattle.recovery.proofs.OneWal.{both_end}
 use Rattle.data_areas.specs.declared.areas.DataAreas.{DataAreas}
 use Rattle.data_areas.specs.declared.boxed.BoxedArea.{BoxedArea}
-use Rattle.data_areas.specs.Areas.{area_of, FaultsGrow, TellAlike, DataCause}
+use Rattle.data_areas.specs.Areas.{FaultsGrow, TellAlike, DataCause}
 use Rattle.data_areas.specs.Boxed.{on_heap}
 use Rattle.data_areas.specs.Marking.{IsOther}
 use Rattle.data_areas.specs.Phases.{first_past, HaveMarkSince}

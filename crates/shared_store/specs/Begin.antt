@@ -103,7 +103,18 @@ begin_causes files = record (wal_causes None files) {
 abbrev pub BeginCause : Option Files → ℕ → ℕ → RecoveryFault → Type 0
 BeginCause files before now fault = CauseOf (begin_causes files) before now fault
 
--- of what a WAL is refused for only this comes once it was read whole
+-- of what a WAL is refused for this comes before any data area is touched: all but a bad delta
+abbrev pub MayComeFirst : RecoveryFault → Type 0
+MayComeFirst (recovery.Damaged mib damage) = Unit {0}
+MayComeFirst (recovery.Short end target) = Unit {0}
+MayComeFirst (recovery.BadDelta place) = ⊥
+MayComeFirst recovery.SettingsDamaged = Unit {0}
+MayComeFirst (recovery.Timeline name) = Unit {0}
+MayComeFirst recovery.NotInit = Unit {0}
+MayComeFirst recovery.Failed = Unit {0}
+MayComeFirst recovery.NoMemory = Unit {0}
+
+-- only this comes once it was read whole
 abbrev pub MayComeLate : RecoveryFault → Type 0
 MayComeLate (recovery.Damaged mib damage) = ⊥
 MayComeLate (recovery.Short end target) = ⊥
@@ -163,7 +174,8 @@ DataFails old new store.NoMemory = Unit {0}
 -- memory ran out while these were rebuilt
 abbrev pub BeginsNot : {V : Type 0} → Ghosts V → StoreAreas V → StoreAreas V → BeginWhy → Type 0
 BeginsNot g old new (why.Wal fault) =
-    BeginCause (g.files old.wal) (g.faults old.wal) (g.faults new.wal) fault × SameData old new
+    BeginCause (g.files old.wal) (g.faults old.wal) (g.faults new.wal) fault
+    × (MayComeFirst fault × SameData old new)
 BeginsNot g old new (why.Replay fault) =
     BeginCause (g.files old.wal) (g.faults old.wal) (g.faults new.wal) fault
     × (IfSome (g.files old.wal) (λ m. MayComeLate fault)

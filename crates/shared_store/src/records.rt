@@ -1,6 +1,6 @@
 //! The records that the WAL of an open store has for its history, piece by piece.
 
-ghost use Rattle.std.specs.Prelude.{◌≡◌, ◌≤◌, true, IfOk, OnOk, IfErr};
+ghost use Rattle.std.specs.Prelude.{◌≡◌, true, IfOk, OnOk, IfErr};
 ghost use Rattle.lsn_core.specs.declared.fault.StoreArea.TheVariants.{Wal};
 ghost use Rattle.shared_store.specs.Seen.{StaysBy};
 ghost use Rattle.shared_store.specs.Opened.{IsLawfulOf, IsWalOf, StoreCause, wal_top};

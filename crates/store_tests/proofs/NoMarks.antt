@@ -4,7 +4,7 @@ use Rattle.std.specs.List.{flat_map, filter_map}
 use Rattle.std.specs.FinMap.{empty, keys, get-empty}
 use Rattle.lsn_core.specs.declared.ids.ForkId.{ForkId}
 use Rattle.lsn_core.specs.Store.{fork_cmp}
-use Rattle.page_frames.specs.Marks.{DirtyMarks, dirty_ends, all_dirty_ends}
+use Rattle.page_frames.specs.Marks.{dirty_ends, all_dirty_ends}
 
 none : (fork : ForkId) → dirty_ends empty fork ≡ []
 none fork = ap (λ (o : Option (List (Option ℕ))). filter_map (λ mark. mark) (unwrap_or o [])) (get-empty fork_cmp fork)

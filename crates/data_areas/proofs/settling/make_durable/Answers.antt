@@ -1,5 +1,5 @@
 -- Synced areas hold what they did; then the first one has no mark.
-use Rattle.std.proofs.Common.{inr, inl}
+use Rattle.std.proofs.Common.{inr}
 use Rattle.data_areas.proofs.Settled.{settled_of, unmarked_of, ended_of, others_rebuilt}
 use Rattle.data_areas.proofs.settling.make_durable.Goals as goal
 

@@ -1,10 +1,7 @@
 -- A command that nothing refuses can be made, and what was made is what it does.
 use Rattle.std.proofs.Common.{sym, subst}
-use Rattle.std.specs.List.{All}
-use Rattle.lsn_core.specs.declared.ids.BlockId.{BlockId}
-use Rattle.lsn_core.specs.Sizes.{most_blocks}
 use Rattle.page_frames.specs.Overlay.{own_pages}
-use Rattle.page_pool.specs.Room.{HasFrames, blocks_of}
+use Rattle.page_pool.specs.Room.{HasFrames}
 use Rattle.page_pool.proofs.Judged.{judged-fit}
 use Rattle.page_pool.proofs.Readied.{made_blocks, made_narrow}
 use Rattle.page_pool.proofs.checking.check.Goals as goal

@@ -1,5 +1,5 @@
 -- Both forks of a relation are taken away in turn.
-use Rattle.std.proofs.Common.{List, ℕ, ap, sym, ◌∙◌}
+use Rattle.std.proofs.Common.{List, ap, sym, ◌∙◌}
 use Rattle.lsn_core.specs.declared.ids.ForkId.{ForkId}
 use Rattle.lsn_core.specs.Store.{Store}
 use Rattle.lsn_core.specs.Blocks.{without_fork}

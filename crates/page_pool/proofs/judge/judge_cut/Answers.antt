@@ -1,5 +1,5 @@
 -- A truncation takes away what it cuts off.
-use Rattle.std.proofs.Common.{refl, ap, ◌∙◌}
+use Rattle.std.proofs.Common.{ap, ◌∙◌}
 use Rattle.lsn_core.specs.Blocks.{block_count}
 use Rattle.page_frames.specs.Overlay.{own_pages}
 use Rattle.page_pool.proofs.Counted.{counted_cut}

@@ -1,5 +1,5 @@
 -- Cleared areas are filled by the WAL's entries; what comes of them comes of those that were cleared.
-use Rattle.std.proofs.Common.{rules, ◌≡◌, ℕ, ◌<◌, sym, ap, subst, ◌∙◌}
+use Rattle.std.proofs.Common.{rules, ℕ, sym, ap, subst, ◌∙◌}
 use Rattle.shared_store.specs.Begin.{IsBegun}
 use Rattle.shared_store.specs.Found.{areas_with, IsUnreplayed, IsUnsettled, IsUnfilled}
 use Rattle.shared_store.specs.declared.boxing.BoxedAreas.{BoxedAreas}

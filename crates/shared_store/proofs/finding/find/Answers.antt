@@ -1,6 +1,5 @@
 -- The listener's list is what was read, and the areas show what that makes.
-use Rattle.std.proofs.Common.{◌≡◌, ◌<◌, map, sym, ap, subst, ◌∙◌, inr, arith}
-use Rattle.std.specs.FinMap.{empty}
+use Rattle.std.proofs.Common.{◌≡◌, map, sym, ap, ◌∙◌, inr, arith}
 use Rattle.lsn_core.specs.declared.pages.Pages.{Ghosts as PagesGhosts}
 use Rattle.history.specs.Whole.{entry_of}
 use Rattle.recovery.specs.declared.replaying.Replayed.{Replayed}

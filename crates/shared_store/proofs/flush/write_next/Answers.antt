@@ -1,5 +1,3 @@
-use Rattle.vault.specs.Frame.{AgreeBut}
-use Rattle.rel_files.specs.Forks.{IsForkPath}
 use Rattle.page_pool.proofs.Followed.{one_written}
 use Rattle.page_pool.proofs.InTurn.{tells_as}
 use Rattle.shared_store.proofs.Kept.{part_written}

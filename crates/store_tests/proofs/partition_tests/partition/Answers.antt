@@ -1,4 +1,4 @@
-use Rattle.std.proofs.Common.{rules, ◌≡◌, ℕ, true, List, [], Option, Some, None, refl, sym, ap, subst, arith}
+use Rattle.std.proofs.Common.{rules, ◌≡◌, [], sym, subst}
 use Rattle.std.specs.FinMap.{empty, get-empty}
 use Rattle.lsn_core.specs.Store.{Store}
 use Rattle.rel_files.specs.Shown.{HoldsStore}

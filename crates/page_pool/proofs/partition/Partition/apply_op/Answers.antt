@@ -1,6 +1,5 @@
 -- The disk lacks what it lacked, and what the command touched.
-use Rattle.std.proofs.Common.{◌≡◌, ℕ, ap, sym, subst, refl, arith, ◌∙◌}
-use Rattle.lsn_core.specs.Store.{Store}
+use Rattle.std.proofs.Common.{sym, subst, refl, arith}
 use Rattle.history.specs.Op.{act_of_op}
 use Rattle.page_frames.proofs.Overlays.{count_over}
 use Rattle.page_pool.specs.Part.{Part}

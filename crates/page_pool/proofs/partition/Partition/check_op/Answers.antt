@@ -1,12 +1,10 @@
 -- A command is judged by the pages in frames as by all; the disk lacks what it lacked.
-use Rattle.std.proofs.Common.{◌≡◌, refl, ap, sym, subst, ◌∙◌}
-use Rattle.page_frames.specs.Framed.{Framed}
+use Rattle.std.proofs.Common.{refl, ap, sym, subst, ◌∙◌}
 use Rattle.page_frames.specs.Overlay.{own_pages}
 use Rattle.page_pool.specs.Part.{Part}
 use Rattle.page_pool.specs.Told.{told_page}
 use Rattle.page_pool.specs.Partition.{part_in}
 use Rattle.page_pool.specs.Ready.{CheckAnswer}
-use Rattle.page_pool.specs.Calls.{SameUnwritten}
 use Rattle.page_pool.specs.Room.{HasFrames, blocks_of}
 use Rattle.page_pool.proofs.OnDisk.{frames_alike}
 use Rattle.page_pool.proofs.Roomed.{turned, untouched}

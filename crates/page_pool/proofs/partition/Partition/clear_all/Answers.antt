@@ -1,7 +1,7 @@
 use Rattle.std.proofs.Common.{◌≡◌, false, sym, subst, ap, ◌∙◌}
 use Rattle.lsn_core.specs.declared.ids.BlockId.{BlockId}
 use Rattle.page_frames.specs.Marks.{DirtyMarks, is_dirty}
-use Rattle.page_pool.proofs.InTurn.{changes_on, written_on, quiet_on, bounds_on, cause_on}
+use Rattle.page_pool.proofs.InTurn.{changes_on, written_on, quiet_on, bounds_on}
 use Rattle.page_pool.proofs.partition.Partition.clear_all.Goals as goal
 
 pub loop-at-preserved : goal.loop-at-preserved

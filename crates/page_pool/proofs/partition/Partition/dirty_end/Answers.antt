@@ -1,5 +1,4 @@
 use Rattle.std.proofs.Common.{ap, sym, ◌∙◌}
-use Rattle.page_frames.specs.Framed.{Framed}
 use Rattle.page_frames.specs.Marks.{touch_end}
 use Rattle.page_frames.specs.Overlay.{marks_over}
 use Rattle.page_frames.proofs.Overlays.{dirty_there, mark_over}

@@ -1,7 +1,6 @@
-use Rattle.std.proofs.Common.{◌≡◌, true, None, IsSome, is_some, refl, ap, sym, subst, ◌∙◌}
+use Rattle.std.proofs.Common.{◌≡◌, None, IsSome, refl, sym, subst}
 use Rattle.std.specs.FinMap.{get}
-use Rattle.lsn_core.specs.declared.ids.BlockId.{BlockId}
-use Rattle.page_frames.specs.Framed.{Framed, Held, held_page}
+use Rattle.page_frames.specs.Framed.{held_page}
 use Rattle.page_pool.specs.Part.{Part}
 use Rattle.page_pool.specs.Told.{told_page}
 use Rattle.page_pool.specs.Steps.{HasWritten}

@@ -1,4 +1,4 @@
-use Rattle.std.proofs.Common.{◌≡◌, arith, ◌∙◌}
+use Rattle.std.proofs.Common.{arith, ◌∙◌}
 use Rattle.page_pool.proofs.InTurn.{written_on, quiet_on, changes_on, read_changes, same_reads}
 use Rattle.page_pool.proofs.Rooms.{none_dirty_victims}
 use Rattle.page_pool.proofs.partition.Partition.free_frames.Goals as goal

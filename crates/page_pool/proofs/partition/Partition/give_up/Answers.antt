@@ -1,4 +1,4 @@
-use Rattle.std.proofs.Common.{◌≡◌, refl, ap, subst, ◌∙◌}
+use Rattle.std.proofs.Common.{refl, ap, subst, ◌∙◌}
 use Rattle.page_frames.specs.Marks.{is_dirty}
 use Rattle.page_pool.specs.Part.{Part}
 use Rattle.page_pool.specs.Steps.{HasWritten}

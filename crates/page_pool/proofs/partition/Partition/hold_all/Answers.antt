@@ -1,9 +1,7 @@
-use Rattle.std.proofs.Common.{◌≡◌, IsSome, take, sym, subst, ◌∙◌}
+use Rattle.std.proofs.Common.{take, subst}
 use Rattle.std.specs.List.{All}
-use Rattle.std.specs.FinMap.{get}
 use Rattle.std.proofs.lemmas.List.{take_all}
 use Rattle.std.proofs.lemmas.List.Elements.{All-more, All-weaker}
-use Rattle.lsn_core.specs.declared.ids.BlockId.{BlockId}
 use Rattle.page_frames.specs.Framed.{ForkLengths}
 use Rattle.page_frames.specs.Overlay.{IsBlockOf}
 use Rattle.page_pool.specs.Room.{HasFrame}

@@ -1,6 +1,6 @@
 use Rattle.std.proofs.Common.{refl}
 use Rattle.page_pool.specs.declared.work.Work.TheVariants.{Make}
-use Rattle.page_pool.proofs.OnDisk.{holds_again, shown_again, frames_alike, own_shown, work_done, same_unwritten, make_failed, make_done}
+use Rattle.page_pool.proofs.OnDisk.{holds_again, shown_again, own_shown, work_done, same_unwritten, make_failed, make_done}
 use Rattle.page_pool.proofs.InTurn.{on_err}
 use Rattle.page_pool.proofs.partition.Partition.make_fork.Goals as goal
 

@@ -1,9 +1,9 @@
-use Rattle.std.proofs.Common.{◌≡◌, ℕ, List, ap, sym, subst, arith, ◌∙◌}
+use Rattle.std.proofs.Common.{List, ap, subst, arith, ◌∙◌}
 use Rattle.std.specs.List.{All}
 use Rattle.std.specs.FinMap.{len}
 use Rattle.lsn_core.specs.declared.ids.BlockId.{BlockId}
 use Rattle.page_pool.specs.Part.{Part}
-use Rattle.page_pool.specs.Room.{blocks_of, missing, room_end, HasFrame}
+use Rattle.page_pool.specs.Room.{missing, room_end, HasFrame}
 use Rattle.page_pool.proofs.InTurn.{written_on, quiet_on, changes_on, read_changes}
 use Rattle.page_pool.proofs.partition.Partition.make_room.Goals as goal
 

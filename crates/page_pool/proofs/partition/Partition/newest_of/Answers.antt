@@ -1,4 +1,4 @@
-use Rattle.std.proofs.Common.{Option, ℕ, ap, sym, ◌∙◌}
+use Rattle.std.proofs.Common.{Option, ℕ, ap, ◌∙◌}
 use Rattle.page_pool.specs.Writing.{later_end}
 use Rattle.page_pool.proofs.Ended.{newest_more}
 use Rattle.page_pool.proofs.partition.Partition.newest_of.Goals as goal

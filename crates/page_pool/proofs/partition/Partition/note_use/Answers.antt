@@ -1,4 +1,4 @@
-use Rattle.std.proofs.Common.{◌≡◌, refl, ap, subst, ◌∙◌}
+use Rattle.std.proofs.Common.{refl, subst}
 use Rattle.page_frames.proofs.Overlays.{pages_turned, marks_turned}
 use Rattle.page_pool.specs.Part.{Part}
 use Rattle.page_pool.specs.Told.{told_page}

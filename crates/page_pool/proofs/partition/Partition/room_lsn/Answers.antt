@@ -1,4 +1,4 @@
-use Rattle.std.proofs.Common.{◌≡◌, ℕ, max, map, Option, Some, List, ap, sym, subst, ◌∙◌}
+use Rattle.std.proofs.Common.{◌≡◌, max, map, List, ap, sym, ◌∙◌}
 use Rattle.std.specs.List.{reduce}
 use Rattle.lsn_core.specs.declared.ids.BlockId.{BlockId}
 use Rattle.page_pool.specs.declared.work.Pending.{Pending}

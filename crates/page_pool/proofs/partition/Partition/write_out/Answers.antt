@@ -1,6 +1,4 @@
-use Rattle.std.proofs.Common.{◌≡◌, true, ap, sym, subst, ◌∙◌}
-use Rattle.page_frames.specs.Marks.{DirtyMarks, is_dirty}
-use Rattle.page_pool.proofs.InTurn.{changes_on, written_on, bounds_on, framed_bounds, same_written, page_written, cleaned_here, cause_on}
+use Rattle.page_pool.proofs.InTurn.{changes_on, written_on, same_written, page_written, cleaned_here}
 use Rattle.page_pool.proofs.partition.Partition.write_out.Goals as goal
 
 pub returns-in_err-write_page-clause-written : goal.returns-in_err-write_page-clause-written

@@ -1,4 +1,4 @@
-use Rattle.std.proofs.Common.{◌≡◌, true, ℕ, ◌<◌, List, Some, IsSome, refl, ap, sym, subst, ◌∙◌}
+use Rattle.std.proofs.Common.{◌<◌, refl, ap, sym, subst, ◌∙◌}
 use Rattle.std.specs.FinMap.{len}
 use Rattle.page_frames.specs.Marks.{is_dirty, cleaned}
 use Rattle.page_frames.specs.Framed.{held_page}
@@ -6,7 +6,6 @@ use Rattle.page_frames.specs.Overlay.{marks_over}
 use Rattle.page_frames.proofs.Overlays.{dirty_there}
 use Rattle.page_pool.specs.Part.{Part}
 use Rattle.page_pool.specs.Told.{told_page}
-use Rattle.page_pool.specs.Partition.{pages_in}
 use Rattle.page_pool.proofs.InTurn.{on_err}
 use Rattle.page_pool.proofs.OnDisk.{holds_again, shown_again, own_shown, frames_alike, same_unwritten, put_failed, put_done, no_block}
 use Rattle.page_pool.proofs.Roomed.{marked_held, marked_frame, held_shown}

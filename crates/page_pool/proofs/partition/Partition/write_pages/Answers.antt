@@ -1,4 +1,4 @@
-use Rattle.std.proofs.Common.{Option, ℕ, is_some, ap, ◌∙◌}
+use Rattle.std.proofs.Common.{◌∙◌}
 use Rattle.page_frames.proofs.Ends.{none_dirty}
 use Rattle.page_pool.proofs.InTurn.{changes_on, written_on, same_written, page_written, is_none}
 use Rattle.page_pool.proofs.partition.Partition.write_pages.Goals as goal
