@@ -37,7 +37,7 @@ use Rattle.vault.specs.declared.area.Vault.{Ghosts}
 use Rattle.recovery.proofs.SoFar.{all_kept}
 use Rattle.shared_store.specs.Seen.{accepted_by}
 use Rattle.shared_store.specs.Opened.{AreCounts}
-use Rattle.shared_store.specs.Begin.{BeginCause, MayComeFirst, MayComeLate}
+use Rattle.shared_store.specs.Begin.{BeginCause, MayComeLate}
 use Rattle.shared_store.specs.Found.{HasRead, IsFound, IsChecked, IsUnreplayed}
 
 -- ---- what is read without a target is the whole WAL
@@ -114,27 +114,6 @@ cause_of s files fresh before now (recovery.Timeline name) has clean cause = abs
 cause_of s files fresh before now recovery.NotInit has clean cause = absurd cause
 cause_of s files fresh before now recovery.Failed has clean cause = cause
 cause_of s files fresh before now recovery.NoMemory has clean cause = tt
-
--- its settings and its entries can't be read, whatever these do
-pub settings_first : (files : Option Files) (before now : ℕ) (fault : RecoveryFault) → CauseOf (settings_causes files) before now fault → MayComeFirst fault
-settings_first files before now (recovery.Damaged mib damage) cause = tt
-settings_first files before now (recovery.Short end target) cause = tt
-settings_first files before now (recovery.BadDelta place) cause = cause
-settings_first files before now recovery.SettingsDamaged cause = tt
-settings_first files before now (recovery.Timeline name) cause = tt
-settings_first files before now recovery.NotInit cause = tt
-settings_first files before now recovery.Failed cause = tt
-settings_first files before now recovery.NoMemory cause = tt
-
-pub reading_first : (s : StoreSettings) (begin : Beginning) (files : Option Files) (before now : ℕ) (fault : RecoveryFault) → CauseOf (reading_causes s begin None files) before now fault → MayComeFirst fault
-reading_first s begin files before now (recovery.Damaged mib damage) cause = tt
-reading_first s begin files before now (recovery.Short end target) cause = tt
-reading_first s begin files before now (recovery.BadDelta place) cause = cause
-reading_first s begin files before now recovery.SettingsDamaged cause = tt
-reading_first s begin files before now (recovery.Timeline name) cause = tt
-reading_first s begin files before now recovery.NotInit cause = tt
-reading_first s begin files before now recovery.Failed cause = tt
-reading_first s begin files before now recovery.NoMemory cause = tt
 
 -- and where it was read before, only for a bad delta
 pub late_cause : (s : StoreSettings) (files : Option Files) (fresh : Type 0) (before now : ℕ) (fault : RecoveryFault) → IsChecked files s → CauseOf (into_causes s None files fresh) before now fault → IfSome files (λ m. MayComeLate fault)
