@@ -97,7 +97,8 @@ fn partition(alloc: Global) -> Result<Part, AreaFault> {
     let area = OtherHand {
         area: MemVault::new(alloc, &[])?,
     };
-    match Partition::open(alloc, Forks::new(alloc, area, 131_072), FRAMES, FIRST) {
+    let forks = Forks::new(alloc, area, 131_072);
+    match Partition::open(alloc, forks, FRAMES, FIRST) {
         Ok(part) => Ok(part),
         Err(unopened) => Err(unopened.why),
     }

@@ -297,7 +297,8 @@ fn partition(alloc: Global, fails: &[u64]) -> Result<Part, AreaFault> {
 /// The same with so many frames.
 fn partition_of(alloc: Global, fails: &[u64], frames: u32) -> Result<Part, AreaFault> {
     let area = MemVault::new(alloc, fails)?;
-    match Partition::open(alloc, Forks::new(alloc, area, 2), frames, FIRST) {
+    let forks = Forks::new(alloc, area, 2);
+    match Partition::open(alloc, forks, frames, FIRST) {
         Ok(part) => Ok(part),
         Err(unopened) => Err(unopened.why),
     }
