@@ -95,11 +95,11 @@ fn a_call_of_the_input_fails(rt: HostRuntime) -> Result<(), AreaFault> {
 
 /// How many calls a run makes of each area.
 static CALLS: [(&str, u64); 5] = [
-    ("wal", 17),
-    ("data0", 11),
-    ("data1", 7),
-    ("data2", 7),
-    ("data3", 7),
+    ("wal", 21),
+    ("data0", 12),
+    ("data1", 8),
+    ("data2", 8),
+    ("data3", 8),
 ];
 
 /// Whether each of the calls of an area fails in turn, so many, and the run is done where the next
