@@ -1,5 +1,5 @@
 //! Runs of which each call of an area, or one of the input, fails: one with a flush and a checkpoint,
-//! and one with few frames, which takes backups.
+//! and one with few frames.
 
 ghost use Rattle.std.specs.Prelude.{IfOk};
 ghost use Rattle.vault.specs.Site.{AllHome};
@@ -122,20 +122,18 @@ fn each_device_call_of_a_run_fails_in_turn(rt: HostRuntime) -> Result<(), AreaFa
     Ok(())
 }
 
-/// Fourteen pages in four frames: commands write pages of others, cut and removed forks too, and read
-/// pages again.
+/// Eight pages in four frames: commands write pages of others, behind a creation, a cut and a removal,
+/// and read pages again.
 const SWEPT: &str = "worker w
 create 5/4
-grow 5/4@0 10 24,8192,1
+grow 5/4@0 6 24,8192,1
 change 5/4@0+24:61
-full f1
-change 5/4@0+24:62 5/4@3+24:62 5/4@6+24:62 5/4@9+24:62
-truncate 5/4 2
-grow 5/4@2 4 24,8192,1
+change 5/4@1+24:62 5/4@2+24:62 5/4@3+24:62 5/4@4+24:62
+truncate 5/4 3
+grow 5/4@3 3 24,8192,1
 create 5/8
-grow 5/8@0 4 24,8192,2
+grow 5/8@0 2 24,8192,2
 drop 5/8
-incr i1 f1
 change 5/4@0+24:63
 flush 2
 checkpoint
@@ -160,7 +158,7 @@ fn swept_is_done<S: Site>(alloc: Global, site: &mut S, area: &str) -> Result<boo
 }
 
 /// A run makes fewer calls of each area.
-const TRIED: u64 = 400;
+const TRIED: u64 = 100;
 
 /// How many calls that run makes of an area: each of them fails in turn, and the run is done where the
 /// next one were to.
@@ -174,10 +172,10 @@ fn swept_calls(alloc: Global, area: &str) -> Result<u64, AreaFault> {
     Ok(TRIED)
 }
 
-/// The areas, and how many calls of each the run makes at least. Of the area of the forks it is, beside
-/// what any run makes of it, six pages that are written for the growth, one that is read for each
-/// patch, and ten that are read for the backup.
-static SWEPT_CALLS: [(&str, u64); 4] = [("wal", 17), ("data0", 28), ("sums", 5), ("b/f1", 6)];
+/// The areas, and how many calls of each the run makes at least: of the area of the forks, beside the
+/// 12 of the run above, two pages that are written for the first growth, and two that are read and two
+/// that are written for the patches behind it.
+static SWEPT_CALLS: [(&str, u64); 2] = [("wal", 21), ("data0", 18)];
 
 #[test]
 fn each_device_call_fails_in_turn_with_few_frames(rt: HostRuntime) -> Result<(), AreaFault> {

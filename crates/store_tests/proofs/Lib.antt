@@ -1,1 +1,1 @@
-pub mod NoMarks
+pub mod Nothing
