@@ -1,16 +1,15 @@
 //! A partition with four frames: a page that lost its frame is read from the area again.
 
-ghost use Rattle.std.specs.Prelude.{None, refl};
-
 use crate::flushed::flushed;
-use crate::partition_tests::{Does, make_room, op_of, take};
-use lsn_core::{AreaFault, Lsn, Text};
+use crate::partition_tests::{Does, Part, make_room, op_of, take};
+use crate::untold::Untold;
+use lsn_core::{AreaFault, Lsn};
 use page_pool::Partition;
 use rel_files::Forks;
 use std::alloc::Global;
 use std::test::Fail;
 use test_areas::Wrong;
-use vault::{MemVault, Vault};
+use vault::MemVault;
 use wal_record::{Body, Kind};
 use wal_writer::Flushed;
 
@@ -26,76 +25,14 @@ const FIRST: Lsn = Lsn(0x100028);
 /// A redo point behind all entries, so that a patch is an image.
 const REDO: Lsn = Lsn(0x200000);
 
-/// The file of the fork.
-const FILE: &[u8] = b"base/5/16384";
-
 /// A byte of the first page, behind its hole.
 const CHANGED: usize = 8170;
 
-/// An area in memory of which another hand changes a byte of the fork's first page, each time that
-/// its names are listed and it has a file. So it tells nothing.
-#[derive(Drop)]
-struct OtherHand {
-    area: MemVault,
-}
-
-impl OtherHand {
-    /// The byte is changed.
-    fn change(&mut self) -> Result<(), AreaFault> {
-        self.area.write_at(FILE, CHANGED as u64, b"w")
-    }
-}
-
-impl Vault for OtherHand {
-    ghost use Rattle.vault.specs.Memory.{MemoryArea};
-
-    ghost files = { λ _. None };
-
-    ghost faults = { λ v. v.area.faults };
-
-    ghost past = { λ _. None };
-
-    ghost tells_alike = { λ _ _. refl };
-
-    fn names(&mut self, alloc: Global) -> Result<Vec<Text>, AreaFault> {
-        let names = self.area.names(alloc)?;
-        if !names.is_empty() {
-            self.change()?;
-        }
-        Ok(names)
-    }
-
-    fn size(&mut self, name: &[u8]) -> Result<Option<u64>, AreaFault> {
-        self.area.size(name)
-    }
-
-    fn read_at(&mut self, name: &[u8], at: u64, into: &mut [u8]) -> Result<u32, AreaFault> {
-        self.area.read_at(name, at, into)
-    }
-
-    fn write_at(&mut self, name: &[u8], at: u64, piece: &[u8]) -> Result<(), AreaFault> {
-        self.area.write_at(name, at, piece)
-    }
-
-    fn cut(&mut self, name: &[u8], size: u64) -> Result<(), AreaFault> {
-        self.area.cut(name, size)
-    }
-
-    fn remove(&mut self, name: &[u8]) -> Result<(), AreaFault> {
-        self.area.remove(name)
-    }
-
-    fn sync(&mut self) -> Result<(), AreaFault> {
-        self.area.sync()
-    }
-}
-
-type Part = Partition<OtherHand, 0>;
-
-/// A new partition over such an area.
+/// A new partition over an area that another hand changes.
 fn partition(alloc: Global) -> Result<Part, AreaFault> {
-    let area = OtherHand {
+    let area = Untold {
         area: MemVault::new(alloc, &[])?,
+        changes: Some(CHANGED as u64),
     };
     let forks = Forks::new(alloc, area, 131_072);
     match Partition::open(alloc, forks, FRAMES, FIRST) {

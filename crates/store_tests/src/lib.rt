@@ -24,3 +24,5 @@ mod machine_tests;
 mod partition_tests;
 #[cfg(test)]
 mod rebuild_tests;
+#[cfg(test)]
+mod untold;

@@ -7,6 +7,7 @@ ghost use Rattle.page_pool.specs.Ready.{HasItems};
 ghost use Rattle.page_pool.specs.Room.{blocks_of, HasFrames};
 
 use crate::flushed::{PUT, flushed, page_of};
+use crate::untold::Untold;
 use history::{Edit, Item, Items, Op, init_fork};
 use lsn_core::{AreaFault, BlockId, ForkId, ForkKind, ForkLen, Lsn, NoMemory};
 use page_pool::{OpFault, Partition, Wrote};
@@ -15,11 +16,11 @@ use rel_files::Forks;
 use std::alloc::Global;
 use std::test::Fail;
 use test_areas::{Wrong, main_fork};
-use vault::{MemVault, Vault};
+use vault::MemVault;
 use wal_writer::Flushed;
 
 /// The partition of 5/16384.
-type Part = Partition<MemVault, 0>;
+pub type Part = Partition<Untold, 0>;
 
 /// How many device calls write a fork with three pages in two files and remove it: a look whether it
 /// is there, one for each file and page that is made, and one for each file that is removed.
@@ -165,12 +166,7 @@ pub fn op_of(alloc: Global, does: Does) -> Result<Op, Wrong>
 }
 
 /// Makes room for a command, where the WAL is flushed so far.
-pub fn make_room<V: Vault>(
-    alloc: Global,
-    part: &mut Partition<V, 0>,
-    mark: &Flushed,
-    op: &Op,
-) -> Result<(), AreaFault>
+pub fn make_room(alloc: Global, part: &mut Part, mark: &Flushed, op: &Op) -> Result<(), AreaFault>
     requires { HasItems op.now }
     ensures { OnOk result (HasFrames part.new.framed (blocks_of op.now)) }
 {
@@ -181,9 +177,9 @@ pub fn make_room<V: Vault>(
 }
 
 /// Does a command, by an entry that ends there, unless it is refused.
-pub fn take<V: Vault>(
+pub fn take(
     alloc: Global,
-    part: &mut Partition<V, 0>,
+    part: &mut Part,
     mark: &Flushed,
     does: Does,
     end: Lsn,
@@ -296,7 +292,10 @@ fn partition(alloc: Global, fails: &[u64]) -> Result<Part, AreaFault> {
 
 /// The same with so many frames.
 fn partition_of(alloc: Global, fails: &[u64], frames: u32) -> Result<Part, AreaFault> {
-    let area = MemVault::new(alloc, fails)?;
+    let area = Untold {
+        area: MemVault::new(alloc, fails)?,
+        changes: None,
+    };
     let forks = Forks::new(alloc, area, 2);
     match Partition::open(alloc, forks, frames, FIRST) {
         Ok(part) => Ok(part),
@@ -548,7 +547,7 @@ fn failed_writes_are_made_good(rt: HostRuntime) -> Result<(), Fail> {
     let alloc = rt.alloc();
     let mark = flushed(alloc)?;
     for call in 1..=4 {
-        let mut part = partition(alloc, &[OPENING + call])?;
+        let mut part = partition(alloc, &[OPENING.saturating_add(call)])?;
         take_all(alloc, &mut part, &mark, &CUT[..7])?;
         assert!(rt; failed(&mut part, &mark) == 1);
         take_all(alloc, &mut part, &mark, &CUT[13..])?;
@@ -628,7 +627,7 @@ fn commands_without_room_are_taken_again(rt: HostRuntime) -> Result<(), Fail> {
 /// How many writes fail of a fork and of its removal, where a device call behind the opening fails. The fork is removed
 /// all the same, and created anew.
 fn failed_removals(alloc: Global, mark: &Flushed, call: u64) -> Result<(u32, u32), Wrong> {
-    let mut part = partition(alloc, &[OPENING + call])?;
+    let mut part = partition(alloc, &[OPENING.saturating_add(call)])?;
     take_all(alloc, &mut part, mark, &REMOVED[..3])?;
     let before = failed(&mut part, mark);
     take_all(alloc, &mut part, mark, &REMOVED[3..4])?;

@@ -1,6 +1,7 @@
-//! Data areas in memory that are rebuilt. Names and sizes of the files follow from the layout
+//! Data areas in memory, of which contracts are told nothing, that are rebuilt. Names and sizes of the files follow from the layout
 //! alone: a fork always has its first file, and a further one exactly where its blocks go on in it.
 
+use crate::untold::Untold;
 use data_areas::{BoxedArea, DataAreas, RebuildFault, StoreForks, clear, settle};
 use lsn_core::{AreaFault, BlockId, ForkId, Lsn, Pages, StoreArea, StoreFault};
 use std::alloc::Global;
@@ -9,7 +10,7 @@ use std::test::Fail;
 use test_areas::{Step, Wrong, main_fork, take_steps};
 use vault::{MemVault, Vault};
 
-type Area = BoxedArea<MemVault>;
+type Area = BoxedArea<Untold>;
 
 type Areas = DataAreas<Area>;
 
@@ -56,7 +57,13 @@ fn area(alloc: Global, fails: u64, names: &[&[u8]]) -> Result<Area, AreaFault> {
         area.write_at(name, 0, b"stray")?;
     }
     Ok(BoxedArea {
-        area: Box::new(alloc, area)?,
+        area: Box::new(
+            alloc,
+            Untold {
+                area,
+                changes: None,
+            },
+        )?,
     })
 }
 
@@ -84,7 +91,7 @@ static SECOND: [Step; 2] = [
 ];
 
 /// Fills cleared areas, two blocks in a file, and opens them.
-fn fills(alloc: Global, areas: Areas) -> Result<Result<(), RebuildFault<MemVault>>, Wrong> {
+fn fills(alloc: Global, areas: Areas) -> Result<Result<(), RebuildFault<Untold>>, Wrong> {
     let first = main_fork(16384).ok_or(Wrong::Step(0))?;
     let second = main_fork(16385).ok_or(Wrong::Step(0))?;
     let mut pages = StoreForks::new(alloc, areas, 2);
@@ -105,7 +112,7 @@ fn fills(alloc: Global, areas: Areas) -> Result<Result<(), RebuildFault<MemVault
 }
 
 /// Rebuilds areas: they have just the files of the pages afterwards.
-fn rebuilds(alloc: Global, areas: Areas) -> Result<Result<(), RebuildFault<MemVault>>, Wrong> {
+fn rebuilds(alloc: Global, areas: Areas) -> Result<Result<(), RebuildFault<Untold>>, Wrong> {
     let mut areas = areas;
     if let Err(why) = clear(alloc, &mut areas) {
         return Ok(Err(RebuildFault { areas, why }));
