@@ -76,6 +76,16 @@ exact_but_mark relseg pages m some only held =
     let e : bare ≡ files_of relseg pages = files_are_exact relseg bare pages some (apart relseg pages m bare agree held) alone in
     λ q not. sym (agree q not) ∙ ap (λ (f : Files). get f q) e
 
+-- no store has a file of the mark's name
+pub none_of_mark : (relseg : ℕ) (pages : Store) (m : Files) → 0 < relseg → HasOnlyForksAndMark m → Holds relseg m pages → get (files_of relseg pages) rebuilding_name ≡ None
+none_of_mark relseg pages m some only held =
+    let bare : Files = after_remove rebuilding_name m in
+    let agree : AgreeBut IsMark m bare = λ q not. apart_removed m rebuilding_name q not in
+    let bared : get bare rebuilding_name ≡ None = gone rebuilding_name (Some m) (Some bare) (Some bare) refl refl in
+    let alone : HasOnlyForks bare = left_only m bare agree only bared in
+    let e : bare ≡ files_of relseg pages = files_are_exact relseg bare pages some (apart relseg pages m bare agree held) alone in
+    ap (λ (f : Files). get f rebuilding_name) (sym e) ∙ bared
+
 pub unmarked_only : (old new : Option Files) → Related (AgreeBut IsMark) old new → IfSome old HasOnlyForksAndMark → IfSome new (λ m. get m rebuilding_name ≡ None) → IfSome new HasOnlyForks
 unmarked_only old new agree only gone =
     when_both_told new (λ b. get b rebuilding_name ≡ None → HasOnlyForks b) (λ b. get b rebuilding_name ≡ None) HasOnlyForks (λ b leads none. leads none)

@@ -13,7 +13,7 @@ use Rattle.vault.proofs.Through.{adds_on}
 use Rattle.rel_files.specs.Forks.{IsForkPath}
 use Rattle.data_areas.specs.declared.areas.DataAreas.{DataAreas}
 use Rattle.data_areas.specs.Areas.{area_of, FaultsGrow, TellAlike, DataCause}
-use Rattle.data_areas.specs.Marking.{rebuilding_name, IsMark, IsOther}
+use Rattle.data_areas.specs.Marking.{rebuilding_name, IsMark, IsMarking, IsOther}
 use Rattle.data_areas.specs.Phases.{CameSoFar, HasMarkSince, HaveMarkSince, HasFilesOf, first_past}
 use Rattle.data_areas.specs.Settling.{SettledSoFar}
 use Rattle.data_areas.proofs.Exact.{no_mark, tells_alike}
@@ -38,10 +38,10 @@ told_now P None there some = absurd (true≢false (sym some))
 told_now P (Some m) there some = there
 
 -- what was marked, and then had others changed
-pub begun : {V : Type 0} (g : Ghosts V) (x y z : V) → ChangesOnly g IsMark x y → IfSome (g.files y) (λ m. LeavesNow (Has rebuilding_name) (g.past y)) → ChangesOnly g IsOther y z → HasMarkSince (IsSome (g.files x)) (g.past x) (g.past z)
-begun g x y z first there others = record {
+pub begun : {V : Type 0} (g : Ghosts V) (x y z : V) → ChangesOnly g IsMark x y → Adds IsMarking (g.past x) (g.past y) → IfSome (g.files y) (λ m. LeavesNow (Has rebuilding_name) (g.past y)) → ChangesOnly g IsOther y z → HasMarkSince (IsSome (g.files x)) (g.past x) (g.past z)
+begun g x y z first marking there others = record {
   marked = g.past y;
-  first = first.past;
+  first = marking;
   there = λ some. told_now (LeavesNow (Has rebuilding_name) (g.past y)) (g.files y) there (tells_alike (AgreeBut IsMark) (g.files x) (g.files y) first.files ∙ some);
   others = others.past;
 }

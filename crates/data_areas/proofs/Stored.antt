@@ -22,11 +22,13 @@ use Rattle.data_areas.specs.declared.store_forks.AreaFaults.{AreaFaults}
 use Rattle.data_areas.specs.Areas.{area_of, listed, FaultsGrow, TellAlike, data_fault, DataCause}
 use Rattle.data_areas.specs.Clearing.{AreBare}
 use Rattle.data_areas.specs.Marking.{rebuilding_name, HasOnly}
+use Rattle.data_areas.specs.Moments.{GoesOn, AllGoOn, pasts_of}
 use Rattle.data_areas.specs.Phases.{first_past, HaveMarkSince}
 use Rattle.data_areas.specs.Rebuilt.{HoldsPages}
 use Rattle.data_areas.specs.Settling.{HasOnlyForksAndMark, HasPages, AreFilled}
 use Rattle.data_areas.specs.Stored.{ShowsParts, AreForksOf, KeepEach, count_at, NamesFault, KeepsAll}
 use Rattle.data_areas.proofs.Exact.{empty_none, tells_alike, when_related}
+use Rattle.data_areas.proofs.Moments.{goes_on}
 use Rattle.data_areas.proofs.Phases.{forks_are_others, begun_on}
 
 -- ---- four areas, by number
@@ -126,6 +128,16 @@ module _ {V : Type 0} (g : Ghosts V) (relseg : ℕ) (a b : DataAreas V) (x y : S
       let new = at_part relseg b y forks_now q below in
       subst (λ (v : V). ChangesOnly g IsForkPath v (area_of b q)) old.area_is
       (subst (ChangesOnly g IsForkPath old.files.area) new.area_is (each_at g x.parts y.parts q old.files new.files kept.each old.there new.there).area)
+
+  pub pasts_go_on : AllGoOn (pasts_of g a) (pasts_of g b)
+  pasts_go_on =
+      let on : (u v : V) → ChangesOnly g IsForkPath u v → GoesOn (g.past u) (g.past v) = λ u v is. goes_on (IsAmong IsForkPath) (g.past u) (g.past v) is.past in
+      record {
+        data0 = on a.data0 b.data0 (changed 0 (omega arith));
+        data1 = on a.data1 b.data1 (changed 1 (omega arith));
+        data2 = on a.data2 b.data2 (changed 2 (omega arith));
+        data3 = on a.data3 b.data3 (changed 3 (omega arith));
+      }
 
   pub faults_grow : FaultsGrow g a b
   faults_grow = of_each (λ u v. g.faults u ≤ g.faults v) a b (changed 0 (omega arith)).faults (changed 1 (omega arith)).faults (changed 2 (omega arith)).faults (changed 3 (omega arith)).faults

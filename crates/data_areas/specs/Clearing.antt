@@ -4,11 +4,10 @@ use Rattle.std.specs.Option.{is_some}
 use Rattle.std.specs.FinMap.{empty}
 use Rattle.lsn_core.specs.Files.{Files}
 use Rattle.vault.specs.declared.area.Vault.{Ghosts}
-use Rattle.vault.specs.Frame.{ChangesOnly}
 use Rattle.data_areas.specs.declared.areas.DataAreas.{DataAreas}
 use Rattle.data_areas.specs.Areas.{TellAlike}
-use Rattle.data_areas.specs.Marking.{rebuilding_name, HasOnly, IsMark}
-use Rattle.data_areas.specs.Phases.{HasMarkSince, HaveMarkSince, TouchesMark}
+use Rattle.data_areas.specs.Marking.{rebuilding_name, HasOnly}
+use Rattle.data_areas.specs.Phases.{HasMarkSince, HaveMarkSince, TouchesMark, IsMarkedAtMost}
 
 -- an area was cleared but for the mark; it tells its files where it did
 pub record IsMarkedAlone (old new : Option Files) : Type 0 where
@@ -30,7 +29,7 @@ pub record AreCleared {V : Type 0} (g : Ghosts V) (old new : DataAreas V) : Type
 -- before anything else of it changed
 abbrev pub HasTried : {V : Type 0} → Ghosts V → V → V → Type 0
 HasTried g old new =
-    ChangesOnly g IsMark old new
+    IsMarkedAtMost g old new
     ⊎ HasMarkSince (IsSome (g.files old)) (g.past old) (g.past new)
 
 -- clearing of the four that failed came so far

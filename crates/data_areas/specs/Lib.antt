@@ -4,6 +4,7 @@ pub mod Clearing
 pub mod Inside
 pub mod Kept
 pub mod Marking
+pub mod Moments
 pub mod Phases
 pub mod Rebuilt
 pub mod Settling

@@ -2,7 +2,7 @@
 use Rattle.std.specs.Prelude.{◌≡◌, ◌≢◌, ℕ, List, Option, None, codes}
 use Rattle.std.specs.FinMap.{get}
 use Rattle.vault.specs.Stops.{Event}
-use Rattle.vault.specs.Frame.{IsAmong, Adds, LeavesNow, LeavesOnly, Has}
+use Rattle.vault.specs.Frame.{IsAmong, IsBehind, Adds, LeavesNow, LeavesOnly, Has}
 use Rattle.lsn_core.specs.Files.{Files}
 
 -- the file that the first data area has while the four are rebuilt (profile)
@@ -15,6 +15,10 @@ IsMark name = name ≡ rebuilding_name
 
 abbrev pub IsOther : List ℕ → Type 0
 IsOther name = name ≢ rebuilding_name
+
+-- a write of the mark, or a sync
+abbrev pub IsMarking : Event → Type 0
+IsMarking event = IsBehind rebuilding_name 0 event
 
 -- the files have no other name than this one
 abbrev pub HasOnly : List ℕ → Files → Type 0

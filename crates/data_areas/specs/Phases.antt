@@ -7,14 +7,14 @@ use Rattle.vault.specs.Frame.{IsAmong, Adds, AgreeBut, ChangesOnly, LeavesNow, H
 use Rattle.vault.specs.declared.area.Vault.{Ghosts}
 use Rattle.data_areas.specs.declared.areas.DataAreas.{DataAreas}
 use Rattle.data_areas.specs.Areas.{area_of}
-use Rattle.data_areas.specs.Marking.{rebuilding_name, IsMark, IsOther}
+use Rattle.data_areas.specs.Marking.{rebuilding_name, IsMark, IsOther, IsMarking}
 
 -- an area has its mark still: it was marked before anything else of it changed, durably, and since
 -- then other files alone changed. Meanwhile each stop leaves the mark (Marking.MarksStay). What a
 -- stop leaves is said of an area that tells its files, and only where its past is told too
 pub record HasMarkSince (tells : Type 0) (old new : Option (List Event)) : Type 0 where
   pub marked : Option (List Event)  -- its past once it was marked
-  pub first : Adds (IsAmong IsMark) old marked
+  pub first : Adds IsMarking old marked
   pub there : tells → LeavesNow (Has rebuilding_name) marked
   pub others : Adds (IsAmong IsOther) marked new
 
@@ -51,9 +51,14 @@ abbrev pub WereMarked : {V : Type 0} → Ghosts V → ℕ → (ℕ → Store →
 WereMarked g relseg pages old past =
     WasMarked (IsSome (g.files (area_of old 0))) relseg (pages 0) (first_past g old) past
 
+-- of an area only the mark was touched, and it was written alone
+pub record IsMarkedAtMost {V : Type 0} (g : Ghosts V) (old new : V) : Type 0 where
+  pub changes : ChangesOnly g IsMark old new
+  pub marking : Adds IsMarking (g.past old) (g.past new)
+
 -- only the mark of the first area was touched, and the three others are as they were
 pub record TouchesMark {V : Type 0} (g : Ghosts V) (old new : DataAreas V) : Type 0 where
-  pub data0 : ChangesOnly g IsMark old.data0 new.data0
+  pub data0 : IsMarkedAtMost g old.data0 new.data0
   pub data1 : new.data1 ≡ old.data1
   pub data2 : new.data2 ≡ old.data2
   pub data3 : new.data3 ≡ old.data3

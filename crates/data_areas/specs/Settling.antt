@@ -84,12 +84,13 @@ SettledSoFar g relseg pages old new =
     ⊎ (AreOthersRebuilt g relseg pages old new
     × HasEnded relseg (pages 0) (first_past g old) (first_past g new))
 
--- a partition was made of an area as it is
+-- a partition was made of an area as it is, from a place on, up to which the WAL is flushed
 pub record IsOpened {V : Type 0} (g : Ghosts V) (relseg from : ℕ) (area : V) (part : Part)
     : Type 0 where
   pub frames : (pages : Store) → HoldsPages relseg (g.files area) pages → part.frames ≡ pages
   pub clean : IsClean part
   pub point : part.point ≡ from
+  pub mark : part.mark ≡ from
   pub relseg_is : part.relseg ≡ relseg
   pub disk : part.disk ≡ g.files area
   pub past : part.past ≡ g.past area

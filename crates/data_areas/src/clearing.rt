@@ -4,6 +4,7 @@ ghost use Rattle.std.specs.Prelude.{IsSome, IfErr, OnOk, OnErr};
 ghost use Rattle.lsn_core.specs.Causes.{HasCause};
 ghost use Rattle.data_areas.specs.Areas.{DataCause, FaultsGrow};
 ghost use Rattle.data_areas.specs.Clearing.{IsMarkedAlone, AreCleared, HasTried, ClearedSoFar};
+ghost use Rattle.data_areas.specs.Moments.{GoesOn, AllGoOn, pasts_of};
 ghost use Rattle.data_areas.specs.Phases.{HasMarkSince, HaveMarkSince};
 
 use crate::areas::DataAreas;
@@ -20,6 +21,7 @@ pub fn clear<V: Vault>(alloc: Global, areas: &mut DataAreas<V>) -> Result<(), St
     ensures cleared { OnOk result (AreCleared V.Vault areas.old areas.new) }
     ensures begun { OnOk result (HaveMarkSince V.Vault areas.old areas.new) }
     ensures so_far { OnErr result (ClearedSoFar V.Vault areas.old areas.new) }
+    ensures go_on { AllGoOn (pasts_of V.Vault areas.old) (pasts_of V.Vault areas.new) }
     ensures cause { IfErr result (DataCause V.Vault areas.old areas.new) }
     ensures later { FaultsGrow V.Vault areas.old areas.new }
 {
@@ -44,6 +46,7 @@ fn clear_first<V: Vault>(alloc: Global, area: &mut V) -> Result<(), AreaFault>
     ensures begun { OnOk result
         (HasMarkSince (IsSome (V.files area.old)) (V.past area.old) (V.past area.new)) }
     ensures so_far { OnErr result (HasTried V.Vault area.old area.new) }
+    ensures goes_on { GoesOn (V.past area.old) (V.past area.new) }
     ensures cause { HasCause (V.faults area.old) (V.faults area.new) result }
 {
     mark_rebuilding(area)?;

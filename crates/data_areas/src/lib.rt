@@ -10,7 +10,8 @@
 //! change (`rebuilding_stays`); and `settle` removes it once a stop leaves the areas' other files as
 //! they are to be. A fault leaves it there, unless nothing else was touched, or the areas have just
 //! their files, durably. What a stop leaves is said of areas that tell their files and their past
-//! (`specs/Marking.antt`, `specs/Phases.antt`).
+//! (`specs/Marking.antt`, `specs/Phases.antt`), and of the four together at each moment by the parts
+//! in which a call goes (`specs/Moments.antt`).
 //!
 //! Left to others: replay itself, whether a store has to be rebuilt at all, and what its partitions
 //! do from then on (`page_pool`).

@@ -4,8 +4,9 @@ ghost use Rattle.std.specs.Prelude.{◌≡◌, None, IfSome, OnOk};
 ghost use Rattle.std.specs.Option.{option_map};
 ghost use Rattle.std.specs.FinMap.{empty, get};
 ghost use Rattle.lsn_core.specs.Causes.{HasCause};
-ghost use Rattle.vault.specs.Frame.{ChangesOnly, LeavesNow, Has};
-ghost use Rattle.data_areas.specs.Marking.{rebuilding_name, IsMark, IsOther, HasOnly, MarksStay};
+ghost use Rattle.vault.specs.Frame.{Adds, ChangesOnly, LeavesNow, Has};
+ghost use Rattle.data_areas.specs.Marking.{rebuilding_name, IsMark, IsMarking, IsOther, HasOnly, MarksStay};
+ghost use Rattle.data_areas.specs.Moments.{GoesOn};
 ghost use Rattle.data_areas.specs.Inside.{without_other};
 
 use lsn_core::AreaFault;
@@ -19,6 +20,7 @@ pub fn mark_rebuilding<V: Vault>(area: &mut V) -> Result<(), AreaFault>
     ensures marked { OnOk result
         (IfSome (V.files area.new) (λ m. LeavesNow (Has rebuilding_name) (V.past area.new))) }
     ensures changes { ChangesOnly V.Vault IsMark area.old area.new }
+    ensures marking { Adds IsMarking (V.past area.old) (V.past area.new) }
     ensures cause { HasCause (V.faults area.old) (V.faults area.new) result }
 {
     area.write_at(b"rebuilding", 0, b"")?;
@@ -41,6 +43,7 @@ pub fn clear_marked<V: Vault>(alloc: Global, area: &mut V) -> Result<(), AreaFau
 /// Removes every file, also one of the name `rebuilding`. After a fault some of them may be gone.
 pub fn clear_area<V: Vault>(alloc: Global, area: &mut V) -> Result<(), AreaFault>
     ensures cleared { OnOk result (V.files area.new ≡ option_map (λ m. empty) (V.files area.old)) }
+    ensures goes_on { GoesOn (V.past area.old) (V.past area.new) }
     ensures cause { HasCause (V.faults area.old) (V.faults area.new) result }
 {
     let names = area.names(alloc)?;

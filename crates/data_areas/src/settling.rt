@@ -6,6 +6,7 @@ ghost use Rattle.vault.specs.Frame.{Adds, IsAmong};
 ghost use Rattle.data_areas.specs.Areas.{area_of, data_fault, DataCause, FaultsGrow};
 ghost use Rattle.data_areas.specs.Boxed.{on_heap};
 ghost use Rattle.data_areas.specs.Marking.{IsOther};
+ghost use Rattle.data_areas.specs.Moments.{AllGoOn, pasts_of, pasts_in};
 ghost use Rattle.data_areas.specs.Phases.{first_past};
 ghost use Rattle.data_areas.specs.Rebuilt.{held_by, AreRebuilt};
 ghost use Rattle.data_areas.specs.Settling.{HasPages, AreFilled, AreSettled, AreSynced, HaveEnded};
@@ -32,7 +33,8 @@ pub struct Partitions<V: Vault> {
 }
 
 /// Makes filled data areas durable, removes the mark of the first one, durably, and makes
-/// partitions of them, of so many frames each, which replay from a place on makes good. A fault
+/// partitions of them, of so many frames each, which replay from a place on makes good; the WAL is
+/// flushed up to there. A fault
 /// hands the areas back: either `data0` has its mark still, or the four have just the files of
 /// their pages, durably, but for the mark, which may be gone.
 pub fn settle<V: Vault>(
@@ -47,6 +49,10 @@ pub fn settle<V: Vault>(
     ensures parts { IfOk result (AreRebuilt (on_heap V.Vault) relseg point.0 areas) }
     ensures ended { IfOk result
         (λ parts. HaveEnded (on_heap V.Vault) relseg areas parts.part0.past) }
+    ensures go_on { IfOk result
+        (λ parts. AllGoOn (pasts_of (on_heap V.Vault) areas) (pasts_in parts)) }
+    ensures went_on { IfErr result (λ f.
+        AllGoOn (pasts_of (on_heap V.Vault) areas) (pasts_of (on_heap V.Vault) f.areas)) }
     ensures so_far { IfErr result (λ f. SettledSoFar (on_heap V.Vault) relseg
         (held_by (on_heap V.Vault) relseg areas) areas f.areas) }
     ensures cause { IfErr result (λ f. DataCause (on_heap V.Vault) areas f.areas f.why) }
@@ -66,6 +72,7 @@ fn make_durable<V: Vault>(areas: &mut DataAreas<V>, relseg: u32) -> Result<(), S
     ensures settled { OnOk result (AreSettled V.Vault relseg areas.old areas.new) }
     ensures ended { OnOk result
         (HaveEnded V.Vault relseg areas.old (first_past V.Vault areas.new)) }
+    ensures go_on { AllGoOn (pasts_of V.Vault areas.old) (pasts_of V.Vault areas.new) }
     ensures so_far { OnErr result
         (SettledSoFar V.Vault relseg (held_by V.Vault relseg areas.old) areas.old areas.new) }
     ensures cause { IfErr result (DataCause V.Vault areas.old areas.new) }
@@ -83,6 +90,7 @@ fn sync_all<V: Vault>(areas: &mut DataAreas<V>) -> Result<(), StoreFault>
     ensures synced { OnOk result (AreSynced V.Vault areas.old areas.new) }
     ensures others { Adds (IsAmong IsOther) (first_past V.Vault areas.old)
         (first_past V.Vault areas.new) }
+    ensures go_on { AllGoOn (pasts_of V.Vault areas.old) (pasts_of V.Vault areas.new) }
     ensures cause { IfErr result (DataCause V.Vault areas.old areas.new) }
     ensures later { FaultsGrow V.Vault areas.old areas.new }
 {
@@ -101,7 +109,7 @@ fn sync_all<V: Vault>(areas: &mut DataAreas<V>) -> Result<(), StoreFault>
     Ok(())
 }
 
-/// Makes a partition of an area that holds whole pages.
+/// Makes a partition of an area that holds whole pages, up to whose point the WAL is flushed.
 fn open_part<V: Vault, const Q: u32>(
     alloc: Global,
     area: V,
@@ -115,7 +123,7 @@ fn open_part<V: Vault, const Q: u32>(
     ensures left { IfErr result (λ u. IsLeft V.Vault area u.area) }
     ensures cause { IfErr result (λ u. FailsWith (V.faults area) (V.faults u.area) u.why) }
 {
-    Partition::open(alloc, Forks::new(alloc, area, relseg), frames, point)
+    Partition::open(alloc, Forks::new(alloc, area, relseg), frames, point, point)
 }
 
 /// Makes partitions of areas that hold whole pages.

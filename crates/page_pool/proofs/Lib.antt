@@ -24,5 +24,7 @@ mod Rooms
 mod Reserved
 mod Opened
 mod Applied
+mod Flushed
+mod Stopped
 pub mod InTurn
 pub mod PartsAlike

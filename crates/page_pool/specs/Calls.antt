@@ -54,15 +54,17 @@ pub record ChangesForks (old new : Part) : Type 0 where
   pub past : Adds (IsAmong IsForkPath) old.past new.past
   pub faults : old.faults ≤ new.faults
 
--- the area was only read
+-- the area was only read, and no mark was taken
 pub record ReadsDisk (old new : Part) : Type 0 where
+  pub mark : new.mark ≡ old.mark
   pub relseg : new.relseg ≡ old.relseg
   pub files : new.disk ≡ old.disk
   pub past : new.past ≡ old.past
   pub faults : old.faults ≤ new.faults
 
--- the area wasn't touched
+-- the area wasn't touched, and no mark was taken
 pub record SameDisk (old new : Part) : Type 0 where
+  pub mark : new.mark ≡ old.mark
   pub relseg : new.relseg ≡ old.relseg
   pub files : new.disk ≡ old.disk
   pub past : new.past ≡ old.past

@@ -10,5 +10,6 @@ pub mod Calls
 pub mod Inside
 pub mod PartCode
 pub mod Writing
+pub mod Stops
 pub mod Opening
 pub mod Partition

@@ -28,7 +28,7 @@ marks_code = code fork_row.the_row.coded (coded_list (coded_option coded_ℕ))
 
 -- what is held in memory, and what is told of the area, as pairs
 abbrev pub Pool : Type 0
-Pool = Store × (DirtyMarks × (List Pending × (ℕ × (Framed × ℕ))))
+Pool = Store × (DirtyMarks × (List Pending × (ℕ × (ℕ × (Framed × ℕ)))))
 
 abbrev pub Told : Type 0
 Told = ℕ × (Option Files × (Option (List Event) × ℕ))
@@ -36,7 +36,7 @@ Told = ℕ × (Option Files × (Option (List Event) × ℕ))
 abbrev pub pool_code : Coded Pool
 pool_code =
     coded× store_code (coded× marks_code (coded× (coded_list the_row.coded)
-    (coded× coded_ℕ (coded× framed_code coded_ℕ))))
+    (coded× coded_ℕ (coded× coded_ℕ (coded× framed_code coded_ℕ)))))
 
 abbrev pub told_code : Coded Told
 told_code =
@@ -44,7 +44,7 @@ told_code =
     (coded× (coded_option (coded_list event_code)) coded_ℕ))
 
 abbrev pub pool_of : Part → Pool
-pool_of p = (p.frames, (p.marks, (p.works, (p.point, (p.framed, p.work_room)))))
+pool_of p = (p.frames, (p.marks, (p.works, (p.point, (p.mark, (p.framed, p.work_room))))))
 
 abbrev pub told_of : Part → Told
 told_of p = (p.relseg, (p.disk, (p.past, p.faults)))
@@ -55,8 +55,9 @@ part_of_pairs p t = record {
   marks = p.1.0;
   works = p.1.1.0;
   point = p.1.1.1.0;
-  framed = p.1.1.1.1.0;
-  work_room = p.1.1.1.1.1;
+  mark = p.1.1.1.1.0;
+  framed = p.1.1.1.1.1.0;
+  work_room = p.1.1.1.1.1.1;
   relseg = t.0;
   disk = t.1.0;
   past = t.1.1.0;

@@ -20,6 +20,7 @@ part_in g p = record {
   marks = marks_over p.frames;
   works = p.works.items;
   point = p.point.0;
+  mark = p.mark.0;
   framed = p.frames;
   work_room = vec_capacity p.works - vec_len p.works;
   relseg = p.disk.relseg;

@@ -16,6 +16,7 @@ ghost use Rattle.page_pool.specs.Ready.{HasItems};
 ghost use Rattle.page_pool.specs.Steps.{HasWritten};
 ghost use Rattle.page_pool.specs.Calls.{ChangesForks, SameDisk, ReadsDisk, IsQuiet, SameBounds};
 ghost use Rattle.page_pool.specs.Room.{blocks_of, missing, wanted, room_victims, ends_at, room_end, HasFrame, HasFrames};
+ghost use Rattle.page_pool.specs.Stops.{KeepsWindow, WritesFlushed, MayMakeRoom, MayClearAll, MayClear};
 ghost use Rattle.page_pool.specs.Writing.{AreClean, KeepsFrames, IsPageRead};
 
 use crate::partition::{Partition, later, newest_work};
@@ -58,6 +59,24 @@ impl<V: Vault, const Q: u32> Partition<V, Q> {
         ensures none { room_end self.old.framed self.old.works (blocks_of op.now) ≡ None
             → IsQuiet self.old self.new }
         ensures bounds { SameBounds self.old self.new }
+        ensures marked { self.new.mark ≡ max self.old.mark mark.now.to.0 }
+        ensures moments { KeepsWindow mark.now.to.0 self.old self.new }
+        ensures area { ChangesForks self.old self.new }
+        ensures cause { HasCause self.old.faults self.new.faults result }
+    {
+        self.take_mark(mark);
+        self.fill_room(alloc, op)
+    }
+
+    /// Gives frames up for the blocks of a command, and reads those of them that are there.
+    fn fill_room(&mut self, alloc: Global, op: &Op) -> Result<(), AreaFault>
+        requires { HasItems op.now }
+        ensures room { OnOk result (HasFrames self.new.framed (blocks_of op.now)) }
+        ensures written { HasWritten self.old self.new }
+        ensures none { room_end self.old.framed self.old.works (blocks_of op.now) ≡ None
+            → IsQuiet self.old self.new }
+        ensures bounds { SameBounds self.old self.new }
+        ensures moments { WritesFlushed (MayMakeRoom self.old (blocks_of op.now)) self.old self.new }
         ensures area { ChangesForks self.old self.new }
         ensures cause { HasCause self.old.faults self.new.faults result }
     {
@@ -79,6 +98,7 @@ impl<V: Vault, const Q: u32> Partition<V, Q> {
         ensures none { room_end self.old.framed self.old.works blocks.now ≡ None
             → IsQuiet self.old self.new }
         ensures bounds { SameBounds self.old self.new }
+        ensures moments { WritesFlushed (MayMakeRoom self.old blocks.now) self.old self.new }
         ensures area { ChangesForks self.old self.new }
         ensures cause { HasCause self.old.faults self.new.faults result }
     {
@@ -168,6 +188,7 @@ impl<V: Vault, const Q: u32> Partition<V, Q> {
         ensures written { HasWritten self.old self.new }
         ensures quiet { AreClean self.old victims.now → IsQuiet self.old self.new }
         ensures bounds { SameBounds self.old self.new }
+        ensures moments { WritesFlushed (MayClearAll self.old victims.now) self.old self.new }
         ensures area { ChangesForks self.old self.new }
         ensures cause { HasCause self.old.faults self.new.faults result }
     {
@@ -184,6 +205,7 @@ impl<V: Vault, const Q: u32> Partition<V, Q> {
         ensures quiet { is_dirty self.old.marks at.now.fork at.now.block ≡ false
             → IsQuiet self.old self.new }
         ensures bounds { SameBounds self.old self.new }
+        ensures moments { WritesFlushed (MayClear self.old at.now) self.old self.new }
         ensures area { ChangesForks self.old self.new }
         ensures cause { HasCause self.old.faults self.new.faults result }
     {
@@ -203,6 +225,7 @@ impl<V: Vault, const Q: u32> Partition<V, Q> {
             (is_dirty self.new.marks at.now.fork at.now.block ≡ false) }
         ensures written { HasWritten self.old self.new }
         ensures bounds { SameBounds self.old self.new }
+        ensures moments { WritesFlushed (MayClear self.old at.now) self.old self.new }
         ensures area { ChangesForks self.old self.new }
         ensures cause { HasCause self.old.faults self.new.faults result }
     {

@@ -1,6 +1,6 @@
 //! Writing what a partition has dirty or pending.
 
-ghost use Rattle.std.specs.Prelude.{◌≡◌, ◌<◌, [], None, Some, IfOk, OnOk, OnErr, IfSome};
+ghost use Rattle.std.specs.Prelude.{◌≡◌, ◌<◌, max, [], None, Some, IfOk, OnOk, OnErr, IfSome};
 ghost use Rattle.std.specs.FinMap.{len};
 ghost use Rattle.lsn_core.specs.Causes.{HasCause};
 ghost use Rattle.page_frames.specs.Marks.{all_dirty_ends};
@@ -9,6 +9,7 @@ ghost use Rattle.page_pool.specs.declared.turn.Wrote.TheVariants as wrote;
 ghost use Rattle.page_pool.specs.Steps.{HasWritten, IsClean};
 ghost use Rattle.page_pool.specs.Calls.{SameUnwritten, SameDisk, SameBounds, ChangesForks};
 ghost use Rattle.page_pool.specs.Calls.{IsOneWritten, IsAllWritten, MayWriteNext, MayWriteAll};
+ghost use Rattle.page_pool.specs.Stops.{KeepsWindow, WritesFlushed, MayAlways, MayDoWorks, MayWritePages, MayWritePage, with_mark};
 ghost use Rattle.page_pool.specs.Writing.{IsFirstWork, IsFirstPage, IsNextPage, HasCleaned};
 
 use crate::partition::Partition;
@@ -19,15 +20,19 @@ use vault::Vault;
 use wal_writer::Flushed;
 
 impl<V: Vault, const Q: u32> Partition<V, Q> {
-    /// Writes what comes first: pending works in their order, then the first dirty page.
+    /// Writes what comes first: pending works in their order, then the first dirty page. A stop at any
+    /// moment leaves what entries past the mark don't change.
     pub fn write_one(&mut self, mark: &Flushed) -> Result<Turn, AreaFault>
         requires { MayWriteNext self.old mark.now.to.0 }
         ensures part { IfOk result (λ turn. turn.part ≡ Q) }
         ensures written { IfOk result (λ turn. IsOneWritten turn.wrote self.old self.new) }
         ensures kept { OnErr result (SameUnwritten self.old self.new) }
+        ensures marked { self.new.mark ≡ max self.old.mark mark.now.to.0 }
+        ensures moments { KeepsWindow mark.now.to.0 self.old self.new }
         ensures area { ChangesForks self.old self.new }
         ensures cause { HasCause self.old.faults self.new.faults result }
     {
+        self.take_mark(mark);
         let wrote = self.write_next()?;
         Ok(Turn { part: Q, wrote })
     }
@@ -40,19 +45,43 @@ impl<V: Vault, const Q: u32> Partition<V, Q> {
         ensures redo { IfOk result (λ cleaned. cleaned.redo ≡ redo) }
         ensures written { OnOk result (IsAllWritten redo.0 self.old self.new) }
         ensures kept { OnErr result (HasWritten self.old self.new) }
+        ensures marked { self.new.mark ≡ max self.old.mark mark.now.to.0 }
+        ensures moments { KeepsWindow mark.now.to.0 self.old self.new }
+        ensures area { ChangesForks self.old self.new }
+        ensures cause { HasCause self.old.faults self.new.faults result }
+    {
+        self.take_mark(mark);
+        self.write_all(redo)?;
+        Ok(Cleaned { part: Q, redo })
+    }
+
+    /// Takes a mark: up to there the WAL is flushed.
+    pub(crate) fn take_mark(&mut self, mark: &Flushed)
+        ensures marked { self.new ≡ with_mark (max self.old.mark mark.now.to.0) self.old }
+        ensures some { 0 < self.old.relseg }
+    {
+        self.mark = Lsn(self.mark.0.max(mark.to().0));
+    }
+
+    /// Writes all that is dirty or pending, syncs the area, and raises the point to that redo point.
+    fn write_all(&mut self, redo: Lsn) -> Result<(), AreaFault>
+        ensures written { OnOk result (IsAllWritten redo.0 self.old self.new) }
+        ensures kept { OnErr result (HasWritten self.old self.new) }
+        ensures moments { WritesFlushed (MayWriteAll self.old) self.old self.new }
         ensures area { ChangesForks self.old self.new }
         ensures cause { HasCause self.old.faults self.new.faults result }
     {
         self.finish_works()?;
         self.write_pages()?;
         self.settle(redo)?;
-        Ok(Cleaned { part: Q, redo })
+        Ok(())
     }
 
     /// Writes what comes first, where there is anything.
     fn write_next(&mut self) -> Result<Option<Wrote>, AreaFault>
         ensures written { IfOk result (λ wrote. IsOneWritten wrote self.old self.new) }
         ensures kept { OnErr result (SameUnwritten self.old self.new) }
+        ensures moments { WritesFlushed (MayWriteNext self.old) self.old self.new }
         ensures area { ChangesForks self.old self.new }
         ensures cause { HasCause self.old.faults self.new.faults result }
     {
@@ -74,6 +103,7 @@ impl<V: Vault, const Q: u32> Partition<V, Q> {
         ensures marks { self.new.marks ≡ self.old.marks }
         ensures frames { self.new.frames ≡ self.old.frames }
         ensures kept { HasWritten self.old self.new }
+        ensures moments { WritesFlushed (MayDoWorks self.old) self.old self.new }
         ensures area { ChangesForks self.old self.new }
         ensures cause { HasCause self.old.faults self.new.faults result }
     {
@@ -89,6 +119,7 @@ impl<V: Vault, const Q: u32> Partition<V, Q> {
         ensures clean { OnOk result (IsClean self.new) }
         ensures frames { self.new.frames ≡ self.old.frames }
         ensures kept { HasWritten self.old self.new }
+        ensures moments { WritesFlushed (MayWritePages self.old) self.old self.new }
         ensures area { ChangesForks self.old self.new }
         ensures cause { HasCause self.old.faults self.new.faults result }
     {
@@ -128,6 +159,7 @@ impl<V: Vault, const Q: u32> Partition<V, Q> {
         ensures written { IfOk result (λ wrote. IsOneWritten (Some wrote) self.old self.new) }
         ensures alike { self.new.framed ≡ self.old.framed }
         ensures kept { OnErr result (SameUnwritten self.old self.new) }
+        ensures moments { WritesFlushed (MayWriteNext self.old) self.old self.new }
         ensures area { ChangesForks self.old self.new }
         ensures cause { HasCause self.old.faults self.new.faults result }
     {
@@ -153,6 +185,7 @@ impl<V: Vault, const Q: u32> Partition<V, Q> {
         ensures made { OnOk result (IsOneWritten (Some (wrote.Made fork.now)) self.old self.new) }
         ensures alike { self.new.framed ≡ self.old.framed }
         ensures kept { OnErr result (SameUnwritten self.old self.new) }
+        ensures moments { WritesFlushed (MayWriteNext self.old) self.old self.new }
         ensures area { ChangesForks self.old self.new }
         ensures cause { HasCause self.old.faults self.new.faults result }
     {
@@ -168,6 +201,7 @@ impl<V: Vault, const Q: u32> Partition<V, Q> {
             (IsOneWritten (Some (wrote.Cut fork.now count)) self.old self.new) }
         ensures alike { self.new.framed ≡ self.old.framed }
         ensures kept { OnErr result (SameUnwritten self.old self.new) }
+        ensures moments { WritesFlushed (MayWriteNext self.old) self.old self.new }
         ensures area { ChangesForks self.old self.new }
         ensures cause { HasCause self.old.faults self.new.faults result }
     {
@@ -184,6 +218,7 @@ impl<V: Vault, const Q: u32> Partition<V, Q> {
             (IsOneWritten (Some (wrote.Removed fork.now)) self.old self.new) }
         ensures alike { self.new.framed ≡ self.old.framed }
         ensures kept { OnErr result (SameUnwritten self.old self.new) }
+        ensures moments { WritesFlushed (MayWriteNext self.old) self.old self.new }
         ensures area { ChangesForks self.old self.new }
         ensures cause { HasCause self.old.faults self.new.faults result }
     {
@@ -201,6 +236,7 @@ impl<V: Vault, const Q: u32> Partition<V, Q> {
             (len self.new.framed.queue < len self.old.framed.queue) }
         ensures bounds { SameBounds self.old self.new }
         ensures kept { OnErr result (SameUnwritten self.old self.new) }
+        ensures moments { WritesFlushed (MayWritePage self.old at.now) self.old self.new }
         ensures area { ChangesForks self.old self.new }
         ensures cause { HasCause self.old.faults self.new.faults result }
     {
@@ -222,6 +258,7 @@ impl<V: Vault, const Q: u32> Partition<V, Q> {
         requires { IsClean self.old }
         ensures settled { OnOk result (IsAllWritten redo.0 self.old self.new) }
         ensures kept { OnErr result (SameUnwritten self.old self.new) }
+        ensures moments { WritesFlushed MayAlways self.old self.new }
         ensures area { ChangesForks self.old self.new }
         ensures cause { HasCause self.old.faults self.new.faults result }
     {

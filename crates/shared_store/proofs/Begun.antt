@@ -237,7 +237,7 @@ data_at wal pages = data_of (areas_with wal pages)
 -- a rebuilding over areas on the heap is one over the areas
 pub came_at : {V : Type 0} (g : Ghosts V) (relseg : ℕ) (held : ℕ → Store → Type 0) (wal back : V) (x y : DataAreas (BoxedArea V)) → CameSoFar (on_heap g) relseg held x y → CameSoFar g relseg held (data_of (areas_with wal x)) (data_of (areas_with back y))
 came_at {V} g relseg held wal back x y (inl mark) = inl (record {
-  data0 = record { files = mark.data0.files; past = mark.data0.past; faults = mark.data0.faults };
+  data0 = record { changes = record { files = mark.data0.changes.files; past = mark.data0.changes.past; faults = mark.data0.changes.faults }; marking = mark.data0.marking };
   data1 = ap (λ (b : BoxedArea V). box_value b.area) mark.data1;
   data2 = ap (λ (b : BoxedArea V). box_value b.area) mark.data2;
   data3 = ap (λ (b : BoxedArea V). box_value b.area) mark.data3;

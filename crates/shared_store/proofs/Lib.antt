@@ -16,3 +16,4 @@ pub mod Copies
 pub mod Pieces
 pub mod Staying
 pub mod Refilled
+pub mod Moments

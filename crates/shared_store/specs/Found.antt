@@ -9,7 +9,7 @@ use Rattle.lsn_core.specs.Tip.{Tip}
 use Rattle.lsn_core.specs.declared.fault.AreaFault.TheVariants.{Failed}
 use Rattle.lsn_core.specs.declared.fault.StoreFault.{StoreFault}
 use Rattle.vault.specs.declared.area.Vault.{Ghosts}
-use Rattle.vault.specs.Frame.{Adds, IsAmong}
+use Rattle.vault.specs.Frame.{Adds, IsAmong, Has, LeavesNow}
 use Rattle.wal_record.specs.declared.record.Record.{Record}
 use Rattle.history.specs.Entry.{Entry}
 use Rattle.history.specs.Apply.{apply_all}
@@ -24,7 +24,8 @@ use Rattle.data_areas.specs.declared.areas.DataAreas.{DataAreas}
 use Rattle.data_areas.specs.declared.boxed.BoxedArea.{BoxedArea}
 use Rattle.data_areas.specs.declared.store_forks.StoreForks.{StoreForks}
 use Rattle.data_areas.specs.Areas.{FaultsGrow, DataCause}
-use Rattle.data_areas.specs.Marking.{IsOther}
+use Rattle.data_areas.specs.Marking.{rebuilding_name, IsOther}
+use Rattle.data_areas.specs.Moments.{Past, StopsLeave, pasts_of}
 use Rattle.data_areas.specs.Phases.{first_past}
 use Rattle.data_areas.specs.Boxed.{on_heap}
 use Rattle.data_areas.specs.Rebuilt.{held_by}
@@ -35,7 +36,8 @@ use Rattle.shared_store.specs.declared.boxing.BoxedAreas.{BoxedAreas}
 use Rattle.shared_store.specs.declared.begin.BeginFault.{BeginFault}
 use Rattle.shared_store.specs.declared.begin.BeginWhy.{BeginWhy}
 use Rattle.shared_store.specs.declared.begin.BeginWhy.TheVariants as why
-use Rattle.shared_store.specs.Begin.{BeginCause, MayComeLate, IsWalPart}
+use Rattle.shared_store.specs.Begin.{BeginCause, MayComeLate, IsWalPart, data_of}
+use Rattle.shared_store.specs.Moments.{IsMarkedOrReplayed}
 
 -- the areas of a store, of which the data areas are on the heap
 abbrev pub areas_with : {V : Type 0} → V → DataAreas (BoxedArea V) → StoreAreas V
@@ -99,6 +101,17 @@ abbrev pub IsUnreplayed : Option Files → ℕ → ℕ → ℕ → ℕ → Repla
 IsUnreplayed files wal_before wal_now before now (Wal fault) =
     BeginCause files wal_before wal_now fault × IfSome files (λ m. MayComeLate fault)
 IsUnreplayed files wal_before wal_now before now (Out fault) = fault ≡ Failed → Rose before now
+
+-- cleared data areas, of which the first has the mark, durably, are filled so that a stop at any
+-- moment leaves it, or the whole replay, where the WAL's area tells its files; nothing happens to
+-- that area
+pub record FillsSafely {V : Type 0} (g : Ghosts V) (old : BoxedAreas V) (new : StoreAreas Past)
+    : Type 0 where
+  pub wal : new.wal ≡ g.past old.wal
+  pub stops : IsSome (g.files old.wal)
+      → LeavesNow (Has rebuilding_name) (first_past (on_heap g) old.pages)
+      → StopsLeave (IsMarkedOrReplayed (g.files old.wal)) (pasts_of (on_heap g) old.pages)
+      (data_of new)
 
 -- data areas that a replay filled weren't opened, since one failed or memory ran out
 pub record IsUnsettled {V : Type 0} (g : Ghosts V) (relseg : ℕ) (old : BoxedAreas V)

@@ -5,6 +5,7 @@ pub mod OpenedCode
 pub mod Calls
 pub mod Copied
 pub mod Begin
+pub mod Moments
 pub mod Close
 pub mod Records
 pub mod Inside

@@ -6,9 +6,10 @@ ghost use Rattle.wal_writer.specs.Log.{IsLog, log_at};
 ghost use Rattle.data_areas.specs.Boxed.{on_heap};
 ghost use Rattle.data_areas.specs.Clearing.{AreBare};
 ghost use Rattle.shared_store.specs.Begin.{AllTell, IsBegun, IsUnbegun, fresh_passes};
-ghost use Rattle.shared_store.specs.Opened.{IsLawfulOf};
+ghost use Rattle.shared_store.specs.Moments.{RebuildsSafely};
+ghost use Rattle.shared_store.specs.Opened.{IsLawfulOf, past_of};
 ghost use Rattle.shared_store.specs.Found.{areas_with, IsChecked, IsFound, AreFilledBy};
-ghost use Rattle.shared_store.specs.Found.{IsUnsettled, IsUnfilled};
+ghost use Rattle.shared_store.specs.Found.{FillsSafely, IsUnsettled, IsUnfilled};
 
 use crate::areas::StoreAreas;
 use crate::boxing::{BoxedAreas, boxed, unboxed};
@@ -98,6 +99,9 @@ fn open<J: OfCrew, V: Vault>(
         J.workers began.store began.crew.items began.tip) }
     ensures lawful { IfOk result (λ began. IsLawfulOf (J.tells ≡ true) began.store) }
     ensures refused { IfErr result (IsUnsettled V.Vault settings.relseg areas) }
+    ensures stops { IfOk result (λ began. FillsSafely V.Vault areas began.store.past) }
+    ensures stopped { IfErr result
+        (λ fault. FillsSafely V.Vault areas (past_of V.Vault fault.areas)) }
 {
     let tip = found.tip;
     let (journal, mark) = attach(alloc, areas.wal, settings, tip, found.pen, found.pages);
@@ -147,6 +151,9 @@ fn refill<J: OfCrew, V: Vault>(
         workers began.store began.crew.items began.tip) }
     ensures lawful { IfOk result (λ began. IsLawfulOf (J.tells ≡ true) began.store) }
     ensures refused { IfErr result (IsUnfilled V.Vault settings areas) }
+    ensures stops { IfOk result (λ began. FillsSafely V.Vault areas began.store.past) }
+    ensures stopped { IfErr result
+        (λ fault. FillsSafely V.Vault areas (past_of V.Vault fault.areas)) }
 {
     let mut wal = areas.wal;
     let mut forks = StoreForks::new(alloc, areas.pages, settings.relseg());
@@ -191,6 +198,11 @@ fn rebuild<J: OfCrew, V: Vault>(
         workers began.store began.crew.items began.tip) }
     ensures lawful { IfOk result (λ began. IsLawfulOf (J.tells ≡ true) began.store) }
     ensures refused { IfErr result (IsUnbegun V.Vault (areas_with areas.wal areas.pages)) }
+    ensures stops { AllTell V.Vault (areas_with areas.wal areas.pages) → IfOk result (λ began.
+        RebuildsSafely V.Vault (areas_with areas.wal areas.pages) began.store.past) }
+    ensures stopped { AllTell V.Vault (areas_with areas.wal areas.pages) → IfErr result (λ fault.
+        RebuildsSafely V.Vault (areas_with areas.wal areas.pages)
+        (past_of V.Vault fault.areas)) }
 {
     let mut areas = areas;
     if let Err(why) = clear(alloc, &mut areas.pages) {
@@ -207,7 +219,8 @@ impl<J: OfCrew, V: Vault> Store<J, V> {
     /// the settings, syncs the area of the WAL and reads the WAL whole; then it clears the data
     /// areas, replays the WAL into them, and makes them durable (`data_areas`). Every refusal hands
     /// the areas back. Where the WAL can't be read no data area was touched; meanwhile the first
-    /// data area has the file `rebuilding`.
+    /// data area has the file `rebuilding`. Whatever it answers, a stop at any moment of the call
+    /// leaves the data areas as one at its start may, or that file, or the whole replay.
     pub fn begin(
         alloc: Global,
         line: Opened<HistoryEntry>,
@@ -222,6 +235,10 @@ impl<J: OfCrew, V: Vault> Store<J, V> {
             IsBegun V.Vault areas workers began.store began.crew.items began.tip) }
         ensures lawful { IfOk result (λ began. IsLawfulOf (J.tells ≡ true) began.store) }
         ensures refused { IfErr result (IsUnbegun V.Vault areas) }
+        ensures stops { AllTell V.Vault areas
+            → IfOk result (λ began. RebuildsSafely V.Vault areas began.store.past) }
+        ensures stopped { AllTell V.Vault areas → IfErr result
+            (λ fault. RebuildsSafely V.Vault areas (past_of V.Vault fault.areas)) }
     {
         let mut areas = match boxed(alloc, areas) {
             Ok(areas) => areas,

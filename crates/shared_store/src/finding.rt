@@ -3,10 +3,11 @@
 
 ghost use Rattle.std.specs.Prelude.{◌≡◌, ◌<◌, ◌≤◌, [], Some, None, IfOk, IfErr, OnOk, IsSome, replicate};
 ghost use Rattle.std.specs.FinMap.{empty};
-ghost use Rattle.vault.specs.Frame.{OnlyReads, IsDurable};
+ghost use Rattle.vault.specs.Frame.{Adds, OnlyReads, IsDurable};
 ghost use Rattle.data_areas.specs.Boxed.{on_heap};
 ghost use Rattle.data_areas.specs.Stored.{ShowsParts, KeepsAll};
 ghost use Rattle.shared_store.specs.Begin.{BeginCause, MayComeFirst, fresh_passes};
+ghost use Rattle.shared_store.specs.Moments.{IsSync};
 ghost use Rattle.shared_store.specs.Found.{IsChecked, IsFound, ShowsHistory, IsUnreplayed};
 
 use crate::crew::{Crew, enlist};
@@ -68,6 +69,7 @@ pub(crate) fn check<V: Vault>(alloc: Global, wal: &mut V) -> Result<Settings, Re
         (BeginCause (V.files wal.old) (V.faults wal.old) (V.faults wal.new)) }
     ensures first { IfErr result MayComeFirst }
     ensures same { V.files wal.new ≡ V.files wal.old }
+    ensures synced { Adds IsSync (V.past wal.old) (V.past wal.new) }
     ensures durable { OnOk result (IsDurable (V.files wal.new) (V.past wal.new)) }
     ensures later { V.faults wal.old ≤ V.faults wal.new }
 {

@@ -6,7 +6,8 @@
 //! knows what its worker has seen of the history (`specs/Seen.antt`). What the calls answer is said
 //! over the history (`specs/Calls.antt`), and what the store keeps of its parts in
 //! `specs/Opened.antt`: each partition follows the history, also after calls that failed. `begin`
-//! opens a store on its areas (`specs/Begin.antt`), and `close` hands these back with all that the
+//! opens a store on its areas (`specs/Begin.antt`), so that a stop at any moment leaves its data areas
+//! as they were, marked or whole (`specs/Moments.antt`), and `close` hands these back with all that the
 //! history makes (`specs/Close.antt`). `records` gives the WAL's records piece by piece, while the
 //! store is open (`specs/Records.antt`).
 //!

@@ -35,7 +35,7 @@ fn partition(alloc: Global) -> Result<Part, AreaFault> {
         changes: Some(CHANGED as u64),
     };
     let forks = Forks::new(alloc, area, 131_072);
-    match Partition::open(alloc, forks, FRAMES, FIRST) {
+    match Partition::open(alloc, forks, FRAMES, FIRST, FIRST) {
         Ok(part) => Ok(part),
         Err(unopened) => Err(unopened.why),
     }

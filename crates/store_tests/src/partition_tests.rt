@@ -297,7 +297,7 @@ fn partition_of(alloc: Global, fails: &[u64], frames: u32) -> Result<Part, AreaF
         changes: None,
     };
     let forks = Forks::new(alloc, area, 2);
-    match Partition::open(alloc, forks, frames, FIRST) {
+    match Partition::open(alloc, forks, frames, FIRST, FIRST) {
         Ok(part) => Ok(part),
         Err(unopened) => Err(unopened.why),
     }

@@ -1,6 +1,9 @@
 -- Synced areas hold what they did; then the first one has no mark.
 use Rattle.std.proofs.Common.{inr}
 use Rattle.data_areas.proofs.Settled.{settled_of, unmarked_of, ended_of, others_rebuilt}
+use Rattle.vault.specs.Frame.{IsAmong}
+use Rattle.data_areas.specs.Marking.{IsMark}
+use Rattle.data_areas.proofs.Moments.{goes_on, goes_further}
 use Rattle.data_areas.proofs.settling.make_durable.Goals as goal
 
 pub returns-in-Ok-clause-settled : goal.returns-in-Ok-clause-settled
@@ -35,3 +38,27 @@ returns-in-Err-clause-so_far g c =
           (settled_of v relseg old.data3 mid.data3 filled.data3 synced.data3),
       ended_of v relseg old.data0 mid.data0 c.unmark_rebuilding.new.area c.requires.relseg.least filled.data0 synced.data0 c.in-Err.ensures.changes,
     )
+
+pub returns-in-Ok-clause-go_on : goal.returns-in-Ok-clause-go_on
+returns-in-Ok-clause-go_on g c =
+    let p = g.V.Vault.past in
+    let on = c.sync_all.ensures.go_on in
+    record {
+      data0 = goes_further (p c.args.areas.now.data0) (p c.sync_all.new.areas.data0) (p c.unmark_rebuilding.new.area) on.data0
+          (goes_on (IsAmong IsMark) (p c.sync_all.new.areas.data0) (p c.unmark_rebuilding.new.area) c.unmark_rebuilding.ensures.changes.past);
+      data1 = on.data1;
+      data2 = on.data2;
+      data3 = on.data3;
+    }
+
+pub returns-in-Err-clause-go_on : goal.returns-in-Err-clause-go_on
+returns-in-Err-clause-go_on g c =
+    let p = g.V.Vault.past in
+    let on = c.sync_all.ensures.go_on in
+    record {
+      data0 = goes_further (p c.args.areas.now.data0) (p c.sync_all.new.areas.data0) (p c.unmark_rebuilding.new.area) on.data0
+          (goes_on (IsAmong IsMark) (p c.sync_all.new.areas.data0) (p c.unmark_rebuilding.new.area) c.unmark_rebuilding.ensures.changes.past);
+      data1 = on.data1;
+      data2 = on.data2;
+      data3 = on.data3;
+    }

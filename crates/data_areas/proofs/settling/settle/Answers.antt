@@ -4,6 +4,8 @@ use Rattle.data_areas.specs.Rebuilt.{held_by, AreRebuilt}
 use Rattle.data_areas.specs.Settling.{SettledSoFar, AreOpened, AreLeft}
 use Rattle.data_areas.proofs.Settled.{all_rebuilt, held_still, came_to}
 use Rattle.data_areas.proofs.Turned.{on_answer, on_fault}
+use Rattle.data_areas.specs.Moments.{AllGoOn, pasts_of, pasts_in}
+use Rattle.data_areas.proofs.Moments.{opened_on, left_on}
 use Rattle.data_areas.proofs.settling.settle.Goals as goal
 
 pub open_all-requires-clause-held : goal.open_all-requires-clause-held
@@ -23,3 +25,19 @@ returns-clause-so_far g c =
     let mid = c.make_durable.new.areas in
     on_fault c.open_all.result (λ f. AreLeft (on_heap g.V.Vault) mid f.areas) (λ f. SettledSoFar (on_heap g.V.Vault) relseg (held_by (on_heap g.V.Vault) relseg old) old f.areas)
     (λ f left. came_to (on_heap g.V.Vault) relseg old mid f.areas c.requires.relseg.least c.in_default.ensures.settled c.in_default.ensures.ended left) c.open_all.ensures.left
+
+pub returns-clause-go_on : goal.returns-clause-go_on
+returns-clause-go_on g c =
+    let v = on_heap g.V.Vault in
+    let old = c.args.areas in
+    let mid = c.make_durable.new.areas in
+    on_answer c.open_all.result (AreOpened v c.args.relseg c.args.point.0 mid) (λ parts. AllGoOn (pasts_of v old) (pasts_in parts))
+    (λ parts opened. opened_on v c.args.relseg c.args.point.0 old mid parts c.in_default.ensures.go_on opened) c.open_all.ensures.opened
+
+pub returns-clause-went_on : goal.returns-clause-went_on
+returns-clause-went_on g c =
+    let v = on_heap g.V.Vault in
+    let old = c.args.areas in
+    let mid = c.make_durable.new.areas in
+    on_fault c.open_all.result (λ f. AreLeft v mid f.areas) (λ f. AllGoOn (pasts_of v old) (pasts_of v f.areas))
+    (λ f left. left_on v old mid f.areas c.in_default.ensures.go_on left) c.open_all.ensures.left

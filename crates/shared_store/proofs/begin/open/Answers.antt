@@ -9,6 +9,8 @@ use Rattle.shared_store.proofs.Unbegun.{unsettled_at}
 use Rattle.data_areas.specs.Boxed.{on_heap}
 use Rattle.data_areas.specs.Rebuilt.{held_by}
 use Rattle.data_areas.specs.Settling.{SettledSoFar}
+use Rattle.shared_store.specs.Found.{FillsSafely}
+use Rattle.shared_store.proofs.Moments.{opened_safely, unopened_safely}
 use Rattle.shared_store.proofs.begin.open.Goals as goal
 
 pub new-store-requires-after_bounds : goal.new-store-requires-after_bounds
@@ -35,3 +37,14 @@ pub returns-in-Err-clause-refused : goal.returns-in-Err-clause-refused
 returns-in-Err-clause-refused g c =
     unsettled_at g.V.Vault c.args.settings.relseg c.args.areas c.detach.result c.in-Err.fault.areas c.unboxed.result c.in-Err.fault.why c.unboxed.ensures (c.detach.ensures ∙ c.attach-journal.ensures.area) c.in-Err.ensures.later
     (subst (λ (r : ℕ). SettledSoFar (on_heap g.V.Vault) r (held_by (on_heap g.V.Vault) r c.args.areas.pages) c.args.areas.pages c.in-Err.fault.areas) c.relseg.ensures.value c.in-Err.ensures.so_far) c.in-Err.ensures.cause
+
+pub returns-in-Ok-clause-stops : goal.returns-in-Ok-clause-stops
+returns-in-Ok-clause-stops g c =
+    subst (λ (o : Opened). FillsSafely g.V.Vault c.args.areas o.past) (sym c.new-store.ensures)
+    (opened_safely g.V.Vault c.args.settings c.args.areas c.args.found.pen c.args.found.pages c.args.found.tip c.requires.found c.requires.filled c.relseg.result c.relseg.ensures.least c.relseg.ensures.value
+    c.attach-journal.result.0 c.tip.inside.end.0 c.in-Ok.parts c.attach-journal.ensures.area c.in-Ok.ensures.parts c.in-Ok.ensures.ended c.in-Ok.ensures.go_on)
+
+pub returns-in-Err-clause-stopped : goal.returns-in-Err-clause-stopped
+returns-in-Err-clause-stopped g c =
+    unopened_safely g.V.Vault c.args.settings c.args.areas c.args.found.pen c.args.found.pages c.args.found.tip c.requires.found c.requires.filled c.relseg.result c.relseg.ensures.least c.relseg.ensures.value
+    c.detach.result c.in-Err.fault.areas c.unboxed.result c.unboxed.ensures (c.detach.ensures ∙ c.attach-journal.ensures.area) c.in-Err.ensures.so_far c.in-Err.ensures.went_on

@@ -1,7 +1,8 @@
 -- Cleared areas are filled by the WAL's entries; what comes of them comes of those that were cleared.
 use Rattle.std.proofs.Common.{rules, ℕ, sym, ap, subst, ◌∙◌}
 use Rattle.shared_store.specs.Begin.{IsBegun}
-use Rattle.shared_store.specs.Found.{areas_with, IsUnreplayed, IsUnsettled, IsUnfilled}
+use Rattle.shared_store.specs.Opened.{past_of}
+use Rattle.shared_store.specs.Found.{areas_with, FillsSafely, IsUnreplayed, IsUnsettled, IsUnfilled}
 use Rattle.shared_store.specs.declared.boxing.BoxedAreas.{BoxedAreas}
 use Rattle.shared_store.specs.declared.begin.BeginWhy.{BeginWhy}
 use Rattle.shared_store.specs.declared.begin.BeginWhy.TheVariants as why
@@ -9,6 +10,7 @@ use Rattle.lsn_core.specs.declared.fault.StoreFault.{StoreFault}
 use Rattle.data_areas.specs.Stored.{AreForksOf}
 use Rattle.data_areas.proofs.Turned.{on_answer, on_fault}
 use Rattle.shared_store.proofs.Refilled.{all_told, unreplayed_wal, unreplayed_pages, filled_by, unopened, begun_over}
+use Rattle.shared_store.proofs.Moments.{filled_safely, unfilled_safely}
 use Rattle.shared_store.proofs.begin.refill.Goals.{in-Wal, in-Out}
 use Rattle.shared_store.proofs.begin.refill.Goals as goal
 
@@ -58,3 +60,22 @@ returns-after-fault-clause-refused g c =
           subst (λ (x : BeginWhy). IsUnfilled g.V.Vault c.args.settings c.args.areas (record { areas = c.unboxed-areas.result; why = x })) (sym (w.why-is ∙ ap (λ (f : StoreFault). why.Data f) w.fault.ensures))
           (unreplayed_pages g.V.Vault c.args.settings c.args.areas c.find.new.wal c.into_areas.result c.new-forks.result c.find.new.forks were c.find.ensures.kept c.into_areas.ensures c.find.ensures.reads c.unboxed-areas.result w.in-Out.why c.unboxed-areas.ensures c.new-forks.ensures.none cause)
     ]
+
+pub returns-in-Ok-clause-stops : goal.returns-in-Ok-clause-stops
+returns-in-Ok-clause-stops g c =
+    let were = subst (λ (n : ℕ). AreForksOf n c.args.areas.pages c.new-forks.result) c.relseg.ensures.value c.new-forks.ensures.areas in
+    let mid : BoxedAreas g.row.V.Denot = record { wal = c.find.new.wal; pages = c.into_areas-pages.result } in
+    on_answer c.open.result (λ b. FillsSafely g.V.Vault mid b.store.past) (λ b. FillsSafely g.V.Vault c.args.areas b.store.past)
+    (λ b safe. filled_safely g.V.Vault c.args.settings c.args.areas c.find.new.wal c.into_areas-pages.result c.new-forks.result c.find.new.forks were c.find.ensures.kept c.into_areas-pages.ensures c.find.ensures.reads b.store.past safe) c.open.ensures.stops
+
+pub returns-in-Ok-clause-stopped : goal.returns-in-Ok-clause-stopped
+returns-in-Ok-clause-stopped g c =
+    let were = subst (λ (n : ℕ). AreForksOf n c.args.areas.pages c.new-forks.result) c.relseg.ensures.value c.new-forks.ensures.areas in
+    let mid : BoxedAreas g.row.V.Denot = record { wal = c.find.new.wal; pages = c.into_areas-pages.result } in
+    on_fault c.open.result (λ b. FillsSafely g.V.Vault mid (past_of g.V.Vault b.areas)) (λ b. FillsSafely g.V.Vault c.args.areas (past_of g.V.Vault b.areas))
+    (λ b safe. filled_safely g.V.Vault c.args.settings c.args.areas c.find.new.wal c.into_areas-pages.result c.new-forks.result c.find.new.forks were c.find.ensures.kept c.into_areas-pages.ensures c.find.ensures.reads (past_of g.V.Vault b.areas) safe) c.open.ensures.stopped
+
+pub returns-after-fault-clause-stopped : goal.returns-after-fault-clause-stopped
+returns-after-fault-clause-stopped g c =
+    let were = subst (λ (n : ℕ). AreForksOf n c.args.areas.pages c.new-forks.result) c.relseg.ensures.value c.new-forks.ensures.areas in
+    unfilled_safely g.V.Vault c.args.settings c.args.areas c.find.new.wal c.into_areas.result c.new-forks.result c.find.new.forks were c.find.ensures.kept c.into_areas.ensures c.find.ensures.reads c.unboxed-areas.result c.unboxed-areas.ensures

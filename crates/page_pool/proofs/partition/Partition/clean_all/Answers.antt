@@ -1,32 +1,30 @@
-use Rattle.std.proofs.Common.{◌∙◌}
-use Rattle.page_pool.specs.Steps.{HasWritten}
-use Rattle.page_pool.proofs.InTurn.{changes_on, written_on, same_written, all_written_on, on_err}
+use Rattle.std.proofs.Common.{max, sym, subst}
+use Rattle.page_pool.specs.Part.{Part}
+use Rattle.page_pool.specs.Calls.{MayWriteAll}
+use Rattle.page_pool.proofs.InTurn.{on_err}
+use Rattle.page_pool.proofs.Stopped.{window_kept, mark_kept, written_behind, forks_behind, all_behind}
 use Rattle.page_pool.proofs.partition.Partition.clean_all.Goals as goal
 
-pub returns-in_err-write_pages-clause-kept : goal.returns-in_err-write_pages-clause-kept
-returns-in_err-write_pages-clause-kept g c =
-    on_err c.from_residual-in_err-write_pages.result (HasWritten c.args.self.now c.write_pages.new.self) (written_on c.args.self.now c.finish_works.new.self c.write_pages.new.self c.finish_works.ensures.kept c.write_pages.ensures.kept)
+pub returns-in_err-write_all-clause-kept : goal.returns-in_err-write_all-clause-kept
+returns-in_err-write_all-clause-kept g c = on_err c.from_residual.result _ (written_behind (max c.args.self.now.mark c.args.mark.now.to.0) c.args.self.now c.take_mark.new.self c.write_all.new.self c.take_mark.ensures.marked c.in_err-write_all.ensures.kept)
 
-pub returns-in_err-write_pages-clause-area : goal.returns-in_err-write_pages-clause-area
-returns-in_err-write_pages-clause-area g c = changes_on c.args.self.now c.finish_works.new.self c.write_pages.new.self c.finish_works.ensures.area c.write_pages.ensures.area
+pub returns-in_err-write_all-clause-marked : goal.returns-in_err-write_all-clause-marked
+returns-in_err-write_all-clause-marked g c = mark_kept (max c.args.self.now.mark c.args.mark.now.to.0) (MayWriteAll c.take_mark.new.self) c.args.self.now c.take_mark.new.self c.write_all.new.self c.take_mark.ensures.marked c.write_all.ensures.moments
 
-pub returns-in_err-settle-clause-kept : goal.returns-in_err-settle-clause-kept
-returns-in_err-settle-clause-kept g c =
-    let before = written_on c.args.self.now c.finish_works.new.self c.write_pages.new.self c.finish_works.ensures.kept c.write_pages.ensures.kept in
-    on_err c.from_residual-in_err-settle.result (HasWritten c.args.self.now c.settle.new.self)
-    (written_on c.args.self.now c.write_pages.new.self c.settle.new.self before (same_written c.write_pages.new.self c.settle.new.self c.in_err-settle.ensures.kept c.settle.ensures.area))
+pub returns-in_err-write_all-clause-moments : goal.returns-in_err-write_all-clause-moments
+returns-in_err-write_all-clause-moments g c = window_kept c.args.mark.now.to.0 (max c.args.self.now.mark c.args.mark.now.to.0) (MayWriteAll c.take_mark.new.self) c.args.self.now c.take_mark.new.self c.write_all.new.self c.take_mark.ensures.marked c.take_mark.ensures.some c.write_all.ensures.moments (subst (λ (x : Part). MayWriteAll x c.args.mark.now.to.0) (sym c.take_mark.ensures.marked) c.requires)
 
-pub returns-in_err-settle-clause-area : goal.returns-in_err-settle-clause-area
-returns-in_err-settle-clause-area g c =
-    changes_on c.args.self.now c.write_pages.new.self c.settle.new.self
-    (changes_on c.args.self.now c.finish_works.new.self c.write_pages.new.self c.finish_works.ensures.area c.write_pages.ensures.area) c.settle.ensures.area
-
-pub returns-clause-area : goal.returns-clause-area
-returns-clause-area g c =
-    changes_on c.args.self.now c.write_pages.new.self c.settle.new.self
-    (changes_on c.args.self.now c.finish_works.new.self c.write_pages.new.self c.finish_works.ensures.area c.write_pages.ensures.area) c.settle.ensures.area
+pub returns-in_err-write_all-clause-area : goal.returns-in_err-write_all-clause-area
+returns-in_err-write_all-clause-area g c = forks_behind (max c.args.self.now.mark c.args.mark.now.to.0) c.args.self.now c.take_mark.new.self c.write_all.new.self c.take_mark.ensures.marked c.write_all.ensures.area
 
 pub returns-clause-written : goal.returns-clause-written
-returns-clause-written g c =
-    all_written_on c.args.redo.0 c.args.self.now c.write_pages.new.self c.settle.new.self (c.write_pages.ensures.frames ∙ c.finish_works.ensures.frames)
-    (written_on c.args.self.now c.finish_works.new.self c.write_pages.new.self c.finish_works.ensures.kept c.write_pages.ensures.kept) c.in_ok-settle.ensures.settled
+returns-clause-written g c = all_behind (max c.args.self.now.mark c.args.mark.now.to.0) c.args.self.now c.take_mark.new.self c.write_all.new.self c.take_mark.ensures.marked c.args.redo.0 c.in_ok-write_all.ensures.written
+
+pub returns-clause-marked : goal.returns-clause-marked
+returns-clause-marked g c = mark_kept (max c.args.self.now.mark c.args.mark.now.to.0) (MayWriteAll c.take_mark.new.self) c.args.self.now c.take_mark.new.self c.write_all.new.self c.take_mark.ensures.marked c.write_all.ensures.moments
+
+pub returns-clause-moments : goal.returns-clause-moments
+returns-clause-moments g c = window_kept c.args.mark.now.to.0 (max c.args.self.now.mark c.args.mark.now.to.0) (MayWriteAll c.take_mark.new.self) c.args.self.now c.take_mark.new.self c.write_all.new.self c.take_mark.ensures.marked c.take_mark.ensures.some c.write_all.ensures.moments (subst (λ (x : Part). MayWriteAll x c.args.mark.now.to.0) (sym c.take_mark.ensures.marked) c.requires)
+
+pub returns-clause-area : goal.returns-clause-area
+returns-clause-area g c = forks_behind (max c.args.self.now.mark c.args.mark.now.to.0) c.args.self.now c.take_mark.new.self c.write_all.new.self c.take_mark.ensures.marked c.write_all.ensures.area

@@ -9,6 +9,7 @@ use Rattle.page_pool.specs.Told.{told_page}
 use Rattle.page_pool.proofs.InTurn.{on_err}
 use Rattle.page_pool.proofs.OnDisk.{holds_again, shown_again, own_shown, frames_alike, same_unwritten, put_failed, put_done, no_block}
 use Rattle.page_pool.proofs.Roomed.{marked_held, marked_frame, held_shown}
+use Rattle.page_pool.proofs.Stopped.{flushed_moved, put_moves, torn_put_moves}
 use Rattle.page_pool.proofs.partition.Partition.write_page.Goals as goal
 
 pub unreachable-requires : goal.unreachable-requires
@@ -26,7 +27,7 @@ invariant_of-self g c =
     let kept = c.in_err-write_block.ensures.kept in
     let t = dirty_there p.frames at (ap (λ (x : Part). is_dirty x.marks at.fork at.block) c.self.view_is ∙ c.requires.dirty) in
     let there = held_shown (told_page p.disk.relseg (g.V.Vault.files p.disk.area)) p.frames at c.in-Some.page.now t.0 (sym c.in-Some.ensures) in
-    holds_again g.V.Vault p c.self.invariant new kept p.frames p.works p.point (own_shown g.V.Vault p)
+    holds_again g.V.Vault p c.self.invariant new kept p.frames p.works p.point p.mark (own_shown g.V.Vault p)
     (put_failed g.V.Vault p c.self.invariant new kept c.args.self.now c.self.view_is at c.in-Some.page.now c.requires there c.in_err-write_block.ensures.torn)
 
 pub returns-in_err-write_block-clause-kept : goal.returns-in_err-write_block-clause-kept
@@ -59,7 +60,7 @@ invariant_of-self-2 g c =
     let kept = c.in_ok-write_block.ensures.kept in
     let t = dirty_there p.frames at (ap (λ (x : Part). is_dirty x.marks at.fork at.block) c.self.view_is ∙ c.requires.dirty) in
     let there = held_shown (told_page p.disk.relseg (g.V.Vault.files p.disk.area)) p.frames at c.in-Some.page.now t.0 (sym c.in-Some.ensures) in
-    holds_again g.V.Vault p c.self.invariant new kept c.clean.new.self p.works p.point (λ told. frames_alike (told_page p.disk.relseg (g.V.Vault.files p.disk.area)) p.frames c.clean.new.self c.clean.ensures.pages)
+    holds_again g.V.Vault p c.self.invariant new kept c.clean.new.self p.works p.point p.mark (λ told. frames_alike (told_page p.disk.relseg (g.V.Vault.files p.disk.area)) p.frames c.clean.new.self c.clean.ensures.pages)
     (put_done g.V.Vault p c.self.invariant new kept c.args.self.now c.self.view_is at c.in-Some.page.now c.requires there c.in_ok-write_block.ensures.put (marks_over c.clean.new.self) c.clean.ensures.marks)
 
 pub returns-clause-written : goal.returns-clause-written
@@ -85,3 +86,19 @@ returns-clause-fewer g c =
     let at = c.args.at.now in
     let t = dirty_there p.frames at (ap (λ (x : Part). is_dirty x.marks at.fork at.block) c.self.view_is ∙ c.requires.dirty) in
     subst (λ (x : Part). len c.clean.new.self.queue < len x.framed.queue) c.self.view_is (c.clean.ensures.shorter t.1)
+
+pub returns-in_err-write_block-clause-moments : goal.returns-in_err-write_block-clause-moments
+returns-in_err-write_block-clause-moments g c =
+    let p = c.self.inside in
+    let new = c.write_block.new.self in
+    let e = c.in_err-write_block.ensures in
+    flushed_moved g.V.Vault p c.self.invariant new c.args.self.now c.self.view_is _
+    (torn_put_moves g.V.Vault p c.self.invariant new c.args.self.now c.self.view_is c.args.at.now c.requires e.events e.torn) p.frames p.works p.point
+
+pub returns-clause-moments : goal.returns-clause-moments
+returns-clause-moments g c =
+    let p = c.self.inside in
+    let new = c.write_block.new.self in
+    let e = c.in_ok-write_block.ensures in
+    flushed_moved g.V.Vault p c.self.invariant new c.args.self.now c.self.view_is _
+    (put_moves g.V.Vault p c.self.invariant new c.args.self.now c.self.view_is c.args.at.now c.in-Some.page.now c.requires e.events e.put) c.clean.new.self p.works p.point
