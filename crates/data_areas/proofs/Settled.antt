@@ -149,7 +149,7 @@ rebuilt_of g relseg from x y part some has settled opened = record {
   frames = λ pages holds. opened.frames pages (settled.held pages holds);
   clean = opened.clean;
   point = opened.point;
-  mark = opened.mark;
+  flushed = opened.flushed;
   relseg_is = opened.relseg_is;
   tells = ap (λ (o : Option Files). is_some o) opened.disk ∙ settled.tells;
   files = subst (λ (o : Option Files). IfSome o (λ files. files ≡ files_of relseg part.frames)) (sym opened.disk)
@@ -213,14 +213,14 @@ pages_there {V} g relseg area disk at held has told =
     let there = has (subst (λ (v : V). IsSome (g.files v)) at told) in record { pages = there.0; held = held there.0 there.1.files; whole = whole_pages there.0 there.1.whole }
 
 pub opened_of : {V : Type 0} (g : Ghosts V) (relseg from : ℕ) (area : V) (disk : Forks V) (result : Result Part (Unopened V)) → disk.area ≡ area → disk.relseg ≡ relseg → ((s : Store) → AreFilesOf relseg (g.files area) s → HoldsStore g disk s)
-    → IfOk result (λ part. ShowsPages g disk part.frames) → IfOk result IsClean → IfOk result (λ part. part.point ≡ from) → IfOk result (λ part. part.mark ≡ from) → IfOk result (λ part. part.relseg ≡ disk.relseg)
+    → IfOk result (λ part. ShowsPages g disk part.frames) → IfOk result IsClean → IfOk result (λ part. part.point ≡ from) → IfOk result (λ part. part.flushed ≡ from) → IfOk result (λ part. part.relseg ≡ disk.relseg)
     → IfOk result (λ part. part.disk ≡ g.files disk.area) → IfOk result (λ part. part.past ≡ g.past disk.area) → IfOk result (λ part. g.faults disk.area ≤ part.faults) → IfOk result (IsOpened g relseg from area)
-opened_of g relseg from area disk (Err fault) at size held frames clean point mark seg told past later = tt
-opened_of {V} g relseg from area disk (Ok part) at size held frames clean point mark seg told past later = record {
+opened_of g relseg from area disk (Err fault) at size held frames clean point flushed seg told past later = tt
+opened_of {V} g relseg from area disk (Ok part) at size held frames clean point flushed seg told past later = record {
   frames = λ pages holds. frames (subst (λ (v : V). IsSome (g.files v)) (sym at) (subst (λ (o : Option Files). IsSome o) (sym holds.files.are_told) refl)) pages (held pages holds.files) (whole_pages pages holds.whole);
   clean = clean;
   point = point;
-  mark = mark;
+  flushed = flushed;
   relseg_is = seg ∙ size;
   disk = told ∙ ap g.files at;
   past = past ∙ ap g.past at;

@@ -73,7 +73,9 @@ abbrev pub PartsLeave : (DataAreas Files → Type 0) → DataAreas Past → List
 PartsLeave P old [] new = PartLeaves P old new
 PartsLeave P old (end ∷ ends) new = PartLeaves P old end × PartsLeave P end ends new
 
--- a stop at any moment of a call leaves of the four what has P
+-- a stop at any moment of a call leaves of the four what has P. Of what happened to the four no
+-- common order is told, but a call that says this whatever it answers says it of each moment: from
+-- there on all calls of the areas may fail
 pub record StopsLeave (P : DataAreas Files → Type 0) (old new : DataAreas Past) : Type 0 where
   pub ends : List (DataAreas Past)
   pub parts : PartsLeave P old ends new

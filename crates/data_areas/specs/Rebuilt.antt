@@ -30,7 +30,7 @@ pub record IsRebuilt (relseg from faults : ℕ) (told : Option Files) (part : Pa
   pub frames : (pages : Store) → HoldsPages relseg told pages → part.frames ≡ pages
   pub clean : IsClean part
   pub point : part.point ≡ from
-  pub mark : part.mark ≡ from
+  pub flushed : part.flushed ≡ from
   pub relseg_is : part.relseg ≡ relseg
   pub tells : is_some part.disk ≡ is_some told
   pub files : IfSome part.disk (λ files. files ≡ files_of relseg part.frames)

@@ -90,7 +90,7 @@ pub record IsOpened {V : Type 0} (g : Ghosts V) (relseg from : ℕ) (area : V) (
   pub frames : (pages : Store) → HoldsPages relseg (g.files area) pages → part.frames ≡ pages
   pub clean : IsClean part
   pub point : part.point ≡ from
-  pub mark : part.mark ≡ from
+  pub flushed : part.flushed ≡ from
   pub relseg_is : part.relseg ≡ relseg
   pub disk : part.disk ≡ g.files area
   pub past : part.past ≡ g.past area

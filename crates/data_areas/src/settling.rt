@@ -34,9 +34,8 @@ pub struct Partitions<V: Vault> {
 
 /// Makes filled data areas durable, removes the mark of the first one, durably, and makes
 /// partitions of them, of so many frames each, which replay from a place on makes good; the WAL is
-/// flushed up to there. A fault
-/// hands the areas back: either `data0` has its mark still, or the four have just the files of
-/// their pages, durably, but for the mark, which may be gone.
+/// flushed up to there. A fault hands the areas back: either `data0` has its mark still, or the
+/// four have just the files of their pages, durably, but for the mark, which may be gone.
 pub fn settle<V: Vault>(
     alloc: Global,
     areas: DataAreas<BoxedArea<V>>,

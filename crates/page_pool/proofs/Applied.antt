@@ -25,12 +25,12 @@ pub applied_holds : {V : Type 0} {Q : ℕ} (g : Ghosts V) (p : Inside V Q) → I
     → pages_over (told_page p.disk.relseg (g.files p.disk.area)) frames ≡ done_at end ready.done (pages_in g p)
     → marks_over frames ≡ marks_done end (pages_in g p) (marks_over p.frames) ready.done
     → works.items ≡ works_done end (pages_in g p) p.works.items ready.done
-    → IsPartition {V = V} {Q = Q} g (record { disk = p.disk; frames = frames; works = works; point = p.point; mark = p.mark })
+    → IsPartition {V = V} {Q = Q} g (record { disk = p.disk; frames = frames; works = works; point = p.point; flushed = p.flushed })
 applied_holds {V = V} {Q = Q} g p inv frames works end command ready is fits pages marks entered = record {
   some = inv.some;
   holds = λ told.
       let h = inv.holds told in
-      let new : Inside V Q = record { disk = p.disk; frames = frames; works = works; point = p.point; mark = p.mark } in
+      let new : Inside V Q = record { disk = p.disk; frames = frames; works = works; point = p.point; flushed = p.flushed } in
       let a = ready_is_applied end (part_in g p) (part_in g new) command ready is fits pages marks entered refl refl in
       let lacks = acts_entered h.raw (pages_in g p) (pages_in g new) (marks_over p.frames) p.works.items end (act_of_op command) is.tidy a.frames h.lacks in
       record {

@@ -168,11 +168,11 @@ pub read_changes : (a b : Part) → ReadsDisk a b → ChangesForks a b
 read_changes a b reads = record { relseg = reads.relseg; files = none_changed a.disk b.disk reads.files; past = adds_none (IsAmong IsForkPath) a.past b.past reads.past; faults = reads.faults }
 
 pub same_reads : (a b : Part) → SameDisk a b → ReadsDisk a b
-same_reads a b same = record { mark = same.mark; relseg = same.relseg; files = same.files; past = same.past; faults = let e = same.faults in omega (arith, e) }
+same_reads a b same = record { flushed = same.flushed; relseg = same.relseg; files = same.files; past = same.past; faults = let e = same.faults in omega (arith, e) }
 
 pub reads_on : (a b c : Part) → ReadsDisk a b → ReadsDisk b c → ReadsDisk a c
 reads_on a b c first second = record {
-  mark = second.mark ∙ first.mark;
+  flushed = second.flushed ∙ first.flushed;
   relseg = second.relseg ∙ first.relseg;
   files = second.files ∙ first.files;
   past = second.past ∙ first.past;

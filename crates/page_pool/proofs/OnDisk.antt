@@ -85,9 +85,9 @@ module _ {V : Type 0} {Q : ℕ} (g : Ghosts V) (p : Inside V Q) (inv : IsPartiti
       ap (λ (o : Option Files). pages_over (told_page new.relseg o) frames) files.are_told
       ∙ pages_shown new.relseg files.files l.raw pages works frames some files.hold l.lacks (before told).whole framed
 
-  pub holds_again : (frames : Framed) (works : Vec Pending) (point mark : Lsn) → (IsSome (g.files new.area) → AreFramesOf (pages_in g p) frames) → (IsSome (g.files new.area) → Lacking g new (pages_in g p) (marks_over frames) works.items)
-      → IsPartition {V = V} {Q = Q} g (record { disk = new; frames = frames; works = works; point = point; mark = mark })
-  holds_again frames works point mark framed lacks = record {
+  pub holds_again : (frames : Framed) (works : Vec Pending) (point flushed : Lsn) → (IsSome (g.files new.area) → AreFramesOf (pages_in g p) frames) → (IsSome (g.files new.area) → Lacking g new (pages_in g p) (marks_over frames) works.items)
+      → IsPartition {V = V} {Q = Q} g (record { disk = new; frames = frames; works = works; point = point; flushed = flushed })
+  holds_again frames works point flushed framed lacks = record {
     some = subst (λ (n : ℕ). 0 < n) (sym kept.relseg) inv.some;
     holds = λ told.
         let l = lacks told in
@@ -209,8 +209,8 @@ module _ {V : Type 0} {Q : ℕ} (g : Ghosts V) (p : Inside V Q) (inv : IsPartiti
   same_done turns told = let h = before told in record { raw = h.raw; held = turns h.raw h.held; lacks = h.lacks }
 
   -- where nothing is dirty or pending the files hold the pages
-  pub frames_held : (now : Part) → part_in g p ≡ now → Turns (HoldsStore g) p.disk new (λ s. s) → IsClean now → (point mark : Lsn) → HoldsFrames (part_in {V = V} {Q = Q} g (record { disk = new; frames = p.frames; works = p.works; point = point; mark = mark }))
-  frames_held now is turns clean point mark = by (g.files new.area) refl
+  pub frames_held : (now : Part) → part_in g p ≡ now → Turns (HoldsStore g) p.disk new (λ s. s) → IsClean now → (point flushed : Lsn) → HoldsFrames (part_in {V = V} {Q = Q} g (record { disk = new; frames = p.frames; works = p.works; point = point; flushed = flushed }))
+  frames_held now is turns clean point flushed = by (g.files new.area) refl
     where
       by : (o : Option Files) → g.files new.area ≡ o → IfSome o (λ files. Holds new.relseg files (pages_over (told_page new.relseg (g.files new.area)) p.frames))
       by None e = tt
@@ -231,7 +231,7 @@ pub record WorkDone (work : Work) (old new : Part) : Type 0 where
   pub next : HasDone work old new
 
 pub work_done : {V : Type 0} {Q : ℕ} (g : Ghosts V) (p : Inside V Q) (now : Part) → part_in g p ≡ now → (new : Forks V) (work : Work) (f : IsFirstWork work now) (left : Vec Pending) → left.items ≡ remove p.works.items 0
-    → pages_over (told_page new.relseg (g.files new.area)) p.frames ≡ pages_in g p → WorkDone work now (part_in {V = V} {Q = Q} g (record { disk = new; frames = p.frames; works = left; point = p.point; mark = p.mark }))
+    → pages_over (told_page new.relseg (g.files new.area)) p.frames ≡ pages_in g p → WorkDone work now (part_in {V = V} {Q = Q} g (record { disk = new; frames = p.frames; works = left; point = p.point; flushed = p.flushed }))
 work_done g p now is new work f left rest shown = record {
   frames = shown ∙ ap (λ (x : Part). x.frames) is;
   point = ap (λ (x : Part). x.point) is;
@@ -244,7 +244,7 @@ work_done g p now is new work f left rest shown = record {
 }
 
 -- what isn't written stays
-pub same_unwritten : {V : Type 0} {Q : ℕ} (g : Ghosts V) (p : Inside V Q) (now : Part) → part_in g p ≡ now → (new : Forks V) → pages_over (told_page new.relseg (g.files new.area)) p.frames ≡ pages_in g p → SameUnwritten now (part_in {V = V} {Q = Q} g (record { disk = new; frames = p.frames; works = p.works; point = p.point; mark = p.mark }))
+pub same_unwritten : {V : Type 0} {Q : ℕ} (g : Ghosts V) (p : Inside V Q) (now : Part) → part_in g p ≡ now → (new : Forks V) → pages_over (told_page new.relseg (g.files new.area)) p.frames ≡ pages_in g p → SameUnwritten now (part_in {V = V} {Q = Q} g (record { disk = new; frames = p.frames; works = p.works; point = p.point; flushed = p.flushed }))
 same_unwritten g p now is new shown = record {
   frames = shown ∙ ap (λ (x : Part). x.frames) is;
   marks = ap (λ (x : Part). x.marks) is;

@@ -127,7 +127,7 @@ told_too g old new reads told = subst (λ (o : Option Files). IsSome o) reads.fi
 none_held : (f : Framed) → f.held ≡ empty → (at : BlockId) → held_page f.held at ≡ None
 none_held f none at = ap (λ (m : HeldFrames). held_page m at) none ∙ ap (option_map (λ (h : Held). h.page)) (get-empty block_cmp at)
 
-module _ {V : Type 0} (g : Ghosts V) (old new : Forks V) (frames : Framed) (works : Vec Pending) (point mark : Lsn) (some : 0 < new.relseg) (turns : Turns (HoldsStore g) old new (λ s. s)) (none : frames.held ≡ empty) (empty_works : works.items ≡ [])
+module _ {V : Type 0} (g : Ghosts V) (old new : Forks V) (frames : Framed) (works : Vec Pending) (point flushed : Lsn) (some : 0 < new.relseg) (turns : Turns (HoldsStore g) old new (λ s. s)) (none : frames.held ≡ empty) (empty_works : works.items ≡ [])
     (listed : (s : Store) → HoldsStore g old s → AreLengths (fork_lengths s) frames.lengths) where
   framed : (pages : Store) → HoldsStore g old pages → AreWholePages pages → AreFramesOf pages frames
   framed pages held whole = record {
@@ -141,7 +141,7 @@ module _ {V : Type 0} (g : Ghosts V) (old new : Forks V) (frames : Framed) (work
       ap (λ (o : Option Files). pages_over (told_page new.relseg o) frames) files.are_told
       ∙ pages_shown new.relseg files.files pages pages [] frames some files.hold (lack_nothing pages (marks_over frames)) whole (framed pages held whole)
 
-  pub opened_holds : {Q : ℕ} → (IsSome (g.files new.area) → HoldsWhole g old) → IsPartition {V = V} {Q = Q} g (record { disk = new; frames = frames; works = works; point = point; mark = mark })
+  pub opened_holds : {Q : ℕ} → (IsSome (g.files new.area) → HoldsWhole g old) → IsPartition {V = V} {Q = Q} g (record { disk = new; frames = frames; works = works; point = point; flushed = flushed })
   opened_holds {Q} holds = record {
     some = some;
     holds = λ told.
@@ -159,7 +159,7 @@ module _ {V : Type 0} (g : Ghosts V) (old new : Forks V) (frames : Framed) (work
   pub opened_shows : ShowsPages g old (pages_over (told_page new.relseg (g.files new.area)) frames)
   opened_shows told pages held whole = shown pages held whole
 
-  pub opened_clean : (Q : ℕ) → IsClean (part_in {V = V} {Q = Q} g (record { disk = new; frames = frames; works = works; point = point; mark = mark }))
+  pub opened_clean : (Q : ℕ) → IsClean (part_in {V = V} {Q = Q} g (record { disk = new; frames = frames; works = works; point = point; flushed = flushed }))
   opened_clean Q = record {
     marks = λ fork block. unheld_clean frames (record { fork = fork; block = block }) (none_held frames none (record { fork = fork; block = block }));
     works = empty_works;

@@ -164,10 +164,10 @@ module _ {V : Type 0} {Q : ℕ} (g : Ghosts V) (p : Inside V Q) (inv : IsPartiti
       let l = inv.holds (told_before told) in
       record { raw = l.raw; held = turns l.raw l.held; lacks = lacks_same l.raw (pages_in g p) (marks_over p.frames) (marks_over h) p.works.items works.items marks same l.lacks }
 
-  pub turned : IsPartition {V = V} {Q = Q} g (record { disk = new; frames = h; works = works; point = p.point; mark = p.mark })
-  turned = holds_again g p inv new kept h works p.point p.mark (λ told. framed (told_before told)) lacking
+  pub turned : IsPartition {V = V} {Q = Q} g (record { disk = new; frames = h; works = works; point = p.point; flushed = p.flushed })
+  turned = holds_again g p inv new kept h works p.point p.flushed (λ told. framed (told_before told)) lacking
 
-  pub turned_written : HasWritten (part_in g p) (part_in {V = V} {Q = Q} g (record { disk = new; frames = h; works = works; point = p.point; mark = p.mark }))
+  pub turned_written : HasWritten (part_in g p) (part_in {V = V} {Q = Q} g (record { disk = new; frames = h; works = works; point = p.point; flushed = p.flushed }))
   turned_written = record {
     frames = λ some. (let told : IsSome (g.files new.area) = subst (λ (o : Option Files). IsSome o) (sym reads.files) some in shown_told g p inv new kept h works.items told (framed some) (lacking told));
     marks = λ fork block end e. ap (λ (ms : DirtyMarks). touch_end ms fork block) (sym marks) ∙ e;
@@ -177,11 +177,11 @@ module _ {V : Type 0} {Q : ℕ} (g : Ghosts V) (p : Inside V Q) (inv : IsPartiti
     told = ap (λ (o : Option Files). is_some o) reads.files;
   }
 
-  pub turned_quiet : IsQuiet (part_in g p) (part_in {V = V} {Q = Q} g (record { disk = new; frames = h; works = works; point = p.point; mark = p.mark }))
+  pub turned_quiet : IsQuiet (part_in g p) (part_in {V = V} {Q = Q} g (record { disk = new; frames = h; works = works; point = p.point; flushed = p.flushed }))
   turned_quiet = record { files = reads.files; past = reads.past; marks = marks; works = same }
 
-  pub turned_reads : ReadsDisk (part_in g p) (part_in {V = V} {Q = Q} g (record { disk = new; frames = h; works = works; point = p.point; mark = p.mark }))
-  turned_reads = record { mark = refl; relseg = relseg; files = reads.files; past = reads.past; faults = reads.faults }
+  pub turned_reads : ReadsDisk (part_in g p) (part_in {V = V} {Q = Q} g (record { disk = new; frames = h; works = works; point = p.point; flushed = p.flushed }))
+  turned_reads = record { flushed = refl; relseg = relseg; files = reads.files; past = reads.past; faults = reads.faults }
 
 -- an area that isn't touched
 pub untouched : {V : Type 0} (g : Ghosts V) (area : V) → OnlyReads g area area

@@ -34,7 +34,7 @@ use Rattle.page_pool.specs.Calls.{SameUnwritten, ChangesForks, ReadsDisk, SameDi
 use Rattle.page_pool.specs.Room.{room_end}
 use Rattle.page_pool.specs.Partition.{part_in, IsPartition}
 use Rattle.page_pool.specs.Writing.{IsFirstWork, IsNextPage}
-use Rattle.page_pool.specs.Stops.{Allows, RawKeeps, KeepsWindow, AddsInWindow, WritesFlushed, MayWritePage, MayAlways, with_mark}
+use Rattle.page_pool.specs.Stops.{Allows, RawKeeps, KeepsWindow, AddsInWindow, WritesFlushed, MayWritePage, MayAlways, with_flushed}
 use Rattle.page_pool.proofs.Parted.{each_held}
 use Rattle.page_pool.proofs.InTurn.{same_reads}
 use Rattle.page_pool.proofs.Flushed.{work_allowed, page_allowed, allows_later}
@@ -50,12 +50,12 @@ window_on m a b c written relseg first second base allows raw =
 -- what may be flushed for the first, so for the second
 pub flushed_on : (p q : ℕ → Type 0) (a b c : Part) → HasWritten a b → ChangesForks a b → ((m : ℕ) → p m → q m) → WritesFlushed p a b → WritesFlushed q b c → WritesFlushed p a c
 flushed_on p q a b c written area so first second = record {
-  mark = second.mark ∙ first.mark;
+  flushed = second.flushed ∙ first.flushed;
   moments = λ m may. window_on m a b c written area.relseg (first.moments m may) (second.moments m (so m may));
 }
 
 pub flushed_for : (p q : ℕ → Type 0) (a b : Part) → ((m : ℕ) → p m → q m) → WritesFlushed q a b → WritesFlushed p a b
-flushed_for p q a b so one = record { mark = one.mark; moments = λ m may. one.moments m (so m may) }
+flushed_for p q a b so one = record { flushed = one.flushed; moments = λ m may. one.moments m (so m may) }
 
 raw_read : (base : Base) (a b : Part) → ReadsDisk a b → RawKeeps base a → RawKeeps base b
 raw_read base a b reads has =
@@ -68,7 +68,7 @@ raw_read base a b reads has =
 
 pub flushed_read : (p : ℕ → Type 0) (a b : Part) → ReadsDisk a b → WritesFlushed p a b
 flushed_read p a b reads = record {
-  mark = reads.mark;
+  flushed = reads.flushed;
   moments = λ m may base allows has. (raw_read base a b reads has, adds_none (Keeps a.relseg base) a.past b.past reads.past);
 }
 
@@ -76,7 +76,7 @@ pub flushed_same : (p : ℕ → Type 0) (a b : Part) → SameDisk a b → Writes
 flushed_same p a b same = flushed_read p a b (same_reads a b same)
 
 pub flushed_none : (p : ℕ → Type 0) (a : Part) → WritesFlushed p a a
-flushed_none p a = record { mark = refl; moments = λ m may base allows has. (has, adds_none (Keeps a.relseg base) a.past a.past refl) }
+flushed_none p a = record { flushed = refl; moments = λ m may base allows has. (has, adds_none (Keeps a.relseg base) a.past a.past refl) }
 
 -- ---- one call on the area
 
@@ -94,17 +94,17 @@ module _ {V : Type 0} {Q : ℕ} (g : Ghosts V) (p : Inside V Q) (inv : IsPartiti
   abbrev pub Moves : (ℕ → Type 0) → Type 0
   Moves may = (m : ℕ) → may m → (base : Base) (raw : Store) → Allows m base now → HoldsStore g p.disk raw → HasPagesThatStay base raw → Moved g p.disk new base
 
-  window_moved : (may : ℕ → Type 0) → Moves may → (frames : Framed) (works : Vec Pending) (point : Lsn) (m : ℕ) → may m → AddsInWindow m (part_in g p) (part_in {V = V} {Q = Q} g (record { disk = new; frames = frames; works = works; point = point; mark = p.mark }))
+  window_moved : (may : ℕ → Type 0) → Moves may → (frames : Framed) (works : Vec Pending) (point : Lsn) (m : ℕ) → may m → AddsInWindow m (part_in g p) (part_in {V = V} {Q = Q} g (record { disk = new; frames = frames; works = works; point = point; flushed = p.flushed }))
   window_moved may moves frames works point m flushed base allows has =
       let held = each_held g p inv (hold_alike g p.disk inv.some) has.raw has.held in
       let moved = moves m flushed base has.raw (subst (Allows m base) is allows) held has.pages in
       (record { raw = moved.raw; held = moved.held.files; pages = moved.pages }, moved.adds)
 
-  pub flushed_moved : (may : ℕ → Type 0) → Moves may → (frames : Framed) (works : Vec Pending) (point : Lsn) → WritesFlushed may now (part_in {V = V} {Q = Q} g (record { disk = new; frames = frames; works = works; point = point; mark = p.mark }))
+  pub flushed_moved : (may : ℕ → Type 0) → Moves may → (frames : Framed) (works : Vec Pending) (point : Lsn) → WritesFlushed may now (part_in {V = V} {Q = Q} g (record { disk = new; frames = frames; works = works; point = point; flushed = p.flushed }))
   flushed_moved may moves frames works point =
-      let after : Part = part_in {V = V} {Q = Q} g (record { disk = new; frames = frames; works = works; point = point; mark = p.mark }) in
+      let after : Part = part_in {V = V} {Q = Q} g (record { disk = new; frames = frames; works = works; point = point; flushed = p.flushed }) in
       record {
-        mark = ap (λ (x : Part). x.mark) is;
+        flushed = ap (λ (x : Part). x.flushed) is;
         moments = λ m flushed. subst (λ (x : Part). AddsInWindow m x after) is (window_moved may moves frames works point m flushed);
       }
 
@@ -200,38 +200,38 @@ module _ {V : Type 0} {Q : ℕ} (g : Ghosts V) (p : Inside V Q) (inv : IsPartiti
 
 -- ---- a mark is taken, and then it is written
 
-pub window_kept : (m n : ℕ) (may : ℕ → Type 0) (a b c : Part) → b ≡ with_mark n a → 0 < a.relseg → WritesFlushed may b c → may m → KeepsWindow m a c
+pub window_kept : (m n : ℕ) (may : ℕ → Type 0) (a b c : Part) → b ≡ with_flushed n a → 0 < a.relseg → WritesFlushed may b c → may m → KeepsWindow m a c
 window_kept m n may a b c is some one flushed base allows has left =
     let x = (subst (λ (x : Part). AddsInWindow m x c) is (one.moments m flushed)) base
     (record { pages = allows.pages; works = allows.works })
     (record { raw = has.raw; held = has.held; pages = has.pages }) in
     (x.0, stops_keep_pages a.relseg base a.past c.past some x.1 left)
 
-pub mark_kept : (n : ℕ) (may : ℕ → Type 0) (a b c : Part) → b ≡ with_mark n a → WritesFlushed may b c → c.mark ≡ n
-mark_kept n may a b c is one = one.mark ∙ ap (λ (x : Part). x.mark) is
+pub mark_kept : (n : ℕ) (may : ℕ → Type 0) (a b c : Part) → b ≡ with_flushed n a → WritesFlushed may b c → c.flushed ≡ n
+mark_kept n may a b c is one = one.flushed ∙ ap (λ (x : Part). x.flushed) is
 
-same_marked : (n : ℕ) (a c : Part) → SameUnwritten (with_mark n a) c → SameUnwritten a c
+same_marked : (n : ℕ) (a c : Part) → SameUnwritten (with_flushed n a) c → SameUnwritten a c
 same_marked n a c w = record { frames = w.frames; marks = w.marks; works = w.works; point = w.point }
 
-forks_marked : (n : ℕ) (a c : Part) → ChangesForks (with_mark n a) c → ChangesForks a c
+forks_marked : (n : ℕ) (a c : Part) → ChangesForks (with_flushed n a) c → ChangesForks a c
 forks_marked n a c w = record { relseg = w.relseg; files = w.files; past = w.past; faults = w.faults }
 
-written_marked : (n : ℕ) (a c : Part) → HasWritten (with_mark n a) c → HasWritten a c
+written_marked : (n : ℕ) (a c : Part) → HasWritten (with_flushed n a) c → HasWritten a c
 written_marked n a c w = record { frames = w.frames; marks = w.marks; done = w.done; works = w.works; point = w.point; told = w.told }
 
-all_marked : (n redo : ℕ) (a c : Part) → IsAllWritten redo (with_mark n a) c → IsAllWritten redo a c
+all_marked : (n redo : ℕ) (a c : Part) → IsAllWritten redo (with_flushed n a) c → IsAllWritten redo a c
 all_marked n redo a c w = record { frames = w.frames; clean = w.clean; point = w.point; held = w.held; settled = w.settled }
 
-quiet_marked : (n : ℕ) (a c : Part) → IsQuiet (with_mark n a) c → IsQuiet a c
+quiet_marked : (n : ℕ) (a c : Part) → IsQuiet (with_flushed n a) c → IsQuiet a c
 quiet_marked n a c w = record { files = w.files; past = w.past; marks = w.marks; works = w.works }
 
-bounds_marked : (n : ℕ) (a c : Part) → SameBounds (with_mark n a) c → SameBounds a c
+bounds_marked : (n : ℕ) (a c : Part) → SameBounds (with_flushed n a) c → SameBounds a c
 bounds_marked n a c w = record { lengths = w.lengths; limit = w.limit }
 
-done_marked : (n : ℕ) (work : Work) (a c : Part) → HasDone work (with_mark n a) c → HasDone work a c
+done_marked : (n : ℕ) (work : Work) (a c : Part) → HasDone work (with_flushed n a) c → HasDone work a c
 done_marked n work a c w = record { first = w.first; is = w.is; works = w.works; marks = w.marks }
 
-one_marked : (n : ℕ) (what : Option Wrote) (a c : Part) → IsOneWritten what (with_mark n a) c → IsOneWritten what a c
+one_marked : (n : ℕ) (what : Option Wrote) (a c : Part) → IsOneWritten what (with_flushed n a) c → IsOneWritten what a c
 one_marked n None a c w = record { frames = w.frames; point = w.point; next = w.next }
 one_marked n (Some (wrote.Made fork)) a c w = record { frames = w.frames; point = w.point; next = done_marked n (Make fork) a c w.next }
 one_marked n (Some (wrote.Cut fork count)) a c w = record { frames = w.frames; point = w.point; next = done_marked n (Cut fork count) a c w.next }
@@ -241,7 +241,7 @@ one_marked n (Some (wrote.Wrote at)) a c w =
     record { frames = w.frames; point = w.point; next = record { end = p.end; first = p.first; none = p.none; works = p.works; marks = p.marks } }
 
 -- so what holds behind the mark holds behind both
-module _ (n : ℕ) (a b c : Part) (is : b ≡ with_mark n a) where
+module _ (n : ℕ) (a b c : Part) (is : b ≡ with_flushed n a) where
   pub same_behind : SameUnwritten b c → SameUnwritten a c
   same_behind w = same_marked n a c (subst (λ (x : Part). SameUnwritten x c) is w)
 

@@ -56,7 +56,7 @@ pub record ChangesForks (old new : Part) : Type 0 where
 
 -- the area was only read, and no mark was taken
 pub record ReadsDisk (old new : Part) : Type 0 where
-  pub mark : new.mark ≡ old.mark
+  pub flushed : new.flushed ≡ old.flushed
   pub relseg : new.relseg ≡ old.relseg
   pub files : new.disk ≡ old.disk
   pub past : new.past ≡ old.past
@@ -64,7 +64,7 @@ pub record ReadsDisk (old new : Part) : Type 0 where
 
 -- the area wasn't touched, and no mark was taken
 pub record SameDisk (old new : Part) : Type 0 where
-  pub mark : new.mark ≡ old.mark
+  pub flushed : new.flushed ≡ old.flushed
   pub relseg : new.relseg ≡ old.relseg
   pub files : new.disk ≡ old.disk
   pub past : new.past ≡ old.past

@@ -21,7 +21,7 @@ pub record Part : Type 0 where
   pub marks : DirtyMarks  -- which of them are dirty
   pub works : List Pending  -- what is to be done before dirty pages are written, in order
   pub point : ℕ  -- replay from here on makes good what isn't written
-  pub mark : ℕ  -- the WAL is flushed up to here, by what the partition was told last
+  pub flushed : ℕ  -- the WAL is flushed up to here: the greatest place of the marks it was given
   pub framed : Framed  -- which blocks have a frame, and what for others room is kept
   pub work_room : ℕ  -- how many works may be entered without memory
   pub relseg : ℕ  -- blocks a segment file

@@ -44,7 +44,7 @@ told_code =
     (coded× (coded_option (coded_list event_code)) coded_ℕ))
 
 abbrev pub pool_of : Part → Pool
-pool_of p = (p.frames, (p.marks, (p.works, (p.point, (p.mark, (p.framed, p.work_room))))))
+pool_of p = (p.frames, (p.marks, (p.works, (p.point, (p.flushed, (p.framed, p.work_room))))))
 
 abbrev pub told_of : Part → Told
 told_of p = (p.relseg, (p.disk, (p.past, p.faults)))
@@ -55,7 +55,7 @@ part_of_pairs p t = record {
   marks = p.1.0;
   works = p.1.1.0;
   point = p.1.1.1.0;
-  mark = p.1.1.1.1.0;
+  flushed = p.1.1.1.1.0;
   framed = p.1.1.1.1.1.0;
   work_room = p.1.1.1.1.1.1;
   relseg = t.0;

@@ -53,17 +53,17 @@ AddsInWindow mark old new =
 
 -- no mark was taken, and where the WAL is flushed as far as may be needed, it is so
 pub record WritesFlushed (may : ℕ → Type 0) (old new : Part) : Type 0 where
-  pub mark : new.mark ≡ old.mark
+  pub flushed : new.flushed ≡ old.flushed
   pub moments : (flushed : ℕ) → may flushed → AddsInWindow flushed old new
 
 -- a partition that was told that the WAL is flushed up to a place
-abbrev pub with_mark : ℕ → Part → Part
-with_mark mark part = record {
+abbrev pub with_flushed : ℕ → Part → Part
+with_flushed flushed part = record {
   frames = part.frames;
   marks = part.marks;
   works = part.works;
   point = part.point;
-  mark = mark;
+  flushed = flushed;
   framed = part.framed;
   work_room = part.work_room;
   relseg = part.relseg;

@@ -38,7 +38,7 @@ pub struct Partition<V: Vault, const Q: u32> {
     /// Replay from here on makes good what isn't written.
     pub(crate) point: Lsn,
     /// The WAL is flushed up to here: the greatest place that was told.
-    pub(crate) mark: Lsn,
+    pub(crate) flushed: Lsn,
 }
 
 impl<V: Vault, const Q: u32> Model for Partition<V, Q> {
@@ -68,13 +68,13 @@ pub struct Unopened<V: Vault> {
 impl<V: Vault, const Q: u32> Partition<V, Q> {
     /// The partition of an area that has these pages, which are clean: the lengths of its forks are
     /// read, and no page is in a frame yet, of so many. Replay has to begin at the point, and the WAL
-    /// is flushed up to the mark.
+    /// is flushed up to a place.
     pub fn open(
         alloc: Global,
         disk: Forks<V>,
         frames: u32,
         point: Lsn,
-        mark: Lsn,
+        flushed: Lsn,
     ) -> Result<Partition<V, Q>, Unopened<V>>
         requires relseg { IsRelseg disk.relseg }
         requires whole { IsSome (V.files disk.area) → HoldsWhole V.Vault disk }
@@ -82,7 +82,7 @@ impl<V: Vault, const Q: u32> Partition<V, Q> {
         ensures clean { IfOk result IsClean }
         ensures limit { IfOk result (λ part. part.framed.limit ≡ frames) }
         ensures point { IfOk result (λ part. part.point ≡ point.0) }
-        ensures mark { IfOk result (λ part. part.mark ≡ mark.0) }
+        ensures flushed { IfOk result (λ part. part.flushed ≡ flushed.0) }
         ensures relseg { IfOk result (λ part. part.relseg ≡ disk.relseg) }
         ensures disk { IfOk result (λ part. part.disk ≡ V.files disk.area) }
         ensures past { IfOk result (λ part. part.past ≡ V.past disk.area) }
@@ -98,7 +98,7 @@ impl<V: Vault, const Q: u32> Partition<V, Q> {
                 frames,
                 works: Vec::new(alloc),
                 point,
-                mark,
+                flushed,
             }),
             Err(why) => Err(Unopened {
                 area: disk.area(),

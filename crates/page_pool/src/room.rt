@@ -59,7 +59,7 @@ impl<V: Vault, const Q: u32> Partition<V, Q> {
         ensures none { room_end self.old.framed self.old.works (blocks_of op.now) ≡ None
             → IsQuiet self.old self.new }
         ensures bounds { SameBounds self.old self.new }
-        ensures marked { self.new.mark ≡ max self.old.mark mark.now.to.0 }
+        ensures marked { self.new.flushed ≡ max self.old.flushed mark.now.to.0 }
         ensures moments { KeepsWindow mark.now.to.0 self.old self.new }
         ensures area { ChangesForks self.old self.new }
         ensures cause { HasCause self.old.faults self.new.faults result }

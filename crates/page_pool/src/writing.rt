@@ -9,7 +9,7 @@ ghost use Rattle.page_pool.specs.declared.turn.Wrote.TheVariants as wrote;
 ghost use Rattle.page_pool.specs.Steps.{HasWritten, IsClean};
 ghost use Rattle.page_pool.specs.Calls.{SameUnwritten, SameDisk, SameBounds, ChangesForks};
 ghost use Rattle.page_pool.specs.Calls.{IsOneWritten, IsAllWritten, MayWriteNext, MayWriteAll};
-ghost use Rattle.page_pool.specs.Stops.{KeepsWindow, WritesFlushed, MayAlways, MayDoWorks, MayWritePages, MayWritePage, with_mark};
+ghost use Rattle.page_pool.specs.Stops.{KeepsWindow, WritesFlushed, MayAlways, MayDoWorks, MayWritePages, MayWritePage, with_flushed};
 ghost use Rattle.page_pool.specs.Writing.{IsFirstWork, IsFirstPage, IsNextPage, HasCleaned};
 
 use crate::partition::Partition;
@@ -21,13 +21,13 @@ use wal_writer::Flushed;
 
 impl<V: Vault, const Q: u32> Partition<V, Q> {
     /// Writes what comes first: pending works in their order, then the first dirty page. A stop at any
-    /// moment leaves what entries past the mark don't change.
+    /// moment leaves what no entry up to the mark changes, where it did so before.
     pub fn write_one(&mut self, mark: &Flushed) -> Result<Turn, AreaFault>
         requires { MayWriteNext self.old mark.now.to.0 }
         ensures part { IfOk result (λ turn. turn.part ≡ Q) }
         ensures written { IfOk result (λ turn. IsOneWritten turn.wrote self.old self.new) }
         ensures kept { OnErr result (SameUnwritten self.old self.new) }
-        ensures marked { self.new.mark ≡ max self.old.mark mark.now.to.0 }
+        ensures marked { self.new.flushed ≡ max self.old.flushed mark.now.to.0 }
         ensures moments { KeepsWindow mark.now.to.0 self.old self.new }
         ensures area { ChangesForks self.old self.new }
         ensures cause { HasCause self.old.faults self.new.faults result }
@@ -45,7 +45,7 @@ impl<V: Vault, const Q: u32> Partition<V, Q> {
         ensures redo { IfOk result (λ cleaned. cleaned.redo ≡ redo) }
         ensures written { OnOk result (IsAllWritten redo.0 self.old self.new) }
         ensures kept { OnErr result (HasWritten self.old self.new) }
-        ensures marked { self.new.mark ≡ max self.old.mark mark.now.to.0 }
+        ensures marked { self.new.flushed ≡ max self.old.flushed mark.now.to.0 }
         ensures moments { KeepsWindow mark.now.to.0 self.old self.new }
         ensures area { ChangesForks self.old self.new }
         ensures cause { HasCause self.old.faults self.new.faults result }
@@ -57,10 +57,10 @@ impl<V: Vault, const Q: u32> Partition<V, Q> {
 
     /// Takes a mark: up to there the WAL is flushed.
     pub(crate) fn take_mark(&mut self, mark: &Flushed)
-        ensures marked { self.new ≡ with_mark (max self.old.mark mark.now.to.0) self.old }
+        ensures marked { self.new ≡ with_flushed (max self.old.flushed mark.now.to.0) self.old }
         ensures some { 0 < self.old.relseg }
     {
-        self.mark = Lsn(self.mark.0.max(mark.to().0));
+        self.flushed = Lsn(self.flushed.0.max(mark.to().0));
     }
 
     /// Writes all that is dirty or pending, syncs the area, and raises the point to that redo point.

@@ -1,5 +1,5 @@
 -- The events of calls on a store in segment files keep what stays.
-use Rattle.std.proofs.Common.{◌≡◌, ℕ, ◌+◌, ◌-◌, ◌*◌, ◌/◌, ◌%◌, ◌<◌, ◌≤◌, ⊎_elim, inl, inr, min, List, [], length, Option, Some, unwrap_or, Result, OnOk, OnErr, refl, sym, ap, subst, ◌∙◌, arith}
+use Rattle.std.proofs.Common.{◌≡◌, ℕ, ◌-◌, ◌*◌, ◌/◌, ◌<◌, ⊎_elim, inl, inr, min, List, [], length, Option, unwrap_or, Result, OnOk, OnErr, refl, sym, ap, subst, arith}
 use Rattle.std.proofs.lemmas.Nat.{div-add-mod'}
 use Rattle.std.proofs.Math.Nat.{mod-lt}
 use Rattle.std.specs.FinMap.{get}
@@ -17,8 +17,8 @@ use Rattle.rel_files.specs.Events.{IsPageWrite, IsPut, IsMake, IsFileRemoval, Is
 use Rattle.rel_files.proofs.Pages.{held_by}
 use Rattle.rel_files.proofs.Segments.{below}
 use Rattle.rel_files.proofs.Events.{adds_weaker}
-use Rattle.stop_areas.specs.Left.{Base, Stays, StaysMissing, HasPagesThatStay}
-use Rattle.stop_areas.specs.Keeps.{MayBeThere, MayBeGone, MayWrite, MayBeCut, MayBeRemoved, WritesChanged, MakesFirstFile, CutsChanged, RemovesChanged, Keeps}
+use Rattle.stop_areas.specs.Left.{Base, Stays, HasPagesThatStay}
+use Rattle.stop_areas.specs.Keeps.{MayBeThere, MayWrite, MayBeCut, MayBeRemoved, Keeps}
 use Rattle.stop_areas.specs.Laws.{PutsKeepPages, MakesKeepPages, CutsKeepPages, RemovalsKeepPages}
 use Rattle.stop_areas.proofs.Sizes.{in_fork, among_held}
 use Rattle.stop_areas.proofs.Kept.{stops_keep_pages}

@@ -1,5 +1,5 @@
 -- A store that is held by files that have what stays has it.
-use Rattle.std.proofs.Common.{◌≡◌, ℕ, suc, ◌+◌, ◌-◌, ◌*◌, ◌/◌, ◌%◌, ◌<◌, ◌≤◌, ⊎_elim, min, true, false, List, [], length, take, drop, get_or, Option, Some, None, is_some, refl, sym, ap, subst, ◌∙◌, arith, length-take, length-drop}
+use Rattle.std.proofs.Common.{◌≡◌, ℕ, suc, ◌+◌, ◌-◌, ◌*◌, ◌/◌, ◌%◌, ◌<◌, ◌≤◌, ⊎_elim, min, true, false, List, [], length, take, drop, Option, Some, None, is_some, refl, sym, ap, subst, ◌∙◌, arith, length-take, length-drop}
 use Rattle.std.specs.Prelude.{slice_get}
 use Rattle.std.specs.List.{All}
 use Rattle.std.specs.FinMap.{get, contains_key}
@@ -14,11 +14,10 @@ use Rattle.lsn_core.specs.declared.ids.ForkId.{ForkId}
 use Rattle.lsn_core.specs.Files.{Files}
 use Rattle.lsn_core.specs.Names.{IsNamed}
 use Rattle.lsn_core.specs.Store.{Store, ForkPages}
-use Rattle.lsn_core.specs.Blocks.{block_of}
 use Rattle.rel_files.specs.Forks.{whole_pages, Holds, HasWholePages}
 use Rattle.rel_files.proofs.SegmentFiles.{renamed, less_by, first_file_tells, block_is_read}
 use Rattle.rel_files.proofs.WholePages.{whole_all}
-use Rattle.stop_areas.specs.Left.{Base, Stays, StaysMissing, segment_of, HasPage, LacksPage, IsLeftOf}
+use Rattle.stop_areas.specs.Left.{segment_of, HasPage, LacksPage}
 use Rattle.stop_areas.specs.Laws.{LeftIsHeld}
 use Rattle.stop_areas.proofs.Sizes.{in_fork, size_named, bytes_missing, not_further, part_byte}
 

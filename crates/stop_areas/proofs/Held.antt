@@ -1,5 +1,5 @@
 -- Files that hold a store have what stays of it, and a stop leaves it where they are durable.
-use Rattle.std.proofs.Common.{◌≡◌, ℕ, ◌+◌, ◌-◌, ◌*◌, ◌/◌, ◌%◌, ◌<◌, ◌≤◌, min, Bool, true, false, List, length, take, drop, get_or, Option, Some, None, IfSome, is_some, refl, sym, ap, subst, ◌∙◌, arith}
+use Rattle.std.proofs.Common.{◌≡◌, ℕ, ◌-◌, ◌*◌, ◌/◌, ◌%◌, ◌<◌, min, Bool, List, length, take, drop, get_or, Option, Some, None, refl, sym, ap, subst, ◌∙◌, arith}
 use Rattle.std.specs.Prelude.{slice_get}
 use Rattle.std.specs.FinMap.{get, contains_key}
 use Rattle.std.proofs.lemmas.Option.{slice_get_within}
@@ -10,8 +10,8 @@ use Rattle.lsn_core.specs.Files.{Files}
 use Rattle.lsn_core.specs.Names.{IsNamed}
 use Rattle.lsn_core.specs.Store.{Store, ForkPages}
 use Rattle.lsn_core.specs.Blocks.{block_of}
-use Rattle.vault.specs.Stops.{Event, MayLeave}
-use Rattle.vault.specs.Frame.{IsDurable, LeavesNow}
+use Rattle.vault.specs.Stops.{Event}
+use Rattle.vault.specs.Frame.{LeavesNow}
 use Rattle.rel_files.specs.Forks.{whole_pages, Holds, HasWholePages}
 use Rattle.rel_files.proofs.Segments.{below}
 use Rattle.rel_files.proofs.SegmentFiles.{renamed, first_file_tells, block_is_read}

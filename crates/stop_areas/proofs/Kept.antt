@@ -1,8 +1,7 @@
 -- What stays of the segment files of forks is left by a stop at each moment.
-use Rattle.std.proofs.Common.{◌≡◌, ◌≢◌, ℕ, zero, suc, ◌+◌, ◌*◌, ◌/◌, ◌%◌, ◌<◌, ◌≤◌, ◌⊎◌, inl, inr, ⊎_elim, min, max, true, false, true≢false, List, [], length, get_or, Option, Some, None, IfSome, is_some, unwrap_or, refl, sym, ap, subst, ◌∙◌, arith}
+use Rattle.std.proofs.Common.{◌≡◌, ◌≢◌, ℕ, suc, ◌+◌, ◌*◌, ◌/◌, ◌%◌, ◌<◌, ◌≤◌, inl, inr, ⊎_elim, true, false, true≢false, List, [], length, get_or, Option, Some, None, IfSome, is_some, unwrap_or, refl, sym, ap, subst, ◌∙◌, arith}
 use Rattle.std.proofs.lemmas.Bool.Decides.{leb_tells}
 use Rattle.std.proofs.lemmas.Nat.{div-add-mod'}
-use Rattle.std.proofs.Math.Nat.{mod-lt}
 use Rattle.std.specs.FinMap.{get, contains_key}
 use Rattle.lsn_core.specs.declared.ids.ForkId.{ForkId}
 use Rattle.lsn_core.specs.Files.{Files}
@@ -11,13 +10,12 @@ use Rattle.lsn_core.proofs.ForkPaths.{one_place}
 use Rattle.lsn_core.proofs.StoreFiles.{same_name, names_tie, name_itself}
 use Rattle.vault.specs.Area.{bytes_of, IsTornFile, IsTorn}
 use Rattle.vault.specs.Stops.{Event, IsCutFile, IsCutTo, IsRemoved, Made}
-use Rattle.vault.specs.Frame.{Adds, LeavesNow, LeavesOnly}
 use Rattle.vault.proofs.Through.{leaves_only}
 use Rattle.rel_files.specs.Forks.{IsForkPath}
 use Rattle.rel_files.proofs.Segments.{below}
 use Rattle.rel_files.proofs.SegmentFiles.{renamed}
-use Rattle.stop_areas.specs.Left.{Base, Stays, StaysMissing, segment_of, HasPage, LacksPage, IsLeftOf}
-use Rattle.stop_areas.specs.Keeps.{MayBeThere, MayBeGone, MayWrite, WritesChanged, MakesFirstFile, CutsChanged, RemovesChanged, Keeps}
+use Rattle.stop_areas.specs.Left.{Base, Stays, StaysMissing, segment_of, HasPage, IsLeftOf}
+use Rattle.stop_areas.specs.Keeps.{MayBeThere, MayBeGone, WritesChanged, MakesFirstFile, CutsChanged, RemovesChanged, Keeps}
 use Rattle.stop_areas.specs.Laws.{StopsKeepPages}
 
 -- ---- files by name

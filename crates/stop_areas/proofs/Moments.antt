@@ -1,8 +1,8 @@
 -- What a stop leaves at each moment of two calls, one behind the other.
-use Rattle.std.proofs.Common.{◌≡◌, ℕ, ◌≤◌, ◌⊎◌, inl, inr, ⊎_elim, List, [], ◌∷◌, ◌++◌, length, Option, Some, None, option_map, refl, sym, ap, subst, ◌∙◌, arith}
+use Rattle.std.proofs.Common.{◌≡◌, ℕ, ◌⊎◌, inl, inr, ⊎_elim, List, [], ◌∷◌, ◌++◌, length, Option, Some, None, option_map, sym, ap, subst, ◌∙◌, arith}
 use Rattle.std.proofs.lemmas.List.{length-append}
 use Rattle.lsn_core.specs.Files.{Files}
-use Rattle.vault.specs.Stops.{Event, MayLeave, MightHaveLeft}
+use Rattle.vault.specs.Stops.{Event, MightHaveLeft}
 use Rattle.vault.specs.Frame.{Each, Adds, LeavesNow, LeavesOnly}
 use Rattle.vault.proofs.Through.{leaves_only, adds_none}
 use Rattle.stop_areas.specs.Left.{Base, IsLeftOf}

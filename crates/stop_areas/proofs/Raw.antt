@@ -1,5 +1,5 @@
 -- The pages that stay are among those that files hold after a call too, whatever it answers.
-use Rattle.std.proofs.Common.{◌≡◌, ◌≢◌, ℕ, zero, suc, ◌+◌, ◌-◌, ◌<◌, ◌≤◌, ◌⊎◌, inl, inr, ⊎_elim, min, Bool, true, false, cond, true≢false, List, [], ◌∷◌, ◌++◌, length, take, replicate, Option, Some, None, is_some, unwrap_or, refl, sym, ap, subst, ◌∙◌, arith}
+use Rattle.std.proofs.Common.{◌≡◌, ◌≢◌, ℕ, zero, suc, ◌+◌, ◌-◌, ◌<◌, inl, inr, min, Bool, true, false, true≢false, List, [], ◌∷◌, ◌++◌, length, replicate, Option, Some, None, is_some, unwrap_or, refl, sym, ap, subst, ◌∙◌, arith}
 use Rattle.std.specs.Prelude.{nat_lt, slice_get, slice_set, if◌then◌else◌}
 use Rattle.std.specs.FinMap.{get, insert, contains_key}
 use Rattle.byte_words.specs.Numbers.{◌>>=◌}
@@ -7,7 +7,7 @@ use Rattle.byte_words.specs.Pieces.{zero_page}
 use Rattle.lsn_core.specs.declared.ids.ForkId.{ForkId}
 use Rattle.lsn_core.specs.declared.ids.BlockId.{BlockId}
 use Rattle.lsn_core.specs.Store.{Store, ForkPages}
-use Rattle.lsn_core.specs.Blocks.{block_of, pages_of, with_block, with_page, page_put, with_fork, with_cut, without_fork}
+use Rattle.lsn_core.specs.Blocks.{block_of, pages_of, with_block, page_put, with_fork, with_cut, without_fork}
 use Rattle.rel_files.specs.Forks.{AreHeld, HasHeldPages, whole_pages, mended, page_over, AgreeOnOthers, IsTornPut, IsTornCut, IsTornRemoval}
 use Rattle.rel_files.specs.Shown.{IsTornMake}
 use Rattle.rel_files.proofs.Pages.{taken_get}

@@ -1,9 +1,8 @@
 -- The bytes of segment files that hold a store of whole pages, and the whole pages of a fork.
-use Rattle.std.proofs.Common.{◌≡◌, ℕ, zero, suc, ◌+◌, ◌-◌, ◌*◌, ◌/◌, ◌%◌, ◌<◌, ◌≤◌, ◌⊎◌, ⊎_elim, min, List, [], ◌∷◌, length, take, drop, slice_get, get_or, Option, Some, None, unwrap_or, refl, sym, ap, subst, ◌∙◌, arith, length-take, length-drop}
+use Rattle.std.proofs.Common.{◌≡◌, ℕ, zero, suc, ◌+◌, ◌-◌, ◌*◌, ◌/◌, ◌%◌, ◌<◌, ◌≤◌, ⊎_elim, min, List, [], ◌∷◌, length, take, drop, slice_get, get_or, Option, Some, None, unwrap_or, refl, sym, ap, subst, ◌∙◌, arith, length-take, length-drop}
 use Rattle.std.proofs.lemmas.Bool.Decides.{leb_tells}
 use Rattle.std.proofs.lemmas.List.{take_all, drop_all, get_or-take, get_or-drop}
 use Rattle.std.proofs.lemmas.Nat.{div-add-mod'}
-use Rattle.std.proofs.Math.Nat.{mod-lt}
 use Rattle.std.specs.List.{All}
 use Rattle.std.specs.FinMap.{get}
 use Rattle.byte_words.specs.Numbers.{◌>>=◌}
@@ -11,7 +10,7 @@ use Rattle.lsn_core.specs.declared.ids.ForkId.{ForkId}
 use Rattle.lsn_core.specs.Files.{Files}
 use Rattle.lsn_core.specs.Names.{IsNamed}
 use Rattle.lsn_core.specs.Store.{Store, ForkPages, segment_content, segment_in}
-use Rattle.rel_files.specs.Forks.{AreHeld, whole_pages, Holds, HasWholePages}
+use Rattle.rel_files.specs.Forks.{AreHeld, Holds, HasWholePages}
 use Rattle.rel_files.proofs.Pages.{HeldBy, held_by, flat, bytes_filled}
 use Rattle.rel_files.proofs.Segments.{in_segment, held_in, segment_is, bytes_there}
 use Rattle.rel_files.proofs.SegmentFiles.{fork_has_no_file}

@@ -2,7 +2,7 @@
 -- written may be torn, a file that was made may be missing, and what was cut off or removed may be
 -- there still, with any bytes. But what no entry changed whose WAL is flushed is found again.
 use Rattle.std.specs.Prelude.{◌≡◌, ℕ, ◌+◌, ◌*◌, ◌/◌, ◌%◌, ◌<◌, ◌≤◌, Bool, true, false}
-use Rattle.std.specs.Prelude.{List, length, get_or, Option, Some, None}
+use Rattle.std.specs.Prelude.{List, length, get_or, Some, None}
 use Rattle.std.specs.Option.{is_some}
 use Rattle.std.specs.FinMap.{get, contains_key}
 use Rattle.lsn_core.specs.declared.ids.ForkId.{ForkId}

@@ -16,4 +16,4 @@ open-requires-after_bounds g c κs within = (
 pub returns-clause-opened : goal.returns-clause-opened
 returns-clause-opened g c =
     let o = c.open.ensures in
-    opened_of g.V.Vault c.args.relseg c.args.point.0 c.args.area c.new.result c.open.result c.new.ensures.area c.new.ensures.relseg c.new.ensures.held o.frames o.clean o.point o.mark o.relseg o.disk o.past o.faults
+    opened_of g.V.Vault c.args.relseg c.args.point.0 c.args.area c.new.result c.open.result c.new.ensures.area c.new.ensures.relseg c.new.ensures.held o.frames o.clean o.point o.flushed o.relseg o.disk o.past o.faults

@@ -30,6 +30,6 @@ returns-clause-done g c = λ op is.
     let p = c.self.inside in
     let behind = told_page p.disk.relseg (g.V.Vault.files p.disk.area) in
     let old = part_in g.V.Vault p in
-    let new : Part = part_in {V = g.row.V.Denot} {Q = g.row.Q} g.V.Vault (record { disk = p.disk; frames = c.finish.new.frames; works = c.finish.new.works; point = p.point; mark = p.mark }) in
+    let new : Part = part_in {V = g.row.V.Denot} {Q = g.row.Q} g.V.Vault (record { disk = p.disk; frames = c.finish.new.frames; works = c.finish.new.works; point = p.point; flushed = p.flushed }) in
     subst (λ (s : Part). HasApplied c.args.end.0 (act_of_op op) s new) c.self.view_is
     (ready_is_applied c.args.end.0 old new op c.args.ready (subst (λ (s : Part). IsReady s op c.args.ready) (sym c.self.view_is) is) (omega arith) (c.finish.ensures.pages behind) (c.finish.ensures.marks behind) (c.finish.ensures.works behind) refl refl)

@@ -26,7 +26,7 @@ returns-clause-answer g c =
     let p = c.self.inside in
     let behind = told_page p.disk.relseg (g.V.Vault.files p.disk.area) in
     let held = (subst (λ (x : Part). HasFrames x.framed (blocks_of c.args.op.now)) (sym c.self.view_is) c.requires.room).held in
-    let new : Part = part_in {V = g.row.V.Denot} {Q = g.row.Q} g.V.Vault (record { disk = p.disk; frames = c.check.new.frames; works = c.check.new.works; point = p.point; mark = p.mark }) in
+    let new : Part = part_in {V = g.row.V.Denot} {Q = g.row.Q} g.V.Vault (record { disk = p.disk; frames = c.check.new.frames; works = c.check.new.works; point = p.point; flushed = p.flushed }) in
     subst (λ (x : Part). CheckAnswer c.args.op.now c.args.redo.0 x new c.check.result) c.self.view_is
     (answered (own_pages p.frames) (part_in g.V.Vault p) new c.args.op.now c.args.redo.0 c.check.result c.requires.items (blocks_alike_at behind p.frames (blocks_of c.args.op.now) held) (c.check.ensures.alike.pages behind) c.check.ensures.found c.check.ensures.refused)
 

@@ -10,7 +10,7 @@ invariant_of-self g c =
     let p = c.self.inside in
     let new = c.cut.new.self in
     let kept = c.in_err-cut.ensures.kept in
-    holds_again g.V.Vault p c.self.invariant new kept p.frames p.works p.point p.mark (own_shown g.V.Vault p)
+    holds_again g.V.Vault p c.self.invariant new kept p.frames p.works p.point p.flushed (own_shown g.V.Vault p)
     (cut_failed g.V.Vault p c.self.invariant new kept c.args.self.now c.self.view_is c.args.fork.now c.args.count c.requires c.in_err-cut.ensures.torn)
 
 pub returns-in_err-cut-clause-kept : goal.returns-in_err-cut-clause-kept
@@ -27,7 +27,7 @@ invariant_of-self-2 g c =
     let p = c.self.inside in
     let new = c.cut.new.self in
     let kept = c.in_ok-cut.ensures.kept in
-    holds_again g.V.Vault p c.self.invariant new kept p.frames c.remove.new.self p.point p.mark (own_shown g.V.Vault p)
+    holds_again g.V.Vault p c.self.invariant new kept p.frames c.remove.new.self p.point p.flushed (own_shown g.V.Vault p)
     (cut_done g.V.Vault p c.self.invariant new kept c.args.self.now c.self.view_is c.args.fork.now c.args.count c.requires c.in_ok-cut.ensures.left c.remove.new.self.items c.remove.ensures.items)
 
 pub returns-clause-cut : goal.returns-clause-cut

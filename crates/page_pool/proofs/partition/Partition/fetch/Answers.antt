@@ -20,7 +20,7 @@ pub returns-in_err-page-clause-written : goal.returns-in_err-page-clause-written
 returns-in_err-page-clause-written g c =
     let p = c.self.inside in
     let e = c.read_page.ensures in
-    subst (λ (x : Part). HasWritten x (part_in {V = g.row.V.Denot} {Q = g.row.Q} g.V.Vault (record { disk = c.read_page.new.disk; frames = p.frames; works = p.works; point = p.point; mark = p.mark }))) c.self.view_is
+    subst (λ (x : Part). HasWritten x (part_in {V = g.row.V.Denot} {Q = g.row.Q} g.V.Vault (record { disk = c.read_page.new.disk; frames = p.frames; works = p.works; point = p.point; flushed = p.flushed }))) c.self.view_is
     (turned_written g.V.Vault p c.self.invariant c.read_page.new.disk e.relseg e.reads e.held p.frames (own_shown g.V.Vault p) refl p.works refl)
 
 pub invariant_of-self-in_err-take_in : goal.invariant_of-self-in_err-take_in
@@ -39,7 +39,7 @@ returns-in_err-take_in-clause-written g c =
     let e = c.read_page.ensures in
     let h = c.take_in.new.self in
     let same = c.in_err-take_in.ensures in
-    subst (λ (x : Part). HasWritten x (part_in {V = g.row.V.Denot} {Q = g.row.Q} g.V.Vault (record { disk = c.read_page.new.disk; frames = h; works = p.works; point = p.point; mark = p.mark }))) c.self.view_is
+    subst (λ (x : Part). HasWritten x (part_in {V = g.row.V.Denot} {Q = g.row.Q} g.V.Vault (record { disk = c.read_page.new.disk; frames = h; works = p.works; point = p.point; flushed = p.flushed }))) c.self.view_is
     (turned_written g.V.Vault p c.self.invariant c.read_page.new.disk e.relseg e.reads e.held h
     (λ told. frames_alike (told_page p.disk.relseg (g.V.Vault.files p.disk.area)) p.frames h (λ other. (held_same other p.frames h same.lengths same.same).0))
     (held_same (told_page p.disk.relseg (g.V.Vault.files p.disk.area)) p.frames h same.lengths same.same).1 p.works refl)
@@ -50,7 +50,7 @@ returns-in_err-take_in-clause-quiet g c =
     let e = c.read_page.ensures in
     let h = c.take_in.new.self in
     let same = c.in_err-take_in.ensures in
-    subst (λ (x : Part). IsQuiet x (part_in {V = g.row.V.Denot} {Q = g.row.Q} g.V.Vault (record { disk = c.read_page.new.disk; frames = h; works = p.works; point = p.point; mark = p.mark }))) c.self.view_is
+    subst (λ (x : Part). IsQuiet x (part_in {V = g.row.V.Denot} {Q = g.row.Q} g.V.Vault (record { disk = c.read_page.new.disk; frames = h; works = p.works; point = p.point; flushed = p.flushed }))) c.self.view_is
     (turned_quiet g.V.Vault p c.self.invariant c.read_page.new.disk e.relseg e.reads e.held h
     (λ told. frames_alike (told_page p.disk.relseg (g.V.Vault.files p.disk.area)) p.frames h (λ other. (held_same other p.frames h same.lengths same.same).0))
     (held_same (told_page p.disk.relseg (g.V.Vault.files p.disk.area)) p.frames h same.lengths same.same).1 p.works refl)
@@ -82,7 +82,7 @@ returns-clause-written g c =
     let at = c.args.at.now in
     let same = c.in_ok-take_in.ensures in
     let none = subst (λ (x : Part). held_page x.framed.held at ≡ None) (sym c.self.view_is) c.requires.none in
-    subst (λ (x : Part). HasWritten x (part_in {V = g.row.V.Denot} {Q = g.row.Q} g.V.Vault (record { disk = c.read_page.new.disk; frames = h; works = p.works; point = p.point; mark = p.mark }))) c.self.view_is
+    subst (λ (x : Part). HasWritten x (part_in {V = g.row.V.Denot} {Q = g.row.Q} g.V.Vault (record { disk = c.read_page.new.disk; frames = h; works = p.works; point = p.point; flushed = p.flushed }))) c.self.view_is
     (turned_written g.V.Vault p c.self.invariant c.read_page.new.disk e.relseg e.reads e.held h
     (λ told. frames_with p.frames h at _ same.lengths same.held none refl (pages_in g.V.Vault p) (own_shown g.V.Vault p told) (λ q there. page_read g.V.Vault p c.self.invariant at _ none c.in_ok-page.ensures.read told q there))
     (marks_with_frame p.frames h at _ same.lengths same.held none refl) p.works refl)
@@ -95,7 +95,7 @@ returns-clause-quiet g c =
     let at = c.args.at.now in
     let same = c.in_ok-take_in.ensures in
     let none = subst (λ (x : Part). held_page x.framed.held at ≡ None) (sym c.self.view_is) c.requires.none in
-    subst (λ (x : Part). IsQuiet x (part_in {V = g.row.V.Denot} {Q = g.row.Q} g.V.Vault (record { disk = c.read_page.new.disk; frames = h; works = p.works; point = p.point; mark = p.mark }))) c.self.view_is
+    subst (λ (x : Part). IsQuiet x (part_in {V = g.row.V.Denot} {Q = g.row.Q} g.V.Vault (record { disk = c.read_page.new.disk; frames = h; works = p.works; point = p.point; flushed = p.flushed }))) c.self.view_is
     (turned_quiet g.V.Vault p c.self.invariant c.read_page.new.disk e.relseg e.reads e.held h
     (λ told. frames_with p.frames h at _ same.lengths same.held none refl (pages_in g.V.Vault p) (own_shown g.V.Vault p told) (λ q there. page_read g.V.Vault p c.self.invariant at _ none c.in_ok-page.ensures.read told q there))
     (marks_with_frame p.frames h at _ same.lengths same.held none refl) p.works refl)

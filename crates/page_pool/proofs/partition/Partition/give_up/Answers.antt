@@ -20,7 +20,7 @@ returns-clause-written g c =
     let p = c.self.inside in
     let h = c.give_up.new.self in
     let e = c.give_up.ensures in
-    subst (λ (x : Part). HasWritten x (part_in {V = g.row.V.Denot} {Q = g.row.Q} g.V.Vault (record { disk = p.disk; frames = h; works = p.works; point = p.point; mark = p.mark }))) c.self.view_is
+    subst (λ (x : Part). HasWritten x (part_in {V = g.row.V.Denot} {Q = g.row.Q} g.V.Vault (record { disk = p.disk; frames = h; works = p.works; point = p.point; flushed = p.flushed }))) c.self.view_is
     (turned_written g.V.Vault p c.self.invariant p.disk refl (untouched g.V.Vault p.disk.area) (λ s held. held) h (λ told. frames_without p.frames h c.args.at.now e.lengths e.held (pages_in g.V.Vault p) (own_shown g.V.Vault p told)) (marks_without_frame p.frames h c.args.at.now e.lengths e.held (ap (λ (x : Part). is_dirty x.marks c.args.at.now.fork c.args.at.now.block) c.self.view_is ∙ c.requires)) p.works refl)
 
 pub returns-clause-quiet : goal.returns-clause-quiet
@@ -28,5 +28,5 @@ returns-clause-quiet g c =
     let p = c.self.inside in
     let h = c.give_up.new.self in
     let e = c.give_up.ensures in
-    subst (λ (x : Part). IsQuiet x (part_in {V = g.row.V.Denot} {Q = g.row.Q} g.V.Vault (record { disk = p.disk; frames = h; works = p.works; point = p.point; mark = p.mark }))) c.self.view_is
+    subst (λ (x : Part). IsQuiet x (part_in {V = g.row.V.Denot} {Q = g.row.Q} g.V.Vault (record { disk = p.disk; frames = h; works = p.works; point = p.point; flushed = p.flushed }))) c.self.view_is
     (turned_quiet g.V.Vault p c.self.invariant p.disk refl (untouched g.V.Vault p.disk.area) (λ s held. held) h (λ told. frames_without p.frames h c.args.at.now e.lengths e.held (pages_in g.V.Vault p) (own_shown g.V.Vault p told)) (marks_without_frame p.frames h c.args.at.now e.lengths e.held (ap (λ (x : Part). is_dirty x.marks c.args.at.now.fork c.args.at.now.block) c.self.view_is ∙ c.requires)) p.works refl)

@@ -10,7 +10,7 @@ pub invariant_of-self : goal.invariant_of-self
 invariant_of-self g c =
     let p = c.self.inside in
     let e = c.list.ensures in
-    holds_again g.V.Vault p c.self.invariant c.list.new.self e.kept p.frames p.works p.point p.mark (own_shown g.V.Vault p) (same_done g.V.Vault p c.self.invariant c.list.new.self e.kept e.held)
+    holds_again g.V.Vault p c.self.invariant c.list.new.self e.kept p.frames p.works p.point p.flushed (own_shown g.V.Vault p) (same_done g.V.Vault p c.self.invariant c.list.new.self e.kept e.held)
 
 pub returns-clause-list : goal.returns-clause-list
 returns-clause-list g c =
@@ -23,8 +23,8 @@ pub returns-clause-known : goal.returns-clause-known
 returns-clause-known g c =
     let p = c.self.inside in
     let e = c.list.ensures in
-    known g.V.Vault (record { disk = c.list.new.self; frames = p.frames; works = p.works; point = p.point; mark = p.mark })
-    (holds_again g.V.Vault p c.self.invariant c.list.new.self e.kept p.frames p.works p.point p.mark (own_shown g.V.Vault p) (same_done g.V.Vault p c.self.invariant c.list.new.self e.kept e.held))
+    known g.V.Vault (record { disk = c.list.new.self; frames = p.frames; works = p.works; point = p.point; flushed = p.flushed })
+    (holds_again g.V.Vault p c.self.invariant c.list.new.self e.kept p.frames p.works p.point p.flushed (own_shown g.V.Vault p) (same_done g.V.Vault p c.self.invariant c.list.new.self e.kept e.held))
 
 pub returns-clause-whole : goal.returns-clause-whole
 returns-clause-whole g c =

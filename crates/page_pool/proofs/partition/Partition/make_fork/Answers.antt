@@ -10,7 +10,7 @@ invariant_of-self g c =
     let p = c.self.inside in
     let new = c.make.new.self in
     let kept = c.in_err-make.ensures.kept in
-    holds_again g.V.Vault p c.self.invariant new kept p.frames p.works p.point p.mark (own_shown g.V.Vault p)
+    holds_again g.V.Vault p c.self.invariant new kept p.frames p.works p.point p.flushed (own_shown g.V.Vault p)
     (make_failed g.V.Vault p c.self.invariant new kept c.args.self.now c.self.view_is c.args.fork.now c.requires c.in_err-make.ensures.torn)
 
 pub returns-in_err-make-clause-kept : goal.returns-in_err-make-clause-kept
@@ -27,7 +27,7 @@ invariant_of-self-2 g c =
     let p = c.self.inside in
     let new = c.make.new.self in
     let kept = c.in_ok-make.ensures.kept in
-    holds_again g.V.Vault p c.self.invariant new kept p.frames c.remove.new.self p.point p.mark (own_shown g.V.Vault p)
+    holds_again g.V.Vault p c.self.invariant new kept p.frames c.remove.new.self p.point p.flushed (own_shown g.V.Vault p)
     (make_done g.V.Vault p c.self.invariant new kept c.args.self.now c.self.view_is c.args.fork.now c.requires c.in_ok-make.ensures.there c.remove.new.self.items c.remove.ensures.items)
 
 pub returns-clause-made : goal.returns-clause-made

@@ -10,7 +10,7 @@ invariant_of-self g c =
     let p = c.self.inside in
     let new = c.remove.new.self in
     let kept = c.in_err-remove.ensures.kept in
-    holds_again g.V.Vault p c.self.invariant new kept p.frames p.works p.point p.mark (own_shown g.V.Vault p)
+    holds_again g.V.Vault p c.self.invariant new kept p.frames p.works p.point p.flushed (own_shown g.V.Vault p)
     (removal_failed g.V.Vault p c.self.invariant new kept c.args.self.now c.self.view_is c.args.fork.now c.requires c.in_err-remove.ensures.torn)
 
 pub returns-in_err-remove-clause-kept : goal.returns-in_err-remove-clause-kept
@@ -27,7 +27,7 @@ invariant_of-self-2 g c =
     let p = c.self.inside in
     let new = c.remove.new.self in
     let kept = c.in_ok-remove.ensures.kept in
-    holds_again g.V.Vault p c.self.invariant new kept p.frames c.remove-2.new.self p.point p.mark (own_shown g.V.Vault p)
+    holds_again g.V.Vault p c.self.invariant new kept p.frames c.remove-2.new.self p.point p.flushed (own_shown g.V.Vault p)
     (removal_done g.V.Vault p c.self.invariant new kept c.args.self.now c.self.view_is c.args.fork.now c.requires c.in_ok-remove.ensures.away c.remove-2.new.self.items c.remove-2.ensures.items)
 
 pub returns-clause-gone : goal.returns-clause-gone

@@ -13,7 +13,7 @@ pub invariant_of-self : goal.invariant_of-self
 invariant_of-self g c =
     let p = c.self.inside in
     let e = c.in_err-sync.ensures in
-    holds_again g.V.Vault p c.self.invariant c.sync.new.self e.kept p.frames p.works p.point p.mark (own_shown g.V.Vault p) (same_done g.V.Vault p c.self.invariant c.sync.new.self e.kept e.held)
+    holds_again g.V.Vault p c.self.invariant c.sync.new.self e.kept p.frames p.works p.point p.flushed (own_shown g.V.Vault p) (same_done g.V.Vault p c.self.invariant c.sync.new.self e.kept e.held)
 
 pub returns-in_err-sync-clause-kept : goal.returns-in_err-sync-clause-kept
 returns-in_err-sync-clause-kept g c =
@@ -38,7 +38,7 @@ returns-clause-settled g c =
       frames = shown ∙ ap (λ (x : Part). x.frames) c.self.view_is;
       clean = record { marks = λ fork block. ap (λ (x : Part). is_dirty x.marks fork block) c.self.view_is ∙ clean.marks fork block; works = ap (λ (x : Part). x.works) c.self.view_is ∙ clean.works };
       point = c.max.ensures ∙ ap (λ (x : Part). max x.point c.args.redo.0) c.self.view_is;
-      held = frames_held g.V.Vault p c.self.invariant new e.kept c.args.self.now c.self.view_is e.held clean p.point p.mark;
+      held = frames_held g.V.Vault p c.self.invariant new e.kept c.args.self.now c.self.view_is e.held clean p.point p.flushed;
       settled = settled_now (g.V.Vault.files new.area) (g.V.Vault.past p.disk.area) (g.V.Vault.past new.area) (subst (λ (x : Option Files). g.V.Vault.past new.area ≡ noted (synced x) (g.V.Vault.past p.disk.area)) (sym e.same) e.noted);
     }
 

@@ -21,7 +21,7 @@ returns-clause-written g c =
     let p = c.self.inside in
     let h = c.sweep.new.self in
     let e = c.sweep.ensures.alike in
-    subst (λ (x : Part). HasWritten x (part_in {V = g.row.V.Denot} {Q = g.row.Q} g.V.Vault (record { disk = p.disk; frames = h; works = p.works; point = p.point; mark = p.mark }))) c.self.view_is
+    subst (λ (x : Part). HasWritten x (part_in {V = g.row.V.Denot} {Q = g.row.Q} g.V.Vault (record { disk = p.disk; frames = h; works = p.works; point = p.point; flushed = p.flushed }))) c.self.view_is
     (turned_written g.V.Vault p c.self.invariant p.disk refl (untouched g.V.Vault p.disk.area) (λ s held. held) h (λ told. frames_alike (told_page p.disk.relseg (g.V.Vault.files p.disk.area)) p.frames h (λ other. pages_turned other p.frames h e)) (marks_turned p.frames h e) p.works refl)
 
 pub returns-clause-quiet : goal.returns-clause-quiet
@@ -29,5 +29,5 @@ returns-clause-quiet g c =
     let p = c.self.inside in
     let h = c.sweep.new.self in
     let e = c.sweep.ensures.alike in
-    subst (λ (x : Part). IsQuiet x (part_in {V = g.row.V.Denot} {Q = g.row.Q} g.V.Vault (record { disk = p.disk; frames = h; works = p.works; point = p.point; mark = p.mark }))) c.self.view_is
+    subst (λ (x : Part). IsQuiet x (part_in {V = g.row.V.Denot} {Q = g.row.Q} g.V.Vault (record { disk = p.disk; frames = h; works = p.works; point = p.point; flushed = p.flushed }))) c.self.view_is
     (turned_quiet g.V.Vault p c.self.invariant p.disk refl (untouched g.V.Vault p.disk.area) (λ s held. held) h (λ told. frames_alike (told_page p.disk.relseg (g.V.Vault.files p.disk.area)) p.frames h (λ other. pages_turned other p.frames h e)) (marks_turned p.frames h e) p.works refl)

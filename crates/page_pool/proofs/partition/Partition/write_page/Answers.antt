@@ -27,7 +27,7 @@ invariant_of-self g c =
     let kept = c.in_err-write_block.ensures.kept in
     let t = dirty_there p.frames at (ap (λ (x : Part). is_dirty x.marks at.fork at.block) c.self.view_is ∙ c.requires.dirty) in
     let there = held_shown (told_page p.disk.relseg (g.V.Vault.files p.disk.area)) p.frames at c.in-Some.page.now t.0 (sym c.in-Some.ensures) in
-    holds_again g.V.Vault p c.self.invariant new kept p.frames p.works p.point p.mark (own_shown g.V.Vault p)
+    holds_again g.V.Vault p c.self.invariant new kept p.frames p.works p.point p.flushed (own_shown g.V.Vault p)
     (put_failed g.V.Vault p c.self.invariant new kept c.args.self.now c.self.view_is at c.in-Some.page.now c.requires there c.in_err-write_block.ensures.torn)
 
 pub returns-in_err-write_block-clause-kept : goal.returns-in_err-write_block-clause-kept
@@ -60,7 +60,7 @@ invariant_of-self-2 g c =
     let kept = c.in_ok-write_block.ensures.kept in
     let t = dirty_there p.frames at (ap (λ (x : Part). is_dirty x.marks at.fork at.block) c.self.view_is ∙ c.requires.dirty) in
     let there = held_shown (told_page p.disk.relseg (g.V.Vault.files p.disk.area)) p.frames at c.in-Some.page.now t.0 (sym c.in-Some.ensures) in
-    holds_again g.V.Vault p c.self.invariant new kept c.clean.new.self p.works p.point p.mark (λ told. frames_alike (told_page p.disk.relseg (g.V.Vault.files p.disk.area)) p.frames c.clean.new.self c.clean.ensures.pages)
+    holds_again g.V.Vault p c.self.invariant new kept c.clean.new.self p.works p.point p.flushed (λ told. frames_alike (told_page p.disk.relseg (g.V.Vault.files p.disk.area)) p.frames c.clean.new.self c.clean.ensures.pages)
     (put_done g.V.Vault p c.self.invariant new kept c.args.self.now c.self.view_is at c.in-Some.page.now c.requires there c.in_ok-write_block.ensures.put (marks_over c.clean.new.self) c.clean.ensures.marks)
 
 pub returns-clause-written : goal.returns-clause-written
