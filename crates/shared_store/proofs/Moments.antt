@@ -9,7 +9,7 @@ use Rattle.lsn_core.specs.Tip.{Tip}
 use Rattle.vault.specs.declared.area.Vault.{Ghosts}
 use Rattle.lsn_core.specs.declared.fault.AreaFault.{AreaFault}
 use Rattle.vault.specs.Stops.{synced, noted}
-use Rattle.vault.specs.Frame.{Adds, IsAmong, Has, LeavesNow, OnlyReads}
+use Rattle.vault.specs.Frame.{Adds, IsAmong, IsDurable, Has, LeavesNow, OnlyReads}
 use Rattle.vault.proofs.Through.{adds_none, adds_on, adds_sync}
 use Rattle.history.specs.Entry.{Entry}
 use Rattle.history.specs.Apply.{apply_all}
@@ -28,14 +28,14 @@ use Rattle.data_areas.specs.Phases.{first_past, HaveMarkSince}
 use Rattle.data_areas.specs.Rebuilt.{held_by, AreRebuilt}
 use Rattle.data_areas.specs.Settling.{HaveEnded, SettledSoFar}
 use Rattle.data_areas.specs.Stored.{AreForksOf, KeepsAll}
-use Rattle.data_areas.proofs.Moments.{stops_join, stops_with, filling_leaves, mark_stays, mark_is_left, clearing_leaves, uncleared_leaves, untouched_leaves, AreWhole, AllHold, settling_leaves, unsettled_leaves}
+use Rattle.data_areas.proofs.Moments.{stops_join, stops_with, filling_leaves, mark_stays, mark_is_left, clearing_leaves, uncleared_leaves, untouched_leaves, AreWhole, AllHold, settling_leaves, unsettled_leaves, rebuilt_leaves}
 use Rattle.data_areas.proofs.Phases.{forks_are_others}
 use Rattle.data_areas.proofs.Stored.{changed, pasts_go_on}
 use Rattle.shared_store.specs.declared.areas.StoreAreas.{StoreAreas}
 use Rattle.shared_store.specs.declared.boxing.BoxedAreas.{BoxedAreas}
 use Rattle.shared_store.specs.Opened.{opened_of, past_of}
 use Rattle.shared_store.specs.Begin.{AllTell, data_of}
-use Rattle.shared_store.specs.Moments.{IsSync, IsReplayed, IsMarkedOrReplayed, IsSafelyLeft, RebuildsSafely}
+use Rattle.shared_store.specs.Moments.{IsSync, IsReplayed, IsMarkedOrReplayed, LeavesReplay, IsSafelyLeft, RebuildsSafely}
 use Rattle.shared_store.specs.Found.{areas_with, IsFound, AreFilledBy, FillsSafely}
 
 -- ---- filled areas that are made durable and opened
@@ -88,6 +88,9 @@ module _ {V : Type 0} (g : Ghosts V) (s : StoreSettings) (old : BoxedAreas V) (h
   marked_or_replayed left (inl has) = inl has
   marked_or_replayed left (inr whole) = inr (replayed left whole)
 
+  opened_replay : (from : ℕ) (parts : Partitions V) → AreRebuilt (on_heap g) s.relseg from old.pages parts → LeavesReplay (g.files old.wal) (pasts_in parts)
+  opened_replay from parts rebuilt left there = replayed left (rebuilt_leaves (on_heap g) s.relseg from old.pages parts_held parts all_held rebuilt left there)
+
   module _ (here : LeavesNow (Has rebuilding_name) (first_past (on_heap g) old.pages)) where
     opened_leaves : (from : ℕ) (parts : Partitions V) → AreRebuilt (on_heap g) s.relseg from old.pages parts → HaveEnded (on_heap g) s.relseg old.pages parts.part0.past → AllGoOn (pasts_of (on_heap g) old.pages) (pasts_in parts)
         → StopsLeave (IsMarkedOrReplayed (g.files old.wal)) (pasts_of (on_heap g) old.pages) (pasts_in parts)
@@ -112,6 +115,11 @@ module _ {V : Type 0} (g : Ghosts V) (s : StoreSettings) (old : BoxedAreas V) (h
     stops = λ told here. opened_leaves g s old history pages tip found filled more told here from parts
         (subst (λ (n : ℕ). AreRebuilt (on_heap g) n from old.pages parts) size rebuilt) (subst (λ (n : ℕ). HaveEnded (on_heap g) n old.pages parts.part0.past) size ended) on;
   }
+
+  pub opened_durably : (journal : Written V) (from : ℕ) (parts : Partitions V) → AreRebuilt (on_heap g) relseg from old.pages parts → IsSome (g.files old.wal)
+      → LeavesReplay (g.files old.wal) (data_of (opened_of g s journal parts.part0 parts.part1 parts.part2 parts.part3).past)
+  opened_durably journal from parts rebuilt told =
+      opened_replay g s old history pages tip found filled more told from parts (subst (λ (n : ℕ). AreRebuilt (on_heap g) n from old.pages parts) size rebuilt)
 
   pub unopened_safely : (wal : V) (new : DataAreas (BoxedArea V)) (areas : StoreAreas V) → areas ≡ areas_with wal new → wal ≡ old.wal → SettledSoFar (on_heap g) relseg (held_by (on_heap g) relseg old.pages) old.pages new → AllGoOn (pasts_of (on_heap g) old.pages) (pasts_of (on_heap g) new)
       → FillsSafely g old (past_of g areas)
@@ -151,10 +159,11 @@ safely : {V : Type 0} (g : Ghosts V) (areas : StoreAreas V) (left : DataAreas Fi
 safely g areas left (inl now) = inl now
 safely g areas left (inr has) = inr (inl has)
 
-module _ {V : Type 0} (g : Ghosts V) (wal : V) (x y : DataAreas (BoxedArea V)) (told : AllTell g (areas_with wal x)) (on : AllGoOn (pasts_of (on_heap g) x) (pasts_of (on_heap g) y)) where
+module _ {V : Type 0} (g : Ghosts V) (wal : V) (x y : DataAreas (BoxedArea V)) (told : AllTell g (areas_with wal x)) (durable : IsDurable (g.files wal) (g.past wal)) (on : AllGoOn (pasts_of (on_heap g) x) (pasts_of (on_heap g) y)) where
   pub uncleared_safely : (areas : StoreAreas V) → areas ≡ areas_with wal y → ClearedSoFar (on_heap g) x y → RebuildsSafely g (areas_with wal x) (past_of g areas)
   uncleared_safely areas is so_far = subst (λ (a : StoreAreas V). RebuildsSafely g (areas_with wal x) (past_of g a)) (sym is) (record {
     wal = adds_none IsSync (g.past wal) (g.past wal) refl;
+    durable = inr durable;
     stops = stops_with (λ left. AreLeftNow (pasts_of (on_heap g) x) left ⊎ Has rebuilding_name left.data0) (IsSafelyLeft (g.files wal) (data_of (past_of g (areas_with wal x)))) (pasts_of (on_heap g) x) (pasts_of (on_heap g) y) (safely g (areas_with wal x))
         (uncleared_leaves (on_heap g) x y (told.pages 0 (omega arith)) so_far on);
   })
@@ -162,6 +171,7 @@ module _ {V : Type 0} (g : Ghosts V) (wal : V) (x y : DataAreas (BoxedArea V)) (
   pub cleared_safely : (new : StoreAreas Past) → HaveMarkSince (on_heap g) x y → FillsSafely g (record { wal = wal; pages = y }) new → RebuildsSafely g (areas_with wal x) new
   cleared_safely new begins safe = record {
     wal = adds_none IsSync (g.past wal) new.wal safe.wal;
+    durable = inr (subst (IsDurable (g.files wal)) (sym safe.wal) durable);
     stops = stops_join (IsSafelyLeft (g.files wal) (data_of (past_of g (areas_with wal x)))) (pasts_of (on_heap g) x) (pasts_of (on_heap g) y) (data_of new)
         (stops_with (λ left. AreLeftNow (pasts_of (on_heap g) x) left ⊎ Has rebuilding_name left.data0) (IsSafelyLeft (g.files wal) (data_of (past_of g (areas_with wal x)))) (pasts_of (on_heap g) x) (pasts_of (on_heap g) y) (safely g (areas_with wal x))
         (clearing_leaves (on_heap g) x y (told.pages 0 (omega arith)) begins on))
@@ -169,11 +179,20 @@ module _ {V : Type 0} (g : Ghosts V) (wal : V) (x y : DataAreas (BoxedArea V)) (
         (safe.stops told.wal (mark_is_left (IsSome (g.files (box_value x.data0.area))) (first_past (on_heap g) x) (first_past (on_heap g) y) (told.pages 0 (omega arith)) begins)));
   }
 
--- ---- a WAL that was synced before
+-- ---- a WAL that was read or synced before
+
+pub replay_before : {V : Type 0} (g : Ghosts V) (wal now : V) (new : DataAreas Past) → g.files now ≡ g.files wal → (IsSome (g.files now) → LeavesReplay (g.files now) new) → IsSome (g.files wal) → LeavesReplay (g.files wal) new
+replay_before g wal now new same leaves = subst (λ (o : Option Files). IsSome o → LeavesReplay o new) same leaves
+
+durable_before : {V : Type 0} (g : Ghosts V) (wal now : V) (x : DataAreas (BoxedArea V)) (new : StoreAreas Past) → g.files now ≡ g.files wal → (data_of new ≡ data_of (past_of g (areas_with now x))) ⊎ IsDurable (g.files now) new.wal
+    → (data_of new ≡ data_of (past_of g (areas_with wal x))) ⊎ IsDurable (g.files wal) new.wal
+durable_before g wal now x new same (inl none) = inl none
+durable_before g wal now x new same (inr durable) = inr (subst (λ (o : Option Files). IsDurable o new.wal) same durable)
 
 pub safely_before : {V : Type 0} (g : Ghosts V) (wal now : V) (x : DataAreas (BoxedArea V)) (new : StoreAreas Past) → g.files now ≡ g.files wal → Adds IsSync (g.past wal) (g.past now) → RebuildsSafely g (areas_with now x) new → RebuildsSafely g (areas_with wal x) new
 safely_before g wal now x new same synced safe = record {
   wal = adds_on IsSync (g.past wal) (g.past now) new.wal synced safe.wal;
+  durable = durable_before g wal now x new same safe.durable;
   stops = subst (λ (o : Option Files). StopsLeave (IsSafelyLeft o (data_of (past_of g (areas_with wal x)))) (data_of (past_of g (areas_with wal x))) (data_of new)) same safe.stops;
 }
 
@@ -188,6 +207,7 @@ synced_between files a b c d result before ok err behind =
 pub unboxed_safely : {V : Type 0} (g : Ghosts V) (areas back : StoreAreas V) → back ≡ areas → RebuildsSafely g areas (past_of g back)
 unboxed_safely {V} g areas back is = subst (λ (a : StoreAreas V). RebuildsSafely g areas (past_of g a)) (sym is) (record {
   wal = adds_none IsSync (g.past areas.wal) (g.past areas.wal) refl;
+  durable = inl refl;
   stops = stops_with (λ left. AreLeftNow (data_of (past_of g areas)) left ⊎ Has rebuilding_name left.data0) (IsSafelyLeft (g.files areas.wal) (data_of (past_of g areas))) (data_of (past_of g areas)) (data_of (past_of g areas)) (safely g areas)
       (untouched_leaves (data_of (past_of g areas)));
 })

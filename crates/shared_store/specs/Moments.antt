@@ -7,7 +7,7 @@ use Rattle.lsn_core.specs.Segment.{StoreSettings}
 use Rattle.lsn_core.specs.Store.{Store, files_of}
 use Rattle.lsn_core.specs.Tip.{Tip}
 use Rattle.vault.specs.Stops.{Event}
-use Rattle.vault.specs.Frame.{Adds, IsAmong, Has}
+use Rattle.vault.specs.Frame.{Adds, IsAmong, IsDurable, Has}
 use Rattle.vault.specs.declared.area.Vault.{Ghosts}
 use Rattle.wal_record.specs.declared.record.Record.{Record}
 use Rattle.history.specs.Apply.{apply_all}
@@ -43,15 +43,20 @@ pub record IsReplayed (wal : Option Files) (left : DataAreas Files) : Type 0 whe
 abbrev pub IsMarkedOrReplayed : Option Files → DataAreas Files → Type 0
 IsMarkedOrReplayed wal left = Has rebuilding_name left.data0 ⊎ IsReplayed wal left
 
+-- a stop now leaves the whole replay
+abbrev pub LeavesReplay : Option Files → DataAreas Past → Type 0
+LeavesReplay wal now = (left : DataAreas Files) → AreLeftNow now left → IsReplayed wal left
+
 -- or they are what a stop at this moment may leave
 abbrev pub IsSafelyLeft : Option Files → DataAreas Past → DataAreas Files → Type 0
 IsSafelyLeft wal now left = AreLeftNow now left ⊎ IsMarkedOrReplayed wal left
 
 -- a call rebuilds a store's data areas so that a stop at any moment leaves what one at the start
 -- may leave, or the mark, or the whole replay; and of the WAL's area nothing changes, which is
--- synced alone
+-- synced alone, and is durable before anything happens to a data area
 pub record RebuildsSafely {V : Type 0} (g : Ghosts V) (old : StoreAreas V) (new : StoreAreas Past)
     : Type 0 where
   pub wal : Adds IsSync (g.past old.wal) new.wal
+  pub durable : (data_of new ≡ data_of (past_of g old)) ⊎ IsDurable (g.files old.wal) new.wal
   pub stops : StopsLeave (IsSafelyLeft (g.files old.wal) (data_of (past_of g old)))
       (data_of (past_of g old)) (data_of new)

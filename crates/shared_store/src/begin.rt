@@ -5,8 +5,8 @@ ghost use Rattle.vault.specs.Frame.{IsDurable};
 ghost use Rattle.wal_writer.specs.Log.{IsLog, log_at};
 ghost use Rattle.data_areas.specs.Boxed.{on_heap};
 ghost use Rattle.data_areas.specs.Clearing.{AreBare};
-ghost use Rattle.shared_store.specs.Begin.{AllTell, IsBegun, IsUnbegun, fresh_passes};
-ghost use Rattle.shared_store.specs.Moments.{RebuildsSafely};
+ghost use Rattle.shared_store.specs.Begin.{AllTell, IsBegun, IsUnbegun, data_of, fresh_passes};
+ghost use Rattle.shared_store.specs.Moments.{LeavesReplay, RebuildsSafely};
 ghost use Rattle.shared_store.specs.Opened.{IsLawfulOf, past_of};
 ghost use Rattle.shared_store.specs.Found.{areas_with, IsChecked, IsFound, AreFilledBy};
 ghost use Rattle.shared_store.specs.Found.{FillsSafely, IsUnsettled, IsUnfilled};
@@ -99,6 +99,8 @@ fn open<J: OfCrew, V: Vault>(
         J.workers began.store began.crew.items began.tip) }
     ensures lawful { IfOk result (λ began. IsLawfulOf (J.tells ≡ true) began.store) }
     ensures refused { IfErr result (IsUnsettled V.Vault settings.relseg areas) }
+    ensures settled { IfOk result (λ began. IsSome (V.files areas.wal)
+        → LeavesReplay (V.files areas.wal) (data_of began.store.past)) }
     ensures stops { IfOk result (λ began. FillsSafely V.Vault areas began.store.past) }
     ensures stopped { IfErr result
         (λ fault. FillsSafely V.Vault areas (past_of V.Vault fault.areas)) }
@@ -151,6 +153,8 @@ fn refill<J: OfCrew, V: Vault>(
         workers began.store began.crew.items began.tip) }
     ensures lawful { IfOk result (λ began. IsLawfulOf (J.tells ≡ true) began.store) }
     ensures refused { IfErr result (IsUnfilled V.Vault settings areas) }
+    ensures settled { IfOk result (λ began. IsSome (V.files areas.wal)
+        → LeavesReplay (V.files areas.wal) (data_of began.store.past)) }
     ensures stops { IfOk result (λ began. FillsSafely V.Vault areas began.store.past) }
     ensures stopped { IfErr result
         (λ fault. FillsSafely V.Vault areas (past_of V.Vault fault.areas)) }
@@ -198,6 +202,8 @@ fn rebuild<J: OfCrew, V: Vault>(
         workers began.store began.crew.items began.tip) }
     ensures lawful { IfOk result (λ began. IsLawfulOf (J.tells ≡ true) began.store) }
     ensures refused { IfErr result (IsUnbegun V.Vault (areas_with areas.wal areas.pages)) }
+    ensures settled { IfOk result (λ began. IsSome (V.files areas.wal)
+        → LeavesReplay (V.files areas.wal) (data_of began.store.past)) }
     ensures stops { AllTell V.Vault (areas_with areas.wal areas.pages) → IfOk result (λ began.
         RebuildsSafely V.Vault (areas_with areas.wal areas.pages) began.store.past) }
     ensures stopped { AllTell V.Vault (areas_with areas.wal areas.pages) → IfErr result (λ fault.
@@ -220,7 +226,8 @@ impl<J: OfCrew, V: Vault> Store<J, V> {
     /// areas, replays the WAL into them, and makes them durable (`data_areas`). Every refusal hands
     /// the areas back. Where the WAL can't be read no data area was touched; meanwhile the first
     /// data area has the file `rebuilding`. Whatever it answers, a stop at any moment of the call
-    /// leaves the data areas as one at its start may, or that file, or the whole replay.
+    /// leaves the data areas as one at its start may, or that file, or the whole replay, and after
+    /// Ok the whole replay alone.
     pub fn begin(
         alloc: Global,
         line: Opened<HistoryEntry>,
@@ -235,6 +242,8 @@ impl<J: OfCrew, V: Vault> Store<J, V> {
             IsBegun V.Vault areas workers began.store began.crew.items began.tip) }
         ensures lawful { IfOk result (λ began. IsLawfulOf (J.tells ≡ true) began.store) }
         ensures refused { IfErr result (IsUnbegun V.Vault areas) }
+        ensures settled { AllTell V.Vault areas → IfOk result
+            (λ began. LeavesReplay (V.files areas.wal) (data_of began.store.past)) }
         ensures stops { AllTell V.Vault areas
             → IfOk result (λ began. RebuildsSafely V.Vault areas began.store.past) }
         ensures stopped { AllTell V.Vault areas → IfErr result

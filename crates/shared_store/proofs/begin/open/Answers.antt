@@ -10,7 +10,10 @@ use Rattle.data_areas.specs.Boxed.{on_heap}
 use Rattle.data_areas.specs.Rebuilt.{held_by}
 use Rattle.data_areas.specs.Settling.{SettledSoFar}
 use Rattle.shared_store.specs.Found.{FillsSafely}
-use Rattle.shared_store.proofs.Moments.{opened_safely, unopened_safely}
+use Rattle.std.specs.Prelude.{IsSome}
+use Rattle.shared_store.specs.Begin.{data_of}
+use Rattle.shared_store.specs.Moments.{LeavesReplay}
+use Rattle.shared_store.proofs.Moments.{opened_safely, opened_durably, unopened_safely}
 use Rattle.shared_store.proofs.begin.open.Goals as goal
 
 pub new-store-requires-after_bounds : goal.new-store-requires-after_bounds
@@ -48,3 +51,9 @@ pub returns-in-Err-clause-stopped : goal.returns-in-Err-clause-stopped
 returns-in-Err-clause-stopped g c =
     unopened_safely g.V.Vault c.args.settings c.args.areas c.args.found.pen c.args.found.pages c.args.found.tip c.requires.found c.requires.filled c.relseg.result c.relseg.ensures.least c.relseg.ensures.value
     c.detach.result c.in-Err.fault.areas c.unboxed.result c.unboxed.ensures (c.detach.ensures ∙ c.attach-journal.ensures.area) c.in-Err.ensures.so_far c.in-Err.ensures.went_on
+
+pub returns-in-Ok-clause-settled : goal.returns-in-Ok-clause-settled
+returns-in-Ok-clause-settled g c =
+    subst (λ (o : Opened). IsSome (g.V.Vault.files c.args.areas.wal) → LeavesReplay (g.V.Vault.files c.args.areas.wal) (data_of o.past)) (sym c.new-store.ensures)
+    (opened_durably g.V.Vault c.args.settings c.args.areas c.args.found.pen c.args.found.pages c.args.found.tip c.requires.found c.requires.filled c.relseg.result c.relseg.ensures.least c.relseg.ensures.value
+    c.attach-journal.result.0 c.tip.inside.end.0 c.in-Ok.parts c.in-Ok.ensures.parts)

@@ -24,18 +24,18 @@ returns-clause-refused g c =
 
 pub returns-in-Err-clause-stopped : goal.returns-in-Err-clause-stopped
 returns-in-Err-clause-stopped g c told =
-    uncleared_safely g.V.Vault c.args.areas.wal c.args.areas.pages c.clear.new.areas told c.in-Err.ensures.go_on c.unboxed.result c.unboxed.ensures c.in-Err.ensures.so_far
+    uncleared_safely g.V.Vault c.args.areas.wal c.args.areas.pages c.clear.new.areas told c.requires.durable c.in-Err.ensures.go_on c.unboxed.result c.unboxed.ensures c.in-Err.ensures.so_far
 
 pub returns-clause-stops : goal.returns-clause-stops
 returns-clause-stops g c told =
     let old = c.args.areas in
     let mid : BoxedAreas g.row.V.Denot = record { wal = old.wal; pages = c.clear.new.areas } in
     on_answer c.refill.result (λ b. FillsSafely g.V.Vault mid b.store.past) (λ b. RebuildsSafely g.V.Vault (areas_with old.wal old.pages) b.store.past)
-    (λ b safe. cleared_safely g.V.Vault old.wal old.pages c.clear.new.areas told c.in_default.ensures.go_on b.store.past c.in_default.ensures.begun safe) c.refill.ensures.stops
+    (λ b safe. cleared_safely g.V.Vault old.wal old.pages c.clear.new.areas told c.requires.durable c.in_default.ensures.go_on b.store.past c.in_default.ensures.begun safe) c.refill.ensures.stops
 
 pub returns-clause-stopped : goal.returns-clause-stopped
 returns-clause-stopped g c told =
     let old = c.args.areas in
     let mid : BoxedAreas g.row.V.Denot = record { wal = old.wal; pages = c.clear.new.areas } in
     on_fault c.refill.result (λ b. FillsSafely g.V.Vault mid (past_of g.V.Vault b.areas)) (λ b. RebuildsSafely g.V.Vault (areas_with old.wal old.pages) (past_of g.V.Vault b.areas))
-    (λ b safe. cleared_safely g.V.Vault old.wal old.pages c.clear.new.areas told c.in_default.ensures.go_on (past_of g.V.Vault b.areas) c.in_default.ensures.begun safe) c.refill.ensures.stopped
+    (λ b safe. cleared_safely g.V.Vault old.wal old.pages c.clear.new.areas told c.requires.durable c.in_default.ensures.go_on (past_of g.V.Vault b.areas) c.in_default.ensures.begun safe) c.refill.ensures.stopped

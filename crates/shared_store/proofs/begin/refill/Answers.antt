@@ -1,6 +1,7 @@
 -- Cleared areas are filled by the WAL's entries; what comes of them comes of those that were cleared.
 use Rattle.std.proofs.Common.{rules, ℕ, sym, ap, subst, ◌∙◌}
-use Rattle.shared_store.specs.Begin.{IsBegun}
+use Rattle.std.specs.Prelude.{IsSome}
+use Rattle.shared_store.specs.Begin.{IsBegun, data_of}
 use Rattle.shared_store.specs.Opened.{past_of}
 use Rattle.shared_store.specs.Found.{areas_with, FillsSafely, IsUnreplayed, IsUnsettled, IsUnfilled}
 use Rattle.shared_store.specs.declared.boxing.BoxedAreas.{BoxedAreas}
@@ -10,7 +11,8 @@ use Rattle.lsn_core.specs.declared.fault.StoreFault.{StoreFault}
 use Rattle.data_areas.specs.Stored.{AreForksOf}
 use Rattle.data_areas.proofs.Turned.{on_answer, on_fault}
 use Rattle.shared_store.proofs.Refilled.{all_told, unreplayed_wal, unreplayed_pages, filled_by, unopened, begun_over}
-use Rattle.shared_store.proofs.Moments.{filled_safely, unfilled_safely}
+use Rattle.shared_store.specs.Moments.{LeavesReplay}
+use Rattle.shared_store.proofs.Moments.{filled_safely, unfilled_safely, replay_before}
 use Rattle.shared_store.proofs.begin.refill.Goals.{in-Wal, in-Out}
 use Rattle.shared_store.proofs.begin.refill.Goals as goal
 
@@ -79,3 +81,9 @@ pub returns-after-fault-clause-stopped : goal.returns-after-fault-clause-stopped
 returns-after-fault-clause-stopped g c =
     let were = subst (λ (n : ℕ). AreForksOf n c.args.areas.pages c.new-forks.result) c.relseg.ensures.value c.new-forks.ensures.areas in
     unfilled_safely g.V.Vault c.args.settings c.args.areas c.find.new.wal c.into_areas.result c.new-forks.result c.find.new.forks were c.find.ensures.kept c.into_areas.ensures c.find.ensures.reads c.unboxed-areas.result c.unboxed-areas.ensures
+
+pub returns-in-Ok-clause-settled : goal.returns-in-Ok-clause-settled
+returns-in-Ok-clause-settled g c =
+    let v = g.V.Vault in
+    on_answer c.open.result (λ b. IsSome (v.files c.find.new.wal) → LeavesReplay (v.files c.find.new.wal) (data_of b.store.past)) (λ b. IsSome (v.files c.args.areas.wal) → LeavesReplay (v.files c.args.areas.wal) (data_of b.store.past))
+    (λ b leaves. replay_before v c.args.areas.wal c.find.new.wal (data_of b.store.past) c.find.ensures.reads.files leaves) c.open.ensures.settled
