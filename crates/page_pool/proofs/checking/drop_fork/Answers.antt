@@ -1,5 +1,5 @@
 -- A fork that isn't there is taken away by doing nothing.
-use Rattle.std.proofs.Common.{ℕ, true, false, cond, ◌∷◌, ◌++◌, [], ap, sym, ◌∙◌, is_some, Option}
+use Rattle.std.proofs.Common.{ℕ, cond, ◌∷◌, ◌++◌, [], ap, sym, ◌∙◌, is_some, Option}
 use Rattle.std.specs.FinMap.{remove}
 use Rattle.history.proofs.Counts.{none_removed}
 use Rattle.page_frames.specs.Overlay.{pages_over, marks_over}

@@ -3,7 +3,7 @@ use Rattle.std.proofs.Common.{List, ap, sym, ◌∙◌}
 use Rattle.lsn_core.specs.declared.ids.ForkId.{ForkId}
 use Rattle.lsn_core.specs.Store.{Store}
 use Rattle.lsn_core.specs.Blocks.{without_fork}
-use Rattle.history.specs.Apply.{main_fork, init_fork}
+use Rattle.history.specs.Apply.{main_fork}
 use Rattle.page_frames.specs.Marks.{DirtyMarks}
 use Rattle.page_frames.specs.Overlay.{pages_over, marks_over}
 use Rattle.page_pool.specs.declared.ready.Done.{Done}

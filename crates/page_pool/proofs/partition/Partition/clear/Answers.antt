@@ -9,8 +9,8 @@ returns-clause-written g c = written_on c.args.self.now c.write_out.new.self c.g
 pub returns-clause-area : goal.returns-clause-area
 returns-clause-area g c = changes_on c.args.self.now c.write_out.new.self c.give_up-2.new.self c.write_out.ensures.area (read_changes c.write_out.new.self c.give_up-2.new.self (same_reads c.write_out.new.self c.give_up-2.new.self c.give_up-2.ensures.area))
 
-pub returns-then-clause-moments : goal.returns-then-clause-moments
-returns-then-clause-moments g c = flushed_same (MayClear c.args.self.now c.args.at.now) c.args.self.now c.give_up.new.self c.give_up.ensures.area
+pub returns-then-not-is_dirty-clause-moments : goal.returns-then-not-is_dirty-clause-moments
+returns-then-not-is_dirty-clause-moments g c = flushed_same (MayClear c.args.self.now c.args.at.now) c.args.self.now c.give_up.new.self c.give_up.ensures.area
 
 pub returns-clause-moments : goal.returns-clause-moments
 returns-clause-moments g c =

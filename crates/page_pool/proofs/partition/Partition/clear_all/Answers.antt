@@ -46,3 +46,6 @@ returns-in_err-clear-clause-moments g c =
     let inv = c.loop-at.invariant in
     flushed_on (MayClearAll a c.args.victims.now) (MayClear b c.at-item.result) a b d inv.written inv.area
     (λ m may. clear_later m a b c.at-item.result inv.written (subst (λ (at : BlockId). MayClear a at m) (sym c.at-item.is) (may c.loop-at.at-index c.at-item.result c.loop-at-test.true))) inv.moments c.in_err-clear.ensures.moments
+
+pub returns-clause-cause : goal.returns-clause-cause
+returns-clause-cause g c = record { later = c.loop-at.invariant.area.faults; failed = λ e. absurd cc }

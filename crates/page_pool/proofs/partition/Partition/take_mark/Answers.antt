@@ -15,7 +15,7 @@ pub returns-clause-marked : goal.returns-clause-marked
 returns-clause-marked g c =
     let p = c.self.inside in
     ap (λ (n : ℕ). with_flushed n (part_in {V = g.row.V.Denot} {Q = g.row.Q} g.V.Vault p)) (c.max.ensures ∙ ap (λ (l : Lsn). max p.flushed.0 l.0) c.to.ensures)
-    ∙ ap (λ (x : Part). with_flushed (max x.mark c.args.mark.now.to.0) x) c.self.view_is
+    ∙ ap (λ (x : Part). with_flushed (max x.flushed c.args.mark.now.to.0) x) c.self.view_is
 
 pub returns-clause-some : goal.returns-clause-some
 returns-clause-some g c = subst (λ (x : Part). 0 < x.relseg) c.self.view_is c.self.invariant.some
