@@ -300,9 +300,9 @@ part_left relseg from faults told part pages holds rebuilt =
 area_left : {V : Type 0} (g : Ghosts V) (relseg : ℕ) (old new : V) (pages : Store) → HoldsPages relseg (g.files old) pages → HasFilesOf g relseg (HoldsPages relseg (g.files old)) old new → LeavesNow (λ left. left ≡ files_of relseg pages) (g.past new)
 area_left g relseg old new pages holds has = left_files (g.files new) (files_of relseg pages) (g.past new) (has.tells ∙ told_by relseg (g.files old) pages holds) (has.files pages holds) has.settled
 
-left_now : (P : Files → Type 0) (past : Past) (left : Files) → LeavesNow P past → LeftNow past left → P left
-left_now P None left leaves there = absurd there
-left_now P (Some events) left leaves there = leaves left there
+left_has : (P : Files → Type 0) (past : Past) (left : Files) → LeavesNow P past → LeftNow past left → P left
+left_has P None left leaves there = absurd there
+left_has P (Some events) left leaves there = leaves left there
 
 -- after all was opened a stop leaves just the files of these pages
 pub rebuilt_leaves : {V W : Type 0} (g : Ghosts V) (relseg from : ℕ) (areas : DataAreas V) (pages : DataAreas Store) (parts : Partitions W) → AllHold g relseg areas pages → AreRebuilt g relseg from areas parts
@@ -310,10 +310,10 @@ pub rebuilt_leaves : {V W : Type 0} (g : Ghosts V) (relseg from : ℕ) (areas : 
 rebuilt_leaves {V} {W} g relseg from areas pages parts hold rebuilt left there =
     let is : Store → Files → Type 0 = λ s m. m ≡ files_of relseg s in
     record {
-      data0 = left_now (is pages.data0) parts.part0.past left.data0 (part_left relseg from (g.faults areas.data0) (g.files areas.data0) parts.part0 pages.data0 hold.data0 rebuilt.part0) there.data0;
-      data1 = left_now (is pages.data1) parts.part1.past left.data1 (part_left relseg from (g.faults areas.data1) (g.files areas.data1) parts.part1 pages.data1 hold.data1 rebuilt.part1) there.data1;
-      data2 = left_now (is pages.data2) parts.part2.past left.data2 (part_left relseg from (g.faults areas.data2) (g.files areas.data2) parts.part2 pages.data2 hold.data2 rebuilt.part2) there.data2;
-      data3 = left_now (is pages.data3) parts.part3.past left.data3 (part_left relseg from (g.faults areas.data3) (g.files areas.data3) parts.part3 pages.data3 hold.data3 rebuilt.part3) there.data3;
+      data0 = left_has (is pages.data0) parts.part0.past left.data0 (part_left relseg from (g.faults areas.data0) (g.files areas.data0) parts.part0 pages.data0 hold.data0 rebuilt.part0) there.data0;
+      data1 = left_has (is pages.data1) parts.part1.past left.data1 (part_left relseg from (g.faults areas.data1) (g.files areas.data1) parts.part1 pages.data1 hold.data1 rebuilt.part1) there.data1;
+      data2 = left_has (is pages.data2) parts.part2.past left.data2 (part_left relseg from (g.faults areas.data2) (g.files areas.data2) parts.part2 pages.data2 hold.data2 rebuilt.part2) there.data2;
+      data3 = left_has (is pages.data3) parts.part3.past left.data3 (part_left relseg from (g.faults areas.data3) (g.files areas.data3) parts.part3 pages.data3 hold.data3 rebuilt.part3) there.data3;
     }
 
 module _ {V : Type 0} (g : Ghosts V) (relseg : ℕ) (areas : DataAreas V) (pages : DataAreas Store) (some : 0 < relseg) (only : IfSome (g.files areas.data0) HasOnlyForksAndMark) (hold : AllHold g relseg areas pages) (here : LeavesNow (Has rebuilding_name) (g.past areas.data0)) where
