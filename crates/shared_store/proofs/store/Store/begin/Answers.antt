@@ -8,7 +8,7 @@ use Rattle.shared_store.specs.Moments.{LeavesReplay, RebuildsSafely}
 use Rattle.shared_store.specs.Opened.{past_of}
 use Rattle.shared_store.specs.Found.{areas_with}
 use Rattle.shared_store.proofs.Refilled.{unbegun_before}
-use Rattle.shared_store.proofs.Moments.{safely_before, tell_behind, replay_before}
+use Rattle.shared_store.proofs.Moments.{safely_before, tell_behind, replay_before, unboxed_safely, unread_safely}
 use Rattle.shared_store.proofs.store.Store.begin.Goals as goal
 
 pub returns-in-Ok-check-clause-refused : goal.returns-in-Ok-check-clause-refused
@@ -45,3 +45,10 @@ returns-in-Ok-check-clause-settled g c told =
     subst (λ (a : StoreAreas g.row.V.Denot). IfOk c.rebuild.result (λ b. LeavesReplay (v.files a.wal) (data_of b.store.past))) at
     (on_answer c.rebuild.result (λ b. IsSome (v.files c.check.new.wal) → LeavesReplay (v.files c.check.new.wal) (data_of b.store.past)) (λ b. LeavesReplay (v.files c.in-Ok.areas.wal) (data_of b.store.past))
     (λ b leaves. replay_before v c.in-Ok.areas.wal c.check.new.wal (data_of b.store.past) c.check.ensures.same leaves before.wal) c.rebuild.ensures.settled)
+
+pub returns-in-Err-clause-stopped : goal.returns-in-Err-clause-stopped
+returns-in-Err-clause-stopped g c told = unboxed_safely g.V.Vault c.args.areas c.in-Err.areas c.in-Err.ensures.back
+
+pub returns-in-Err-check-clause-stopped : goal.returns-in-Err-check-clause-stopped
+returns-in-Err-check-clause-stopped g c told =
+    unread_safely g.V.Vault c.args.areas c.in-Ok.areas.wal c.check.new.wal c.in-Ok.areas.pages c.unboxed.result c.in-Ok.ensures.boxed c.unboxed.ensures c.check.ensures.same c.check.ensures.synced
