@@ -108,8 +108,9 @@ pub record IsSoundIncrement
   pub directory : IsDirectory s
       (λ begun. incr_label start checkpoint (record { 0 = manifest.start }) begun name) when put
       start end count (Some files)
-  pub extends : (chain : List Files) (to : ℕ) → IsSoundChain s.relseg history chain manifest.start to
-      → to ≤ start.0 → IsSoundChain s.relseg history (chain ++ (files ∷ [])) start.0 end.0
+  pub extends : (chain : List Files) (to : ℕ)
+      → IsSoundChain s.relseg history chain manifest.start to → to ≤ start.0
+      → IsSoundChain s.relseg history (chain ++ (files ∷ [])) start.0 end.0
 
 -- each full backup that a run answered is a sound chain of one, for the history that the run came to
 abbrev pub FullBackupsOfRunsAreSound : Type 0

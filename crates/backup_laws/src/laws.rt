@@ -29,9 +29,9 @@ use summary_publish::honest_areas_stay_honest;
 use vault::Vault;
 
 /// What a finished backup left, full or incremental, is a directory as its manifest lists it:
-/// `verify` takes it, and so does the check before a restore. So it is of each backup that a run
-/// answered, where its areas tell their files all the while: `verify` of what the run left takes
-/// it, unless its area isn't handed out, its device fails or memory runs out.
+/// `verify` takes it, and so does the check before a restore. So it is, durably, of each backup that
+/// a run answered, where its areas tell their files all the while: `verify` of what the run left
+/// takes it, unless its area isn't handed out, its device fails or memory runs out.
 pub fn finished_backups_are_listed()
     ensures full { FinishedBackupsAreListed }
     ensures incremental { FinishedIncrementsAreListed }

@@ -440,7 +440,8 @@ LineAnswer tells b worker before now line (Published k) made held mid =
     (line ≡ command.Summarise) × (made ≡ []) × OnlyAt sums_name held mid
     × HoldsSummaries tells now b.when (held sums_name) (mid sums_name) k
 LineAnswer tells b worker before now line (CallFailed why) made held mid =
-    (made ≡ []) × (IsFlushOf line held mid ⊎ ((line ≡ command.Summarise) × OnlyAt sums_name held mid))
+    (made ≡ [])
+    × (IsFlushOf line held mid ⊎ ((line ≡ command.Summarise) × OnlyAt sums_name held mid))
 LineAnswer tells b worker before now line (Backup start end) made held mid =
     (made ≡ []) × (TakesFull tells b worker before now line start end held mid
     ⊎ TakesIncr tells b worker before now line start end held mid)

@@ -68,7 +68,8 @@ pub record LineRuns (tells : Type 0) (when : ℕ) (line : Command) (stopped : Bo
 -- a command was run that asks for no area
 abbrev pub CommandRuns : Type 0 → Command → Seen → Seen → Opened → Opened → Answer → Type 0
 CommandRuns tells line old new before behind answer =
-    (when : ℕ) (held : Areas) → LineRuns tells when line false old new before behind held held answer
+    (when : ℕ) (held : Areas)
+    → LineRuns tells when line false old new before behind held held answer
 
 -- a full backup was taken into an area, or refused, whatever other areas are held
 abbrev pub BackupRuns :

@@ -145,13 +145,13 @@ fn line_at(bytes: &[u8], at: usize) -> (&[u8], usize)
 }
 
 /// Reads a script of one worker (profile). Its lines are `worker NAME`, and behind it
-/// `create FORK`, `truncate FORK COUNT` of a main fork, `change ITEM..` of 1 to 16 items, each
-/// `FORK@BLOCK=LOWER,UPPER,FILL` or `FORK@BLOCK+PLACE:HEX,PLACE:HEX..`,
+/// `create FORK`, `truncate FORK COUNT` of a main fork, `drop DATABASE/RELATION`, `change ITEM..`
+/// of 1 to 16 items, each `FORK@BLOCK=LOWER,UPPER,FILL` or `FORK@BLOCK+PLACE:HEX,PLACE:HEX..`,
 /// `grow FORK@BLOCK COUNT LOWER,UPPER,FILL` of 1 to 65,536 blocks, `checkpoint`, `flush COUNT`
 /// of 1 to 1,000,000 pages, `summarise`, `full NAME`, and `incr NAME PRIOR` of two names that
-/// differ; words stand between spaces and tabs, and empty lines and lines that
-/// begin with `#` say nothing. Where lines are refused, the first of them is answered, counted from
-/// 1, with the first of its reasons. The bytes are fewer than 2^32, so that a line's number fits.
+/// differ; words stand between spaces and tabs, and empty lines and lines that begin with `#` say
+/// nothing. Where lines are refused, the first of them is answered, counted from 1, with the first
+/// of its reasons. The bytes are fewer than 2^32, so that a line's number fits.
 pub fn read_script(alloc: Global, bytes: &[u8]) -> Result<Script, ScriptFault>
     requires { length bytes.now < 2 ^ 32 }
     ensures { ScriptAnswer bytes.now result }

@@ -92,7 +92,8 @@ pub record IsFirstRefused (names : Names) (old new : List AreaState) (place : â„
   pub refused : DirectoryRefused was now refusal
 
 -- the members are all as listed, and make no chain
-pub record IsNoChain (names : Names) (areas : List AreaState) (refusal : ChainRefusal) : Type 0 where
+pub record IsNoChain (names : Names) (areas : List AreaState) (refusal : ChainRefusal)
+    : Type 0 where
   pub few : length names â‰¤ most_members
   pub members : List Member
   pub are : AreMembersIn names areas members

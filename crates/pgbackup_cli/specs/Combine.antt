@@ -70,7 +70,8 @@ pub record CombinesChain
 
 -- no manifest can list what the chain to this member is combined to, which is the last of the members
 -- of these names
-pub record IsUnlisted (names : Names) (old : CombineSeen) (place : ℕ) (newest : Member) : Type 0 where
+pub record IsUnlisted (names : Names) (old : CombineSeen) (place : ℕ) (newest : Member)
+    : Type 0 where
   pub last : place + 1 ≡ length names
   pub clear : IsClear old.out
   pub cause : CannotList newest.manifest

@@ -55,7 +55,8 @@ abbrev pub VerifyAnswer :
     List ℕ → Untakens → AreaState → AreaState → VerifyResult → Type 0
 VerifyAnswer name Untaken old new (Ok report) = IfSome old.files (VerifyDone name report)
 VerifyAnswer name Untaken old new (Err (verify.Site fault)) = Untaken fault
-VerifyAnswer name Untaken old new (Err (verify.Directory refusal)) = DirectoryRefused old new refusal
+VerifyAnswer name Untaken old new (Err (verify.Directory refusal)) =
+    DirectoryRefused old new refusal
 
 -- the same of the whole outside, in this area
 abbrev pub VerifyRan : List ℕ → List ℕ → Outside → Outside → VerifyResult → Type 0

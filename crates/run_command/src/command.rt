@@ -67,8 +67,9 @@ impl From<NoMemory> for RunFault {
     }
 }
 
-/// Runs a script on the store of a site with so many frames of each partition, at this moment. All memory that a refusal would need is taken
-/// before the areas are, and these are given back in any case.
+/// Runs a script on the store of a site with so many frames of each partition, at this moment. All
+/// memory that a refusal would need is taken before the areas are, and these are given back in any
+/// case.
 fn run_in<S: Site>(
     alloc: Global,
     frames: u32,

@@ -125,7 +125,8 @@ fn only_pass<J: OfCrew>(crew: Vec<Pass<J>>) -> Pass<J>
     }
 }
 
-/// Runs a script on the areas of a store, with so many frames of each partition: begins it, runs the lines, and closes it.
+/// Runs a script on the areas of a store, with so many frames of each partition: begins it, runs the
+/// lines, and closes it.
 fn run_named<J: OfCrew, V: Vault>(
     alloc: Global,
     line: Opened<HistoryEntry>,
