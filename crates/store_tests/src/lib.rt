@@ -25,4 +25,6 @@ mod partition_tests;
 #[cfg(test)]
 mod rebuild_tests;
 #[cfg(test)]
+mod stop_tests;
+#[cfg(test)]
 mod untold;

@@ -220,8 +220,17 @@ fn write(part: &mut Part, mark: &Flushed) -> Result<Writes, AreaFault> {
     }
 }
 
+/// Writes one after the other what there is, up to 16 works and pages, where the WAL is flushed so
+/// far.
+pub fn write_all(part: &mut Part, mark: &Flushed) -> Result<(), AreaFault> {
+    for _ in 0..16 {
+        write(part, mark)?;
+    }
+    Ok(())
+}
+
 /// Writes all, where the WAL is flushed so far: the redo point behind it.
-fn clean(part: &mut Part, redo: Lsn, mark: &Flushed) -> Result<Lsn, AreaFault> {
+pub fn clean(part: &mut Part, redo: Lsn, mark: &Flushed) -> Result<Lsn, AreaFault> {
     match part.newest_lsn() {
         Some(newest) if newest > mark.to() => Err(AreaFault::NoMemory),
         _ => {
@@ -291,7 +300,7 @@ fn partition(alloc: Global, fails: &[u64]) -> Result<Part, AreaFault> {
 }
 
 /// The same with so many frames.
-fn partition_of(alloc: Global, fails: &[u64], frames: u32) -> Result<Part, AreaFault> {
+pub fn partition_of(alloc: Global, fails: &[u64], frames: u32) -> Result<Part, AreaFault> {
     let area = Untold {
         area: MemVault::new(alloc, fails)?,
         changes: None,
