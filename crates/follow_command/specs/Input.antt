@@ -40,20 +40,26 @@ FeedAnswer old new room bytes (Err (input.Long n)) =
     (n ≡ most_input) × (room < length bytes) × IsFed old new (take room bytes)
 FeedAnswer old new room bytes (Err (input.Wal why)) = IsRefusedWithin old room bytes why
 
+-- it goes by the same sizes
+abbrev pub IsSizedAs : Following → Following → Type 0
+IsSizedAs old new = (new.span.mib ≡ old.span.mib) × (new.relseg ≡ old.relseg)
+
 -- a stream's WAL is refused: of a beginning of it, of at most so many bytes, or where its archive
 -- ends
 abbrev pub IsRefusedInput : Following → Following → List ℕ → FollowFault → Type 0
 IsRefusedInput old new bytes why =
     ((count : ℕ) × (count ≤ most_input)
     × RefusesStream old.span.mib old.relseg (take count bytes) why)
-    ⊎ ((length bytes ≤ most_input) × FinishGives new bytes (Err why))
+    ⊎ ((length bytes ≤ most_input) × FinishGives new bytes (Err why) × IsSizedAs old new)
 
 -- an input of these bytes was followed to its end; it failed; it has more bytes than are followed,
 -- and those are not refused; or its WAL is refused
 abbrev pub InputAnswer : Following → Following → List ℕ → Result Lsn InputFault → Type 0
 InputAnswer old new bytes (Ok end) =
     (length bytes ≤ most_input) × StandsBehind new bytes × EndsWell new bytes end
+    × IsSizedAs old new
 InputAnswer old new bytes (Err (input.Input why)) = Unit {0}
 InputAnswer old new bytes (Err (input.Long n)) =
     (n ≡ most_input) × (most_input < length bytes) × StandsBehind new (take most_input bytes)
+    × IsSizedAs old new
 InputAnswer old new bytes (Err (input.Wal why)) = IsRefusedInput old new bytes why

@@ -19,3 +19,4 @@ pub mod OneRestore
 pub mod OneCombine
 pub mod OneWalsummary
 pub mod Covered
+pub mod FollowedOut
