@@ -1,10 +1,10 @@
 -- The words of `follow`, option by option.
-use Rattle.std.proofs.Common.{◌≡◌, ℕ, ◌<◌, Bool, true, false, List, [], ◌∷◌, length, Option, Some, None, refl, ap, sym, subst, ◌∙◌, arith}
+use Rattle.std.proofs.Common.{◌≡◌, ℕ, ◌<◌, Bool, true, false, List, [], ◌∷◌, length, Option, Some, None, ap, sym, ◌∙◌, arith}
 use Rattle.std.specs.Prelude.{if◌then◌else◌}
 use Rattle.byte_words.specs.Numbers.{◌>>=◌}
 use Rattle.command_line.specs.declared.options.InitOptions.{InitOptions}
 use Rattle.command_line.specs.Options.{with_option}
-use Rattle.command_line.specs.Words.{Asked, is_follow_option, follow_to, follow_named, follow_in, next_option}
+use Rattle.command_line.specs.Words.{Asked, is_follow_option, follow_named, follow_in, next_option}
 
 abbrev Next : Type 0
 Next = (List ℕ × List ℕ) × List (List ℕ)
@@ -14,6 +14,7 @@ value_of d None = d
 value_of d (Some o) = o
 
 same_next : (o p : Next) → ◌≡◌ {A = Option Next} (Some o) (Some p) → o ≡ p
+unfolding value_of
 same_next o p e = ap (value_of o) e
 
 none_some : (p : Next) → ◌≡◌ {A = Option Next} None (Some p) → ⊥
@@ -23,7 +24,8 @@ choose : Bool → Next → Option Next
 choose b o = if b then Some o else None
 
 -- an option, its value and the words behind them
-pub option_more : (given : InitOptions) (words : List (List ℕ)) (o : Next) → next_option words ≡ Some o → follow_in given words ≡ (with_option given o.0.0 o.0.1 >>= λ next. follow_in next o.1)
+option_more : (given : InitOptions) (words : List (List ℕ)) (o : Next) → next_option words ≡ Some o → follow_in given words ≡ (with_option given o.0.0 o.0.1 >>= λ next. follow_in next o.1)
+unfolding choose
 option_more given [] o e = absurd (none_some o e)
 option_more given (word ∷ []) o e = absurd (none_some o e)
 option_more given (word ∷ (value ∷ words)) o e = go (is_follow_option word) e
@@ -31,23 +33,6 @@ option_more given (word ∷ (value ∷ words)) o e = go (is_follow_option word) 
     go : (b : Bool) → choose b ((word, value), words) ≡ Some o → (if b then (with_option given word value >>= λ more. follow_in more words) else follow_named given word (value ∷ words)) ≡ (with_option given o.0.0 o.0.1 >>= λ next. follow_in next o.1)
     go true found = ap (λ (n : Next). with_option given n.0.0 n.0.1 >>= λ next. follow_in next n.1) (same_next ((word, value), words) o found)
     go false found = absurd (none_some o found)
-
--- or the output's name, and the other options behind it
-pub option_last : (given : InitOptions) (words : List (List ℕ)) (name : List ℕ) (others : List (List ℕ)) → next_option words ≡ None → words ≡ name ∷ others → follow_in given words ≡ follow_named given name others
-option_last given words name others none is =
-    ap (follow_in given) is ∙ go others (ap next_option (sym is) ∙ none)
-  where
-    go : (behind : List (List ℕ)) → next_option (name ∷ behind) ≡ None → follow_in given (name ∷ behind) ≡ follow_named given name behind
-    go [] e = refl
-    go (value ∷ words) e = pick (is_follow_option name) e
-      where
-        pick : (b : Bool) → choose b ((name, value), words) ≡ None → (if b then (with_option given name value >>= λ more. follow_in more words) else follow_named given name (value ∷ words)) ≡ follow_named given name (value ∷ words)
-        pick true found = absurd (none_some ((name, value), words) (sym found))
-        pick false found = refl
-
--- or nothing
-pub option_none : (given : InitOptions) (words : List (List ℕ)) → words ≡ [] → None ≡ follow_in given words
-option_none given words is = sym (ap (follow_in given) is)
 
 -- ---- in the loop
 
@@ -61,10 +46,13 @@ pub option_refused : (given : InitOptions) (words : List (List ℕ)) (name value
 option_refused given words name value behind all so_far is refused =
     sym (so_far ∙ option_more given words ((name, value), behind) is ∙ ap (λ (o : Option InitOptions). o >>= λ more. follow_in more behind) (sym refused))
 
--- the output's name
-pub name_found : (given : InitOptions) (words : List (List ℕ)) (name : List ℕ) (others : List (List ℕ)) (all came : Option Asked) → all ≡ follow_in given words → next_option words ≡ None → words ≡ name ∷ others → came ≡ follow_named given name others → came ≡ all
-name_found given words name others all came so_far none is named = named ∙ sym (so_far ∙ option_last given words name others none is)
-
--- or none
-pub name_missing : (given : InitOptions) (words : List (List ℕ)) (all : Option Asked) → all ≡ follow_in given words → words ≡ [] → None ≡ all
-name_missing given words all so_far is = sym (so_far ∙ sym (option_none given words is))
+-- an option takes two words at least
+pub words_fewer : (words : List (List ℕ)) (o : Next) → next_option words ≡ Some o → length o.1 < length words
+unfolding choose
+words_fewer [] o e = absurd (none_some o e)
+words_fewer (word ∷ []) o e = absurd (none_some o e)
+words_fewer (word ∷ (value ∷ words)) o e = go (is_follow_option word) e
+  where
+    go : (b : Bool) → choose b ((word, value), words) ≡ Some o → length o.1 < length (word ∷ (value ∷ words))
+    go true found = let e = ap (λ (n : Next). length n.1) (same_next ((word, value), words) o found) in omega (arith, e)
+    go false found = absurd (none_some o found)

@@ -2,8 +2,8 @@
 //!
 //! `command_of` takes the words of a command and its options, or none exactly where they aren't
 //! taken; `specs/Words.antt` and `specs/Options.antt` say which words are: the command, its options
-//! each with a value and at most once, and then the other words; and `specs/Follow.antt` which
-//! `follow` has.
+//! each with a value and at most once, and then the other words. Of `follow` the options may stand
+//! behind the other word too.
 //!
 //! Left to others: which characters a name has (`crew`), how numbers and LSNs are written
 //! (`text_numbers`, `lsn_core`), and what a command does (`pgbackup_cli`).

@@ -37,8 +37,8 @@ pub enum Command<'a> {
     /// What the kept summaries tell of the range from the first place to below the second, which is
     /// past it.
     Walsummary(Lsn, Lsn),
-    /// The WAL whose stream the input is replayed to an output of this name: its segments have this
-    /// size, and so many blocks of a fork go into a segment of its files, 1 to 131072.
+    /// The WAL whose stream the input is, replayed to an output of this name: its segments have this
+    /// size, and so many blocks of a fork go into one file, 1 to 131072.
     Follow(SegSize, u32, &'a [u8]),
 }
 
