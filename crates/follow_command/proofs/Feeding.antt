@@ -11,7 +11,7 @@ use Rattle.wal_follow.specs.declared.fault.FollowFault.TheVariants as follow
 use Rattle.wal_follow.specs.Following.{Following, StandsBehind, FollowsTo, FollowsOn, RefusesStream, FinishGives}
 use Rattle.follow_command.specs.declared.input.InputFault.{InputFault}
 use Rattle.follow_command.specs.declared.input.InputFault.TheVariants as input
-use Rattle.follow_command.specs.Input.{most_input, IsInputFront, IsFed, FeedAnswer, InputAnswer, IsSizedAs}
+use Rattle.follow_command.specs.Input.{most_input, IsInputFront, IsFed, FeedAnswer, InputAnswer, IsSizedAs, HasRead}
 
 -- ---- a read
 
@@ -169,7 +169,7 @@ torn old now next last (Some bytes) rest total why fed answer same gives =
     let within = fed.within in
     let size = all.1 in
     let stands : StandsBehind next bytes = subst (λ (f : Following). StandsBehind f bytes) (sym here.1) (subst (StandsBehind now) all.0 fed.told.stands) in
-    inr (omega (arith, within, size), subst (λ (f : Following). FinishGives f bytes (Err why)) (sym same) (as_before next bytes why (gives bytes stands)), subst (IsSizedAs old) (sym same) (subst (IsSizedAs old) (sym here.1) (fed.told.mib, fed.told.relseg)))
+    inr (omega (arith, within, size), subst (λ (f : Following). FinishGives f bytes (Err why)) (sym same) (as_before next bytes why (gives bytes stands)), subst (IsSizedAs old) (sym same) (subst (IsSizedAs old) (sym here.1) (fed.told.mib, fed.told.relseg)), subst (λ (f : Following). HasRead f bytes) (sym same) (stands.rs, stands.followed))
   where
     as_before : (f : Following) (bytes : List ℕ) (why : FollowFault) → FinishGives f bytes (Err why) → FinishGives (record f { fault = Some why }) bytes (Err why)
     as_before f bytes (follow.Damaged d) is = is

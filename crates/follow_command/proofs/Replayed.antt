@@ -16,6 +16,7 @@ use Rattle.wal_reader.specs.Cursor.{IsReached}
 use Rattle.wal_reader.specs.Wal.{ReadsOn, IsWal, IsDamaged}
 use Rattle.wal_reader.proofs.Passing.{reads_tip, stands_given, wal_reached}
 use Rattle.wal_reader.proofs.Reached.{first_reached}
+use Rattle.wal_reader.proofs.OneReading.{ends_or_is_damaged, one_damage}
 use Rattle.history.specs.Apply.{apply_all}
 use Rattle.history.specs.Whole.{entry_of}
 use Rattle.recovery.specs.declared.replaying.ReadWal.{ReadWal}
@@ -24,13 +25,13 @@ use Rattle.recovery.specs.Replay.{last_end, Reads, IsRead, IsReadWal}
 use Rattle.recovery.proofs.SoFar.{all_kept}
 use Rattle.stream_laws.specs.Streams.{stream_files}
 use Rattle.stream_laws.specs.Waiting.{IsCutShort}
-use Rattle.follow_laws.specs.Followed.{stream_settings, behind_in, IsFollowed, IsUnfollowed, Damaged, BadDelta, RefusesFound, RefusalsStay}
+use Rattle.follow_laws.specs.Followed.{stream_settings, behind_in, AwaitsMore, IsFollowed, IsUnfollowed, Damaged, BadDelta, RefusesFound, RefusalsStay}
 use Rattle.wal_follow.specs.Following.{Following, StandsBehind, EndsWell, RefusesStream, FinishGives, new_following}
 use Rattle.wal_follow.specs.declared.fault.FollowFault.{FollowFault}
 use Rattle.wal_follow.specs.declared.fault.FollowFault.TheVariants as follow
 use Rattle.follow_command.specs.declared.input.InputFault.{InputFault}
 use Rattle.follow_command.specs.declared.input.InputFault.TheVariants as input
-use Rattle.follow_command.specs.Input.{most_input, InputAnswer, IsRefusedInput, IsSizedAs}
+use Rattle.follow_command.specs.Input.{most_input, InputAnswer, IsRefusedInput, IsSizedAs, HasRead}
 use Rattle.follow_command.specs.Followed.{IsReplayed, IsReadStream, IsDamagedStream, IsLongStream, IsRefusedStream, StreamAnswer, followed}
 
 -- ---- a WAL that is read whole
@@ -100,6 +101,8 @@ damaged_so mib relseg bytes d un = go (behind_in mib relseg (followed bytes) un.
     go : (found : Found) → behind_in mib relseg (followed bytes) un.tip ≡ found → RefusesFound un.store found (Damaged d) → IsDamagedStream mib relseg bytes d
     go (Bad e) is refused = record {
       rs = un.rs;
+      store = un.store;
+      makes = un.read.makes;
       damaged = record { tip = un.tip; walk = un.read.walk; broken = is ∙ ap (λ (x : Damage). Bad x) (sym refused.0) };
       whole = λ cut. absurd (refused.1 (subst IsCutShort refused.0 cut));
     }
@@ -118,14 +121,25 @@ refused_so stay mib relseg count bytes follow.NoMemory some few un = tt
 all_followed : (bytes : List ℕ) → length bytes ≤ most_input → bytes ≡ followed bytes
 all_followed bytes few = sym (take_all most_input bytes few)
 
-ends_so : (f : Following) (bytes : List ℕ) (why : FollowFault) → length bytes ≤ most_input → FinishGives f bytes (Err why) → IsRefusedStream f.span.mib f.relseg bytes why
-ends_so f bytes (follow.Damaged d) few ends = record {
+-- what is damaged is so behind the entries that were read
+damaged_behind : (mib relseg : ℕ) (bytes : List ℕ) (rs qs : List Record) (tip : Tip) (store : Store) (d : Damage) → IsFollowed mib relseg bytes rs tip store → IsDamaged (stream_settings mib relseg bytes) (stream_files mib bytes) qs d → qs ≡ rs
+damaged_behind mib relseg bytes rs qs tip store d is damaged = go (behind_in mib relseg bytes tip) refl is.waits
+  where
+    go : (found : Found) → behind_in mib relseg bytes tip ≡ found → AwaitsMore found → qs ≡ rs
+    go End ends waits = absurd (ends_or_is_damaged (stream_settings mib relseg bytes) (stream_files mib bytes) rs qs tip d (record { walk = is.read.walk; ended = ends }) damaged)
+    go (Gives r) gives waits = absurd waits
+    go (Bad e) breaks waits = (one_damage (stream_settings mib relseg bytes) (stream_files mib bytes) qs rs d e damaged (record { tip = tip; walk = is.read.walk; broken = breaks })).0
+
+ends_so : (f : Following) (bytes : List ℕ) (why : FollowFault) → length bytes ≤ most_input → HasRead f bytes → FinishGives f bytes (Err why) → IsRefusedStream f.span.mib f.relseg bytes why
+ends_so f bytes (follow.Damaged d) few read ends = record {
   rs = ends.0;
+  store = f.store;
   damaged = subst (λ (l : List ℕ). IsDamaged (stream_settings f.span.mib f.relseg l) (stream_files f.span.mib l) ends.0 d) (all_followed bytes few) ends.1;
+  makes = ap (λ (es : List Record). apply_all empty (map entry_of es)) (damaged_behind f.span.mib f.relseg bytes read.0 ends.0 f.tip f.store d read.1 ends.1) ∙ read.1.read.makes;
   whole = λ cut. few;
 }
-ends_so f bytes (follow.BadDelta at) few ends = absurd ends
-ends_so f bytes follow.NoMemory few ends = tt
+ends_so f bytes (follow.BadDelta at) few read ends = absurd ends
+ends_so f bytes follow.NoMemory few read ends = tt
 
 module _ (stay : RefusalsStay) (mib relseg : ℕ) (size : IsSegmentMib mib) (old new : Following) (is_mib : old.span.mib ≡ mib) (is_relseg : old.relseg ≡ relseg) where
   sized : IsSizedAs old new → (P : ℕ → ℕ → Type 0) → P new.span.mib new.relseg → P mib relseg
@@ -138,7 +152,7 @@ module _ (stay : RefusalsStay) (mib relseg : ℕ) (size : IsSegmentMib mib) (old
   refused_input bytes why (inl early) =
       refused_so stay mib relseg early.0 bytes why size.least early.1 (at_sizes old mib relseg (λ m r. RefusesStream m r (take early.0 bytes) why) is_mib is_relseg early.2)
   refused_input bytes why (inr late) =
-      sized late.2 (λ m r. IsRefusedStream m r bytes why) (ends_so new bytes why late.0 late.1)
+      sized late.2 (λ m r. IsRefusedStream m r bytes why) (ends_so new bytes why late.0 late.3 late.1)
 
   pub came_well : (bytes : List ℕ) (end : Lsn) → InputAnswer old new bytes (Ok end) → IsReplayed mib relseg bytes new end
   came_well bytes end answer =

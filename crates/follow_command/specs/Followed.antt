@@ -1,12 +1,15 @@
 -- What an input comes to that is followed as the stream of a WAL: what a replay of the stream's
 -- archive comes to.
-use Rattle.std.specs.Prelude.{◌≡◌, ℕ, ◌<◌, ◌≤◌, List, length, take, Some, None, Result, Ok, Err}
+use Rattle.std.specs.Prelude.{◌≡◌, ℕ, ◌<◌, ◌≤◌, List, length, map, take, Some, None, Result, Ok, Err}
+use Rattle.std.specs.FinMap.{empty}
 use Rattle.lsn_core.specs.Store.{Store}
 use Rattle.lsn_core.specs.Tip.{Tip}
 use Rattle.lsn_core.specs.declared.lsn.Lsn.{Lsn}
 use Rattle.wal_record.specs.declared.record.Record.{Record}
 use Rattle.wal_archive.specs.declared.fault.Damage.{Damage}
 use Rattle.wal_reader.specs.Wal.{IsDamaged}
+use Rattle.history.specs.Apply.{apply_all}
+use Rattle.history.specs.Whole.{entry_of}
 use Rattle.recovery.specs.declared.replaying.ReadWal.{ReadWal}
 use Rattle.recovery.specs.Replay.{IsReadWal}
 use Rattle.stream_laws.specs.Streams.{stream_files}
@@ -36,12 +39,14 @@ pub record IsReplayed (mib relseg : ℕ) (bytes : List ℕ) (f : Following) (end
 abbrev pub followed : List ℕ → List ℕ
 followed bytes = take most_input bytes
 
--- the archive of those is damaged so, as a replay of it finds; it ends within an entry or a head only
--- where they are all
+-- the archive of those is damaged so, as a replay of it finds, behind entries that can be applied; it
+-- ends within an entry or a head only where they are all
 pub record IsDamagedStream (mib relseg : ℕ) (bytes : List ℕ) (d : Damage) : Type 0 where
   pub rs : List Record
+  pub store : Store
   pub damaged : IsDamaged (stream_settings mib relseg (followed bytes))
       (stream_files mib (followed bytes)) rs d
+  pub makes : apply_all empty (map entry_of rs) ≡ Some store
   pub whole : IsCutShort d → length bytes ≤ most_input
 
 -- there are more bytes than are followed, and those are not refused

@@ -20,3 +20,4 @@ pub mod OneCombine
 pub mod OneWalsummary
 pub mod Covered
 pub mod FollowedOut
+pub mod OneFollow

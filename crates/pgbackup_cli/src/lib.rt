@@ -37,8 +37,8 @@ pub use command_base::Status;
 pub use follow::{FollowFault, follow_does_as_replay};
 pub use init::InitFault;
 pub use laws::{
-    combine_has_one_answer, init_has_one_answer, replay_has_one_answer, restore_has_one_answer,
-    runs_begin_alike, verify_has_one_answer, walsummary_has_one_answer,
+    combine_has_one_answer, follow_has_one_answer, init_has_one_answer, replay_has_one_answer,
+    restore_has_one_answer, runs_begin_alike, verify_has_one_answer, walsummary_has_one_answer,
 };
 pub use replay::ReplayFault;
 pub use restore::RestoreFault;
