@@ -1,10 +1,10 @@
 -- A store put fork by fork, and a fork block by block.
-use Rattle.std.proofs.Common.{◌≡◌, ℕ, zero, suc, ◌+◌, ◌-◌, ◌<◌, ◌≤◌, Bool, true, false, cond, T, ◌&&◌, List, [], ◌∷◌, ◌++◌, length, map, sum, take, drop, get_or, Option, Some, None, IfSome, unwrap_or, is_some, option_map, refl, sym, ap, subst, ◌∙◌, drop-cons, arith}
+use Rattle.std.proofs.Common.{◌≡◌, ℕ, suc, ◌+◌, ◌-◌, ◌<◌, ◌≤◌, Bool, true, false, cond, T, ◌&&◌, List, [], ◌∷◌, ◌++◌, length, map, sum, take, drop, get_or, Option, Some, None, IfSome, unwrap_or, is_some, option_map, refl, sym, ap, subst, ◌∙◌, drop-cons, arith}
 use Rattle.std.specs.Prelude.{slice_get, slice_set, replicate}
 use Rattle.std.specs.declared.cmp.Ordering.{Ordering}
 use Rattle.std.specs.declared.cmp.Ordering.TheVariants.{Less, Equal, Greater}
 use Rattle.std.specs.Ordering.{is_lt, is_eq, ordering_reverse, eq_by_cmp}
-use Rattle.std.specs.FinMap.{empty, find, get, insert, contains_key, keys, entries, entries_sorted, is_sorted, from_entries, from_entries_push, get-from_entries, get-entries, same_map, len, len-entries}
+use Rattle.std.specs.FinMap.{empty, find, get, insert, keys, entries, entries_sorted, is_sorted, from_entries, from_entries_push, get-from_entries, get-entries, same_map, len, len-entries}
 use Rattle.std.specs.FinMap.Entries.{below_all}
 use Rattle.std.proofs.lemmas.List.{take_all, take-append-drop, get_or-map, map-append, length-take, length-map}
 use Rattle.std.proofs.Math.Seq.{take-suc, set-append_seam}
@@ -16,7 +16,7 @@ use Rattle.history.specs.Apply.{is_same_fork}
 use Rattle.lsn_core.specs.declared.ids.BlockId.{BlockId}
 use Rattle.lsn_core.specs.declared.ids.ForkId.{ForkId}
 use Rattle.lsn_core.specs.declared.ids.ForkLen.{ForkLen}
-use Rattle.lsn_core.specs.Blocks.{block_of, block_count, pages_of, with_block, with_fork, page_put}
+use Rattle.lsn_core.specs.Blocks.{block_of, pages_of, with_block, with_fork, page_put}
 use Rattle.lsn_core.specs.Store.{Store, ForkPages, fork_cmp}
 use Rattle.lsn_core.proofs.ForkOrder.{fork_cmp_total, fork_cmp-IsAntisymmetric}
 use Rattle.history.specs.Pages.{page_count}

@@ -8,7 +8,7 @@ use Rattle.lsn_core.specs.Files.{Files}
 use Rattle.lsn_core.specs.Store.{Store, fork_cmp, files_of}
 use Rattle.lsn_core.specs.declared.fault.AreaFault.{AreaFault}
 use Rattle.vault.specs.Area.{Related}
-use Rattle.vault.specs.Frame.{AgreeBut, ChangesOnly, IsDurable}
+use Rattle.vault.specs.Frame.{AgreeBut, IsDurable}
 use Rattle.vault.specs.declared.area.Vault.{Ghosts}
 use Rattle.rel_files.specs.Forks.{IsForkPath, Holds, HasWholePages}
 use Rattle.rel_files.specs.Shown.{AreFilesOf, HoldsStore, ShowsStore, KeepsOthers}

@@ -1,8 +1,7 @@
 -- What an input comes to, in the words of a replay of its archive.
-use Rattle.std.proofs.Common.{◌≡◌, ℕ, ◌<◌, ◌≤◌, ◌⊎◌, inl, inr, List, [], ◌∷◌, ◌++◌, map, length, take, drop, Option, Some, None, IfSome, Result, Ok, Err, refl, sym, ap, subst, ◌∙◌, arith}
+use Rattle.std.proofs.Common.{◌≡◌, ℕ, ◌≤◌, inl, inr, List, [], ◌∷◌, ◌++◌, map, length, take, drop, Some, None, Ok, Err, refl, sym, ap, subst, ◌∙◌, arith}
 use Rattle.std.specs.FinMap.{empty}
-use Rattle.std.proofs.lemmas.List.{take_all, take-append-drop, drop-drop, take-take}
-use Rattle.byte_words.specs.Told.{when_told}
+use Rattle.std.proofs.lemmas.List.{take_all, take-append-drop, take-take}
 use Rattle.lsn_core.specs.Files.{Files}
 use Rattle.lsn_core.specs.Segment.{IsSegmentMib, StoreSettings}
 use Rattle.lsn_core.specs.Store.{Store}
@@ -26,13 +25,13 @@ use Rattle.recovery.proofs.SoFar.{all_kept}
 use Rattle.stream_laws.specs.Streams.{stream_files}
 use Rattle.stream_laws.specs.Waiting.{IsCutShort}
 use Rattle.follow_laws.specs.Followed.{stream_settings, behind_in, AwaitsMore, IsFollowed, IsUnfollowed, Damaged, BadDelta, RefusesFound, RefusalsStay}
-use Rattle.wal_follow.specs.Following.{Following, StandsBehind, EndsWell, RefusesStream, FinishGives, new_following}
+use Rattle.wal_follow.specs.Following.{Following, EndsWell, RefusesStream, FinishGives}
 use Rattle.wal_follow.specs.declared.fault.FollowFault.{FollowFault}
 use Rattle.wal_follow.specs.declared.fault.FollowFault.TheVariants as follow
 use Rattle.follow_command.specs.declared.input.InputFault.{InputFault}
 use Rattle.follow_command.specs.declared.input.InputFault.TheVariants as input
 use Rattle.follow_command.specs.Input.{most_input, InputAnswer, IsRefusedInput, IsSizedAs, HasRead}
-use Rattle.follow_command.specs.Followed.{IsReplayed, IsReadStream, IsDamagedStream, IsLongStream, IsRefusedStream, StreamAnswer, followed}
+use Rattle.follow_command.specs.Followed.{IsReplayed, IsDamagedStream, IsRefusedStream, StreamAnswer, followed}
 
 -- ---- a WAL that is read whole
 

@@ -1,5 +1,5 @@
 -- One fork behind the other.
-use Rattle.std.proofs.Common.{ℕ, ◌+◌, refl, ◌∙◌, arith}
+use Rattle.std.proofs.Common.{◌+◌, refl, ◌∙◌, arith}
 use Rattle.follow_command.proofs.Copies.{front_start, front_more, pages_more, all_copied}
 use Rattle.follow_command.proofs.output.copy_store.Goals as goal
 
