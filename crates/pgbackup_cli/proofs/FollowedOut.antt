@@ -1,5 +1,5 @@
 -- What a stream that was followed leaves in an area that was empty.
-use Rattle.std.proofs.Common.{true, ◌≡◌, ℕ, ◌≤◌, List, [], ◌∷◌, Option, Some, None, IfSome, IfOk, option_map, Result, Ok, Err, refl, ap, sym, subst, ◌∙◌, arith}
+use Rattle.std.proofs.Common.{Bool, true, ◌≡◌, ℕ, ◌≤◌, List, [], ◌∷◌, Option, Some, None, IfSome, IfOk, option_map, Result, Ok, Err, refl, ap, sym, subst, ◌∙◌, arith}
 use Rattle.std.specs.FinMap.{empty, len}
 use Rattle.byte_words.specs.Told.{when_told}
 use Rattle.lsn_core.specs.Causes.{HasCause, Rose}
@@ -42,9 +42,9 @@ failed_so : (why : AreaFault) → why ≡ Failed → ◌≡◌ {A = Result Writt
 failed_so why is = ap (λ (w : AreaFault). Err w) is
 
 -- a clear area
-pub clear_now : (told : Option Files) → TellsClear told true → IfSome told (λ m. m ≡ empty)
-clear_now None tells = tt
-clear_now (Some m) tells = tells.0 tt
+pub clear_now : (told : Option Files) (clear : Bool) → clear ≡ true → TellsClear told clear → IfSome told (λ m. m ≡ empty)
+clear_now None clear is tells = tt
+clear_now (Some m) clear is tells = tells.0 is
 
 module _ {V I : Type 0} (g : Vaults V) (i : Sources I) (mib relseg : ℕ) where
   done : (bytes : List ℕ) (out mid now : V) (f : Following) (end : Lsn) (w : Written) → IsReplayed mib relseg bytes f end → IsClear (state_in g out) → g.files mid ≡ g.files out → IsMade g relseg f.store mid now w
@@ -68,16 +68,15 @@ module _ {V I : Type 0} (g : Vaults V) (i : Sources I) (mib relseg : ℕ) where
   -- a stream isn't followed
   pub stream_refused : (out mid : V) (input input_now : I) (why : InputFault) → IfSome (i.left input) (λ bytes. StreamAnswer mib relseg bytes (Err why)) → IsClear (state_in g out) → g.files mid ≡ g.files out → (◌≡◌ {A = Result (Following × Lsn) InputFault} (Err why) (Err (stream.Input Failed)) → Rose (i.faults input) (i.faults input_now))
       → AnswersFollow g i mib relseg out input mid input_now (Err (unfollowed mib why))
-  stream_refused out mid input input_now (stream.Input Failed) answer clear same failed = (failed refl, clear, same)
-  stream_refused out mid input input_now (stream.Input NoMemory) answer clear same failed = (tt, clear, same)
-  stream_refused out mid input input_now (stream.Long most) answer clear same failed = (answer, clear, same)
+  stream_refused out mid input input_now (stream.Input Failed) answer clear same failed = (failed refl, (clear, same))
+  stream_refused out mid input input_now (stream.Input NoMemory) answer clear same failed = (tt, (clear, same))
+  stream_refused out mid input input_now (stream.Long most) answer clear same failed = (answer, (clear, same))
   stream_refused out mid input input_now (stream.Wal (follow.Damaged d)) answer clear same failed = (
     when_told (i.left input) (λ bytes. IsRefusedStream mib relseg bytes (follow.Damaged d)) (IsUnfollowed mib relseg (wal.Damaged mib d)) (λ bytes refused. (refl, refused)) answer,
-    clear,
-    same,
+    (clear, same),
   )
-  stream_refused out mid input input_now (stream.Wal (follow.BadDelta at)) answer clear same failed = (answer, clear, same)
-  stream_refused out mid input input_now (stream.Wal follow.NoMemory) answer clear same failed = (answer, clear, same)
+  stream_refused out mid input input_now (stream.Wal (follow.BadDelta at)) answer clear same failed = (answer, (clear, same))
+  stream_refused out mid input input_now (stream.Wal follow.NoMemory) answer clear same failed = (answer, (clear, same))
 
   -- the pages of a stream that was followed were written, or that failed
   pub followed_out : (out mid now : V) (input input_now : I) (f : Following) (end : Lsn) (came : Result Written AreaFault) → AnswersStream g i mib relseg out input mid input_now (Ok (f, end)) → IfOk came (IsMade g relseg f.store mid now) → HasCause (g.faults mid) (g.faults now) came → g.faults out ≤ g.faults mid
