@@ -12,6 +12,7 @@ times within an entry's or a page's head; zeros or other bytes put behind it, or
 another segment size; or followed to an output that holds a file.
 A refusal of `follow` is that of `replay`, but for a delta that can't be applied, which `follow` tells before damage
 that stands behind it.
+Once, streams of as many bytes as are followed, and of one more, are a short archive with zeros behind it.
 Not part of the gate. Skipped where the independent implementation (PGBACKUP_ORACLE) isn't there.
 """
 import os
@@ -20,9 +21,11 @@ import subprocess
 import time
 
 from archives import segments, write_archive
-from common import compare, files, oracle
+from common import SEGMENT, compare, files, oracle, program
 
 MIB = 1 << 20
+# The most bytes of an input that are followed.
+MOST = 256 * MIB
 
 
 def pieces_of(rnd, stream):
@@ -155,8 +158,33 @@ def once(path, rnd, stream, mib, blocks, said):
     return found
 
 
+def long_streams(path):
+    """What differs of the longest streams."""
+    for words, script in ((["init", "--segment-mib", "1", "--system-id", "7"], b""), (["run"], b"worker w\ncreate 5/16384\n")):
+        program(path, words, script)
+    with open("wal/" + SEGMENT, "rb") as f:
+        stream = f.read()
+    turned = bytearray(stream)
+    turned[0x60 + 24] ^= 1
+    found = []
+    for front, more, wanted in ((stream, 0, "followed 0/100090 1 0"), (stream, 1, "refused 18 InputLong %d" % MOST),
+                                (bytes(turned), 1, "refused 11 WalDamaged 0/100060 Crc")):
+        shutil.rmtree("o", ignore_errors=True)
+        ran = follow(path, ["follow", "--segment-mib", "1", "p"], [front, bytes(MOST - len(front) + more)], False)
+        if ran != (0 if wanted.startswith("followed") else 1, [wanted]):
+            found.append("of %d bytes: %s, and not %s" % (MOST + more, ran, wanted))
+    for folder in ("wal", "data0", "data1", "data2", "data3", "sums", "o"):
+        shutil.rmtree(folder, ignore_errors=True)
+    return found
+
+
+LONG = [long_streams]
+
+
 def one_run(path, rnd):
     """What differs, as a list of texts."""
+    if LONG:
+        return LONG.pop()(path) + one_run(path, rnd)
     places = write_archive(rnd) or []
     stream = stream_of() if segments() else b""
     blocks = rnd.choice([1, 2, 3, 7, 131072])
