@@ -24,6 +24,7 @@ conformance: build
 	python3 conformance/run.py bin/pgbackup 500
 	python3 conformance/limits.py bin/pgbackup 1
 	python3 conformance/archives.py bin/pgbackup 500
+	python3 conformance/follows.py bin/pgbackup 500
 	python3 conformance/faults.py bin/pgbackup
 	python3 conformance/backups.py bin/pgbackup 150
 	python3 conformance/restores.py bin/pgbackup 60

@@ -1,4 +1,4 @@
-"""Measures what `run` writes and `replay` reads, beside the system's own tools.
+"""Measures what `run` writes, and `replay` and `follow` read, beside the system's own tools.
 
     python3 bench/wal.py PROGRAM ARCHIVE [ROUNDS [OLD]]
 
@@ -87,8 +87,16 @@ def print_replay(best):
               (best.times("old"), best.memory["old"], best.ratio("replay", "old")))
 
 
+def followed(best, program):
+    """Takes one `follow` of the stream of the WAL into a new output."""
+    shutil.rmtree("o/f", ignore_errors=True)
+    with open("stream", "rb") as stream:
+        best.take("follow", [program, "follow", "f"], stream)
+
+
 def images(program, archive, rounds, old):
-    """About 256 MiB of full-page images: written by `run`, read by `replay`, and by that of another program."""
+    """About 256 MiB of full-page images: written by `run`, read by `replay`, and by that of another program, and as a
+    stream by `follow`."""
     best = Best()
     with open("script", "w") as script:
         script.write("worker w\ncreate 5/16384\n")
@@ -101,6 +109,10 @@ def images(program, archive, rounds, old):
             best.take("run", [program, "run"], script)
         mib = size("wal") / MIB
         best.take("dd", ["dd", "if=/dev/zero", "of=zeros", "bs=1M", "count=%d" % round(mib), "conv=fsync", "status=none"])
+    with open("stream", "wb") as stream:
+        for name in segments():
+            with open(name, "rb") as segment:
+                shutil.copyfileobj(segment, stream)
     for _ in range(rounds):
         shutil.rmtree("copy", ignore_errors=True)
         if old:
@@ -108,6 +120,7 @@ def images(program, archive, rounds, old):
         replays(best, "replay", program)
         best.take("sum", [archive, "sum"] + segments())
         best.take("cp", ["cp", "-r", "o/p", "copy"])
+        followed(best, program)
     print("%d page images, %.0f MiB of WAL" % (PAGES, mib))
     print("run     %s, %.0f MB/s, %.0f MiB of memory" %
           (best.times("run"), mib * MIB / best.seconds["run"] / 1e6, best.memory["run"]))
@@ -115,6 +128,8 @@ def images(program, archive, rounds, old):
     print_replay(best)
     print("sum     %s, cp %s: replay takes %s both" %
           (best.times("sum"), best.times("cp"), best.ratio("replay", "sum", "cp")))
+    print("follow  %s, %.0f MiB of memory: it takes %s replay and cp" %
+          (best.times("follow"), best.memory["follow"], best.ratio("follow", "replay", "cp")))
 
 
 def short(program, archive, rounds, old):

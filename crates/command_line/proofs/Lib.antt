@@ -1,2 +1,3 @@
 pub mod OptionWords
 pub mod LsnWords
+mod FollowWords

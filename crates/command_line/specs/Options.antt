@@ -1,4 +1,4 @@
--- The options of `init` and of `run` (profile).
+-- The options of `init`, of `run` and of `follow` (profile).
 use Rattle.std.specs.Prelude.{ℕ, ◌%◌, ◌^◌, ◌≤◌, IfSome, Bool, List, [], ◌∷◌, Option, Some, None, codes, nat_le, nat_lt, ◌==◌, ◌&&◌, bytes_eq, if◌then◌else◌}
 use Rattle.std.specs.Option.{option_map}
 use Rattle.std.specs.Fmt.{decimal}

@@ -1,22 +1,24 @@
 -- What the words of the command line ask for (profile).
-use Rattle.std.specs.Prelude.{ℕ, ◌+◌, ◌*◌, ◌<◌, ◌≤◌, List, [], ◌∷◌, ◌++◌, length, take, drop, Option, Some, None, codes, bytes_eq, nat_lt, ◌&&◌, if◌then◌else◌}
+use Rattle.std.specs.Prelude.{ℕ, ◌+◌, ◌*◌, ◌<◌, ◌≤◌, List, [], ◌∷◌, ◌++◌, length, take, drop, Option, Some, None, codes, bytes_eq, nat_lt, Bool, ◌&&◌, ◌||◌, if◌then◌else◌}
 use Rattle.std.specs.List.{position}
-use Rattle.std.specs.Option.{option_map}
+use Rattle.std.specs.Option.{option_map, unwrap_or, is_none}
 use Rattle.byte_words.specs.Numbers.{◌>>=◌}
 use Rattle.byte_words.specs.Cuts.{cut_at}
 use Rattle.text_numbers.specs.Numbers.{hex_number_of}
 use Rattle.lsn_core.specs.declared.lsn.Lsn.{Lsn}
+use Rattle.lsn_core.specs.Segment.{IsSegmentMib, IsRelseg}
 use Rattle.crew.specs.Cuts.{is_name}
 use Rattle.command_line.specs.declared.options.InitOptions.{InitOptions}
 use Rattle.command_line.specs.declared.words.Command.{Command}
 use Rattle.command_line.specs.declared.words.Command.TheVariants as command
 use Rattle.command_line.specs.Members.{names_in, are_members, is_target}
-use Rattle.command_line.specs.Options.{none_given, options_in, frames_value, IsFrameCount, IsInRange}
+use Rattle.command_line.specs.Options.{none_given, with_option, options_in, frames_value, IsFrameCount, IsInRange}
 
 -- a new store, a script to be run with so many frames of each partition, a replay to an output of that name, up to a target where one is
 -- given, the check of the backup of a name, the chain of the backups of some names restored to an output
--- of a name, up to a target where one is given, such a chain combined to a backup of a name, or the
--- summary of a range of the WAL
+-- of a name, up to a target where one is given, such a chain combined to a backup of a name, the
+-- summary of a range of the WAL, or the stream of a WAL with segments of so many MiB followed to an
+-- output of a name, so many blocks of a fork in each file
 pub data Asked : Type 0 where
   Init : InitOptions → Asked
   Run : ℕ → Asked
@@ -25,6 +27,7 @@ pub data Asked : Type 0 where
   Restore : Option Lsn → List ℕ → List (List ℕ) → Asked
   Combine : List ℕ → List (List ℕ) → Asked
   Walsummary : Lsn → Lsn → Asked
+  Follow : ℕ → ℕ → List ℕ → Asked
 
 -- what the words behind the command's name ask
 abbrev pub init_asked : List (List ℕ) → Option Asked
@@ -128,6 +131,41 @@ walsummary_asked (from ∷ []) = None
 walsummary_asked (from ∷ (to ∷ [])) = walsummary_values from to
 walsummary_asked (from ∷ (to ∷ (more ∷ words))) = None
 
+-- a word is the name of an option
+abbrev pub is_follow_option : List ℕ → Bool
+is_follow_option word = bytes_eq word (codes "--segment-mib") || bytes_eq word (codes "--relseg")
+
+-- the output's name, behind all options: the sizes are those that are given, or 16 MiB and 131072
+-- blocks
+abbrev pub follow_to : InitOptions → List ℕ → Option Asked
+follow_to options name =
+    if is_none options.system && is_name name
+    then Some (Follow (unwrap_or options.segment 16) (unwrap_or options.relseg 131072) name)
+    else None
+
+-- the output's name, and the other options behind it
+abbrev pub follow_named : InitOptions → List ℕ → List (List ℕ) → Option Asked
+follow_named options name words = options_in options words >>= λ all. follow_to all name
+
+-- the options may stand before the name or behind it
+abbrev pub follow_in : InitOptions → List (List ℕ) → Option Asked
+follow_in options [] = None
+follow_in options (name ∷ []) = follow_to options name
+follow_in options (word ∷ (next ∷ words)) =
+    if is_follow_option word
+    then (with_option options word next >>= λ more. follow_in more words)
+    else follow_named options word (next ∷ words)
+
+abbrev pub follow_asked : List (List ℕ) → Option Asked
+follow_asked words = follow_in none_given words
+
+-- the option that words begin with
+abbrev pub next_option : List (List ℕ) → Option ((List ℕ × List ℕ) × List (List ℕ))
+next_option [] = None
+next_option (word ∷ []) = None
+next_option (word ∷ (next ∷ words)) =
+    if is_follow_option word then Some ((word, next), words) else None
+
 -- what the words ask, None where they aren't taken
 abbrev pub asked : List (List ℕ) → Option Asked
 asked [] = None
@@ -138,7 +176,8 @@ asked (word ∷ words) =
     else (if bytes_eq word (codes "verify") then verify_asked words
     else (if bytes_eq word (codes "restore") then restore_asked words
     else (if bytes_eq word (codes "combine") then combine_asked words
-    else (if bytes_eq word (codes "walsummary") then walsummary_asked words else None))))))
+    else (if bytes_eq word (codes "walsummary") then walsummary_asked words
+    else (if bytes_eq word (codes "follow") then follow_asked words else None)))))))
 
 -- a command asks for this
 abbrev pub asks : Command → Asked
@@ -149,6 +188,7 @@ asks (command.Verify name) = Verify name.now
 asks (command.Restore upto out members) = Restore upto out.now (names_in members)
 asks (command.Combine out members) = Combine out.now (names_in members)
 asks (command.Walsummary from to) = Walsummary from to
+asks (command.Follow segment relseg name) = Follow segment relseg name.now
 
 -- the options of a command are in their ranges, a range has a place, and a chain a member
 abbrev pub HasRange : Command → Type 0
@@ -159,3 +199,4 @@ HasRange (command.Verify name) = Unit {0}
 HasRange (command.Restore upto out members) = 1 ≤ length (names_in members)
 HasRange (command.Combine out members) = 1 ≤ length (names_in members)
 HasRange (command.Walsummary from to) = from.0 < to.0
+HasRange (command.Follow segment relseg name) = IsSegmentMib segment × IsRelseg relseg

@@ -1,4 +1,4 @@
-//! The options of `init` and of `run`.
+//! The options of `init`, of `run` and of `follow`.
 
 ghost use Rattle.std.specs.Prelude.{◌≡◌, ◌≤◌, IfSome};
 ghost use Rattle.lsn_core.specs.Segment.{IsSegmentMib};
@@ -63,7 +63,7 @@ pub fn frames_in(value: &[u8]) -> Option<u32>
 
 /// The options with one more. None where the name is no option's, the value out of its range, or
 /// the option was given before.
-fn with_option(given: InitOptions, name: &[u8], value: &[u8]) -> Option<InitOptions>
+pub(crate) fn with_option(given: InitOptions, name: &[u8], value: &[u8]) -> Option<InitOptions>
     ensures options { result ≡ with_option given name.now value.now }
     ensures range { IsInRange given → IfSome result IsInRange }
 {
@@ -89,17 +89,26 @@ fn with_option(given: InitOptions, name: &[u8], value: &[u8]) -> Option<InitOpti
     Some(next)
 }
 
-/// The options that words give, each a name and its value behind it. None exactly where they are
-/// no options, or one of them stands twice.
-pub fn options_of(words: &[Text]) -> Option<InitOptions>
-    ensures options { result ≡ options_in none_given words.now }
-    ensures range { IfSome result IsInRange }
+/// No options.
+pub(crate) fn none_given() -> InitOptions
+    ensures options { result ≡ none_given }
+    ensures range { IsInRange result }
 {
-    let mut given = InitOptions {
+    InitOptions {
         segment: None,
         relseg: None,
         system: None,
-    };
+    }
+}
+
+/// Options, and with them those that words give, each a name and its value behind it. None exactly
+/// where they are no options, or one of them stands twice.
+pub(crate) fn options_on(options: InitOptions, words: &[Text]) -> Option<InitOptions>
+    requires { IsInRange options }
+    ensures options { result ≡ options_in options words.now }
+    ensures range { IfSome result IsInRange }
+{
+    let mut given = options;
     let mut at = 0;
     while at < words.len() {
         let value = words.get(at + 1)?;
@@ -107,4 +116,13 @@ pub fn options_of(words: &[Text]) -> Option<InitOptions>
         at += 2;
     }
     Some(given)
+}
+
+/// The options that words give. None exactly where they are no options, or one of them stands
+/// twice.
+pub fn options_of(words: &[Text]) -> Option<InitOptions>
+    ensures options { result ≡ options_in none_given words.now }
+    ensures range { IfSome result IsInRange }
+{
+    options_on(none_given(), words)
 }

@@ -11,7 +11,7 @@ use Rattle.wal_follow.specs.declared.fault.FollowFault.TheVariants as follow
 use Rattle.wal_follow.specs.Following.{Following, StandsBehind, FollowsTo, FollowsOn, RefusesStream, FinishGives}
 use Rattle.follow_command.specs.declared.input.InputFault.{InputFault}
 use Rattle.follow_command.specs.declared.input.InputFault.TheVariants as input
-use Rattle.follow_command.specs.Input.{most_input, IsInputFront, IsFed, FeedAnswer, InputAnswer}
+use Rattle.follow_command.specs.Input.{most_input, IsInputFront, IsFed, FeedAnswer, InputAnswer, IsSizedAs, HasRead}
 
 -- ---- a read
 
@@ -159,7 +159,7 @@ finished old now next last (Some bytes) rest total end fed answer same gives =
     let within = fed.within in
     let size = all.1 in
     let stands : StandsBehind next bytes = subst (λ (f : Following). StandsBehind f bytes) (sym here.1) (subst (StandsBehind now) all.0 fed.told.stands) in
-    subst (λ (f : Following). InputAnswer old f bytes (Ok end)) (sym same) (omega (arith, within, size), stands, gives bytes stands)
+    subst (λ (f : Following). InputAnswer old f bytes (Ok end)) (sym same) (omega (arith, within, size), stands, gives bytes stands, subst (IsSizedAs old) (sym here.1) (fed.told.mib, fed.told.relseg))
 
 pub torn : (old now next last : Following) (left rest : Option (List ℕ)) (total : ℕ) (why : FollowFault) → HasFed old now left rest total → IfSome rest (λ bytes. FeedAnswer now next (most_input - total) bytes (Ok None)) → last ≡ record next { fault = Some why } → ((fed : List ℕ) → StandsBehind next fed → FinishGives next fed (Err why)) → IfSome left (λ bytes. InputAnswer old last bytes (Err (input.Wal why)))
 torn old now next last None rest total why fed answer same gives = tt
@@ -169,7 +169,7 @@ torn old now next last (Some bytes) rest total why fed answer same gives =
     let within = fed.within in
     let size = all.1 in
     let stands : StandsBehind next bytes = subst (λ (f : Following). StandsBehind f bytes) (sym here.1) (subst (StandsBehind now) all.0 fed.told.stands) in
-    inr (omega (arith, within, size), subst (λ (f : Following). FinishGives f bytes (Err why)) (sym same) (as_before next bytes why (gives bytes stands)))
+    inr (omega (arith, within, size), subst (λ (f : Following). FinishGives f bytes (Err why)) (sym same) (as_before next bytes why (gives bytes stands)), subst (IsSizedAs old) (sym same) (subst (IsSizedAs old) (sym here.1) (fed.told.mib, fed.told.relseg)), subst (λ (f : Following). HasRead f bytes) (sym same) (stands.rs, stands.followed))
   where
     as_before : (f : Following) (bytes : List ℕ) (why : FollowFault) → FinishGives f bytes (Err why) → FinishGives (record f { fault = Some why }) bytes (Err why)
     as_before f bytes (follow.Damaged d) is = is
@@ -184,7 +184,7 @@ refused_from old now next bytes total (input.Long n) within fed is =
     let more = is.1 in
     let goes = is.2 (take total bytes) fed.stands in
     let whole : total + (most_input - total) ≡ most_input = omega (arith, within) in
-    (is.0, omega (arith, d, more, within), subst (λ (n : ℕ). StandsBehind next (take n bytes)) whole (subst (StandsBehind next) (sym (take-add total (most_input - total) bytes)) goes.follows))
+    (is.0, omega (arith, d, more, within), subst (λ (n : ℕ). StandsBehind next (take n bytes)) whole (subst (StandsBehind next) (sym (take-add total (most_input - total) bytes)) goes.follows), (goes.mib ∙ fed.mib, goes.relseg ∙ fed.relseg))
 refused_from old now next bytes total (input.Wal why) within fed is =
     let few = is.within in
     let refused = is.refused (take total bytes) fed.stands in

@@ -1,1 +1,4 @@
-mod Feeding
+pub mod Feeding
+pub mod Replayed
+pub mod Copies
+pub mod Made

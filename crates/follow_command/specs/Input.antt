@@ -1,6 +1,8 @@
 -- What following an input comes to, where the input tells its bytes.
 use Rattle.std.specs.Prelude.{◌≡◌, ℕ, ◌<◌, ◌≤◌, ◌⊎◌, List, [], ◌++◌, length, take, Option, Some, None, Result, Ok, Err}
 use Rattle.lsn_core.specs.declared.lsn.Lsn.{Lsn}
+use Rattle.wal_record.specs.declared.record.Record.{Record}
+use Rattle.follow_laws.specs.Followed.{IsFollowed}
 use Rattle.wal_follow.specs.declared.fault.FollowFault.{FollowFault}
 use Rattle.wal_follow.specs.Following.{Following, StandsBehind, FollowsTo, RefusesStream, EndsWell, FinishGives}
 use Rattle.follow_command.specs.declared.input.InputFault.{InputFault}
@@ -40,20 +42,31 @@ FeedAnswer old new room bytes (Err (input.Long n)) =
     (n ≡ most_input) × (room < length bytes) × IsFed old new (take room bytes)
 FeedAnswer old new room bytes (Err (input.Wal why)) = IsRefusedWithin old room bytes why
 
+-- it goes by the same sizes
+abbrev pub IsSizedAs : Following → Following → Type 0
+IsSizedAs old new = (new.span.mib ≡ old.span.mib) × (new.relseg ≡ old.relseg)
+
+-- a follower has read a stream of these bytes, up to where it waits for more
+abbrev pub HasRead : Following → List ℕ → Type 0
+HasRead f bytes = (rs : List Record) × IsFollowed f.span.mib f.relseg bytes rs f.tip f.store
+
 -- a stream's WAL is refused: of a beginning of it, of at most so many bytes, or where its archive
 -- ends
 abbrev pub IsRefusedInput : Following → Following → List ℕ → FollowFault → Type 0
 IsRefusedInput old new bytes why =
     ((count : ℕ) × (count ≤ most_input)
     × RefusesStream old.span.mib old.relseg (take count bytes) why)
-    ⊎ ((length bytes ≤ most_input) × FinishGives new bytes (Err why))
+    ⊎ ((length bytes ≤ most_input) × FinishGives new bytes (Err why) × IsSizedAs old new
+    × HasRead new bytes)
 
 -- an input of these bytes was followed to its end; it failed; it has more bytes than are followed,
 -- and those are not refused; or its WAL is refused
 abbrev pub InputAnswer : Following → Following → List ℕ → Result Lsn InputFault → Type 0
 InputAnswer old new bytes (Ok end) =
     (length bytes ≤ most_input) × StandsBehind new bytes × EndsWell new bytes end
+    × IsSizedAs old new
 InputAnswer old new bytes (Err (input.Input why)) = Unit {0}
 InputAnswer old new bytes (Err (input.Long n)) =
     (n ≡ most_input) × (most_input < length bytes) × StandsBehind new (take most_input bytes)
+    × IsSizedAs old new
 InputAnswer old new bytes (Err (input.Wal why)) = IsRefusedInput old new bytes why

@@ -9,7 +9,7 @@ ghost use Rattle.follow_command.specs.declared.input.InputFault.TheVariants as r
 ghost use Rattle.follow_command.specs.Input.{most_input, IsInputFront, FeedAnswer, InputAnswer};
 
 use byte_words::zeros;
-use lsn_core::{AreaFault, Lsn};
+use lsn_core::{AreaFault, Lsn, NoMemory};
 use std::alloc::Global;
 use vault::Source;
 use wal_follow::{FollowFault, Follower};
@@ -36,6 +36,14 @@ impl From<AreaFault> for InputFault {
 
     fn from(fault: AreaFault) -> Self {
         InputFault::Input(fault)
+    }
+}
+
+impl From<NoMemory> for InputFault {
+    ghost from_gives = { λ _ e. e ≡ refusal.Input area.NoMemory };
+
+    fn from(_: NoMemory) -> Self {
+        InputFault::Input(AreaFault::NoMemory)
     }
 }
 

@@ -4,5 +4,9 @@
 #![tactic(auto)]
 
 mod input;
+mod output;
+mod stream;
 
 pub use input::{InputFault, MOST_INPUT, follow_input};
+pub use output::{Written, write_pages};
+pub use stream::follow_stream;

@@ -13,8 +13,8 @@ use command_line::{Command as Words, MemberNames, command_of};
 use crew::{Answer as LineAnswer, Command, Stop};
 use lsn_core::{AreaFault, Lsn, NoMemory, Text};
 use pgbackup_cli::{
-    Answer, CombineFault, InitFault, MembersFault, ReplayFault, RestoreFault, VerifyFault,
-    WalsummaryFault,
+    Answer, CombineFault, FollowFault, InitFault, MembersFault, ReplayFault, RestoreFault,
+    VerifyFault, WalsummaryFault,
 };
 use run_command::{RunFault, RunReport};
 use shared_store::BeginWhy;
@@ -34,12 +34,14 @@ pub fn note_of(alloc: Global, words: &[Text], answer: &Answer) -> Result<Text, N
         Answer::Restore(Err(fault)) => restore_note(alloc, names_in(words), fault),
         Answer::Combine(Err(fault)) => combine_note(alloc, names_in(words), fault),
         Answer::Walsummary(Err(fault)) => walsummary_note(alloc, fault),
+        Answer::Follow(Err(fault)) => follow_note(alloc, followed_to(words), fault),
         Answer::Init(Ok(_))
         | Answer::Replay(Ok(_))
         | Answer::Verify(Ok(_))
         | Answer::Restore(Ok(_))
         | Answer::Combine(Ok(_))
-        | Answer::Walsummary(Ok(_)) => Ok(Text::from_vec(Vec::new(alloc))),
+        | Answer::Walsummary(Ok(_))
+        | Answer::Follow(Ok(_)) => Ok(Text::from_vec(Vec::new(alloc))),
     }
 }
 
@@ -249,5 +251,38 @@ fn walsummary_note(alloc: Global, fault: &WalsummaryFault) -> Result<Text, NoMem
         WalsummaryFault::Site(fault) => take_note(alloc, fault),
         WalsummaryFault::Gap(at) => gap_note(alloc, *at),
         WalsummaryFault::Sums(why) => area_note(alloc, b"sums", *why),
+    }
+}
+
+/// The name of the output in the words of `follow`.
+fn followed_to(words: &[Text]) -> &[u8] {
+    match command_of(words) {
+        Some(Words::Follow(_, _, name)) => name,
+        _ => b"",
+    }
+}
+
+/// The input has more bytes than so many.
+fn long_note(alloc: Global, most: u64) -> Result<Text, NoMemory> {
+    let most = format!(in alloc; "{most}")?;
+    note(
+        alloc,
+        &[
+            b"standard input has more than ",
+            most.as_bytes(),
+            b" bytes, and no more are followed",
+        ],
+        b"put the WAL's segment files and its settings into folder wal, and run replay",
+    )
+}
+
+fn follow_note(alloc: Global, output: &[u8], fault: &FollowFault) -> Result<Text, NoMemory> {
+    match fault {
+        FollowFault::Site(fault) => take_note(alloc, fault),
+        FollowFault::NotEmpty => not_empty_note(alloc, output_name(alloc, output)?.as_bytes()),
+        FollowFault::Input(why) => area_note(alloc, b"standard input", *why),
+        FollowFault::Long(most) => long_note(alloc, *most),
+        FollowFault::Wal(fault) => wal_note(alloc, *fault),
+        FollowFault::Out(why) => area_note(alloc, output_name(alloc, output)?.as_bytes(), *why),
     }
 }

@@ -48,9 +48,17 @@ const WALSUMMARY: &[u8] = b"usage: pgbackup walsummary FROM TO
   FROM, TO: LSNs, as 0/1000108, TO past FROM
 ";
 
+const FOLLOW: &[u8] = b"usage: pgbackup follow [--segment-mib M] [--relseg N] OUT < STREAM
+  reads the bytes of a WAL from standard input, from the start of segment 1 on, and writes the relation
+  files that it makes to o/OUT
+  M: MiB of a WAL segment, a power of two from 1 to 1024 (16)
+  N: blocks of a fork in one file, 1 to 131072 (131072)
+  OUT: 1 to 32 of a to z, 0 to 9 and _
+";
+
 const HELP: &[u8] = b"usage: pgbackup help [COMMAND]
   prints how a command is used, or all of them: init, run, replay, verify, restore,
-  combine, walsummary
+  combine, walsummary, follow
 ";
 
 /// How this command is used; None where there is no command of that name.
@@ -76,6 +84,9 @@ fn command_usage(name: &[u8]) -> Option<&'static [u8]> {
     if name == b"walsummary".as_slice() {
         return Some(WALSUMMARY);
     }
+    if name == b"follow".as_slice() {
+        return Some(FOLLOW);
+    }
     None
 }
 
@@ -95,7 +106,7 @@ pub fn usage_of(alloc: Global, words: &[Text]) -> Result<Text, NoMemory> {
         None => joined(
             alloc,
             &[
-                INIT, RUN, REPLAY, VERIFY, RESTORE, COMBINE, WALSUMMARY, HELP,
+                INIT, RUN, REPLAY, VERIFY, RESTORE, COMBINE, WALSUMMARY, FOLLOW, HELP,
             ],
         ),
     }

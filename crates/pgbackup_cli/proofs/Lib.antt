@@ -19,3 +19,5 @@ pub mod OneRestore
 pub mod OneCombine
 pub mod OneWalsummary
 pub mod Covered
+pub mod FollowedOut
+pub mod OneFollow

@@ -1,7 +1,7 @@
 -- What a command does is nothing to a sink.
 use Rattle.std.proofs.Common.{ℕ, List, Option, Some, None}
 use Rattle.pgbackup_cli.specs.declared.answer.Answer.{Answer}
-use Rattle.command_line.specs.Words.{Asked, Init, Run, Replay, Verify, Restore, Combine, Walsummary}
+use Rattle.command_line.specs.Words.{Asked, Init, Run, Replay, Verify, Restore, Combine, Walsummary, Follow}
 use Rattle.command_base.specs.Outside.{Outside}
 use Rattle.pgbackup_cli.specs.Top.{DoesAsked}
 
@@ -15,3 +15,4 @@ whatever_is_printed (Some (Verify name)) old new printed after prints now came d
 whatever_is_printed (Some (Restore upto out names)) old new printed after prints now came does = does
 whatever_is_printed (Some (Combine out names)) old new printed after prints now came does = does
 whatever_is_printed (Some (Walsummary from to)) old new printed after prints now came does = does
+whatever_is_printed (Some (Follow mib relseg name)) old new printed after prints now came does = does

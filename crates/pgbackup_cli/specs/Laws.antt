@@ -16,6 +16,7 @@ use Rattle.pgbackup_cli.specs.Verify.{VerifyDoes, verify_status}
 use Rattle.pgbackup_cli.specs.Combine.{CombineDoes, combine_status}
 use Rattle.pgbackup_cli.specs.Restore.{RestoreDoes, restore_status}
 use Rattle.pgbackup_cli.specs.Walsummary.{WalsummaryDoes, walsummary_status}
+use Rattle.pgbackup_cli.specs.Follow.{FollowDoes, follow_status}
 use Rattle.command_line.specs.declared.options.InitOptions.{InitOptions}
 
 -- what is outside decided an answer of this status, and no failed device and no want of memory
@@ -80,3 +81,8 @@ HasOneRestore =
 abbrev pub HasOneWalsummary : Type 0
 HasOneWalsummary =
     (from to : Lsn) → from.0 < to.0 → HasOne (WalsummaryDoes from to) walsummary_status
+
+-- with segments of so many MiB, to an output of a name, so many blocks of a fork in each file
+abbrev pub HasOneFollow : Type 0
+HasOneFollow =
+    (mib relseg : ℕ) (name : List ℕ) → HasOne (FollowDoes mib relseg name) follow_status

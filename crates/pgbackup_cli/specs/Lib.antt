@@ -10,3 +10,5 @@ pub mod Walsummary
 pub mod Top
 pub mod Laws
 pub mod Inner
+pub mod Follow
+pub mod Following

@@ -7,7 +7,7 @@ use Rattle.pgbackup_cli.specs.declared.answer.Answer.TheVariants as answer
 use Rattle.command_base.specs.declared.status.Status.{Status}
 use Rattle.command_base.specs.declared.status.Status.TheVariants as status
 use Rattle.command_line.specs.declared.options.InitOptions.{InitOptions}
-use Rattle.command_line.specs.Words.{Asked, Init, Run, Replay, Verify, Restore, Combine, Walsummary, asked}
+use Rattle.command_line.specs.Words.{Asked, Init, Run, Replay, Verify, Restore, Combine, Walsummary, Follow, asked}
 use Rattle.command_base.specs.Areas.{output_name}
 use Rattle.command_base.specs.Outside.{Outside, LeavesSite, Prints}
 use Rattle.command_base.specs.Faults.{refused_line, area_status}
@@ -18,6 +18,7 @@ use Rattle.pgbackup_cli.specs.Verify.{VerifyResult, VerifyDoes, verify_text, ver
 use Rattle.pgbackup_cli.specs.Restore.{RestoreResult, RestoreDoes, restore_text, restore_status}
 use Rattle.pgbackup_cli.specs.Combine.{CombineResult, CombineDoes, combine_text, combine_status}
 use Rattle.pgbackup_cli.specs.Walsummary.{WalsummaryResult, WalsummaryDoes, walsummary_text, walsummary_status}
+use Rattle.pgbackup_cli.specs.Follow.{FollowResult, FollowDoes, follow_text, follow_status}
 
 -- what was asked was done, and this is the answer
 abbrev pub DoesAsked : Option Asked → Outside → Outside → Answer → Type 0
@@ -36,11 +37,14 @@ DoesAsked (Some (Combine out names)) old new came =
     (r : CombineResult) × (came ≡ answer.Combine r) × CombineDoes out names old new r
 DoesAsked (Some (Walsummary from to)) old new came =
     (r : WalsummaryResult) × (came ≡ answer.Walsummary r) × WalsummaryDoes from to old new r
+DoesAsked (Some (Follow mib relseg name)) old new came =
+    (r : FollowResult) × (came ≡ answer.Follow r) × FollowDoes mib relseg name old new r
 
 -- the area of the output that is asked for
 abbrev pub output_asked : Option Asked → List ℕ
 output_asked (Some (Replay upto name)) = output_name name
 output_asked (Some (Restore upto out names)) = output_name out
+output_asked (Some (Follow mib relseg name)) = output_name name
 output_asked words = []
 
 -- the name of the backup that is asked for
@@ -65,6 +69,7 @@ text_of words (answer.Verify r) = verify_text (backup_asked words) r
 text_of words (answer.Restore r) = restore_text (members_asked words) (output_asked words) r
 text_of words (answer.Combine r) = combine_text (members_asked words) (backup_asked words) r
 text_of words (answer.Walsummary r) = walsummary_text r
+text_of words (answer.Follow r) = follow_text (output_asked words) r
 
 -- the status of an answer
 abbrev pub answer_status : Answer → Status
@@ -76,6 +81,7 @@ answer_status (answer.Verify r) = verify_status r
 answer_status (answer.Restore r) = restore_status r
 answer_status (answer.Combine r) = combine_status r
 answer_status (answer.Walsummary r) = walsummary_status r
+answer_status (answer.Follow r) = follow_status r
 
 -- the status of an answer and of its printing: a sink that fails gives Device whatever else
 -- happened
@@ -83,9 +89,11 @@ abbrev pub status_of : Answer → Result (Unit {0}) AreaFault → Status
 status_of came (Ok told) = answer_status came
 status_of came (Err why) = area_status why
 
--- `run` alone reads the input
+-- `run` and `follow` read the input
 abbrev pub ReadsInput : Option Asked → Type 0
-ReadsInput words = (frames : ℕ) × (words ≡ Some (Run frames))
+ReadsInput words =
+    ((frames : ℕ) × (words ≡ Some (Run frames)))
+    ⊎ ((mib relseg : ℕ) × (name : List ℕ) × (words ≡ Some (Follow mib relseg name)))
 
 -- `run` and `combine` read the clock, and `init`, where no system identifier is given
 abbrev pub ReadsClock : Option Asked → Type 0

@@ -7,6 +7,7 @@ ghost use Rattle.pgbackup_cli.specs.Top.{output_asked, backup_asked, members_ask
 ghost use Rattle.pgbackup_cli.specs.Top.{answer_status, status_of};
 
 use crate::combining::{CombineFault, CombineReport, combine_status, combine_text};
+use crate::follow::{FollowFault, follow_status, follow_text};
 use crate::init::{InitFault, init_status, init_text};
 use crate::replay::{ReplayFault, ReplayReport, replay_status, replay_text};
 use crate::restore::{RestoreFault, restore_status, restore_text};
@@ -38,6 +39,8 @@ pub enum Answer {
     Combine(Result<CombineReport, CombineFault>),
     /// The kept summaries of a range were merged.
     Walsummary(Result<Summary, WalsummaryFault>),
+    /// The stream of a WAL was followed.
+    Follow(Result<ReplayReport, FollowFault>),
 }
 
 /// The area of the output that is asked for, empty where none is.
@@ -45,7 +48,9 @@ fn output_asked(alloc: Global, words: &[Text]) -> Result<Text, NoMemory>
     ensures { IfOk result (λ area. area ≡ output_asked (asked words.now)) }
 {
     match command_of(words) {
-        Some(Command::Replay(_, name) | Command::Restore(_, name, _)) => output_name(alloc, name),
+        Some(
+            Command::Replay(_, name) | Command::Restore(_, name, _) | Command::Follow(_, _, name),
+        ) => output_name(alloc, name),
         Some(
             Command::Init(_)
             | Command::Run(_)
@@ -68,7 +73,8 @@ fn backup_asked(words: &[Text]) -> &[u8]
             | Command::Run(_)
             | Command::Replay(_, _)
             | Command::Restore(_, _, _)
-            | Command::Walsummary(_, _),
+            | Command::Walsummary(_, _)
+            | Command::Follow(_, _, _),
         )
         | None => b"",
     }
@@ -85,7 +91,8 @@ fn members_asked(words: &[Text]) -> MemberNames<'_>
             | Command::Run(_)
             | Command::Replay(_, _)
             | Command::Verify(_)
-            | Command::Walsummary(_, _),
+            | Command::Walsummary(_, _)
+            | Command::Follow(_, _, _),
         )
         | None => MemberNames {
             front: &[],
@@ -112,6 +119,7 @@ pub fn text_of(alloc: Global, words: &[Text], answer: &Answer) -> Result<Text, N
             combine_text(alloc, &members_asked(words), backup_asked(words), came)
         }
         Answer::Walsummary(came) => walsummary_text(alloc, came),
+        Answer::Follow(came) => follow_text(alloc, output_asked(alloc, words)?.as_bytes(), came),
     }
 }
 
@@ -127,6 +135,7 @@ fn answer_status(answer: &Answer) -> Status
         Answer::Restore(came) => restore_status(came),
         Answer::Combine(came) => combine_status(came),
         Answer::Walsummary(came) => walsummary_status(came),
+        Answer::Follow(came) => follow_status(came),
     }
 }
 

@@ -1,7 +1,7 @@
 //! What holds of every run of a command.
 
 ghost use Rattle.pgbackup_cli.specs.Laws.{HasOneInit, RunsBeginAlike, HasOneReplay, HasOneVerify};
-ghost use Rattle.pgbackup_cli.specs.Laws.{HasOneCombine, HasOneRestore, HasOneWalsummary};
+ghost use Rattle.pgbackup_cli.specs.Laws.{HasOneCombine, HasOneRestore, HasOneWalsummary, HasOneFollow};
 
 use backup_restore::restores_end_alike;
 use chain_check::{chains_have_one_answer, directories_have_one_answer};
@@ -59,3 +59,8 @@ pub fn walsummary_has_one_answer()
     summaries_are_read_again();
     summaries_are_one();
 }
+
+/// `follow` of one input to one output, by the same sizes, comes to one answer, too.
+pub fn follow_has_one_answer()
+    ensures { HasOneFollow }
+{}

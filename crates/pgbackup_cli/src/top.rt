@@ -9,6 +9,7 @@ ghost use Rattle.pgbackup_cli.specs.Inner.{TellsIn};
 
 use crate::answer::{Answer, exit_status, text_of};
 use crate::combining::combine;
+use crate::follow::follow;
 use crate::init::init;
 use crate::replay::replay;
 use crate::restore::restore;
@@ -53,6 +54,9 @@ fn work<S: Site, I: Source, C: Clock>(
         Some(Command::Walsummary(from, to)) => {
             Answer::Walsummary(walsummary(alloc, from, to, site))
         }
+        Some(Command::Follow(segment, relseg, name)) => {
+            Answer::Follow(follow(alloc, segment, relseg, name, site, input))
+        }
     }
 }
 
@@ -96,8 +100,8 @@ pub fn answered<S: Site, I: Source, O: Sink, C: Clock>(
 
 /// All that the program does: it takes the words of the command line, does what they ask over the
 /// areas of the site, prints its lines and answers the exit status. Every area is given back. Only
-/// `run` reads the input, and only it, `combine` and `init` the clock, the last where no system
-/// identifier is given.
+/// `run` and `follow` read the input, and only `run`, `combine` and `init` the clock, the last where
+/// no system identifier is given.
 pub fn pgbackup<S: Site, I: Source, O: Sink, C: Clock>(
     alloc: Global,
     words: &[Text],

@@ -1,10 +1,10 @@
 use Rattle.std.proofs.Common.{◌≡◌, ◌-◌, length, drop}
-use Rattle.command_line.specs.Options.{none_given, options_in, IsInRange}
-use Rattle.command_line.proofs.options.options_of.Given as goal
+use Rattle.command_line.specs.Options.{options_in, IsInRange}
+use Rattle.command_line.proofs.options.options_on.Given as goal
 
 abbrev pub invariant-loop-at : goal.invariant-loop-at
 invariant-loop-at l = record {
-  options : options_in none_given l.words ≡ options_in l.given (drop l.at l.words);
+  options : options_in l.fn.options l.words ≡ options_in l.given (drop l.at l.words);
   range : IsInRange l.given;
 }
 

@@ -1,6 +1,6 @@
 use Rattle.std.proofs.Common.{◌∙◌}
 use Rattle.command_line.proofs.OptionWords.{value_missing, option_more}
-use Rattle.command_line.proofs.options.options_of.Goals as goal
+use Rattle.command_line.proofs.options.options_on.Goals as goal
 
 pub returns-in_err-value : goal.returns-in_err-value
 returns-in_err-value c = record {
