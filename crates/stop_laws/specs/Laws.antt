@@ -19,13 +19,13 @@ use Rattle.page_pool.specs.Facts.{Follows}
 use Rattle.page_pool.specs.Stops.{Allows, RawKeeps, KeepsWindow}
 use Rattle.stop_laws.specs.Window.{ArePartedBy, IsWindow, IsFramed, base_of, window_base}
 
--- a history that makes a store, and whose entries from a place on are tidy, has its window there, by
--- any part of it that is flushed and has the entries before the place
+-- a history that makes this store has its window at a place, by its entries that are flushed
 pub record HasWindow (from : ℕ) (known later : List Entry) (now : Store) : Type 0 where
   pub store : Store
   pub mid : Store
   pub window : IsWindow from known later store mid now
 
+-- so it has, wherever none of the later entries starts before the place
 abbrev pub HistoriesHaveWindows : Type 0
 HistoriesHaveWindows =
     (from : ℕ) (known later : List Entry) (now : Store)
