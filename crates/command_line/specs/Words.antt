@@ -188,7 +188,7 @@ asks (command.Verify name) = Verify name.now
 asks (command.Restore upto out members) = Restore upto out.now (names_in members)
 asks (command.Combine out members) = Combine out.now (names_in members)
 asks (command.Walsummary from to) = Walsummary from to
-asks (command.Follow segment relseg name) = Follow segment relseg name.now
+asks (command.Follow sizes name) = Follow sizes.segment sizes.relseg name.now
 
 -- the options of a command are in their ranges, a range has a place, and a chain a member
 abbrev pub HasRange : Command → Type 0
@@ -199,4 +199,4 @@ HasRange (command.Verify name) = Unit {0}
 HasRange (command.Restore upto out members) = 1 ≤ length (names_in members)
 HasRange (command.Combine out members) = 1 ≤ length (names_in members)
 HasRange (command.Walsummary from to) = from.0 < to.0
-HasRange (command.Follow segment relseg name) = IsSegmentMib segment × IsRelseg relseg
+HasRange (command.Follow sizes name) = IsSegmentMib sizes.segment × IsRelseg sizes.relseg

@@ -11,6 +11,15 @@ use crate::words::Command;
 use crew::is_name;
 use lsn_core::{MOST_RELSEG, SegSize, Text};
 
+/// The sizes by which a stream is followed.
+#[derive(Clone, Copy, Debug)]
+pub struct FollowSizes {
+    /// The size of a WAL segment.
+    pub segment: SegSize,
+    /// How many blocks of a fork go into one file, 1 to 131072.
+    pub relseg: u32,
+}
+
 /// Whether a word is the name of an option of `follow`.
 fn is_follow_option(word: &[u8]) -> bool
     ensures { result ≡ is_follow_option word.now }
@@ -29,7 +38,7 @@ fn follow_to(options: InitOptions, name: &[u8]) -> Option<Command<'_>>
     }
     let segment = options.segment.unwrap_or(SegSize::standard());
     let relseg = options.relseg.unwrap_or(MOST_RELSEG);
-    Some(Command::Follow(segment, relseg, name))
+    Some(Command::Follow(FollowSizes { segment, relseg }, name))
 }
 
 /// The output's name, and the other options behind it.

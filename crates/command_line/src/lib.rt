@@ -14,6 +14,7 @@ mod members;
 mod options;
 mod words;
 
+pub use follow::FollowSizes;
 pub use members::MemberNames;
 pub use options::InitOptions;
 pub use words::{Command, command_of};

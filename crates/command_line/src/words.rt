@@ -8,11 +8,11 @@ ghost use Rattle.command_line.specs.Words.{restore_to, restore_named, restore_cu
 ghost use Rattle.command_line.specs.Words.{walsummary_of, walsummary_values, walsummary_asked};
 ghost use Rattle.command_line.specs.Words.{asks, HasRange};
 
-use crate::follow::follow_of;
+use crate::follow::{FollowSizes, follow_of};
 use crate::members::{MemberNames, all_of, are_members, first_of, option_place};
 use crate::options::{InitOptions, frames_in, options_of};
 use crew::is_name;
-use lsn_core::{Lsn, SegSize, Text, lsn_read};
+use lsn_core::{Lsn, Text, lsn_read};
 
 /// The frames of a partition where none are asked for (profile).
 const USUAL_FRAMES: u32 = 4096;
@@ -37,9 +37,8 @@ pub enum Command<'a> {
     /// What the kept summaries tell of the range from the first place to below the second, which is
     /// past it.
     Walsummary(Lsn, Lsn),
-    /// The WAL whose stream the input is, replayed to an output of this name: its segments have this
-    /// size, and so many blocks of a fork go into one file, 1 to 131072.
-    Follow(SegSize, u32, &'a [u8]),
+    /// The WAL whose stream the input is, replayed by these sizes to an output of this name.
+    Follow(FollowSizes, &'a [u8]),
 }
 
 fn init_of(words: &[Text]) -> Option<Command<'_>>

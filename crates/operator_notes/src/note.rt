@@ -257,7 +257,7 @@ fn walsummary_note(alloc: Global, fault: &WalsummaryFault) -> Result<Text, NoMem
 /// The name of the output in the words of `follow`.
 fn followed_to(words: &[Text]) -> &[u8] {
     match command_of(words) {
-        Some(Words::Follow(_, _, name)) => name,
+        Some(Words::Follow(_, name)) => name,
         _ => b"",
     }
 }

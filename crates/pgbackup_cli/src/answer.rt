@@ -48,9 +48,8 @@ fn output_asked(alloc: Global, words: &[Text]) -> Result<Text, NoMemory>
     ensures { IfOk result (λ area. area ≡ output_asked (asked words.now)) }
 {
     match command_of(words) {
-        Some(
-            Command::Replay(_, name) | Command::Restore(_, name, _) | Command::Follow(_, _, name),
-        ) => output_name(alloc, name),
+        Some(Command::Replay(_, name) | Command::Restore(_, name, _) | Command::Follow(_, name)) =>
+            output_name(alloc, name),
         Some(
             Command::Init(_)
             | Command::Run(_)
@@ -74,7 +73,7 @@ fn backup_asked(words: &[Text]) -> &[u8]
             | Command::Replay(_, _)
             | Command::Restore(_, _, _)
             | Command::Walsummary(_, _)
-            | Command::Follow(_, _, _),
+            | Command::Follow(_, _),
         )
         | None => b"",
     }
@@ -92,7 +91,7 @@ fn members_asked(words: &[Text]) -> MemberNames<'_>
             | Command::Replay(_, _)
             | Command::Verify(_)
             | Command::Walsummary(_, _)
-            | Command::Follow(_, _, _),
+            | Command::Follow(_, _),
         )
         | None => MemberNames {
             front: &[],

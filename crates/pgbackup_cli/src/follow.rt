@@ -15,6 +15,7 @@ use command_base::{
     Status, area_status, area_text, full_text, is_clear, joined, output_name, refused_line,
     take_text, wal_status, wal_text,
 };
+use command_line::FollowSizes;
 use follow_command::{InputFault, Written, follow_stream, write_pages};
 use lsn_core::{AreaFault, Lsn, NoMemory, SegSize, Text};
 use recovery::RecoveryFault;
@@ -160,25 +161,24 @@ fn follow_in<S: Site, I: Source>(
     answer
 }
 
-/// `follow`: follows the input to its end as the stream of a WAL whose segments have this size, and
-/// writes the pages that it makes to an output of this name, so many blocks of a fork in each file.
+/// `follow`: follows the input to its end as the stream of a WAL by these sizes, and writes the pages
+/// that it makes to an output of this name.
 pub fn follow<S: Site, I: Source>(
     alloc: Global,
-    segment: SegSize,
-    relseg: u32,
+    sizes: FollowSizes,
     name: &[u8],
     site: &mut S,
     input: &mut I,
 ) -> Result<ReplayReport, FollowFault>
-    requires range { IsRelseg relseg }
+    requires range { IsRelseg sizes.relseg }
     requires home { AllHome (S.areas site.old) }
-    ensures does { FollowDoes segment relseg name.now
+    ensures does { FollowDoes sizes.segment sizes.relseg name.now
         (of_site_input S.Site I.Source site.old input.old)
         (of_site_input S.Site I.Source site.new input.new) result }
     ensures home { AllHome (S.areas site.new) }
 {
     let out = output_name(alloc, name)?;
-    follow_in(alloc, segment, relseg, out, site, input)
+    follow_in(alloc, sizes.segment, sizes.relseg, out, site, input)
 }
 
 /// The input has more bytes than so many.

@@ -54,8 +54,8 @@ fn work<S: Site, I: Source, C: Clock>(
         Some(Command::Walsummary(from, to)) => {
             Answer::Walsummary(walsummary(alloc, from, to, site))
         }
-        Some(Command::Follow(segment, relseg, name)) => {
-            Answer::Follow(follow(alloc, segment, relseg, name, site, input))
+        Some(Command::Follow(sizes, name)) => {
+            Answer::Follow(follow(alloc, sizes, name, site, input))
         }
     }
 }
