@@ -6,30 +6,26 @@ use operator_notes::note_of;
 use pgbackup_cli::{Answer, FollowFault, Status};
 use std::alloc::Global;
 use test_areas::Wrong;
-use test_calls::{is_answered, words_in};
+use test_calls::{Call, make_calls, words_in};
 use vault::MemSite;
 
-static UNTAKEN: [&str; 8] = [
-    "follow",
-    "follow P",
-    "follow p q",
-    "follow --relseg 131073 p",
-    "follow --system-id 7 p",
-    "follow --relseg 1 --relseg 2 p",
-    "follow --relseg 1 p --relseg 2",
-    "follow p --segment-mib",
+const USAGE: &str = "refused 1 Usage\n";
+
+static UNTAKEN: [Call; 8] = [
+    ("follow", "", Status::Usage, USAGE),
+    ("follow P", "", Status::Usage, USAGE),
+    ("follow p q", "", Status::Usage, USAGE),
+    ("follow --relseg 131073 p", "", Status::Usage, USAGE),
+    ("follow --system-id 7 p", "", Status::Usage, USAGE),
+    ("follow --relseg 1 --relseg 2 p", "", Status::Usage, USAGE),
+    ("follow --relseg 1 p --relseg 2", "", Status::Usage, USAGE),
+    ("follow p --segment-mib", "", Status::Usage, USAGE),
 ];
 
 #[test]
 fn words_are_not_taken(rt: HostRuntime) -> Result<(), Wrong> {
     let mut site = MemSite::new(rt.alloc(), &[])?;
-    for (number, line) in UNTAKEN.iter().enumerate() {
-        let call = (*line, "", Status::Usage, "refused 1 Usage\n");
-        if !is_answered(rt.alloc(), &mut site, &call)? {
-            return Err(Wrong::Step(number));
-        }
-    }
-    Ok(())
+    make_calls(rt.alloc(), &mut site, &UNTAKEN)
 }
 
 /// Whether an operator is told so of a refusal.
