@@ -1,6 +1,6 @@
 -- How backups stand on one another, and the chains that they make (PostgreSQL manual,
 -- pg_combinebackup), by what their labels and manifests tell.
-use Rattle.std.specs.Prelude.{ℕ, suc, Bool, true, false, not, ◌==◌, ◌&&◌, nat_le, List, [], ◌∷◌, Option, Some, None, if◌then◌else◌}
+use Rattle.std.specs.Prelude.{ℕ, zero, suc, Bool, true, false, not, ◌==◌, ◌&&◌, nat_le, List, [], ◌∷◌, Option, Some, None, if◌then◌else◌}
 use Rattle.std.specs.List.{find}
 use Rattle.std.specs.Option.{option_map, option_and_then, is_some}
 use Rattle.lsn_core.specs.declared.lsn.Lsn.{Lsn}
@@ -26,7 +26,7 @@ prior_of backups member = find (is_prior member) backups
 -- the names of the members of a chain, the oldest first: these behind a backup, it, and those that
 -- it stands on, so many with it at most. None where one isn't there
 abbrev pub chain_behind : ℕ → List Backup → List (List ℕ) → Backup → Option (List (List ℕ))
-chain_behind 0 backups behind member = None
+chain_behind zero backups behind member = None
 chain_behind (suc n) backups behind member =
     if is_full member then Some (member.name ∷ behind)
     else option_and_then (chain_behind n backups (member.name ∷ behind)) (prior_of backups member)

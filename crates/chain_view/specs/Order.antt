@@ -1,6 +1,7 @@
 -- The order in which backups are listed.
-use Rattle.std.specs.Prelude.{ℕ, Bool, List, if◌then◌else◌}
-use Rattle.std.specs.Ordering.{Ordering, nat_cmp, ordering_then, is_gt}
+use Rattle.std.specs.Prelude.{ℕ, List, if◌then◌else◌}
+use Rattle.std.specs.Ordering.{nat_cmp, ordering_then, is_gt}
+use Rattle.std.specs.declared.cmp.Ordering.{Ordering}
 use Rattle.std.specs.Cmp.Lexicographic.{slice_cmp}
 use Rattle.std.specs.List.{insert, position_or_len}
 use Rattle.chain_view.specs.Backups.{is_full}

@@ -1,5 +1,5 @@
 -- Lines as text, in columns that stand below one another.
-use Rattle.std.specs.Prelude.{ℕ, ◌+◌, ◌-◌, max, List, [], ◌∷◌, ◌++◌, codes, length, replicate}
+use Rattle.std.specs.Prelude.{ℕ, ◌-◌, max, List, [], ◌∷◌, ◌++◌, codes, length, replicate}
 use Rattle.std.specs.Fmt.{decimal}
 use Rattle.chain_view.specs.Columns.{header}
 use Rattle.chain_view.specs.declared.cells.Cell.{Cell}
@@ -24,17 +24,16 @@ widths_in widths [] = widths
 widths_in widths (line ∷ lines) = widths_in (wider widths line) lines
 
 -- behind a cell come as many blanks as its column is wider, and two more; none behind the last one
-abbrev pub gap_of : ℕ → ℕ → List Cell → ℕ
-gap_of width size [] = 0
-gap_of width size (cell ∷ cells) = width - size + 2
+abbrev pub gap_text : ℕ → ℕ → List Cell → List ℕ
+gap_text width size [] = []
+gap_text width size (cell ∷ cells) = replicate (width - size) 32 ++ codes "  "
 
 -- a line: its cells, each in its column, and a line end
 abbrev pub cells_text : List ℕ → List Cell → List ℕ
 cells_text widths [] = 10 ∷ []
 cells_text [] (cell ∷ cells) = 10 ∷ []
 cells_text (width ∷ widths) (cell ∷ cells) =
-    cell_text cell ++ (replicate (gap_of width (length (cell_text cell)) cells) 32
-    ++ cells_text widths cells)
+    cell_text cell ++ (gap_text width (length (cell_text cell)) cells ++ cells_text widths cells)
 
 abbrev pub lines_text : List ℕ → List (List Cell) → List ℕ
 lines_text widths [] = []

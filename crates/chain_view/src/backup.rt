@@ -1,11 +1,9 @@
 //! A backup, as its label and its manifest tell of it.
 
 ghost use Rattle.std.specs.Prelude.{◌≡◌, IfOk};
-ghost use Rattle.std.specs.Ordering.{Ordering};
 ghost use Rattle.std.specs.List.{list_all};
-ghost use Rattle.std.specs.Option.{is_none};
 ghost use Rattle.chain_view.specs.Words.{is_name, is_name_byte};
-ghost use Rattle.chain_view.specs.Backups.{kind_of, kind_name, is_full, sent, bytes_in, backup_of};
+ghost use Rattle.chain_view.specs.Backups.{kind_of, kind_name, is_full, bytes_in, backup_of};
 ghost use Rattle.chain_view.specs.Order.{rank, backup_cmp};
 
 use crate::word::{Word, plain_word};

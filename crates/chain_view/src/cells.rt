@@ -51,7 +51,7 @@ pub struct Member {
 
 /// The cell of a word, where there is one.
 fn cell_of(alloc: Global, word: Option<&Word>) -> Result<Cell, NoMemory>
-    ensures { IfOk result (λ cell. cell ≡ cell_of (option_map (λ w. w.now) word)) }
+    ensures { IfOk result (λ cell. cell ≡ cell_of (option_map (λ w. w.now) word.entry)) }
 {
     match word {
         Some(word) => Ok(Cell::Word(Word::copied(alloc, word.as_str())?)),
@@ -100,7 +100,7 @@ fn fault_text(alloc: Global, fault: FolderFault) -> Result<Word, NoMemory>
 /// Why a backup that names this prior's start ends no chain: the prior isn't there, or the chain
 /// that it ends, if any, has 64 members already.
 fn broken_text(alloc: Global, start: Lsn, prior: Option<&Word>) -> Result<Word, NoMemory>
-    ensures { IfOk result (λ word. word ≡ broken_text start (option_map (λ w. w.now) prior)) }
+    ensures { IfOk result (λ word. word ≡ broken_text start (option_map (λ w. w.now) prior.entry)) }
 {
     if prior.is_some() {
         return Word::copied(alloc, "NoChain");

@@ -69,7 +69,7 @@ pub fn chain_of(
 
 /// Whether a backup ends a chain, and at or before this place.
 fn reaches(alloc: Global, backups: &[Backup], upto: Lsn, last: &Backup) -> Result<bool, NoMemory>
-    ensures { IfOk result (λ reaches. reaches ≡ reaches backups.now upto.0 last.now) }
+    ensures { IfOk result (λ yes. yes ≡ reaches backups.now upto.0 last.now) }
 {
     if upto < last.end {
         return Ok(false);
@@ -79,7 +79,7 @@ fn reaches(alloc: Global, backups: &[Backup], upto: Lsn, last: &Backup) -> Resul
 
 /// Whether a backup ends at or before another one, where there is one.
 fn ends_by(found: Option<&Backup>, last: &Backup) -> bool
-    ensures { result ≡ ends_by (option_map (λ b. b.now) found) last.now }
+    ensures { result ≡ ends_by (option_map (λ b. b.now) found.entry) last.now }
 {
     match found {
         Some(found) => last.end <= found.end,

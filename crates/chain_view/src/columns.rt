@@ -1,6 +1,7 @@
 //! The columns of a listing.
 
 ghost use Rattle.std.specs.Prelude.{◌≡◌, IfOk};
+ghost use Rattle.chain_view.specs.declared.cells.Cell.TheVariants as cell;
 ghost use Rattle.chain_view.specs.Columns.{title_of, key_of, header};
 
 use crate::cells::{Cell, Line};
@@ -43,7 +44,7 @@ pub(crate) fn key_of(place: usize) -> &'static str
 }
 
 fn title(alloc: Global, place: usize) -> Result<Cell, NoMemory>
-    ensures { IfOk result (λ cell. cell ≡ Word (title_of place)) }
+    ensures { IfOk result (λ c. c ≡ cell.Word (title_of place)) }
 {
     Ok(Cell::Word(Word::copied(alloc, title_of(place))?))
 }

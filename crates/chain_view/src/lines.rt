@@ -29,7 +29,7 @@ fn first_of(alloc: Global, names: Option<Vec<Word>>) -> Result<Option<Word>, NoM
 /// The name of a backup, where there is one.
 fn name_of(alloc: Global, backup: Option<&Backup>) -> Result<Option<Word>, NoMemory>
     ensures { IfOk result (λ name. name
-        ≡ option_map (λ b. b.name) (option_map (λ b. b.now) backup)) }
+        ≡ option_map (λ b. b.name) (option_map (λ b. b.now) backup.entry)) }
 {
     match backup {
         Some(backup) => Ok(Some(Word::copied(alloc, backup.name.as_str())?)),
@@ -63,7 +63,7 @@ fn members_in(alloc: Global, backups: &[Backup]) -> Result<Vec<Member>, NoMemory
 
 /// Whether a chain is that of this name.
 fn is_named(chain: Option<&Word>, name: &str) -> bool
-    ensures { result ≡ is_named (option_map (λ w. w.now) chain) name.now }
+    ensures { result ≡ is_named (option_map (λ w. w.now) chain.entry) name.now }
 {
     match chain {
         Some(chain) => chain.as_str() == name,

@@ -2,15 +2,16 @@
 
 ghost use Rattle.std.specs.Prelude.{◌≡◌, IfOk, not, ◌==◌};
 ghost use Rattle.std.specs.List.{find};
+ghost use Rattle.std.specs.Option.{option_map};
 ghost use Rattle.chain_check.specs.Chain.{timelines_of};
 ghost use Rattle.chain_view.specs.declared.shown.FolderFault.TheVariants as fault;
-ghost use Rattle.chain_view.specs.Shown.{ManifestAnswer, LabelAnswer, HeadsAnswer, TextsAnswer, read_fault};
+ghost use Rattle.chain_view.specs.Shown.{ManifestAnswer, LabelAnswer, HeadsAnswer, TextsAnswer};
 
 use crate::backup::{Backup, backup_of, is_name};
 use backup_label::{Label, LabelFault, read_label};
-use lsn_core::{AreaFault, Lsn, NoMemory};
+use lsn_core::{Lsn, NoMemory};
 use manifest::{Manifest, ManifestFault, read_manifest};
-use std::alloc::{AllocError, Global};
+use std::alloc::Global;
 
 /// Why a folder is no backup that can be a member of a chain. All but the last stand in the order in
 /// which they are judged.
@@ -41,7 +42,7 @@ impl From<NoMemory> for FolderFault {
 
 /// The manifest of a text, where there is one, or why there is none.
 fn manifest_in(alloc: Global, text: Option<&[u8]>) -> Result<Manifest, FolderFault>
-    ensures { ManifestAnswer text.now result }
+    ensures { ManifestAnswer (option_map (λ t. t.now) text.entry) result }
 {
     let Some(text) = text else {
         return Err(FolderFault::NoManifest);
@@ -84,7 +85,7 @@ fn heads_in(
     manifest: Option<&[u8]>,
     label: &[u8],
 ) -> Result<(Manifest, Label), FolderFault>
-    ensures { HeadsAnswer manifest.now label.now result }
+    ensures { HeadsAnswer (option_map (λ t. t.now) manifest.entry) label.now result }
 {
     let manifest = manifest_in(alloc, manifest)?;
     let label = label_in(alloc, label, manifest.start)?;
@@ -101,7 +102,8 @@ pub(crate) fn shown(
     manifest: Option<&[u8]>,
     label: &[u8],
 ) -> Result<Backup, FolderFault>
-    ensures { TextsAnswer folder.now manifest.now label.now result }
+    ensures { TextsAnswer
+        folder.now (option_map (λ t. t.now) manifest.entry) label.now result }
 {
     let (manifest, label) = heads_in(alloc, manifest, label)?;
     Ok(backup_of(alloc, folder, &manifest, &label)?)

@@ -1,7 +1,7 @@
 //! Lines as text, in columns that stand below one another.
 
 ghost use Rattle.std.specs.Prelude.{◌≡◌, ◌++◌, ◌∷◌, [], IfOk, OnOk, length, replicate};
-ghost use Rattle.chain_view.specs.Table.{cell_text, gap_of, blanks, wider, widths_in, cells_text, lines_text, table_text, listing_text};
+ghost use Rattle.chain_view.specs.Table.{cell_text, gap_text, wider, widths_in, cells_text, lines_text, table_text, listing_text};
 ghost use Rattle.chain_view.specs.Columns.{header};
 
 use crate::cells::{Cell, Line};
@@ -67,17 +67,6 @@ fn widths_in(alloc: Global, lines: &[Line]) -> Result<Vec<usize>, NoMemory>
     Ok(widths)
 }
 
-/// How many blanks stand behind a cell of this length, with these cells behind it: as many as its
-/// column is wider, and two more; none behind the last one.
-fn gap_of(width: usize, length: usize, behind: &[Cell]) -> usize
-    ensures { result ≡ gap_of width length behind.now }
-{
-    if behind.is_empty() {
-        return 0;
-    }
-    width.saturating_sub(length).saturating_add(2)
-}
-
 fn add_blanks(text: &mut Vec<u8>, count: usize) -> Result<(), NoMemory>
     ensures { OnOk result (text.new.items ≡ text.old.items ++ replicate count 32) }
 {
@@ -86,6 +75,25 @@ fn add_blanks(text: &mut Vec<u8>, count: usize) -> Result<(), NoMemory>
         text.push(b' ')?;
         left -= 1;
     }
+    Ok(())
+}
+
+/// Adds the blanks that stand behind a cell of this length, with these cells behind it: as many as
+/// its column is wider, and two more; none behind the last one.
+fn add_gap(
+    text: &mut Vec<u8>,
+    width: usize,
+    length: usize,
+    behind: &[Cell],
+) -> Result<(), NoMemory>
+    ensures { OnOk result (text.new.items
+        ≡ text.old.items ++ gap_text width length behind.now) }
+{
+    if behind.is_empty() {
+        return Ok(());
+    }
+    add_blanks(text, width.saturating_sub(length))?;
+    text.extend_from_slice(b"  ")?;
     Ok(())
 }
 
@@ -100,16 +108,16 @@ fn add_line(
         ≡ text.old.items ++ cells_text widths.now line.now) }
 {
     let mut left = line.cells.as_slice();
-    let mut widths = widths;
+    let mut columns = widths;
     while let Some((cell, behind)) = left.split_first() {
-        let Some((width, widths_behind)) = widths.split_first() else {
+        let Some((width, columns_behind)) = columns.split_first() else {
             break;
         };
         let word = cell_text(alloc, cell)?;
         text.extend_from_slice(word.as_bytes())?;
-        add_blanks(text, gap_of(*width, word.as_bytes().len(), behind))?;
+        add_gap(text, *width, word.as_bytes().len(), behind)?;
         left = behind;
-        widths = widths_behind;
+        columns = columns_behind;
     }
     text.push(b'\n')?;
     Ok(())

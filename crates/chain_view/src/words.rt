@@ -2,7 +2,7 @@
 
 ghost use Rattle.std.specs.Prelude.{◌≡◌};
 ghost use Rattle.std.specs.Option.{option_map};
-ghost use Rattle.chain_view.specs.Asked.{is_option, is_json, target_in, options_in, asked_with, asked, asks};
+ghost use Rattle.chain_view.specs.Asked.{is_option, is_json, lsn_value, target_in, options_in, asked_with, asked, asks};
 
 use lsn_core::{Lsn, Text, lsn_read};
 
@@ -38,12 +38,19 @@ fn is_json(word: &[u8]) -> bool
     word == b"--json".as_slice()
 }
 
+/// The LSN that a value writes.
+fn lsn_in(value: &[u8]) -> Option<Lsn>
+    ensures { result ≡ lsn_value value.now }
+{
+    lsn_read(value)
+}
+
 /// The LSN that the option of a target and its value give.
 fn target_in(name: &[u8], value: &[u8]) -> Option<Lsn>
     ensures { result ≡ target_in name.now value.now }
 {
     if name == b"--for".as_slice() {
-        return lsn_read(value);
+        return lsn_in(value);
     }
     None
 }
