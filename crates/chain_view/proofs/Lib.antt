@@ -1,1 +1,4 @@
+mod Chaining
 mod LsnWords
+mod NoFloats
+mod ShownFolders

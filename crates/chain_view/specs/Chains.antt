@@ -25,7 +25,7 @@ prior_of backups member = find (is_prior member) backups
 
 -- the names of the members of a chain, the oldest first: these behind a backup, it, and those that
 -- it stands on, so many with it at most. None where one isn't there
-abbrev pub chain_behind : ℕ → List Backup → List (List ℕ) → Backup → Option (List (List ℕ))
+unfoldable pub chain_behind : ℕ → List Backup → List (List ℕ) → Backup → Option (List (List ℕ))
 chain_behind zero backups behind member = None
 chain_behind (suc n) backups behind member =
     if is_full member then Some (member.name ∷ behind)

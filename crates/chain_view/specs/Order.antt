@@ -1,9 +1,10 @@
 -- The order in which backups are listed.
-use Rattle.std.specs.Prelude.{ℕ, List, if◌then◌else◌}
+use Rattle.std.specs.Prelude.{ℕ, List, length, if◌then◌else◌}
 use Rattle.std.specs.Ordering.{nat_cmp, ordering_then, is_gt}
 use Rattle.std.specs.declared.cmp.Ordering.{Ordering}
 use Rattle.std.specs.Cmp.Lexicographic.{slice_cmp}
-use Rattle.std.specs.List.{insert, position_or_len}
+use Rattle.std.specs.List.{insert, position}
+use Rattle.std.specs.Option.{unwrap_or}
 use Rattle.chain_view.specs.Backups.{is_full}
 use Rattle.chain_view.specs.declared.backup.Backup.{Backup}
 
@@ -20,4 +21,5 @@ backup_cmp a b =
 -- a backup put among those that stand in this order: before the first that comes behind it
 abbrev pub with_backup : List Backup → Backup → List Backup
 with_backup backups backup =
-    insert backups (position_or_len (λ b. is_gt (backup_cmp b backup)) backups) backup
+    insert backups
+    (unwrap_or (position (λ b. is_gt (backup_cmp b backup)) backups) (length backups)) backup

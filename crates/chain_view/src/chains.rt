@@ -1,9 +1,11 @@
 //! How backups stand on one another, and the chains that they make.
 
-ghost use Rattle.std.specs.Prelude.{◌≡◌, [], IfOk, OnOk, Option};
-ghost use Rattle.std.specs.Option.{option_map, is_some};
-ghost use Rattle.chain_view.specs.Order.{with_backup};
-ghost use Rattle.chain_view.specs.Chains.{names_start, is_prior, prior_of, chain_of, chain_behind, ends_by, reaches, newer, newest_in, members_for};
+ghost use Rattle.std.specs.Prelude.{◌≡◌, ◌≤◌, [], length, None, IfOk, IfSome, OnOk};
+ghost use Rattle.std.specs.List.{position};
+ghost use Rattle.std.specs.Option.{option_map};
+ghost use Rattle.std.specs.Ordering.{is_gt};
+ghost use Rattle.chain_view.specs.Order.{backup_cmp, with_backup};
+ghost use Rattle.chain_view.specs.Chains.{is_prior, prior_of, chain_of, ends_by, reaches, newest_in, members_for};
 
 use crate::backup::Backup;
 use crate::word::Word;
@@ -13,14 +15,19 @@ use std::alloc::Global;
 /// The most members of a chain, as of one that `restore` takes (profile).
 pub const MOST_MEMBERS: u32 = 64;
 
+/// The place of the first of some backups that comes behind another one.
+fn first_behind(backups: &[Backup], backup: &Backup) -> Option<usize>
+    ensures place { result ≡ position (λ b. is_gt (backup_cmp b backup.now)) backups.now }
+    ensures within { IfSome result (λ place. place ≤ length backups.now) }
+{
+    backups.iter().position(|b| b.order(backup).is_gt())
+}
+
 /// Puts a backup among those that are listed, in their order.
 pub(crate) fn add_backup(backups: &mut Vec<Backup>, backup: Backup) -> Result<(), NoMemory>
     ensures { OnOk result (backups.new.items ≡ with_backup backups.old.items backup) }
 {
-    let place = backups
-        .iter()
-        .position(|b| b.order(&backup).is_gt())
-        .unwrap_or(backups.len());
+    let place = first_behind(backups, &backup).unwrap_or(backups.len());
     backups.insert(place, backup)?;
     Ok(())
 }

@@ -87,12 +87,14 @@ fn array_line(alloc: Global, values: Vec<Value>) -> Result<Text, NoMemory>
 pub fn listing_json(alloc: Global, lines: &[Line]) -> Result<Text, NoMemory>
     ensures { IfOk result (λ text. text ≡ listing_json lines.now) }
 {
-    array_line(alloc, lines_json(alloc, lines)?)
+    let values = lines_json(alloc, lines)?;
+    array_line(alloc, values)
 }
 
 /// The names of a chain as a line of JSON: an array of texts.
 pub fn members_json_line(alloc: Global, names: &[Word]) -> Result<Text, NoMemory>
     ensures { IfOk result (λ text. text ≡ members_json_line names.now) }
 {
-    array_line(alloc, names_json(alloc, names)?)
+    let values = names_json(alloc, names)?;
+    array_line(alloc, values)
 }

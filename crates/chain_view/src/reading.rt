@@ -1,9 +1,10 @@
 //! The folders of an area, and what each of them shows.
 
 ghost use Rattle.std.specs.Prelude.{◌≡◌, ◌++◌, ◌∷◌, [], All, map, IfOk, OnOk, IfSome};
+ghost use Rattle.std.specs.Option.{option_map};
 ghost use Rattle.lsn_core.specs.Causes.{HasCause};
 ghost use Rattle.vault.specs.Frame.{OnlyReads};
-ghost use Rattle.chain_view.specs.Shown.{Shows};
+ghost use Rattle.chain_view.specs.Shown.{Shows, TextsTell};
 ghost use Rattle.chain_view.specs.Folders.{is_other, with_folder, folders_in, IsFile, TellsIn, EntryShows, AreShown};
 
 use crate::backup::{Backup, is_name};
@@ -91,6 +92,33 @@ fn file_in<V: Vault>(
     Ok(Some(bytes))
 }
 
+/// The bytes of a file, where it is there.
+fn text_of(file: &Option<Vec<u8>>) -> Option<&[u8]>
+    ensures { option_map (λ t. t.now) result ≡ option_map (λ v. v.items) file.now }
+{
+    match file {
+        Some(bytes) => Some(bytes.as_slice()),
+        None => None,
+    }
+}
+
+/// What the texts of a folder of this name tell.
+fn told(
+    alloc: Global,
+    folder: &[u8],
+    manifest: Option<&[u8]>,
+    label: &[u8],
+) -> Result<Result<Backup, FolderFault>, NoMemory>
+    ensures { IfOk result (λ shows. TextsTell
+        folder.now (option_map (λ t. t.now) manifest.entry) label.now shows) }
+{
+    match shown(alloc, folder, manifest, label) {
+        Ok(backup) => Ok(Ok(backup)),
+        Err(FolderFault::NoMemory) => Err(NoMemory),
+        Err(fault) => Ok(Err(fault)),
+    }
+}
+
 /// What a folder shows whose name is a backup's.
 fn texts_in<V: Vault>(
     alloc: Global,
@@ -106,10 +134,7 @@ fn texts_in<V: Vault>(
     let manifest = file_in(alloc, area, &path)?;
     let path = path_in(alloc, folder, LABEL)?;
     let label = read_whole(alloc, area, &path)?;
-    match shown(alloc, folder, manifest.as_deref(), &label) {
-        Err(FolderFault::NoMemory) => Err(AreaFault::NoMemory),
-        shows => Ok(shows),
-    }
+    Ok(told(alloc, folder, text_of(&manifest), &label)?)
 }
 
 /// What a folder of this name shows.
@@ -133,18 +158,21 @@ fn folder_of<V: Vault>(
 fn shown_in<V: Vault>(
     alloc: Global,
     area: &mut V,
-    names: Vec<Text>,
+    names: &[Text],
 ) -> Result<Vec<Folder>, AreaFault>
-    ensures names { IfOk result (λ folders. map (λ f. f.name) folders.items ≡ names.items) }
+    ensures names { IfOk result (λ folders. map (λ f. f.name) folders.items ≡ names.now) }
     ensures shown { IfOk result (λ folders. IfSome (V.files area.old) (λ m.
         All (EntryShows m) folders.items)) }
     ensures reads { OnlyReads V.Vault area.old area.new }
     ensures cause { HasCause (V.faults area.old) (V.faults area.new) result }
 {
     let mut folders = Vec::new(alloc);
-    for name in names {
+    let mut left = names;
+    while let Some((name, behind)) = left.split_first() {
         let shows = folder_of(alloc, area, name.as_bytes())?;
+        let name = Text::copied(alloc, name.as_bytes())?;
         folders.push(Folder { name, shows })?;
+        left = behind;
     }
     Ok(folders)
 }
@@ -158,6 +186,6 @@ pub fn folders_of<V: Vault>(alloc: Global, area: &mut V) -> Result<Vec<Folder>, 
     ensures cause { HasCause (V.faults area.old) (V.faults area.new) result }
 {
     let names = area.names(alloc)?;
-    let names = folders_in(alloc, &names)?;
-    shown_in(alloc, area, names)
+    let folders = folders_in(alloc, &names)?;
+    shown_in(alloc, area, &folders)
 }
