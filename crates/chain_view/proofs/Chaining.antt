@@ -1,5 +1,5 @@
 -- One step of a chain, from a member to the one that it stands on.
-use Rattle.std.proofs.Common.{◌≡◌, ℕ, ◌-◌, ◌<◌, ◌≤◌, zero, suc, Bool, true, false, List, [], ◌∷◌, Option, Some, None, refl, arith}
+use Rattle.std.proofs.Common.{◌≡◌, ℕ, ◌<◌, ◌≤◌, zero, suc, true, false, List, ◌∷◌, Some, None, refl, arith}
 use Rattle.chain_view.specs.Backups.{is_full}
 use Rattle.chain_view.specs.Chains.{chain_behind, prior_of}
 use Rattle.chain_view.specs.declared.backup.Backup.{Backup}

@@ -76,7 +76,7 @@ asked [] = None
 asked (first ∷ behind) =
     if is_option first
     then asked_last (slice_get (first ∷ behind) (length behind))
-        (take (length behind) (first ∷ behind))
+    (take (length behind) (first ∷ behind))
     else asked_with first behind
 
 -- words ask this

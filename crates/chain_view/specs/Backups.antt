@@ -1,8 +1,7 @@
 -- What a backup is, by its label and its manifest.
-use Rattle.std.specs.Prelude.{ℕ, ◌+◌, ◌-◌, ◌^◌, min, Bool, true, false, List, [], ◌∷◌, length, map, codes, not, ◌&&◌, if◌then◌else◌, Option, Some, None}
+use Rattle.std.specs.Prelude.{ℕ, ◌+◌, ◌-◌, ◌^◌, min, Bool, List, [], ◌∷◌, length, map, codes, not, ◌&&◌, if◌then◌else◌}
 use Rattle.std.specs.Str.{bytes_eq}
 use Rattle.std.specs.Option.{option_map, unwrap_or, is_none, is_some}
-use Rattle.lsn_core.specs.declared.lsn.Lsn.{Lsn}
 use Rattle.backup_label.specs.declared.label.Label.{Label}
 use Rattle.manifest.specs.Listing.{Listing}
 use Rattle.manifest.specs.declared.listing.FileRow.{FileRow}

@@ -1,8 +1,8 @@
 -- How backups stand on one another, and the chains that they make (PostgreSQL manual,
 -- pg_combinebackup), by what their labels and manifests tell.
-use Rattle.std.specs.Prelude.{ℕ, zero, suc, Bool, true, false, not, ◌==◌, ◌&&◌, nat_le, List, [], ◌∷◌, Option, Some, None, if◌then◌else◌}
+use Rattle.std.specs.Prelude.{ℕ, zero, suc, Bool, false, not, ◌==◌, ◌&&◌, nat_le, List, [], ◌∷◌, Option, Some, None, if◌then◌else◌}
 use Rattle.std.specs.List.{find}
-use Rattle.std.specs.Option.{option_map, option_and_then, is_some}
+use Rattle.std.specs.Option.{option_and_then, is_some}
 use Rattle.lsn_core.specs.declared.lsn.Lsn.{Lsn}
 use Rattle.chain_view.specs.Backups.{is_full}
 use Rattle.chain_view.specs.declared.backup.Backup.{Backup}

@@ -4,7 +4,7 @@ use Rattle.lsn_core.specs.Causes.{Rose}
 use Rattle.lsn_core.specs.declared.fault.AreaFault.{AreaFault}
 use Rattle.lsn_core.specs.declared.fault.AreaFault.TheVariants as area
 use Rattle.vault.specs.Lending.{RoseAt}
-use Rattle.vault.specs.Stream.{GainsAll, GainsPart}
+use Rattle.vault.specs.Stream.{GainsAll}
 use Rattle.vault.specs.declared.site.Site.{Ghosts as SiteGhosts}
 use Rattle.vault.specs.declared.stream.Sink.{Ghosts as SinkGhosts}
 use Rattle.chain_view.specs.Asked.{Question, asked}

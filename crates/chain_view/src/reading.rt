@@ -75,11 +75,7 @@ fn path_in(alloc: Global, folder: &[u8], file: &[u8]) -> Result<Vec<u8>, NoMemor
 }
 
 /// The bytes of a file, where it is there.
-fn file_in<V: Vault>(
-    alloc: Global,
-    area: &mut V,
-    path: &[u8],
-) -> Result<Option<Vec<u8>>, AreaFault>
+fn file_in<V: Vault>(alloc: Global, area: &mut V, path: &[u8]) -> Result<Option<Vec<u8>>, AreaFault>
     ensures bytes { IfOk result (λ found. IfSome (V.files area.old) (λ m.
         IsFile m path.now found)) }
     ensures reads { OnlyReads V.Vault area.old area.new }
@@ -155,11 +151,7 @@ fn folder_of<V: Vault>(
 }
 
 /// What the folders of these names show.
-fn shown_in<V: Vault>(
-    alloc: Global,
-    area: &mut V,
-    names: &[Text],
-) -> Result<Vec<Folder>, AreaFault>
+fn shown_in<V: Vault>(alloc: Global, area: &mut V, names: &[Text]) -> Result<Vec<Folder>, AreaFault>
     ensures names { IfOk result (λ folders. map (λ f. f.name) folders.items ≡ names.now) }
     ensures shown { IfOk result (λ folders. IfSome (V.files area.old) (λ m.
         All (EntryShows m) folders.items)) }

@@ -80,12 +80,7 @@ fn add_blanks(text: &mut Vec<u8>, count: usize) -> Result<(), NoMemory>
 
 /// Adds the blanks that stand behind a cell of this length, with these cells behind it: as many as
 /// its column is wider, and two more; none behind the last one.
-fn add_gap(
-    text: &mut Vec<u8>,
-    width: usize,
-    length: usize,
-    behind: &[Cell],
-) -> Result<(), NoMemory>
+fn add_gap(text: &mut Vec<u8>, width: usize, length: usize, behind: &[Cell]) -> Result<(), NoMemory>
     ensures { OnOk result (text.new.items
         ≡ text.old.items ++ gap_text width length behind.now) }
 {

@@ -60,19 +60,34 @@ fn options_in(words: &[Text]) -> Option<Options>
     ensures { result ≡ options_in words.now }
 {
     match words {
-        [] => Some(Options { json: false, upto: None }),
-        [json] if is_json(json.as_bytes()) => Some(Options { json: true, upto: None }),
+        [] => Some(Options {
+            json: false,
+            upto: None,
+        }),
+        [json] if is_json(json.as_bytes()) => Some(Options {
+            json: true,
+            upto: None,
+        }),
         [name, value] => {
             let upto = target_in(name.as_bytes(), value.as_bytes())?;
-            Some(Options { json: false, upto: Some(upto) })
+            Some(Options {
+                json: false,
+                upto: Some(upto),
+            })
         }
         [json, name, value] if is_json(json.as_bytes()) => {
             let upto = target_in(name.as_bytes(), value.as_bytes())?;
-            Some(Options { json: true, upto: Some(upto) })
+            Some(Options {
+                json: true,
+                upto: Some(upto),
+            })
         }
         [name, value, json] if is_json(json.as_bytes()) => {
             let upto = target_in(name.as_bytes(), value.as_bytes())?;
-            Some(Options { json: true, upto: Some(upto) })
+            Some(Options {
+                json: true,
+                upto: Some(upto),
+            })
         }
         _ => None,
     }

@@ -33,7 +33,9 @@ fn words_of(rt: &HostRuntime) -> Result<Vec<Text>, NoMemory> {
 fn say(rt: &HostRuntime, outcome: Outcome, said: Option<&str>) {
     let _ = match outcome {
         Outcome::Usage => eprint!(rt; "{USAGE}"),
-        Outcome::NoChain => eprintln!(rt; "pgbackup-chains: error: no chain ends there or before it"),
+        Outcome::NoChain => eprintln!(rt;
+            "pgbackup-chains: error: no chain ends there or before it"
+        ),
         Outcome::Told | Outcome::Device | Outcome::Memory => match said {
             Some(said) => eprintln!(rt; "pgbackup-chains: {said}"),
             None => Ok(()),

@@ -102,7 +102,14 @@ fn backups_are_listed_in_their_chains(rt: HostRuntime) -> Result<(), Fail> {
 fn members_are_those_of_the_newest_chain(rt: HostRuntime) -> Result<(), Fail> {
     let alloc = rt.alloc();
     assert!(rt; answers(alloc, false, Some(Lsn(0x10_0468)), Some(b"c1 i2\n"))?);
-    assert!(rt; answers(alloc, true, Some(Lsn(0x10_0468)), Some(b"[\"c1\",\"i2\"]\n"))?);
+    assert!(rt;
+        answers(
+            alloc,
+            true,
+            Some(Lsn(0x10_0468)),
+            Some(b"[\"c1\",\"i2\"]\n")
+        )?
+    );
     assert!(rt; answers(alloc, false, Some(Lsn(0x10_0467)), Some(b"c1\n"))?);
     assert!(rt; answers(alloc, false, Some(Lsn(0x10_036F)), Some(b"f1\n"))?);
     assert!(rt; answers(alloc, false, Some(Lsn(0x10_0277)), None)?);

@@ -1,5 +1,5 @@
 -- The area that comes back was only read.
-use Rattle.std.proofs.Common.{◌≡◌, arith, IfOk, IfSome}
+use Rattle.std.proofs.Common.{arith, IfOk, IfSome}
 use Rattle.lsn_core.specs.Causes.{HasCause}
 use Rattle.vault.specs.Site.{IsStill}
 use Rattle.vault.proofs.LentAreas.{taken_one, lent_named, site_cause, only_reads}
