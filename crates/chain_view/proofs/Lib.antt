@@ -1,4 +1,7 @@
 mod Chaining
+mod Linked
 mod LsnWords
+mod Newest
 mod NoFloats
 mod ShownFolders
+mod Taken

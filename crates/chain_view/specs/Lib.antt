@@ -6,6 +6,7 @@ pub mod Chains
 pub mod Columns
 pub mod Folders
 pub mod Json
+pub mod Laws
 pub mod Lines
 pub mod Listing
 pub mod Order
