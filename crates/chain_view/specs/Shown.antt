@@ -1,15 +1,16 @@
 -- What a folder shows: the backup that its manifest and its label tell of, or its first fault.
-use Rattle.std.specs.Prelude.{◌≡◌, ◌≢◌, ◌⊎◌, ℕ, true, false, not, ◌==◌, List, ◌∷◌, ◌++◌, Option, Some, None, Result, Ok, Err}
+use Rattle.std.specs.Prelude.{◌≡◌, ℕ, true, false, not, ◌==◌, List, ◌∷◌, ◌++◌, Option, Some, None, Result, Ok, Err}
 use Rattle.std.specs.List.{find}
 use Rattle.std.specs.FinMap.{get}
 use Rattle.lsn_core.specs.Files.{Files}
 use Rattle.vault.specs.Area.{bytes_of}
 use Rattle.backup_files.specs.Directory.{manifest_name, label_name}
-use Rattle.backup_label.specs.Label.{IsLabel, IsLabelRefusedAt}
 use Rattle.backup_label.specs.declared.label.Label.{Label}
 use Rattle.manifest.specs.Listing.{Listing}
 use Rattle.manifest.specs.Reading.{ReadAnswers}
 use Rattle.chain_check.specs.Chain.{timelines_of}
+use Rattle.chain_check.specs.Directory.{IsLabelFrom}
+use Rattle.chain_check.specs.Refusals.{RefusesLine}
 use Rattle.chain_view.specs.Words.{is_name}
 use Rattle.chain_view.specs.Backups.{backup_of}
 use Rattle.chain_view.specs.declared.backup.Backup.{Backup}
@@ -21,16 +22,6 @@ use Rattle.chain_view.specs.declared.shown.FolderFault.TheVariants.{Name, NoMani
 -- a text is a manifest's, where there is one
 abbrev pub IsManifest : Option (List ℕ) → Listing → Type 0
 IsManifest text m = (bytes : List ℕ) × (text ≡ Some bytes) × ReadAnswers 2 bytes (Ok m)
-
--- a text is a label's that tells this start, or this line of it is refused: the first outside the
--- grammar, or, where none is, line 1, which tells another start
-abbrev pub IsLabelFrom : ℕ → List ℕ → Label → Type 0
-IsLabelFrom start text label = IsLabel text label × (label.start.0 ≡ start)
-
-abbrev pub RefusesLine : ℕ → List ℕ → ℕ → Type 0
-RefusesLine start text line =
-    IsLabelRefusedAt text line
-    ⊎ ((label : Label) × IsLabel text label × (label.start.0 ≢ start) × (line ≡ 1))
 
 -- the first timeline that isn't 1, of those that a label tells
 abbrev pub other_timeline : Label → Option ℕ
