@@ -1,7 +1,2 @@
-mod Chaining
-mod Linked
 mod LsnWords
-mod Newest
 mod NoFloats
-mod ShownFolders
-mod Taken

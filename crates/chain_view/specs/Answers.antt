@@ -4,10 +4,10 @@ use Rattle.lsn_core.specs.Files.{Files}
 use Rattle.lsn_core.specs.declared.lsn.Lsn.{Lsn}
 use Rattle.vault.specs.declared.site.Site.{Ghosts as SiteGhosts}
 use Rattle.chain_view.specs.Asked.{Question}
-use Rattle.chain_view.specs.Chains.{members_for}
+use Rattle.chain_listing.specs.Chains.{members_for}
 use Rattle.chain_view.specs.Json.{listing_json, members_json_line}
 use Rattle.chain_view.specs.Lines.{lines_of}
-use Rattle.chain_view.specs.Listing.{View, IsListing}
+use Rattle.chain_listing.specs.Listing.{View, IsListing}
 use Rattle.chain_view.specs.Table.{listing_text}
 use Rattle.chain_view.specs.declared.cells.Cell.{Cell}
 

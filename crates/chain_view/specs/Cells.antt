@@ -5,10 +5,10 @@ use Rattle.lsn_core.specs.Names.{lsn_bytes}
 use Rattle.lsn_core.specs.declared.lsn.Lsn.{Lsn}
 use Rattle.manifest.specs.declared.fault.ManifestFault.{ManifestFault}
 use Rattle.manifest.specs.declared.fault.ManifestFault.TheVariants as manifest
-use Rattle.chain_view.specs.Backups.{kind_name}
-use Rattle.chain_view.specs.declared.shown.FolderFault.{FolderFault}
-use Rattle.chain_view.specs.declared.shown.FolderFault.TheVariants as folder
-use Rattle.chain_view.specs.declared.listing.Damaged.{Damaged}
+use Rattle.chain_listing.specs.Backups.{kind_name}
+use Rattle.chain_listing.specs.declared.shown.FolderFault.{FolderFault}
+use Rattle.chain_listing.specs.declared.shown.FolderFault.TheVariants as folder
+use Rattle.chain_listing.specs.declared.listing.Damaged.{Damaged}
 use Rattle.chain_view.specs.declared.cells.Cell.{Cell}
 use Rattle.chain_view.specs.declared.cells.Cell.TheVariants.{Nothing, Word, Number}
 use Rattle.chain_view.specs.declared.cells.Member.{Member}

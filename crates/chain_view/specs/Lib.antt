@@ -1,16 +1,8 @@
 pub mod Answers
 pub mod Asked
-pub mod Backups
 pub mod Cells
-pub mod Chains
 pub mod Columns
-pub mod Folders
 pub mod Json
-pub mod Laws
 pub mod Lines
-pub mod Listing
-pub mod Order
-pub mod Shown
 pub mod Table
 pub mod Top
-pub mod Words

@@ -2,11 +2,11 @@
 use Rattle.std.specs.Prelude.{ℕ, Bool, false, List, [], ◌∷◌, ◌++◌, slice_get, Option, Some, None, if◌then◌else◌}
 use Rattle.std.specs.Str.{bytes_eq}
 use Rattle.std.specs.Option.{option_map, option_and_then, is_none}
-use Rattle.chain_view.specs.Chains.{chain_of, prior_of}
-use Rattle.chain_view.specs.Listing.{View}
+use Rattle.chain_listing.specs.Chains.{chain_of, prior_of}
+use Rattle.chain_listing.specs.Listing.{View}
 use Rattle.chain_view.specs.Cells.{member_line, damaged_line}
-use Rattle.chain_view.specs.declared.backup.Backup.{Backup}
-use Rattle.chain_view.specs.declared.listing.Damaged.{Damaged}
+use Rattle.chain_listing.specs.declared.backup.Backup.{Backup}
+use Rattle.chain_listing.specs.declared.listing.Damaged.{Damaged}
 use Rattle.chain_view.specs.declared.cells.Cell.{Cell}
 use Rattle.chain_view.specs.declared.cells.Member.{Member}
 

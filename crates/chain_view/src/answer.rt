@@ -10,13 +10,11 @@ ghost use Rattle.chain_view.specs.Asked.{asks};
 ghost use Rattle.chain_view.specs.Answers.{names_text, members_line, names_answer, lines_answer, answer_text, IsAnswer, IsAnswerIn};
 
 use crate::cells::Line;
-use crate::chains::members_for;
 use crate::json::{listing_json, members_json_line};
 use crate::lines::lines_of;
-use crate::listing::{Listing, listing_of};
 use crate::table::listing_text;
-use crate::word::Word;
 use crate::words::Asked;
+use chain_listing::{Listing, Word, listing_of, members_for};
 use lsn_core::{AreaFault, NoMemory, Text};
 use std::alloc::Global;
 use vault::{Site, Vault};

@@ -4,10 +4,7 @@ ghost use Rattle.std.specs.Prelude.{◌≡◌, IfOk};
 ghost use Rattle.std.specs.Option.{option_map};
 ghost use Rattle.chain_view.specs.Cells.{cell_of, manifest_why, fault_text, broken_text, fault_cell, member_line, damaged_line};
 
-use crate::backup::Backup;
-use crate::listing::Damaged;
-use crate::shown::FolderFault;
-use crate::word::{Word, lsn_word};
+use chain_listing::{Backup, Damaged, FolderFault, Word, lsn_word};
 use lsn_core::{Lsn, NoMemory};
 use manifest::ManifestFault;
 use std::alloc::Global;

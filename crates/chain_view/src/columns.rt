@@ -5,7 +5,7 @@ ghost use Rattle.chain_view.specs.declared.cells.Cell.TheVariants as cell;
 ghost use Rattle.chain_view.specs.Columns.{title_of, key_of, header};
 
 use crate::cells::{Cell, Line};
-use crate::word::Word;
+use chain_listing::Word;
 use lsn_core::NoMemory;
 use std::alloc::Global;
 

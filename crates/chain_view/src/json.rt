@@ -8,7 +8,7 @@ ghost use Rattle.chain_view.specs.Json.{cell_json, members_json, line_json, line
 
 use crate::cells::{Cell, Line};
 use crate::columns::key_of;
-use crate::word::Word;
+use chain_listing::Word;
 use lsn_core::{NoMemory, Text};
 use serde_json::{Map, Value, put};
 use std::alloc::Global;

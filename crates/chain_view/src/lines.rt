@@ -5,11 +5,8 @@ ghost use Rattle.std.specs.Prelude.{◌≡◌, ◌++◌, IfOk, OnOk, slice_get};
 ghost use Rattle.std.specs.Option.{option_map, option_and_then};
 ghost use Rattle.chain_view.specs.Lines.{first_of, member_of, members_in, is_named, chain_lines, root_lines, chains_lines, broken_lines, damaged_lines, lines_of};
 
-use crate::backup::Backup;
 use crate::cells::{Line, Member, damaged_line, member_line};
-use crate::chains::{chain_of, prior_of};
-use crate::listing::{Damaged, Listing};
-use crate::word::Word;
+use chain_listing::{Backup, Damaged, Listing, Word, chain_of, prior_of};
 use lsn_core::NoMemory;
 use std::alloc::Global;
 

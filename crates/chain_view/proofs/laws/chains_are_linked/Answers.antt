@@ -1,5 +1,0 @@
-use Rattle.chain_view.proofs.Linked.{chains_linked}
-use Rattle.chain_view.proofs.laws.chains_are_linked.Goals as goal
-
-pub returns : goal.returns
-returns c = chains_linked

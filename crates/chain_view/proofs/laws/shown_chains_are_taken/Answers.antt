@@ -1,8 +1,0 @@
-use Rattle.chain_view.proofs.Taken.{full_first, priors_before}
-use Rattle.chain_view.proofs.laws.shown_chains_are_taken.Goals as goal
-
-pub returns-clause-first : goal.returns-clause-first
-returns-clause-first c = full_first
-
-pub returns-clause-behind : goal.returns-clause-behind
-returns-clause-behind c = priors_before
