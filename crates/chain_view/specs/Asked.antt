@@ -1,5 +1,5 @@
 -- What the words of the command line ask for (profile).
-use Rattle.std.specs.Prelude.{ℕ, ◌+◌, ◌*◌, Bool, true, false, List, [], ◌∷◌, length, take, slice_get, codes, nat_eq, Option, Some, None, if◌then◌else◌}
+use Rattle.std.specs.Prelude.{ℕ, ◌+◌, ◌-◌, ◌*◌, ◌==◌, Bool, true, false, List, [], ◌∷◌, length, take, slice_get, codes, nat_eq, Option, Some, None, if◌then◌else◌}
 use Rattle.std.specs.Str.{bytes_eq}
 use Rattle.std.specs.List.{starts_with}
 use Rattle.byte_words.specs.Numbers.{◌>>=◌}
@@ -55,9 +55,20 @@ options_in (first ∷ (second ∷ (third ∷ (more ∷ words)))) = None
 
 -- ---- all words
 
+-- a word with a slash at its end, and the folder that a word names
+abbrev pub is_slash : Option ℕ → Bool
+is_slash None = false
+is_slash (Some byte) = byte == 47
+
+abbrev pub ends_in_slash : List ℕ → Bool
+ends_in_slash word = is_slash (slice_get word (length word - 1))
+
+abbrev pub folder_in : List ℕ → List ℕ
+folder_in word = if ends_in_slash word then take (length word - 1) word else word
+
 abbrev pub asked_of : List ℕ → Options → Question
 asked_of folder options =
-    record { json = options.json; upto = options.upto; folder = folder }
+    record { json = options.json; upto = options.upto; folder = folder_in folder }
 
 -- a folder, and options
 abbrev pub asked_with : List ℕ → List (List ℕ) → Option Question

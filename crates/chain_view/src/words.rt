@@ -2,7 +2,7 @@
 
 ghost use Rattle.std.specs.Prelude.{◌≡◌};
 ghost use Rattle.std.specs.Option.{option_map};
-ghost use Rattle.chain_view.specs.Asked.{is_option, is_json, lsn_value, target_in, options_in, asked_with, asked, asks};
+ghost use Rattle.chain_view.specs.Asked.{is_option, is_json, lsn_value, target_in, options_in, ends_in_slash, folder_in, asked_with, asked, asks};
 
 use lsn_core::{Lsn, Text, lsn_read};
 
@@ -93,6 +93,27 @@ fn options_in(words: &[Text]) -> Option<Options>
     }
 }
 
+/// Whether a word ends in a slash.
+fn ends_in_slash(word: &[u8]) -> bool
+    ensures { result ≡ ends_in_slash word.now }
+{
+    match word.last() {
+        Some(byte) => *byte == b'/',
+        None => false,
+    }
+}
+
+/// The folder of a word, which may have a slash behind it.
+fn folder_in(word: &[u8]) -> &[u8]
+    ensures { result.now ≡ folder_in word.now }
+{
+    if ends_in_slash(word) {
+        &word[..word.len().saturating_sub(1)]
+    } else {
+        word
+    }
+}
+
 /// What a folder and these options ask for. None exactly where they aren't taken.
 fn asked_with<'a>(folder: &'a [u8], options: &[Text]) -> Option<Asked<'a>>
     ensures { option_map asks result ≡ asked_with folder.now options.now }
@@ -104,7 +125,7 @@ fn asked_with<'a>(folder: &'a [u8], options: &[Text]) -> Option<Asked<'a>>
     Some(Asked {
         json: options.json,
         upto: options.upto,
-        folder,
+        folder: folder_in(folder),
     })
 }
 
