@@ -129,7 +129,8 @@ def listing():
         try:
             backups.append(shown("b/" + name))
         except Fault as fault:
-            damaged.append({"name": name, "kind": "damaged", "fault": str(fault)})
+            plain = "".join(chr(b) if 33 <= b <= 126 else "?" for b in name.encode())
+            damaged.append({"name": plain, "kind": "damaged", "fault": str(fault)})
     backups.sort(key=lambda b: (b["end"], b["named"] is not None, b["name"]))
     rows = []
     for backup in backups:
