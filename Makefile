@@ -33,6 +33,7 @@ conformance: build
 	python3 conformance/chains.py bin/pgbackup 60
 	python3 conformance/combines.py bin/pgbackup 60
 	python3 conformance/manifests.py bin/pgbackup 1
+	python3 conformance/views.py bin/pgbackup bin/pgbackup-chains 60
 	cd crates/lsn_core_c && rt lib > /dev/null
 	python3 conformance/paths.py crates/lsn_core_c/out/liblsn_core_c.a
 
@@ -41,6 +42,7 @@ bench: build
 
 install: build
 	install -D bin/pgbackup $(DESTDIR)$(PREFIX)/bin/pgbackup
+	install -D bin/pgbackup-chains $(DESTDIR)$(PREFIX)/bin/pgbackup-chains
 
 clean:
 	rm -rf bin crates/*/out

@@ -1,0 +1,5 @@
+mod Chaining
+mod Linked
+mod Newest
+mod ShownFolders
+mod Taken

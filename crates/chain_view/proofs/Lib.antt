@@ -1,0 +1,2 @@
+mod LsnWords
+mod NoFloats
