@@ -10,7 +10,7 @@ ghost use Rattle.chain_view.specs.Asked.{asks};
 ghost use Rattle.chain_view.specs.Answers.{names_text, members_line, names_answer, lines_answer, answer_text, IsAnswer, IsAnswerIn};
 
 use crate::cells::Line;
-use crate::json::{listing_json, members_json_line};
+use crate::json_text::{listing_json, members_json_line};
 use crate::lines::lines_of;
 use crate::table::listing_text;
 use crate::words::Asked;

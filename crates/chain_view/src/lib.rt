@@ -12,7 +12,7 @@
 mod answer;
 mod cells;
 mod columns;
-mod json;
+mod json_text;
 mod lines;
 mod table;
 mod top;
@@ -20,7 +20,7 @@ mod words;
 
 pub use answer::answer_of;
 pub use cells::{Cell, Line};
-pub use json::{listing_json, members_json_line};
+pub use json_text::{listing_json, members_json_line};
 pub use lines::lines_of;
 pub use table::listing_text;
 pub use top::{Outcome, show_chains};

@@ -1,7 +1,7 @@
 use Rattle.std.proofs.Common.{◌≡◌, ◌++◌, map, length}
 use Rattle.serde_json.specs.View.{view}
 use Rattle.chain_view.specs.Json.{lines_json}
-use Rattle.chain_view.proofs.json.lines_json.Given as goal
+use Rattle.chain_view.proofs.json_text.lines_json.Given as goal
 
 -- the values so far, and those of the lines that are still to come
 abbrev pub invariant-loop-line : goal.invariant-loop-line

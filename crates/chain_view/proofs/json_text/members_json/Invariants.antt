@@ -2,7 +2,7 @@ use Rattle.std.proofs.Common.{◌≡◌, ◌+◌, length}
 use Rattle.serde_json.specs.Data.{no_members}
 use Rattle.serde_json.specs.View.{members_view}
 use Rattle.chain_view.specs.Json.{members_json}
-use Rattle.chain_view.proofs.json.members_json.Given as goal
+use Rattle.chain_view.proofs.json_text.members_json.Given as goal
 
 -- the members so far, and those of the cells that are still to come
 abbrev pub invariant-loop-cell : goal.invariant-loop-cell

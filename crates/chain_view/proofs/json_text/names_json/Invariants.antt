@@ -1,7 +1,7 @@
 use Rattle.std.proofs.Common.{◌≡◌, ◌++◌, map, length}
 use Rattle.serde_json.specs.View.{view}
 use Rattle.chain_view.specs.Json.{names_json}
-use Rattle.chain_view.proofs.json.names_json.Given as goal
+use Rattle.chain_view.proofs.json_text.names_json.Given as goal
 
 -- the values so far, and those of the names that are still to come
 abbrev pub invariant-loop-name : goal.invariant-loop-name
