@@ -1,3 +1,5 @@
 pub mod OptionWords
 pub mod LsnWords
-mod FollowWords
+pub mod AppLemmas
+pub mod Simply
+pub mod Rows

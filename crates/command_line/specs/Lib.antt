@@ -1,3 +1,4 @@
+pub mod App
 pub mod Options
 pub mod Members
 pub mod Words

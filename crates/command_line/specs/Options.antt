@@ -1,5 +1,5 @@
 -- The options of `init`, of `run` and of `follow` (profile).
-use Rattle.std.specs.Prelude.{ℕ, ◌%◌, ◌^◌, ◌≤◌, IfSome, Bool, List, [], ◌∷◌, Option, Some, None, codes, nat_le, nat_lt, ◌==◌, ◌&&◌, bytes_eq, if◌then◌else◌}
+use Rattle.std.specs.Prelude.{ℕ, ◌%◌, ◌^◌, ◌≤◌, IfSome, Bool, List, Option, Some, None, nat_le, nat_lt, ◌==◌, ◌&&◌, bytes_eq, if◌then◌else◌}
 use Rattle.std.specs.Option.{option_map}
 use Rattle.std.specs.Fmt.{decimal}
 use Rattle.std.specs.Str.Parse.{digits_value}
@@ -39,41 +39,10 @@ frames_value text =
 abbrev pub IsFrameCount : ℕ → Type 0
 IsFrameCount frames = (4 ≤ frames) × (frames ≤ 16384)
 
--- a value of an option that wasn't given yet
-abbrev pub once : {A B : Type 0} → Option A → Option B → Option B
-once None value = value
-once (Some given) value = None
-
--- the options with one more value
-abbrev pub with_segment : InitOptions → Option ℕ → Option InitOptions
-with_segment given value =
-    once given.segment (option_map (λ mib. record given { segment = Some mib }) value)
-
-abbrev pub with_relseg : InitOptions → Option ℕ → Option InitOptions
-with_relseg given value =
-    once given.relseg (option_map (λ blocks. record given { relseg = Some blocks }) value)
-
-abbrev pub with_system : InitOptions → Option ℕ → Option InitOptions
-with_system given value =
-    once given.system (option_map (λ system. record given { system = Some system }) value)
-
--- the options with one more, by its name
-abbrev pub with_option : InitOptions → List ℕ → List ℕ → Option InitOptions
-with_option given name value =
-    if bytes_eq name (codes "--segment-mib") then with_segment given (segment_value value)
-    else (if bytes_eq name (codes "--relseg") then with_relseg given (relseg_value value)
-    else (if bytes_eq name (codes "--system-id") then with_system given (decimal_number value)
-    else None))
-
-abbrev pub none_given : InitOptions
-none_given = record { segment = None; relseg = None; system = None }
-
--- options with their values behind each other, each at most once
-abbrev pub options_in : InitOptions → List (List ℕ) → Option InitOptions
-options_in given [] = Some given
-options_in given (name ∷ []) = None
-options_in given (name ∷ (value ∷ words)) =
-    with_option given name value >>= λ next. options_in next words
+-- the value of an option, where it is given; None where it is given and isn't in its range
+abbrev pub given : {A : Type 0} → (List ℕ → Option A) → Option (List ℕ) → Option (Option A)
+given value None = Some None
+given value (Some text) = option_map Some (value text)
 
 -- what is given is in its range
 pub record IsInRange (options : InitOptions) : Type 0 where

@@ -1,24 +1,29 @@
--- What the words of the command line ask for (profile).
-use Rattle.std.specs.Prelude.{ℕ, ◌+◌, ◌*◌, ◌<◌, ◌≤◌, List, [], ◌∷◌, ◌++◌, length, take, drop, Option, Some, None, codes, bytes_eq, nat_lt, Bool, ◌&&◌, ◌||◌, if◌then◌else◌}
-use Rattle.std.specs.List.{position}
-use Rattle.std.specs.Option.{option_map, unwrap_or, is_none}
+-- What the words of the command line ask for (profile): they are taken exactly where each is text,
+-- the command of `clap` takes them, and each value is one of its option's or of its word's.
+use Rattle.std.specs.Prelude.{ℕ, ◌+◌, ◌*◌, ◌<◌, ◌≤◌, List, [], length, Option, Some, None, codes, bytes_eq, nat_lt, ◌&&◌, if◌then◌else◌}
+use Rattle.std.specs.List.{list_all}
+use Rattle.std.specs.Option.{unwrap_or}
+use Rattle.std.specs.Str.{is_utf8}
 use Rattle.byte_words.specs.Numbers.{◌>>=◌}
 use Rattle.byte_words.specs.Cuts.{cut_at}
 use Rattle.text_numbers.specs.Numbers.{hex_number_of}
 use Rattle.lsn_core.specs.declared.lsn.Lsn.{Lsn}
 use Rattle.lsn_core.specs.Segment.{IsSegmentMib, IsRelseg}
+use Rattle.clap.specs.Walk.{Row, Text, first_of, all_of}
+use Rattle.clap.specs.Simple.{subcommand_of}
 use Rattle.crew.specs.Cuts.{is_name}
+use Rattle.command_line.specs.App.{app, is_taken}
 use Rattle.command_line.specs.declared.options.InitOptions.{InitOptions}
 use Rattle.command_line.specs.declared.words.Command.{Command}
 use Rattle.command_line.specs.declared.words.Command.TheVariants as command
-use Rattle.command_line.specs.Members.{names_in, are_members, is_target}
-use Rattle.command_line.specs.Options.{none_given, with_option, options_in, frames_value, IsFrameCount, IsInRange}
+use Rattle.command_line.specs.Members.{are_members}
+use Rattle.command_line.specs.Options.{segment_value, relseg_value, decimal_number, frames_value, given, IsFrameCount, IsInRange}
 
--- a new store, a script to be run with so many frames of each partition, a replay to an output of that name, up to a target where one is
--- given, the check of the backup of a name, the chain of the backups of some names restored to an output
--- of a name, up to a target where one is given, such a chain combined to a backup of a name, the
--- summary of a range of the WAL, or the stream of a WAL with segments of so many MiB followed to an
--- output of a name, so many blocks of a fork in each file
+-- a new store, a script to be run with so many frames of each partition, a replay to an output of
+-- that name, up to a target where one is given, the check of the backup of a name, the chain of the
+-- backups of some names restored to an output of a name, up to a target where one is given, such a
+-- chain combined to a backup of a name, the summary of a range of the WAL, or the stream of a WAL
+-- with segments of so many MiB followed to an output of a name, so many blocks of a fork in each file
 pub data Asked : Type 0 where
   Init : InitOptions → Asked
   Run : ℕ → Asked
@@ -29,23 +34,13 @@ pub data Asked : Type 0 where
   Walsummary : Lsn → Lsn → Asked
   Follow : ℕ → ℕ → List ℕ → Asked
 
--- what the words behind the command's name ask
-abbrev pub init_asked : List (List ℕ) → Option Asked
-init_asked words = option_map Init (options_in none_given words)
+-- the word of an argument that has to be there
+abbrev pub word_of : Text → List Row → Text
+word_of id rows = unwrap_or (first_of id rows) []
 
--- the frames of a partition where none are asked for
-abbrev pub usual_frames : ℕ
-usual_frames = 4096
-
-abbrev pub run_with : List ℕ → List ℕ → Option Asked
-run_with name value =
-    if bytes_eq name (codes "--frames") then option_map Run (frames_value value) else None
-
-abbrev pub run_asked : List (List ℕ) → Option Asked
-run_asked [] = Some (Run usual_frames)
-run_asked (name ∷ []) = None
-run_asked (name ∷ (value ∷ [])) = run_with name value
-run_asked (name ∷ (value ∷ (more ∷ words))) = None
+-- the words of an argument of one or more
+abbrev pub words_of : Text → List Row → List Text
+words_of id rows = unwrap_or (all_of id rows) []
 
 -- an LSN: 1 to 8 hexadecimal digits on each side of a slash
 abbrev pub lsn_of : ℕ → ℕ → Lsn
@@ -58,137 +53,109 @@ lsn_value text = do
   low ← hex_number_of parts.1
   Some (lsn_of high low)
 
+-- what the values of a subcommand ask
+abbrev pub init_asked : List Row → Option Asked
+init_asked rows = do
+  segment ← given segment_value (first_of (codes "segment-mib") rows)
+  relseg ← given relseg_value (first_of (codes "relseg") rows)
+  system ← given decimal_number (first_of (codes "system-id") rows)
+  Some (Init (record { segment = segment; relseg = relseg; system = system }))
+
+-- the frames of a partition where none are asked for
+abbrev pub usual_frames : ℕ
+usual_frames = 4096
+
+abbrev pub run_asked : List Row → Option Asked
+run_asked rows = do
+  frames ← given frames_value (first_of (codes "frames") rows)
+  Some (Run (unwrap_or frames usual_frames))
+
 abbrev pub replay_to : Option Lsn → List ℕ → Option Asked
 replay_to target name = if is_name name then Some (Replay target name) else None
 
-abbrev pub replay_up_to : List ℕ → List ℕ → Option Asked
-replay_up_to value name = lsn_value value >>= λ target. replay_to (Some target) name
-
--- the option stands before the name or behind it
-abbrev pub replay_with : List ℕ → List ℕ → List ℕ → Option Asked
-replay_with first second third =
-    if is_target first then replay_up_to second third
-    else (if is_target second then replay_up_to third first else None)
-
-abbrev pub replay_asked : List (List ℕ) → Option Asked
-replay_asked [] = None
-replay_asked (name ∷ []) = replay_to None name
-replay_asked (first ∷ (second ∷ [])) = None
-replay_asked (first ∷ (second ∷ (third ∷ []))) = replay_with first second third
-replay_asked (first ∷ (second ∷ (third ∷ (more ∷ words)))) = None
+abbrev pub replay_asked : List Row → Option Asked
+replay_asked rows = do
+  target ← given lsn_value (first_of (codes "target") rows)
+  replay_to target (word_of (codes "OUT") rows)
 
 abbrev pub verify_name : List ℕ → Option Asked
 verify_name name = if is_name name then Some (Verify name) else None
 
-abbrev pub verify_asked : List (List ℕ) → Option Asked
-verify_asked [] = None
-verify_asked (name ∷ []) = verify_name name
-verify_asked (name ∷ (more ∷ words)) = None
+abbrev pub verify_asked : List Row → Option Asked
+verify_asked rows = verify_name (word_of (codes "NAME") rows)
 
 abbrev pub restore_to : Option Lsn → List ℕ → List (List ℕ) → Option Asked
 restore_to target out members =
     if is_name out && are_members members then Some (Restore target out members) else None
 
--- the output's name, and behind it those of the members
-abbrev pub restore_named : Option Lsn → List (List ℕ) → Option Asked
-restore_named target [] = None
-restore_named target (out ∷ members) = restore_to target out members
-
--- the words before the option and those from it on, which has a value behind it
-abbrev pub restore_cut : List (List ℕ) → List (List ℕ) → Option Asked
-restore_cut front [] = None
-restore_cut front (option ∷ []) = None
-restore_cut front (option ∷ (value ∷ behind)) =
-    lsn_value value >>= λ target. restore_named (Some target) (front ++ behind)
-
-abbrev pub restore_at : List (List ℕ) → Option ℕ → Option Asked
-restore_at words None = restore_named None words
-restore_at words (Some place) = restore_cut (take place words) (drop place words)
-
--- the option may stand before the names, between them or behind them
-abbrev pub restore_asked : List (List ℕ) → Option Asked
-restore_asked words = restore_at words (position is_target words)
+abbrev pub restore_asked : List Row → Option Asked
+restore_asked rows = do
+  target ← given lsn_value (first_of (codes "target") rows)
+  restore_to target (word_of (codes "OUT") rows) (words_of (codes "MEMBER") rows)
 
 abbrev pub combine_to : List ℕ → List (List ℕ) → Option Asked
 combine_to out members =
     if is_name out && are_members members then Some (Combine out members) else None
 
-abbrev pub combine_asked : List (List ℕ) → Option Asked
-combine_asked [] = None
-combine_asked (out ∷ members) = combine_to out members
+abbrev pub combine_asked : List Row → Option Asked
+combine_asked rows = combine_to (word_of (codes "OUT") rows) (words_of (codes "MEMBER") rows)
 
 -- a range has a place at least
 abbrev pub walsummary_of : Lsn → Lsn → Option Asked
 walsummary_of from to = if nat_lt from.0 to.0 then Some (Walsummary from to) else None
 
-abbrev pub walsummary_values : List ℕ → List ℕ → Option Asked
-walsummary_values first second =
-    lsn_value first >>= λ from. lsn_value second >>= λ to. walsummary_of from to
+abbrev pub walsummary_asked : List Row → Option Asked
+walsummary_asked rows = do
+  from ← lsn_value (word_of (codes "FROM") rows)
+  to ← lsn_value (word_of (codes "TO") rows)
+  walsummary_of from to
 
-abbrev pub walsummary_asked : List (List ℕ) → Option Asked
-walsummary_asked [] = None
-walsummary_asked (from ∷ []) = None
-walsummary_asked (from ∷ (to ∷ [])) = walsummary_values from to
-walsummary_asked (from ∷ (to ∷ (more ∷ words))) = None
-
--- a word is the name of an option
-abbrev pub is_follow_option : List ℕ → Bool
-is_follow_option word = bytes_eq word (codes "--segment-mib") || bytes_eq word (codes "--relseg")
-
--- the output's name, behind all options: the sizes are those that are given, or 16 MiB and 131072
--- blocks
-abbrev pub follow_to : InitOptions → List ℕ → Option Asked
-follow_to options name =
-    if is_none options.system && is_name name
-    then Some (Follow (unwrap_or options.segment 16) (unwrap_or options.relseg 131072) name)
+-- the sizes are those that are given, or 16 MiB and 131072 blocks
+abbrev pub follow_to : Option ℕ → Option ℕ → List ℕ → Option Asked
+follow_to segment relseg name =
+    if is_name name
+    then Some (Follow (unwrap_or segment 16) (unwrap_or relseg 131072) name)
     else None
 
--- the output's name, and the other options behind it
-abbrev pub follow_named : InitOptions → List ℕ → List (List ℕ) → Option Asked
-follow_named options name words = options_in options words >>= λ all. follow_to all name
+abbrev pub follow_asked : List Row → Option Asked
+follow_asked rows = do
+  segment ← given segment_value (first_of (codes "segment-mib") rows)
+  relseg ← given relseg_value (first_of (codes "relseg") rows)
+  follow_to segment relseg (word_of (codes "OUT") rows)
 
--- the options may stand before the name or behind it
-abbrev pub follow_in : InitOptions → List (List ℕ) → Option Asked
-follow_in options [] = None
-follow_in options (name ∷ []) = follow_to options name
-follow_in options (word ∷ (next ∷ words)) =
-    if is_follow_option word
-    then (with_option options word next >>= λ more. follow_in more words)
-    else follow_named options word (next ∷ words)
+-- what the subcommand of this name asks
+abbrev pub asked_by : Text → List Row → Option Asked
+asked_by name rows =
+    if bytes_eq name (codes "init") then init_asked rows
+    else (if bytes_eq name (codes "run") then run_asked rows
+    else (if bytes_eq name (codes "replay") then replay_asked rows
+    else (if bytes_eq name (codes "verify") then verify_asked rows
+    else (if bytes_eq name (codes "restore") then restore_asked rows
+    else (if bytes_eq name (codes "combine") then combine_asked rows
+    else (if bytes_eq name (codes "walsummary") then walsummary_asked rows
+    else (if bytes_eq name (codes "follow") then follow_asked rows else None)))))))
 
-abbrev pub follow_asked : List (List ℕ) → Option Asked
-follow_asked words = follow_in none_given words
-
--- the option that words begin with
-abbrev pub next_option : List (List ℕ) → Option ((List ℕ × List ℕ) × List (List ℕ))
-next_option [] = None
-next_option (word ∷ []) = None
-next_option (word ∷ (next ∷ words)) =
-    if is_follow_option word then Some ((word, next), words) else None
+-- what words that are text ask
+abbrev pub texts_ask : List Text → Option Asked
+texts_ask words =
+    if is_taken words
+    then (subcommand_of app words >>= λ found. asked_by found.0 found.1)
+    else None
 
 -- what the words ask, None where they aren't taken
 abbrev pub asked : List (List ℕ) → Option Asked
-asked [] = None
-asked (word ∷ words) =
-    if bytes_eq word (codes "init") then init_asked words
-    else (if bytes_eq word (codes "run") then run_asked words
-    else (if bytes_eq word (codes "replay") then replay_asked words
-    else (if bytes_eq word (codes "verify") then verify_asked words
-    else (if bytes_eq word (codes "restore") then restore_asked words
-    else (if bytes_eq word (codes "combine") then combine_asked words
-    else (if bytes_eq word (codes "walsummary") then walsummary_asked words
-    else (if bytes_eq word (codes "follow") then follow_asked words else None)))))))
+asked words = if list_all is_utf8 words then texts_ask words else None
 
 -- a command asks for this
 abbrev pub asks : Command → Asked
 asks (command.Init options) = Init options
 asks (command.Run frames) = Run frames
-asks (command.Replay upto name) = Replay upto name.now
-asks (command.Verify name) = Verify name.now
-asks (command.Restore upto out members) = Restore upto out.now (names_in members)
-asks (command.Combine out members) = Combine out.now (names_in members)
+asks (command.Replay upto name) = Replay upto name
+asks (command.Verify name) = Verify name
+asks (command.Restore upto out members) = Restore upto out members.items
+asks (command.Combine out members) = Combine out members.items
 asks (command.Walsummary from to) = Walsummary from to
-asks (command.Follow sizes name) = Follow sizes.segment sizes.relseg name.now
+asks (command.Follow sizes name) = Follow sizes.segment sizes.relseg name
 
 -- the options of a command are in their ranges, a range has a place, and a chain a member
 abbrev pub HasRange : Command → Type 0
@@ -196,7 +163,7 @@ HasRange (command.Init options) = IsInRange options
 HasRange (command.Run frames) = IsFrameCount frames
 HasRange (command.Replay upto name) = Unit {0}
 HasRange (command.Verify name) = Unit {0}
-HasRange (command.Restore upto out members) = 1 ≤ length (names_in members)
-HasRange (command.Combine out members) = 1 ≤ length (names_in members)
+HasRange (command.Restore upto out members) = 1 ≤ length members.items
+HasRange (command.Combine out members) = 1 ≤ length members.items
 HasRange (command.Walsummary from to) = from.0 < to.0
 HasRange (command.Follow sizes name) = IsSegmentMib sizes.segment × IsRelseg sizes.relseg

@@ -1,20 +1,20 @@
 //! The words of the command line, as the command that they ask for.
 //!
-//! `command_of` takes the words of a command and its options, or none exactly where they aren't
-//! taken; `specs/Words.antt` and `specs/Options.antt` say which words are: the command, its options
-//! each with a value and at most once, and then the other words. Of `follow` the options may stand
-//! behind the other word too.
+//! `command_of` reads the words by a command of `clap` with a subcommand for each command. It has
+//! none exactly where `specs/Words.antt` asks nothing: a word isn't text, the command, which
+//! `specs/App.antt` writes out, doesn't take the words, or a value is none of its option's or of its
+//! word's (`specs/Options.antt`).
 //!
 //! Left to others: which characters a name has (`crew`), how numbers and LSNs are written
 //! (`text_numbers`, `lsn_core`), and what a command does (`pgbackup_cli`).
 #![tactic(auto)]
 
-mod follow;
+mod app;
+mod found;
 mod members;
 mod options;
 mod words;
 
-pub use follow::FollowSizes;
 pub use members::MemberNames;
-pub use options::InitOptions;
+pub use options::{FollowSizes, InitOptions};
 pub use words::{Command, command_of};

@@ -1,22 +1,19 @@
 //! The names of the members of a chain, in the words of the command line.
 
-ghost use Rattle.std.specs.Prelude.{◌≡◌, ◌≤◌, ◌∷◌, length, nat_lt, slice_get, IfSome, IfNone, []};
-ghost use Rattle.std.specs.List.{list_all, position};
+ghost use Rattle.std.specs.Prelude.{◌≡◌, length, nat_lt, slice_get};
+ghost use Rattle.std.specs.List.{list_all};
 ghost use Rattle.std.specs.Option.{option_map};
 ghost use Rattle.crew.specs.Cuts.{is_name};
-ghost use Rattle.command_line.specs.Members.{names_in, are_members, is_target};
+ghost use Rattle.command_line.specs.Members.{names_in, are_members};
 
-use crate::words::is_target;
 use crew::is_name;
 use lsn_core::Text;
 
 /// The names of the members of a chain of backups, the oldest one first.
 #[derive(Clone, Copy)]
 pub struct MemberNames<'a> {
-    /// Those that stand before an option.
-    pub front: &'a [Text],
-    /// Those that stand behind it.
-    pub behind: &'a [Text],
+    /// The names.
+    pub names: &'a [Text],
 }
 
 impl<'a> MemberNames<'a> {
@@ -25,20 +22,14 @@ impl<'a> MemberNames<'a> {
     pub fn get(&self, place: usize) -> Option<&'a [u8]>
         ensures { option_map (λ name. name.now) result ≡ slice_get (names_in self.now) place }
     {
-        let before = self.front.len();
-        if place < before {
-            Some(self.front[place].as_bytes())
-        } else {
-            Some(self.behind.get(place - before)?.as_bytes())
-        }
+        Some(self.names.get(place)?.as_bytes())
     }
 
     /// Whether there are more members than so many.
     pub fn are_more_than(&self, most: usize) -> bool
         ensures { result ≡ nat_lt most (length (names_in self.now)) }
     {
-        let before = self.front.len();
-        most < before || most - before < self.behind.len()
+        most < self.names.len()
     }
 }
 
@@ -50,53 +41,8 @@ fn are_names(names: &[Text]) -> bool
 }
 
 /// Whether there are names, and each is one.
-pub(crate) fn are_members(names: &MemberNames<'_>) -> bool
-    ensures { result ≡ are_members (names_in names.now) }
+pub(crate) fn are_members(names: &[Text]) -> bool
+    ensures { result ≡ are_members names.now }
 {
-    !(names.front.is_empty() && names.behind.is_empty())
-        && are_names(names.front)
-        && are_names(names.behind)
-}
-
-/// The first of these names, and those behind it.
-pub(crate) fn first_of(names: MemberNames<'_>) -> Option<(&[u8], MemberNames<'_>)>
-    ensures some { IfSome result (λ first.
-        names_in names.entry ≡ first.0.now ∷ names_in first.1) }
-    ensures none { IfNone result (names_in names.entry ≡ []) }
-{
-    if let Some((first, front)) = names.front.split_first() {
-        return Some((
-            first.as_bytes(),
-            MemberNames {
-                front,
-                behind: names.behind,
-            },
-        ));
-    }
-    let (first, behind) = names.behind.split_first()?;
-    Some((
-        first.as_bytes(),
-        MemberNames {
-            front: names.front,
-            behind,
-        },
-    ))
-}
-
-/// All of these names, where no option stands among them.
-pub(crate) fn all_of(names: &[Text]) -> MemberNames<'_>
-    ensures { names_in result ≡ names.now }
-{
-    MemberNames {
-        front: names,
-        behind: &[],
-    }
-}
-
-/// Where the option of a target stands among words.
-pub(crate) fn option_place(words: &[Text]) -> Option<usize>
-    ensures place { result ≡ position is_target words.now }
-    ensures within { IfSome result (λ place. place ≤ length words.now) }
-{
-    words.iter().position(|word| is_target(word.as_bytes()))
+    1 <= names.len() && are_names(names)
 }

@@ -1,10 +1,12 @@
-//! The options of `init`, of `run` and of `follow`.
+//! The values of options.
 
 ghost use Rattle.std.specs.Prelude.{◌≡◌, ◌≤◌, IfSome};
-ghost use Rattle.lsn_core.specs.Segment.{IsSegmentMib};
-ghost use Rattle.command_line.specs.Options.{decimal_number, segment_value, relseg_value, frames_value, IsFrameCount, with_option, none_given, options_in, IsInRange};
+ghost use Rattle.std.specs.Option.{option_map};
+ghost use Rattle.lsn_core.specs.Segment.{IsSegmentMib, IsRelseg};
+ghost use Rattle.command_line.specs.Options.{decimal_number, segment_value, relseg_value, frames_value, given, IsFrameCount};
+ghost use Rattle.command_line.specs.Words.{lsn_value};
 
-use lsn_core::{MOST_RELSEG, SegSize, Text};
+use lsn_core::{Lsn, MOST_RELSEG, SegSize, lsn_read};
 use text_numbers::decimal_in;
 
 /// What the words of `init` give, where they give it.
@@ -16,6 +18,15 @@ pub struct InitOptions {
     pub relseg: Option<u32>,
     /// The system identifier.
     pub system: Option<u64>,
+}
+
+/// The sizes by which a stream is followed.
+#[derive(Clone, Copy, Debug)]
+pub struct FollowSizes {
+    /// The size of a WAL segment.
+    pub segment: SegSize,
+    /// How many blocks of a fork go into one file, 1 to 131072.
+    pub relseg: u32,
 }
 
 /// The number below 2^64 that a value writes in decimal without leading zeros.
@@ -49,7 +60,7 @@ fn relseg_in(value: &[u8]) -> Option<u32>
 }
 
 /// So many frames of a partition, 4 to 16,384.
-pub fn frames_in(value: &[u8]) -> Option<u32>
+fn frames_in(value: &[u8]) -> Option<u32>
     ensures value { result ≡ frames_value value.now }
     ensures range { IfSome result IsFrameCount }
 {
@@ -61,68 +72,62 @@ pub fn frames_in(value: &[u8]) -> Option<u32>
     }
 }
 
-/// The options with one more. None where the name is no option's, the value out of its range, or
-/// the option was given before.
-pub(crate) fn with_option(given: InitOptions, name: &[u8], value: &[u8]) -> Option<InitOptions>
-    ensures options { result ≡ with_option given name.now value.now }
-    ensures range { IsInRange given → IfSome result IsInRange }
+/// The LSN that a value writes.
+pub(crate) fn lsn_in(value: &[u8]) -> Option<Lsn>
+    ensures { result ≡ lsn_value value.now }
 {
-    let mut next = given;
-    if name == b"--segment-mib".as_slice() {
-        if given.segment.is_some() {
-            return None;
-        }
-        next.segment = Some(segment_in(value)?);
-    } else if name == b"--relseg".as_slice() {
-        if given.relseg.is_some() {
-            return None;
-        }
-        next.relseg = Some(relseg_in(value)?);
-    } else if name == b"--system-id".as_slice() {
-        if given.system.is_some() {
-            return None;
-        }
-        next.system = Some(number_in(value)?);
-    } else {
-        return None;
-    }
-    Some(next)
+    lsn_read(value)
 }
 
-/// No options.
-pub(crate) fn none_given() -> InitOptions
-    ensures options { result ≡ none_given }
-    ensures range { IsInRange result }
+/// A number, where it is given.
+pub(crate) fn number_given(text: Option<&str>) -> Option<Option<u64>>
+    ensures { result ≡ given decimal_number (option_map (λ t. t.now) text.entry) }
 {
-    InitOptions {
-        segment: None,
-        relseg: None,
-        system: None,
+    match text {
+        None => Some(None),
+        Some(text) => Some(Some(number_in(text.as_bytes())?)),
     }
 }
 
-/// Options, and with them those that words give, each a name and its value behind it. None exactly
-/// where they are no options, or one of them stands twice.
-pub(crate) fn options_on(options: InitOptions, words: &[Text]) -> Option<InitOptions>
-    requires { IsInRange options }
-    ensures options { result ≡ options_in options words.now }
-    ensures range { IfSome result IsInRange }
+/// The size of a segment, where it is given.
+pub(crate) fn segment_given(text: Option<&str>) -> Option<Option<SegSize>>
+    ensures value { result ≡ given segment_value (option_map (λ t. t.now) text.entry) }
+    ensures range { IfSome result (λ given. IfSome given IsSegmentMib) }
 {
-    let mut given = options;
-    let mut at = 0;
-    while at < words.len() {
-        let value = words.get(at + 1)?;
-        given = with_option(given, words[at].as_bytes(), value.as_bytes())?;
-        at += 2;
+    match text {
+        None => Some(None),
+        Some(text) => Some(Some(segment_in(text.as_bytes())?)),
     }
-    Some(given)
 }
 
-/// The options that words give. None exactly where they are no options, or one of them stands
-/// twice.
-pub fn options_of(words: &[Text]) -> Option<InitOptions>
-    ensures options { result ≡ options_in none_given words.now }
-    ensures range { IfSome result IsInRange }
+/// So many blocks of a fork in a file, where it is given.
+pub(crate) fn relseg_given(text: Option<&str>) -> Option<Option<u32>>
+    ensures value { result ≡ given relseg_value (option_map (λ t. t.now) text.entry) }
+    ensures range { IfSome result (λ given. IfSome given IsRelseg) }
 {
-    options_on(none_given(), words)
+    match text {
+        None => Some(None),
+        Some(text) => Some(Some(relseg_in(text.as_bytes())?)),
+    }
+}
+
+/// So many frames, where it is given.
+pub(crate) fn frames_given(text: Option<&str>) -> Option<Option<u32>>
+    ensures value { result ≡ given frames_value (option_map (λ t. t.now) text.entry) }
+    ensures range { IfSome result (λ given. IfSome given IsFrameCount) }
+{
+    match text {
+        None => Some(None),
+        Some(text) => Some(Some(frames_in(text.as_bytes())?)),
+    }
+}
+
+/// A target, where it is given.
+pub(crate) fn lsn_given(text: Option<&str>) -> Option<Option<Lsn>>
+    ensures { result ≡ given lsn_value (option_map (λ t. t.now) text.entry) }
+{
+    match text {
+        None => Some(None),
+        Some(text) => Some(Some(lsn_in(text.as_bytes())?)),
+    }
 }

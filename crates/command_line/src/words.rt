@@ -1,284 +1,292 @@
 //! The words of the command line.
 
-ghost use Rattle.std.specs.Prelude.{◌≡◌, IfSome};
+ghost use Rattle.std.specs.Prelude.{◌≡◌, ◌≤◌, true, false, map, length, IfOk, IfSome, IfNone};
+ghost use Rattle.std.specs.List.{list_all};
 ghost use Rattle.std.specs.Option.{option_map};
-ghost use Rattle.command_line.specs.Words.{init_asked, run_with, run_asked, lsn_value, replay_to, replay_up_to, replay_with, replay_asked, verify_name, verify_asked, asked};
-ghost use Rattle.command_line.specs.Members.{names_in, is_target};
-ghost use Rattle.command_line.specs.Words.{restore_to, restore_named, restore_cut, restore_asked, combine_to, combine_asked};
-ghost use Rattle.command_line.specs.Words.{walsummary_of, walsummary_values, walsummary_asked};
-ghost use Rattle.command_line.specs.Words.{asks, HasRange};
+ghost use Rattle.std.specs.Str.{is_utf8};
+ghost use Rattle.clap.specs.Walk.{rows_of};
+ghost use Rattle.clap.specs.Matches.{found_of};
+ghost use Rattle.lsn_core.specs.Segment.{IsSegmentMib, IsRelseg};
+ghost use Rattle.command_line.specs.Words.{init_asked, run_asked, replay_to, replay_asked, verify_name, verify_asked};
+ghost use Rattle.command_line.specs.Words.{restore_to, restore_asked, combine_to, combine_asked};
+ghost use Rattle.command_line.specs.Words.{walsummary_asked, follow_to, follow_asked};
+ghost use Rattle.command_line.specs.Words.{asked_by, texts_ask, asked, asks, HasRange};
 
-use crate::follow::{FollowSizes, follow_of};
-use crate::members::{MemberNames, all_of, are_members, first_of, option_place};
-use crate::options::{InitOptions, frames_in, options_of};
+use crate::app::taken;
+use crate::found::{option_in, word_in, words_in};
+use crate::members::are_members;
+use crate::options::{
+    FollowSizes, InitOptions, frames_given, lsn_given, lsn_in, number_given, relseg_given,
+    segment_given,
+};
+use clap::ArgMatches;
 use crew::is_name;
-use lsn_core::{Lsn, Text, lsn_read};
+use lsn_core::{Lsn, MOST_RELSEG, NoMemory, SegSize, Text};
+use std::alloc::Global;
+use std::str;
 
 /// The frames of a partition where none are asked for (profile).
 const USUAL_FRAMES: u32 = 4096;
 
 /// What the words ask for.
-#[derive(Clone, Copy)]
-pub enum Command<'a> {
+#[derive(Drop)]
+pub enum Command {
     /// A new store with these settings.
     Init(InitOptions),
     /// The script of the input, run on the store with so many frames of each partition, 4 to 16,384.
     Run(u32),
     /// The WAL replayed from its beginning up to the target, where one is given, to an output of
     /// this name.
-    Replay(Option<Lsn>, &'a [u8]),
+    Replay(Option<Lsn>, Text),
     /// The directory of the backup of this name checked.
-    Verify(&'a [u8]),
+    Verify(Text),
     /// Restored up to the target, where one is given, to an output of this name: the chain of the
     /// backups of these names, and the WAL from the last one's start on.
-    Restore(Option<Lsn>, &'a [u8], MemberNames<'a>),
+    Restore(Option<Lsn>, Text, Vec<Text>),
     /// The chain of the backups of these names combined to a backup of this name.
-    Combine(&'a [u8], MemberNames<'a>),
+    Combine(Text, Vec<Text>),
     /// What the kept summaries tell of the range from the first place to below the second, which is
     /// past it.
     Walsummary(Lsn, Lsn),
     /// The WAL whose stream the input is, replayed by these sizes to an output of this name.
-    Follow(FollowSizes, &'a [u8]),
+    Follow(FollowSizes, Text),
 }
 
-fn init_of(words: &[Text]) -> Option<Command<'_>>
-    ensures asked { option_map asks result ≡ init_asked words.now }
+fn init_of(found: &ArgMatches<'_>) -> Option<Command>
+    ensures asked { option_map asks result ≡ init_asked (rows_of (found_of found.now)) }
     ensures range { IfSome result HasRange }
 {
-    Some(Command::Init(options_of(words)?))
+    let segment = segment_given(option_in(found, "segment-mib"))?;
+    let relseg = relseg_given(option_in(found, "relseg"))?;
+    let system = number_given(option_in(found, "system-id"))?;
+    Some(Command::Init(InitOptions {
+        segment,
+        relseg,
+        system,
+    }))
 }
 
-/// The option of `run`, with its value.
-fn run_with<'a>(name: &[u8], value: &[u8]) -> Option<Command<'a>>
-    ensures asked { option_map asks result ≡ run_with name.now value.now }
+fn run_of(found: &ArgMatches<'_>) -> Option<Command>
+    ensures asked { option_map asks result ≡ run_asked (rows_of (found_of found.now)) }
     ensures range { IfSome result HasRange }
 {
-    if name == b"--frames".as_slice() {
-        return Some(Command::Run(frames_in(value)?));
+    let frames = frames_given(option_in(found, "frames"))?;
+    Some(Command::Run(frames.unwrap_or(USUAL_FRAMES)))
+}
+
+fn replay_to(alloc: Global, target: Option<Lsn>, out: &str) -> Result<Option<Command>, NoMemory>
+    ensures asked { IfOk result (λ command. option_map asks command ≡ replay_to target out.now) }
+    ensures range { IfOk result (λ command. IfSome command HasRange) }
+{
+    if is_name(out.as_bytes()) {
+        let out = Text::copied(alloc, out.as_bytes())?;
+        return Ok(Some(Command::Replay(target, out)));
     }
-    None
+    Ok(None)
 }
 
-fn run_of(words: &[Text]) -> Option<Command<'_>>
-    ensures asked { option_map asks result ≡ run_asked words.now }
-    ensures range { IfSome result HasRange }
+fn replay_of(alloc: Global, found: &ArgMatches<'_>) -> Result<Option<Command>, NoMemory>
+    ensures asked { IfOk result (λ command.
+        option_map asks command ≡ replay_asked (rows_of (found_of found.now))) }
+    ensures range { IfOk result (λ command. IfSome command HasRange) }
 {
-    match words {
-        [] => Some(Command::Run(USUAL_FRAMES)),
-        [name, value] => run_with(name.as_bytes(), value.as_bytes()),
-        _ => None,
-    }
-}
-
-/// The LSN that a value writes.
-fn lsn_in(value: &[u8]) -> Option<Lsn>
-    ensures { result ≡ lsn_value value.now }
-{
-    lsn_read(value)
-}
-
-fn replay_to(target: Option<Lsn>, name: &[u8]) -> Option<Command<'_>>
-    ensures asked { option_map asks result ≡ replay_to target name.now }
-    ensures range { IfSome result HasRange }
-{
-    if is_name(name) {
-        return Some(Command::Replay(target, name));
-    }
-    None
-}
-
-fn replay_up_to<'a>(value: &[u8], name: &'a [u8]) -> Option<Command<'a>>
-    ensures asked { option_map asks result ≡ replay_up_to value.now name.now }
-    ensures range { IfSome result HasRange }
-{
-    let target = lsn_in(value)?;
-    replay_to(Some(target), name)
-}
-
-/// Whether a word is the option of a target.
-pub(crate) fn is_target(word: &[u8]) -> bool
-    ensures { result ≡ is_target word.now }
-{
-    word == b"--target".as_slice()
-}
-
-/// The option stands before the name or behind it.
-fn replay_with<'a>(first: &'a [u8], second: &'a [u8], third: &'a [u8]) -> Option<Command<'a>>
-    ensures asked { option_map asks result ≡ replay_with first.now second.now third.now }
-    ensures range { IfSome result HasRange }
-{
-    if is_target(first) {
-        return replay_up_to(second, third);
-    }
-    if is_target(second) {
-        return replay_up_to(third, first);
-    }
-    None
-}
-
-fn replay_of(words: &[Text]) -> Option<Command<'_>>
-    ensures asked { option_map asks result ≡ replay_asked words.now }
-    ensures range { IfSome result HasRange }
-{
-    match words {
-        [name] => replay_to(None, name.as_bytes()),
-        [first, second, third] => {
-            replay_with(first.as_bytes(), second.as_bytes(), third.as_bytes())
-        }
-        _ => None,
+    let out = word_in(found, "OUT");
+    match lsn_given(option_in(found, "target")) {
+        None => Ok(None),
+        Some(target) => replay_to(alloc, target, out),
     }
 }
 
-fn verify_name(name: &[u8]) -> Option<Command<'_>>
-    ensures asked { option_map asks result ≡ verify_name name.now }
-    ensures range { IfSome result HasRange }
+fn verify_of(alloc: Global, found: &ArgMatches<'_>) -> Result<Option<Command>, NoMemory>
+    ensures asked { IfOk result (λ command.
+        option_map asks command ≡ verify_asked (rows_of (found_of found.now))) }
+    ensures range { IfOk result (λ command. IfSome command HasRange) }
 {
-    if is_name(name) {
-        return Some(Command::Verify(name));
+    let name = word_in(found, "NAME");
+    if is_name(name.as_bytes()) {
+        let name = Text::copied(alloc, name.as_bytes())?;
+        return Ok(Some(Command::Verify(name)));
     }
-    None
-}
-
-fn verify_of(words: &[Text]) -> Option<Command<'_>>
-    ensures asked { option_map asks result ≡ verify_asked words.now }
-    ensures range { IfSome result HasRange }
-{
-    match words {
-        [name] => verify_name(name.as_bytes()),
-        _ => None,
-    }
+    Ok(None)
 }
 
 /// A member's name is one, and there is one at least.
-fn restore_to<'a>(
+fn restore_to(
+    alloc: Global,
     target: Option<Lsn>,
-    out: &'a [u8],
-    members: MemberNames<'a>,
-) -> Option<Command<'a>>
-    ensures asked { option_map asks result ≡ restore_to target out.now (names_in members.entry) }
-    ensures range { IfSome result HasRange }
+    out: &str,
+    members: Vec<Text>,
+) -> Result<Option<Command>, NoMemory>
+    ensures asked { IfOk result (λ command.
+        option_map asks command ≡ restore_to target out.now members.items) }
+    ensures range { IfOk result (λ command. IfSome command HasRange) }
 {
-    if is_name(out) && are_members(&members) {
-        return Some(Command::Restore(target, out, members));
+    if is_name(out.as_bytes()) && are_members(&members) {
+        let out = Text::copied(alloc, out.as_bytes())?;
+        return Ok(Some(Command::Restore(target, out, members)));
     }
-    None
+    Ok(None)
 }
 
-/// The output's name stands before those of the members.
-fn restore_named(target: Option<Lsn>, names: MemberNames<'_>) -> Option<Command<'_>>
-    ensures asked { option_map asks result ≡ restore_named target (names_in names.entry) }
-    ensures range { IfSome result HasRange }
+fn restore_of(alloc: Global, found: &ArgMatches<'_>) -> Result<Option<Command>, NoMemory>
+    ensures asked { IfOk result (λ command.
+        option_map asks command ≡ restore_asked (rows_of (found_of found.now))) }
+    ensures range { IfOk result (λ command. IfSome command HasRange) }
 {
-    let (out, members) = first_of(names)?;
-    restore_to(target, out, members)
-}
-
-/// The words before the option and those from it on, which has a value behind it.
-fn restore_cut<'a>(front: &'a [Text], rest: &'a [Text]) -> Option<Command<'a>>
-    ensures asked { option_map asks result ≡ restore_cut front.now rest.now }
-    ensures range { IfSome result HasRange }
-{
-    match rest {
-        [_, value, behind @ ..] => {
-            let target = lsn_in(value.as_bytes())?;
-            restore_named(Some(target), MemberNames { front, behind })
-        }
-        _ => None,
+    let out = word_in(found, "OUT");
+    let members = words_in(alloc, found, "MEMBER")?;
+    match lsn_given(option_in(found, "target")) {
+        None => Ok(None),
+        Some(target) => restore_to(alloc, target, out, members),
     }
 }
 
-/// The option may stand before the names, between them or behind them.
-fn restore_of(words: &[Text]) -> Option<Command<'_>>
-    ensures asked { option_map asks result ≡ restore_asked words.now }
-    ensures range { IfSome result HasRange }
+fn combine_of(alloc: Global, found: &ArgMatches<'_>) -> Result<Option<Command>, NoMemory>
+    ensures asked { IfOk result (λ command.
+        option_map asks command ≡ combine_asked (rows_of (found_of found.now))) }
+    ensures range { IfOk result (λ command. IfSome command HasRange) }
 {
-    match option_place(words) {
-        None => restore_named(None, all_of(words)),
-        Some(place) => {
-            let (front, rest) = words.split_at(place);
-            restore_cut(front, rest)
-        }
+    let out = word_in(found, "OUT");
+    let members = words_in(alloc, found, "MEMBER")?;
+    if is_name(out.as_bytes()) && are_members(&members) {
+        let out = Text::copied(alloc, out.as_bytes())?;
+        return Ok(Some(Command::Combine(out, members)));
     }
-}
-
-fn combine_to<'a>(out: &'a [u8], members: MemberNames<'a>) -> Option<Command<'a>>
-    ensures asked { option_map asks result ≡ combine_to out.now (names_in members.entry) }
-    ensures range { IfSome result HasRange }
-{
-    if is_name(out) && are_members(&members) {
-        return Some(Command::Combine(out, members));
-    }
-    None
-}
-
-fn combine_of(words: &[Text]) -> Option<Command<'_>>
-    ensures asked { option_map asks result ≡ combine_asked words.now }
-    ensures range { IfSome result HasRange }
-{
-    let (out, members) = words.split_first()?;
-    combine_to(out.as_bytes(), all_of(members))
+    Ok(None)
 }
 
 /// A range has a place at least.
-fn walsummary_of<'a>(from: Lsn, to: Lsn) -> Option<Command<'a>>
-    ensures asked { option_map asks result ≡ walsummary_of from to }
+fn walsummary_of(found: &ArgMatches<'_>) -> Option<Command>
+    ensures asked { option_map asks result ≡ walsummary_asked (rows_of (found_of found.now)) }
     ensures range { IfSome result HasRange }
 {
+    let from = lsn_in(word_in(found, "FROM").as_bytes())?;
+    let to = lsn_in(word_in(found, "TO").as_bytes())?;
     if from.0 < to.0 {
         return Some(Command::Walsummary(from, to));
     }
     None
 }
 
-fn walsummary_values<'a>(first: &[u8], second: &[u8]) -> Option<Command<'a>>
-    ensures asked { option_map asks result ≡ walsummary_values first.now second.now }
-    ensures range { IfSome result HasRange }
+fn follow_to(
+    alloc: Global,
+    segment: Option<SegSize>,
+    relseg: Option<u32>,
+    out: &str,
+) -> Result<Option<Command>, NoMemory>
+    requires segment { IfSome segment IsSegmentMib }
+    requires relseg { IfSome relseg IsRelseg }
+    ensures asked { IfOk result (λ command.
+        option_map asks command ≡ follow_to segment relseg out.now) }
+    ensures range { IfOk result (λ command. IfSome command HasRange) }
 {
-    let from = lsn_in(first)?;
-    let to = lsn_in(second)?;
-    walsummary_of(from, to)
+    if is_name(out.as_bytes()) {
+        let segment = segment.unwrap_or(SegSize::standard());
+        let relseg = relseg.unwrap_or(MOST_RELSEG);
+        let out = Text::copied(alloc, out.as_bytes())?;
+        return Ok(Some(Command::Follow(FollowSizes { segment, relseg }, out)));
+    }
+    Ok(None)
 }
 
-fn walsummary_in(words: &[Text]) -> Option<Command<'_>>
-    ensures asked { option_map asks result ≡ walsummary_asked words.now }
-    ensures range { IfSome result HasRange }
+fn follow_of(alloc: Global, found: &ArgMatches<'_>) -> Result<Option<Command>, NoMemory>
+    ensures asked { IfOk result (λ command.
+        option_map asks command ≡ follow_asked (rows_of (found_of found.now))) }
+    ensures range { IfOk result (λ command. IfSome command HasRange) }
 {
-    match words {
-        [from, to] => walsummary_values(from.as_bytes(), to.as_bytes()),
-        _ => None,
+    let out = word_in(found, "OUT");
+    let Some(segment) = segment_given(option_in(found, "segment-mib")) else {
+        return Ok(None);
+    };
+    match relseg_given(option_in(found, "relseg")) {
+        None => Ok(None),
+        Some(relseg) => follow_to(alloc, segment, relseg, out),
     }
+}
+
+/// What the subcommand of this name asks.
+fn asked_by(alloc: Global, name: &str, found: &ArgMatches<'_>) -> Result<Option<Command>, NoMemory>
+    ensures asked { IfOk result (λ command.
+        option_map asks command ≡ asked_by name.now (rows_of (found_of found.now))) }
+    ensures range { IfOk result (λ command. IfSome command HasRange) }
+{
+    if name == "init" {
+        return Ok(init_of(found));
+    }
+    if name == "run" {
+        return Ok(run_of(found));
+    }
+    if name == "replay" {
+        return replay_of(alloc, found);
+    }
+    if name == "verify" {
+        return verify_of(alloc, found);
+    }
+    if name == "restore" {
+        return restore_of(alloc, found);
+    }
+    if name == "combine" {
+        return combine_of(alloc, found);
+    }
+    if name == "walsummary" {
+        return Ok(walsummary_of(found));
+    }
+    if name == "follow" {
+        return follow_of(alloc, found);
+    }
+    Ok(None)
+}
+
+/// What words that are text ask.
+fn texts_ask<'a>(alloc: Global, words: &'a [&'a str]) -> Result<Option<Command>, NoMemory>
+    ensures asked { IfOk result (λ command.
+        option_map asks command ≡ texts_ask (map (λ w. w.now) words.now)) }
+    ensures range { IfOk result (λ command. IfSome command HasRange) }
+{
+    let Some(matches) = taken(alloc, words)? else {
+        return Ok(None);
+    };
+    match matches.subcommand() {
+        None => Ok(None),
+        Some((name, found)) => asked_by(alloc, name, found),
+    }
+}
+
+/// A word as text. None exactly where it isn't UTF-8.
+fn text_in(word: &[u8]) -> Option<&str>
+    ensures some { IfSome result (λ text.
+        (text.now ≡ word.now) × (is_utf8 word.now ≡ true)) }
+    ensures none { IfNone result (is_utf8 word.now ≡ false) }
+{
+    match str::from_utf8(word) {
+        Ok(text) => Some(text),
+        Err(_) => None,
+    }
+}
+
+/// Words as text. None exactly where one isn't UTF-8.
+fn texts_in(alloc: Global, words: &[Text]) -> Result<Option<Vec<&str>>, NoMemory>
+    ensures some { IfOk result (λ found. IfSome found (λ texts.
+        (list_all is_utf8 words.now ≡ true) × (map (λ t. t.now) texts.items ≡ words.now))) }
+    ensures none { IfOk result (λ found. IfNone found (list_all is_utf8 words.now ≡ false)) }
+{
+    let mut texts = Vec::new(alloc);
+    for word in words {
+        match text_in(word.as_bytes()) {
+            Some(text) => texts.push(text)?,
+            None => return Ok(None),
+        }
+    }
+    Ok(Some(texts))
 }
 
 /// The command that the words ask for. None exactly where they aren't taken.
-pub fn command_of(words: &[Text]) -> Option<Command<'_>>
-    ensures asked { option_map asks result ≡ asked words.now }
-    ensures range { IfSome result HasRange }
+pub fn command_of(alloc: Global, words: &[Text]) -> Result<Option<Command>, NoMemory>
+    ensures asked { IfOk result (λ command. option_map asks command ≡ asked words.now) }
+    ensures range { IfOk result (λ command. IfSome command HasRange) }
 {
-    let (word, others) = words.split_first()?;
-    let word = word.as_bytes();
-    if word == b"init".as_slice() {
-        return init_of(others);
+    match texts_in(alloc, words)? {
+        None => Ok(None),
+        Some(texts) => texts_ask(alloc, &texts),
     }
-    if word == b"run".as_slice() {
-        return run_of(others);
-    }
-    if word == b"replay".as_slice() {
-        return replay_of(others);
-    }
-    if word == b"verify".as_slice() {
-        return verify_of(others);
-    }
-    if word == b"restore".as_slice() {
-        return restore_of(others);
-    }
-    if word == b"combine".as_slice() {
-        return combine_of(others);
-    }
-    if word == b"walsummary".as_slice() {
-        return walsummary_in(others);
-    }
-    if word == b"follow".as_slice() {
-        return follow_of(others);
-    }
-    None
 }

@@ -9,7 +9,7 @@ use crate::usage::usage_of;
 use crate::wal::{early_note, wal_note};
 use base_backup::IncrFault;
 use command_base::{backup_name, output_name};
-use command_line::{Command as Words, MemberNames, command_of};
+use command_line::{Command as Words, command_of};
 use crew::{Answer as LineAnswer, Command, Stop};
 use lsn_core::{AreaFault, Lsn, NoMemory, Text};
 use pgbackup_cli::{
@@ -26,15 +26,16 @@ use std::alloc::Global;
 pub fn note_of(alloc: Global, words: &[Text], answer: &Answer) -> Result<Text, NoMemory> {
     match answer {
         Answer::Usage => usage_of(alloc, words),
+        Answer::NoMemory => memory_note(alloc),
         Answer::Init(Err(fault)) => init_note(alloc, fault),
         Answer::Run(Err(fault)) => run_note(alloc, fault),
         Answer::Run(Ok(report)) => ending_note(alloc, report),
-        Answer::Replay(Err(fault)) => replay_note(alloc, output_of(words), fault),
-        Answer::Verify(Err(fault)) => verify_note(alloc, last_of(words), fault),
-        Answer::Restore(Err(fault)) => restore_note(alloc, names_in(words), fault),
-        Answer::Combine(Err(fault)) => combine_note(alloc, names_in(words), fault),
+        Answer::Replay(Err(fault)) => replay_note(alloc, name_in(alloc, words)?.as_bytes(), fault),
+        Answer::Verify(Err(fault)) => verify_note(alloc, name_in(alloc, words)?.as_bytes(), fault),
+        Answer::Restore(Err(fault)) => restore_note(alloc, names_in(alloc, words)?, fault),
+        Answer::Combine(Err(fault)) => combine_note(alloc, names_in(alloc, words)?, fault),
         Answer::Walsummary(Err(fault)) => walsummary_note(alloc, fault),
-        Answer::Follow(Err(fault)) => follow_note(alloc, followed_to(words), fault),
+        Answer::Follow(Err(fault)) => follow_note(alloc, name_in(alloc, words)?.as_bytes(), fault),
         Answer::Init(Ok(_))
         | Answer::Replay(Ok(_))
         | Answer::Verify(Ok(_))
@@ -120,25 +121,24 @@ fn backup_note(alloc: Global, name: &[u8]) -> Result<Text, NoMemory> {
     )
 }
 
-/// The last word; of those of `verify` the backup's name.
-fn last_of(words: &[Text]) -> &[u8] {
-    match words.last() {
-        Some(word) => word.as_bytes(),
-        None => b"",
+/// The names of the output or the backup in the words, and of the members.
+fn names_in(alloc: Global, words: &[Text]) -> Result<(Text, Vec<Text>), NoMemory> {
+    let none = Vec::new(alloc);
+    match command_of(alloc, words)? {
+        Some(Words::Restore(_, name, members) | Words::Combine(name, members)) => {
+            Ok((name, members))
+        }
+        Some(Words::Replay(_, name) | Words::Verify(name) | Words::Follow(_, name)) => {
+            Ok((name, none))
+        }
+        _ => Ok((Text::from_vec(Vec::new(alloc)), none)),
     }
 }
 
-fn is_target(word: &Text) -> bool {
-    word.as_bytes() == b"--target".as_slice()
-}
-
-/// The name of the output in the words of `replay`, in which the option and its value may stand
-/// behind it.
-fn output_of(words: &[Text]) -> &[u8] {
-    match words {
-        [_, name, option, _] if is_target(option) => name.as_bytes(),
-        _ => last_of(words),
-    }
+/// The name of the output or the backup in the words.
+fn name_in(alloc: Global, words: &[Text]) -> Result<Text, NoMemory> {
+    let (name, _) = names_in(alloc, words)?;
+    Ok(name)
 }
 
 fn replay_note(alloc: Global, output: &[u8], fault: &ReplayFault) -> Result<Text, NoMemory> {
@@ -159,31 +159,16 @@ fn verify_note(alloc: Global, name: &[u8], fault: &VerifyFault) -> Result<Text, 
     }
 }
 
-/// The names of the output and of the members in the words of `restore` and of `combine`.
-fn names_in(words: &[Text]) -> (&[u8], MemberNames<'_>) {
-    match command_of(words) {
-        Some(Words::Restore(_, out, members) | Words::Combine(out, members)) => (out, members),
-        _ => (
-            b"",
-            MemberNames {
-                front: &[],
-                behind: &[],
-            },
-        ),
+/// The area of the directory of the member of a place.
+fn member_area(alloc: Global, members: &[Text], place: u32) -> Result<Text, NoMemory> {
+    match members.get(place as usize) {
+        Some(name) => backup_name(alloc, name.as_bytes()),
+        None => backup_name(alloc, b""),
     }
 }
 
-/// The area of the directory of the member of a place.
-fn member_area(alloc: Global, members: &MemberNames, place: u32) -> Result<Text, NoMemory> {
-    backup_name(alloc, members.get(place as usize).unwrap_or(b""))
-}
-
 /// The members of a chain aren't taken.
-fn members_note(
-    alloc: Global,
-    members: &MemberNames,
-    fault: &MembersFault,
-) -> Result<Text, NoMemory> {
+fn members_note(alloc: Global, members: &[Text], fault: &MembersFault) -> Result<Text, NoMemory> {
     match fault {
         MembersFault::Directory(place, refusal) => {
             let backup = member_area(alloc, members, *place)?;
@@ -199,11 +184,11 @@ fn members_note(
 
 fn restore_note(
     alloc: Global,
-    names: (&[u8], MemberNames),
+    names: (Text, Vec<Text>),
     fault: &RestoreFault,
 ) -> Result<Text, NoMemory> {
     let (out, members) = names;
-    let output = output_name(alloc, out)?;
+    let output = output_name(alloc, out.as_bytes())?;
     match fault {
         RestoreFault::Site(fault) => take_note(alloc, fault),
         RestoreFault::Members(fault) => members_note(alloc, &members, fault),
@@ -223,11 +208,11 @@ fn restore_note(
 
 fn combine_note(
     alloc: Global,
-    names: (&[u8], MemberNames),
+    names: (Text, Vec<Text>),
     fault: &CombineFault,
 ) -> Result<Text, NoMemory> {
     let (out, members) = names;
-    let output = backup_name(alloc, out)?;
+    let output = backup_name(alloc, out.as_bytes())?;
     match fault {
         CombineFault::Site(fault) => take_note(alloc, fault),
         CombineFault::Members(fault) => members_note(alloc, &members, fault),
@@ -251,14 +236,6 @@ fn walsummary_note(alloc: Global, fault: &WalsummaryFault) -> Result<Text, NoMem
         WalsummaryFault::Site(fault) => take_note(alloc, fault),
         WalsummaryFault::Gap(at) => gap_note(alloc, *at),
         WalsummaryFault::Sums(why) => area_note(alloc, b"sums", *why),
-    }
-}
-
-/// The name of the output in the words of `follow`.
-fn followed_to(words: &[Text]) -> &[u8] {
-    match command_of(words) {
-        Some(Words::Follow(_, name)) => name,
-        _ => b"",
     }
 }
 

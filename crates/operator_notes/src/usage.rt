@@ -15,6 +15,19 @@ const RUN: &[u8] = b"usage: pgbackup run [--frames N] < SCRIPT
   reads a script from standard input, runs its lines on the store, and writes their WAL, pages,
   summaries and backups
   N: pages of each of the four data areas that are held in memory, 4 to 16384 (4096)
+a line of SCRIPT is empty, begins with #, or is one of these, with F a fork, D/R or D/R_init:
+  worker NAME        the lines behind it are this worker's; stands before all others
+  create F           make the fork F of relation R of database D
+  truncate D/R N     cut the main fork of the relation to N blocks
+  drop D/R           remove the relation
+  change ITEM..      change blocks; ITEM: F@B=L,U,C for a page at block B that is filled with C up to L and
+                     from U on, or F@B+O:HEX for bytes from byte O on, and more behind it as ,O:HEX
+  grow F@B N L,U,C   put such a page at N blocks from B on
+  checkpoint         do a checkpoint
+  flush N            write N times what comes next
+  summarise          publish summaries of the WAL to sums
+  full NAME          take a full backup to b/NAME
+  incr NAME PRIOR    take an incremental backup to b/NAME, on the one in b/PRIOR
 ";
 
 const REPLAY: &[u8] = b"usage: pgbackup replay [--target LSN] OUT
@@ -61,6 +74,9 @@ const HELP: &[u8] = b"usage: pgbackup help [COMMAND]
   combine, walsummary, follow
 ";
 
+const VERSION: &[u8] = b"pgbackup 1.0
+";
+
 /// How this command is used; None where there is no command of that name.
 fn command_usage(name: &[u8]) -> Option<&'static [u8]> {
     if name == b"init".as_slice() {
@@ -90,24 +106,64 @@ fn command_usage(name: &[u8]) -> Option<&'static [u8]> {
     None
 }
 
-/// The command that the words are about: that of `help`, or the one whose words aren't taken.
-fn command_in(words: &[Text]) -> Option<&'static [u8]> {
+/// Whether a word asks for help.
+fn is_help(word: &[u8]) -> bool {
+    word == b"help".as_slice() || word == b"--help".as_slice() || word == b"-h".as_slice()
+}
+
+/// Whether a word asks for the version.
+fn is_version(word: &[u8]) -> bool {
+    word == b"--version".as_slice() || word == b"-V".as_slice()
+}
+
+/// The word that names the command that the words are about: that of `help`, or the first one of
+/// words that aren't taken.
+fn command_word(words: &[Text]) -> Option<&[u8]> {
     match words {
-        [help, name] if help.as_bytes() == b"help".as_slice() => command_usage(name.as_bytes()),
-        [name, ..] => command_usage(name.as_bytes()),
+        [help, name, ..] if is_help(help.as_bytes()) => Some(name.as_bytes()),
+        [help] if is_help(help.as_bytes()) => None,
+        [name, ..] => Some(name.as_bytes()),
         [] => None,
     }
 }
 
-/// How the command is used that the words are about, or else how each is.
-pub fn usage_of(alloc: Global, words: &[Text]) -> Result<Text, NoMemory> {
-    match command_in(words) {
+/// How each command is used, behind these parts.
+fn all_usages(alloc: Global, before: &[&[u8]]) -> Result<Text, NoMemory> {
+    let before = joined(alloc, before)?;
+    joined(
+        alloc,
+        &[
+            before.as_bytes(),
+            INIT,
+            RUN,
+            REPLAY,
+            VERIFY,
+            RESTORE,
+            COMBINE,
+            WALSUMMARY,
+            FOLLOW,
+            HELP,
+        ],
+    )
+}
+
+/// How the command of this name is used, or that there is none of it and how each is.
+fn usage_by(alloc: Global, name: &[u8]) -> Result<Text, NoMemory> {
+    match command_usage(name) {
         Some(usage) => joined(alloc, &[usage]),
-        None => joined(
+        None => all_usages(
             alloc,
-            &[
-                INIT, RUN, REPLAY, VERIFY, RESTORE, COMBINE, WALSUMMARY, FOLLOW, HELP,
-            ],
+            &[b"pgbackup: error: there is no command ", name, b"\n"],
         ),
+    }
+}
+
+/// How the command is used that the words are about, or else how each is; name and version, where
+/// the words ask for that.
+pub fn usage_of(alloc: Global, words: &[Text]) -> Result<Text, NoMemory> {
+    match command_word(words) {
+        Some(name) if is_version(name) => joined(alloc, &[VERSION]),
+        Some(name) => usage_by(alloc, name),
+        None => all_usages(alloc, &[]),
     }
 }

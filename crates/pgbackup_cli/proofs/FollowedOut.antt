@@ -33,7 +33,6 @@ use Rattle.follow_command.specs.declared.output.Written.{Written}
 use Rattle.follow_command.specs.Followed.{IsReplayed, IsRefusedStream, StreamAnswer}
 use Rattle.follow_command.specs.Output.{IsMade}
 use Rattle.command_base.specs.Areas.{IsClear, TellsClear}
-use Rattle.pgbackup_cli.specs.declared.replay.ReplayReport.{ReplayReport}
 use Rattle.pgbackup_cli.specs.Follow.{FollowDone, IsUnfollowed, unfollowed, report_of}
 use Rattle.pgbackup_cli.specs.Following.{AnswersFollow, AnswersStream, FollowsAsReplay}
 use Rattle.pgbackup_cli.proofs.ReplayedOut.{never_full, area_rises, area_cause}

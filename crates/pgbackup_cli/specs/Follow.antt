@@ -7,7 +7,6 @@ use Rattle.lsn_core.specs.Store.{files_of}
 use Rattle.lsn_core.specs.declared.lsn.Lsn.{Lsn}
 use Rattle.lsn_core.specs.declared.fault.AreaFault.{AreaFault}
 use Rattle.vault.specs.Site.{AreaState}
-use Rattle.wal_archive.specs.declared.fault.Damage.{Damage}
 use Rattle.history.specs.Pages.{page_count}
 use Rattle.history.specs.Whole.{whole}
 use Rattle.recovery.specs.Onward.{replayed_to}

@@ -13,7 +13,7 @@ use Rattle.stream_laws.specs.Streams.{stream_files}
 use Rattle.follow_laws.specs.Followed.{stream_settings}
 use Rattle.wal_follow.specs.Following.{Following}
 use Rattle.follow_command.specs.Followed.{IsReplayed}
-use Rattle.command_base.specs.Areas.{IsClear, Keeps}
+use Rattle.command_base.specs.Areas.{IsClear}
 use Rattle.pgbackup_cli.specs.declared.follow.FollowFault.{FollowFault}
 use Rattle.pgbackup_cli.specs.declared.replay.ReplayReport.{ReplayReport}
 use Rattle.pgbackup_cli.specs.Replay.{ReplayAreas, ReplayDone}

@@ -40,6 +40,11 @@ DoesAsked (Some (Walsummary from to)) old new came =
 DoesAsked (Some (Follow mib relseg name)) old new came =
     (r : FollowResult) × (came ≡ answer.Follow r) × FollowDoes mib relseg name old new r
 
+-- it was done, or memory ran out while the words were read, and nothing was done
+abbrev pub Came : Option Asked → Outside → Outside → Answer → Type 0
+Came words old new came =
+    DoesAsked words old new came ⊎ ((came ≡ answer.NoMemory) × LeavesSite old new)
+
 -- the area of the output that is asked for
 abbrev pub output_asked : Option Asked → List ℕ
 output_asked (Some (Replay upto name)) = output_name name
@@ -62,6 +67,7 @@ members_asked words = []
 -- the lines of an answer
 abbrev pub text_of : Option Asked → Answer → List ℕ
 text_of words answer.Usage = refused_line (codes "1 Usage")
+text_of words answer.NoMemory = refused_line (codes "61 NoMemory")
 text_of words (answer.Init r) = init_text r
 text_of words (answer.Run r) = run_text r
 text_of words (answer.Replay r) = replay_text (output_asked words) r
@@ -74,6 +80,7 @@ text_of words (answer.Follow r) = follow_text (output_asked words) r
 -- the status of an answer
 abbrev pub answer_status : Answer → Status
 answer_status answer.Usage = status.Usage
+answer_status answer.NoMemory = status.Memory
 answer_status (answer.Init r) = init_status r
 answer_status (answer.Run r) = run_status r
 answer_status (answer.Replay r) = replay_status r
@@ -102,18 +109,15 @@ ReadsClock words =
     ⊎ ((out : List ℕ) × (names : List (List ℕ)) × (words ≡ Some (Combine out names)))
     ⊎ ((options : InitOptions) × (words ≡ Some (Init options)) × (options.system ≡ None))
 
--- a run of the program on these words that comes to this answer, and ends so
-pub record ComesTo (words : List (List ℕ)) (old new : Outside) (answer : Answer)
+-- a run of the program on words that ask this, which comes to this answer, and ends so
+pub record ComesTo (words : Option Asked) (old new : Outside) (answer : Answer)
     (status : Status) : Type 0 where
   pub telling : Result (Unit {0}) AreaFault
-  pub work : DoesAsked (asked words) old new answer
-  pub line : Prints (text_of (asked words) answer) old new telling
+  pub work : Came words old new answer
+  pub line : Prints (text_of words answer) old new telling
   pub ended : status ≡ status_of answer telling
 
 -- a run of the program on these words
 pub record Ran (words : List (List ℕ)) (old new : Outside) (status : Status) : Type 0 where
   pub answer : Answer
-  pub telling : Result (Unit {0}) AreaFault
-  pub work : DoesAsked (asked words) old new answer
-  pub line : Prints (text_of (asked words) answer) old new telling
-  pub ended : status ≡ status_of answer telling
+  pub comes : ComesTo (asked words) old new answer status

@@ -1,7 +1,8 @@
 //! What the program comes to, the lines that it prints for that, and its exit status.
 
 ghost use Rattle.std.specs.Prelude.{◌≡◌, IfOk};
-ghost use Rattle.command_line.specs.Words.{asked};
+ghost use Rattle.std.specs.Option.{option_map};
+ghost use Rattle.command_line.specs.Words.{asks};
 ghost use Rattle.command_line.specs.Members.{names_in};
 ghost use Rattle.pgbackup_cli.specs.Top.{output_asked, backup_asked, members_asked, text_of};
 ghost use Rattle.pgbackup_cli.specs.Top.{answer_status, status_of};
@@ -14,17 +15,19 @@ use crate::restore::{RestoreFault, restore_status, restore_text};
 use crate::verify::{VerifyFault, VerifyReport, verify_status, verify_text};
 use crate::walsummary::{WalsummaryFault, walsummary_status, walsummary_text};
 use command_base::{Status, area_status, output_name, refused_line};
-use command_line::{Command, MemberNames, command_of};
+use command_line::{Command, MemberNames};
 use lsn_core::{AreaFault, Lsn, NoMemory, Text};
 use run_command::{RunFault, RunReport, run_status, run_text};
 use std::alloc::Global;
 use wal_summary::Summary;
 
-/// What the program comes to: one variant a command, and one where the words aren't taken.
+/// What the program comes to: one variant a command, and two where no command was read.
 #[derive(Drop)]
 pub enum Answer {
     /// The words aren't taken.
     Usage,
+    /// Memory ran out while the words were read.
+    NoMemory,
     /// A new store was made, whose WAL ends there.
     Init(Result<Lsn, InitFault>),
     /// A script was run.
@@ -43,13 +46,13 @@ pub enum Answer {
     Follow(Result<ReplayReport, FollowFault>),
 }
 
-/// The area of the output that is asked for, empty where none is.
-fn output_asked(alloc: Global, words: &[Text]) -> Result<Text, NoMemory>
-    ensures { IfOk result (λ area. area ≡ output_asked (asked words.now)) }
+/// The area of the output that a command asks for, empty where it asks for none.
+fn output_asked(alloc: Global, command: &Option<Command>) -> Result<Text, NoMemory>
+    ensures { IfOk result (λ area. area ≡ output_asked (option_map asks command.now)) }
 {
-    match command_of(words) {
+    match command {
         Some(Command::Replay(_, name) | Command::Restore(_, name, _) | Command::Follow(_, name)) =>
-            output_name(alloc, name),
+            output_name(alloc, name.as_bytes()),
         Some(
             Command::Init(_)
             | Command::Run(_)
@@ -61,12 +64,12 @@ fn output_asked(alloc: Global, words: &[Text]) -> Result<Text, NoMemory>
     }
 }
 
-/// The name of the backup that is asked for, empty where none is.
-fn backup_asked(words: &[Text]) -> &[u8]
-    ensures { result.now ≡ backup_asked (asked words.now) }
+/// The name of the backup that a command asks for, empty where it asks for none.
+fn backup_asked(command: &Option<Command>) -> &[u8]
+    ensures { result.now ≡ backup_asked (option_map asks command.now) }
 {
-    match command_of(words) {
-        Some(Command::Verify(name) | Command::Combine(name, _)) => name,
+    match command {
+        Some(Command::Verify(name) | Command::Combine(name, _)) => name.as_bytes(),
         Some(
             Command::Init(_)
             | Command::Run(_)
@@ -79,12 +82,12 @@ fn backup_asked(words: &[Text]) -> &[u8]
     }
 }
 
-/// The names of the members that are asked for, none where no chain is.
-fn members_asked(words: &[Text]) -> MemberNames<'_>
-    ensures { names_in result ≡ members_asked (asked words.now) }
+/// The names of the members that a command asks for, none where it asks for no chain.
+fn members_asked(command: &Option<Command>) -> MemberNames<'_>
+    ensures { names_in result ≡ members_asked (option_map asks command.now) }
 {
-    match command_of(words) {
-        Some(Command::Restore(_, _, members) | Command::Combine(_, members)) => members,
+    match command {
+        Some(Command::Restore(_, _, names) | Command::Combine(_, names)) => MemberNames { names },
         Some(
             Command::Init(_)
             | Command::Run(_)
@@ -93,32 +96,30 @@ fn members_asked(words: &[Text]) -> MemberNames<'_>
             | Command::Walsummary(_, _)
             | Command::Follow(_, _),
         )
-        | None => MemberNames {
-            front: &[],
-            behind: &[],
-        },
+        | None => MemberNames { names: &[] },
     }
 }
 
-/// The lines of an answer to what words ask.
-pub fn text_of(alloc: Global, words: &[Text], answer: &Answer) -> Result<Text, NoMemory>
-    ensures { IfOk result (λ text. text ≡ text_of (asked words.now) answer.now) }
+/// The lines of an answer to what a command asks.
+pub fn text_of(alloc: Global, command: &Option<Command>, answer: &Answer) -> Result<Text, NoMemory>
+    ensures { IfOk result (λ text. text ≡ text_of (option_map asks command.now) answer.now) }
 {
     match answer {
         Answer::Usage => refused_line(alloc, b"1 Usage"),
+        Answer::NoMemory => refused_line(alloc, b"61 NoMemory"),
         Answer::Init(came) => init_text(alloc, came),
         Answer::Run(came) => run_text(alloc, came),
-        Answer::Replay(came) => replay_text(alloc, output_asked(alloc, words)?.as_bytes(), came),
-        Answer::Verify(came) => verify_text(alloc, backup_asked(words), came),
+        Answer::Replay(came) => replay_text(alloc, output_asked(alloc, command)?.as_bytes(), came),
+        Answer::Verify(came) => verify_text(alloc, backup_asked(command), came),
         Answer::Restore(came) => {
-            let out = output_asked(alloc, words)?;
-            restore_text(alloc, &members_asked(words), out.as_bytes(), came)
+            let out = output_asked(alloc, command)?;
+            restore_text(alloc, &members_asked(command), out.as_bytes(), came)
         }
         Answer::Combine(came) => {
-            combine_text(alloc, &members_asked(words), backup_asked(words), came)
+            combine_text(alloc, &members_asked(command), backup_asked(command), came)
         }
         Answer::Walsummary(came) => walsummary_text(alloc, came),
-        Answer::Follow(came) => follow_text(alloc, output_asked(alloc, words)?.as_bytes(), came),
+        Answer::Follow(came) => follow_text(alloc, output_asked(alloc, command)?.as_bytes(), came),
     }
 }
 
@@ -127,6 +128,7 @@ fn answer_status(answer: &Answer) -> Status
 {
     match answer {
         Answer::Usage => Status::Usage,
+        Answer::NoMemory => Status::Memory,
         Answer::Init(came) => init_status(came),
         Answer::Run(came) => run_status(came),
         Answer::Replay(came) => replay_status(came),

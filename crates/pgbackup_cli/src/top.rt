@@ -1,8 +1,9 @@
 //! The top call: all that the program does.
 
-ghost use Rattle.std.specs.Prelude.{◌≡◌, ◌⊎◌};
+ghost use Rattle.std.specs.Prelude.{◌≡◌, ◌⊎◌, IfSome};
+ghost use Rattle.std.specs.Option.{option_map};
 ghost use Rattle.vault.specs.Site.{AllHome};
-ghost use Rattle.command_line.specs.Words.{asked};
+ghost use Rattle.command_line.specs.Words.{asked, asks, HasRange};
 ghost use Rattle.command_base.specs.Outside.{outside, of_all};
 ghost use Rattle.pgbackup_cli.specs.Top.{DoesAsked, ReadsInput, ReadsClock, text_of, ComesTo, Ran};
 ghost use Rattle.pgbackup_cli.specs.Inner.{TellsIn};
@@ -16,61 +17,92 @@ use crate::restore::restore;
 use crate::verify::verify;
 use crate::walsummary::walsummary;
 use command_base::Status;
-use command_line::{Command, command_of};
+use command_line::{Command, MemberNames, command_of};
 use lsn_core::{AreaFault, Text};
 use run_command::run;
 use std::alloc::Global;
 use vault::{Clock, Sink, Site, Source, print};
 
-/// Does what the words ask.
+/// Does what a command asks. Where there is none, the words aren't taken.
 fn work<S: Site, I: Source, C: Clock>(
     alloc: Global,
-    words: &[Text],
+    command: &Option<Command>,
     site: &mut S,
     input: &mut I,
     clock: &mut C,
 ) -> Answer
-    requires { AllHome (S.areas site.old) }
-    ensures does { DoesAsked (asked words.now)
+    requires range { IfSome command.now HasRange }
+    requires home { AllHome (S.areas site.old) }
+    ensures does { DoesAsked (option_map asks command.now)
         (of_all S.Site I.Source C.Clock site.old input.old clock.old)
         (of_all S.Site I.Source C.Clock site.new input.new clock.new)
         result }
     ensures home { AllHome (S.areas site.new) }
-    ensures input { ReadsInput (asked words.now) ⊎ (input.new ≡ input.old) }
-    ensures clock { ReadsClock (asked words.now) ⊎ (clock.new ≡ clock.old) }
+    ensures input { ReadsInput (option_map asks command.now) ⊎ (input.new ≡ input.old) }
+    ensures clock { ReadsClock (option_map asks command.now) ⊎ (clock.new ≡ clock.old) }
 {
-    match command_of(words) {
+    match command {
         None => Answer::Usage,
-        Some(Command::Init(options)) => Answer::Init(init(alloc, options, site, clock)),
-        Some(Command::Run(frames)) => Answer::Run(run(alloc, frames, site, input, clock)),
-        Some(Command::Replay(upto, name)) => Answer::Replay(replay(alloc, upto, name, site)),
-        Some(Command::Verify(name)) => Answer::Verify(verify(alloc, name, site)),
-        Some(Command::Restore(upto, out, members)) => {
-            Answer::Restore(restore(alloc, upto, out, &members, site))
+        Some(Command::Init(options)) => Answer::Init(init(alloc, *options, site, clock)),
+        Some(Command::Run(frames)) => Answer::Run(run(alloc, *frames, site, input, clock)),
+        Some(Command::Replay(upto, name)) => {
+            Answer::Replay(replay(alloc, *upto, name.as_bytes(), site))
         }
-        Some(Command::Combine(out, members)) => {
-            Answer::Combine(combine(alloc, out, &members, site, clock))
+        Some(Command::Verify(name)) => Answer::Verify(verify(alloc, name.as_bytes(), site)),
+        Some(Command::Restore(upto, out, names)) => {
+            let members = MemberNames { names };
+            Answer::Restore(restore(alloc, *upto, out.as_bytes(), &members, site))
+        }
+        Some(Command::Combine(out, names)) => {
+            let members = MemberNames { names };
+            Answer::Combine(combine(alloc, out.as_bytes(), &members, site, clock))
         }
         Some(Command::Walsummary(from, to)) => {
-            Answer::Walsummary(walsummary(alloc, from, to, site))
+            Answer::Walsummary(walsummary(alloc, *from, *to, site))
         }
         Some(Command::Follow(sizes, name)) => {
-            Answer::Follow(follow(alloc, sizes, name, site, input))
+            Answer::Follow(follow(alloc, *sizes, name.as_bytes(), site, input))
         }
     }
 }
 
-/// Prints the lines of an answer.
+/// Prints the lines of an answer to what a command asks.
 fn tell<O: Sink>(
     alloc: Global,
-    words: &[Text],
+    command: &Option<Command>,
     answer: &Answer,
     out: &mut O,
 ) -> Result<(), AreaFault>
-    ensures told { TellsIn O.Sink (text_of (asked words.now) answer.now) out.old out.new result }
+    ensures told { TellsIn O.Sink (text_of (option_map asks command.now) answer.now)
+        out.old out.new result }
 {
-    let text = text_of(alloc, words, answer)?;
+    let text = text_of(alloc, command, answer)?;
     print(out, text.as_bytes())
+}
+
+/// Does what a command asks, prints its lines, and answers what it came to, and the exit status.
+fn carried_out<S: Site, I: Source, O: Sink, C: Clock>(
+    alloc: Global,
+    command: &Option<Command>,
+    site: &mut S,
+    input: &mut I,
+    out: &mut O,
+    clock: &mut C,
+) -> (Answer, Status)
+    requires range { IfSome command.now HasRange }
+    requires home { AllHome (S.areas site.old) }
+    ensures comes { ComesTo (option_map asks command.now)
+        (outside S.Site I.Source O.Sink C.Clock site.old input.old out.old clock.old)
+        (outside S.Site I.Source O.Sink C.Clock site.new input.new out.new clock.new)
+        result.0 result.1 }
+    ensures home { AllHome (S.areas site.new) }
+    ensures input { ReadsInput (option_map asks command.now) ⊎ (input.new ≡ input.old) }
+    ensures clock { ReadsClock (option_map asks command.now) ⊎ (clock.new ≡ clock.old) }
+{
+    let answer = work(alloc, command, site, input, clock);
+    let telling = tell(alloc, command, &answer, out);
+    let status = exit_status(&answer, telling);
+    (answer, status)
 }
 
 /// Does what the words ask, prints its lines, and answers what it came to, and the exit status: for
@@ -84,7 +116,7 @@ pub fn answered<S: Site, I: Source, O: Sink, C: Clock>(
     clock: &mut C,
 ) -> (Answer, Status)
     requires { AllHome (S.areas site.old) }
-    ensures comes { ComesTo words.now
+    ensures comes { ComesTo (asked words.now)
         (outside S.Site I.Source O.Sink C.Clock site.old input.old out.old clock.old)
         (outside S.Site I.Source O.Sink C.Clock site.new input.new out.new clock.new)
         result.0 result.1 }
@@ -92,10 +124,15 @@ pub fn answered<S: Site, I: Source, O: Sink, C: Clock>(
     ensures input { ReadsInput (asked words.now) ⊎ (input.new ≡ input.old) }
     ensures clock { ReadsClock (asked words.now) ⊎ (clock.new ≡ clock.old) }
 {
-    let answer = work(alloc, words, site, input, clock);
-    let telling = tell(alloc, words, &answer, out);
-    let status = exit_status(&answer, telling);
-    (answer, status)
+    match command_of(alloc, words) {
+        Ok(command) => carried_out(alloc, &command, site, input, out, clock),
+        Err(_) => {
+            let answer = Answer::NoMemory;
+            let telling = tell(alloc, &None, &answer, out);
+            let status = exit_status(&answer, telling);
+            (answer, status)
+        }
+    }
 }
 
 /// All that the program does: it takes the words of the command line, does what they ask over the

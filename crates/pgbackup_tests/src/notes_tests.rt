@@ -37,7 +37,17 @@ enum Refused {
 /// The words of a command, why it was refused, and what is told.
 type Case = (&'static str, Refused, &'static str);
 
-static CASES: [Case; 14] = [
+static CASES: [Case; 16] = [
+    ("--version", Refused::Words, "pgbackup 1.0\n"),
+    (
+        "walsummary --help",
+        Refused::Words,
+        "usage: pgbackup walsummary FROM TO
+  prints what the summaries in sums tell of the WAL from FROM on and before TO: of each fork the
+  shortest length to which it was cut, and the blocks that were changed since
+  FROM, TO: LSNs, as 0/1000108, TO past FROM
+",
+    ),
     (
         "help verify",
         Refused::Words,
@@ -189,6 +199,25 @@ fn is_told(alloc: Global, case: &Case) -> Result<bool, NoMemory> {
     let words = words_in(alloc, line)?;
     let note = note_of(alloc, &words, &answer_of(alloc, refusal)?)?;
     Ok(note.as_bytes() == told.as_bytes())
+}
+
+/// Whether what is told of words that aren't taken begins so.
+fn begins_so(alloc: Global, line: &str, told: &str) -> Result<bool, NoMemory> {
+    let words = words_in(alloc, line)?;
+    let note = note_of(alloc, &words, &Answer::Usage)?;
+    Ok(note.as_bytes().starts_with(told.as_bytes()))
+}
+
+#[test]
+fn an_unknown_command_is_named(rt: HostRuntime) -> Result<(), Wrong> {
+    let told = "pgbackup: error: there is no command store\nusage: pgbackup init ";
+    if !begins_so(rt.alloc(), "store x", told)? {
+        return Err(Wrong::Step(0));
+    }
+    if !begins_so(rt.alloc(), "help", "usage: pgbackup init ")? {
+        return Err(Wrong::Step(1));
+    }
+    Ok(())
 }
 
 #[test]

@@ -138,8 +138,18 @@ fn a_run_appends_what_it_accepts(rt: HostRuntime) -> Result<(), Wrong> {
 }
 
 /// Words that aren't taken.
-static OTHER_WORDS: [&str; 25] = [
+static OTHER_WORDS: [&str; 35] = [
     "",
+    "help",
+    "--help",
+    "--version",
+    "store",
+    "--",
+    "-- init",
+    "verify --help",
+    "init --segment-mib=",
+    "init --segment-mib=1=1",
+    "run -f",
     "replay P",
     "replay p q",
     "init --segment-mib 3",
@@ -179,6 +189,40 @@ fn words_are_refused(rt: HostRuntime) -> Result<(), NoMemory> {
         assert!(rt; are_refused(rt.alloc(), words)?, "{words}");
     }
     Ok(())
+}
+
+/// Words that `clap` takes in another form, over a site without files.
+static OTHER_FORMS: [Call; 4] = [
+    (
+        "verify -- f1",
+        "",
+        Status::Refused,
+        "refused 20 NoManifest f1\n",
+    ),
+    (
+        "replay p --target=0/100060",
+        "",
+        Status::Refused,
+        "refused 43 NotInit\n",
+    ),
+    (
+        "init --system-id=7 --segment-mib=1 --",
+        "",
+        Status::Done,
+        "initialised 0/100060\n",
+    ),
+    (
+        "replay --target=0/100060 -- p",
+        "",
+        Status::Done,
+        "replayed 0/100060 0 0\n",
+    ),
+];
+
+#[test]
+fn words_have_other_forms(rt: HostRuntime) -> Result<(), Wrong> {
+    let mut site = MemSite::new(rt.alloc(), &[])?;
+    make_calls(rt.alloc(), &mut site, &OTHER_FORMS)
 }
 
 /// A file of an area, its bytes, and a call behind it.

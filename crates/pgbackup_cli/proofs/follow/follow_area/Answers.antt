@@ -1,5 +1,5 @@
 -- What was followed is written behind it.
-use Rattle.std.proofs.Common.{subst, sym, arith}
+use Rattle.std.proofs.Common.{subst, sym}
 use Rattle.pgbackup_cli.specs.Following.{AnswersFollow}
 use Rattle.pgbackup_cli.proofs.FollowedOut.{followed_out}
 use Rattle.pgbackup_cli.proofs.follow.follow_area.Goals as goal
