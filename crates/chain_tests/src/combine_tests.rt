@@ -44,7 +44,7 @@ wal 0/1006A0
 
 /// Chains of a full backup and two incremental ones are combined and restored to the WAL's end and to
 /// places near the last member's end.
-static CALLS: [Call; 16] = [
+static CALLS: [Call; 18] = [
     (
         "combine c f1 i1",
         "",
@@ -119,6 +119,18 @@ static CALLS: [Call; 16] = [
         "restored 0/1006A0 1 6\n",
     ),
     (
+        "restore --target=0/1006A0 t3 f1 i1",
+        "",
+        Status::Done,
+        "restored 0/1006A0 1 6\n",
+    ),
+    (
+        "restore t4 f1 --target 0/1006A0 i1",
+        "",
+        Status::Done,
+        "restored 0/1006A0 1 6\n",
+    ),
+    (
         "restore x f1 --target 0/1006A1 i1",
         "",
         Status::Refused,
@@ -179,6 +191,8 @@ fn a_chain_is_combined_and_restored(rt: HostRuntime) -> Result<(), Wrong> {
     assert!(rt; are_same(rt.alloc(), &mut site, b"o/p", b"o/r")?);
     assert!(rt; are_same(rt.alloc(), &mut site, b"o/p", b"o/r3")?);
     assert!(rt; are_same(rt.alloc(), &mut site, b"o/p", b"o/s2")?);
+    assert!(rt; are_same(rt.alloc(), &mut site, b"o/p", b"o/t3")?);
+    assert!(rt; are_same(rt.alloc(), &mut site, b"o/p", b"o/t4")?);
     take_site_steps(rt.alloc(), &mut site, &COMBINED)
 }
 

@@ -1,6 +1,6 @@
 //! The top call: all that the program does.
 
-ghost use Rattle.std.specs.Prelude.{◌≡◌, ◌⊎◌, IfSome};
+ghost use Rattle.std.specs.Prelude.{◌≡◌, ◌⊎◌, IfSome, Some};
 ghost use Rattle.std.specs.Option.{option_map};
 ghost use Rattle.vault.specs.Site.{AllHome};
 ghost use Rattle.command_line.specs.Words.{asked, asks, HasRange};
@@ -23,6 +23,44 @@ use run_command::run;
 use std::alloc::Global;
 use vault::{Clock, Sink, Site, Source, print};
 
+/// Does what a command asks.
+fn done<S: Site, I: Source, C: Clock>(
+    alloc: Global,
+    command: &Command,
+    site: &mut S,
+    input: &mut I,
+    clock: &mut C,
+) -> Answer
+    requires range { HasRange command.now }
+    requires home { AllHome (S.areas site.old) }
+    ensures does { DoesAsked (Some (asks command.now))
+        (of_all S.Site I.Source C.Clock site.old input.old clock.old)
+        (of_all S.Site I.Source C.Clock site.new input.new clock.new)
+        result }
+    ensures home { AllHome (S.areas site.new) }
+    ensures input { ReadsInput (Some (asks command.now)) ⊎ (input.new ≡ input.old) }
+    ensures clock { ReadsClock (Some (asks command.now)) ⊎ (clock.new ≡ clock.old) }
+{
+    match command {
+        Command::Init(options) => Answer::Init(init(alloc, *options, site, clock)),
+        Command::Run(frames) => Answer::Run(run(alloc, *frames, site, input, clock)),
+        Command::Replay(upto, name) => Answer::Replay(replay(alloc, *upto, name.as_bytes(), site)),
+        Command::Verify(name) => Answer::Verify(verify(alloc, name.as_bytes(), site)),
+        Command::Restore(upto, out, names) => {
+            let members = MemberNames { names };
+            Answer::Restore(restore(alloc, *upto, out.as_bytes(), &members, site))
+        }
+        Command::Combine(out, names) => {
+            let members = MemberNames { names };
+            Answer::Combine(combine(alloc, out.as_bytes(), &members, site, clock))
+        }
+        Command::Walsummary(from, to) => Answer::Walsummary(walsummary(alloc, *from, *to, site)),
+        Command::Follow(sizes, name) => {
+            Answer::Follow(follow(alloc, *sizes, name.as_bytes(), site, input))
+        }
+    }
+}
+
 /// Does what a command asks. Where there is none, the words aren't taken.
 fn work<S: Site, I: Source, C: Clock>(
     alloc: Global,
@@ -43,26 +81,7 @@ fn work<S: Site, I: Source, C: Clock>(
 {
     match command {
         None => Answer::Usage,
-        Some(Command::Init(options)) => Answer::Init(init(alloc, *options, site, clock)),
-        Some(Command::Run(frames)) => Answer::Run(run(alloc, *frames, site, input, clock)),
-        Some(Command::Replay(upto, name)) => {
-            Answer::Replay(replay(alloc, *upto, name.as_bytes(), site))
-        }
-        Some(Command::Verify(name)) => Answer::Verify(verify(alloc, name.as_bytes(), site)),
-        Some(Command::Restore(upto, out, names)) => {
-            let members = MemberNames { names };
-            Answer::Restore(restore(alloc, *upto, out.as_bytes(), &members, site))
-        }
-        Some(Command::Combine(out, names)) => {
-            let members = MemberNames { names };
-            Answer::Combine(combine(alloc, out.as_bytes(), &members, site, clock))
-        }
-        Some(Command::Walsummary(from, to)) => {
-            Answer::Walsummary(walsummary(alloc, *from, *to, site))
-        }
-        Some(Command::Follow(sizes, name)) => {
-            Answer::Follow(follow(alloc, *sizes, name.as_bytes(), site, input))
-        }
+        Some(command) => done(alloc, command, site, input, clock),
     }
 }
 

@@ -3,14 +3,14 @@
 
 ghost use Rattle.vault.specs.Site.{AllHome};
 
-use lsn_core::{AreaFault, NoMemory};
-use pgbackup_cli::Status;
+use lsn_core::{AreaFault, NoMemory, Text};
+use pgbackup_cli::{Status, pgbackup};
 use std::alloc::Global;
 use test_areas::{
     ADDED, NEW_WAL, SEGMENT, SETTINGS, SiteStep, Wrong, holds_in, put_in, take_site_steps,
 };
-use test_calls::{Call, is_answered, make_calls};
-use vault::{MemSite, MemVault, Site, read_in};
+use test_calls::{Call, is_answered, make_calls, words_in};
+use vault::{MemSink, MemSite, MemSource, MemVault, SetClock, Site, read_in};
 
 const INIT: &str = "init --segment-mib 1 --system-id 7";
 
@@ -138,7 +138,7 @@ fn a_run_appends_what_it_accepts(rt: HostRuntime) -> Result<(), Wrong> {
 }
 
 /// Words that aren't taken.
-static OTHER_WORDS: [&str; 35] = [
+static OTHER_WORDS: [&str; 36] = [
     "",
     "help",
     "--help",
@@ -149,6 +149,7 @@ static OTHER_WORDS: [&str; 35] = [
     "verify --help",
     "init --segment-mib=",
     "init --segment-mib=1=1",
+    "init --segment-mib 1 --segment-mib 2",
     "run -f",
     "replay P",
     "replay p q",
@@ -188,6 +189,24 @@ fn words_are_refused(rt: HostRuntime) -> Result<(), NoMemory> {
     for words in &OTHER_WORDS {
         assert!(rt; are_refused(rt.alloc(), words)?, "{words}");
     }
+    Ok(())
+}
+
+/// Words of which the last one isn't UTF-8 are refused over an empty site.
+fn is_no_text(alloc: Global, line: &str) -> Result<bool, NoMemory> {
+    let mut words = words_in(alloc, line)?;
+    words.push(Text::copied(alloc, b"\xff")?)?;
+    let mut site = MemSite::new(alloc, &[])?;
+    let mut input = MemSource::new(alloc, b"", &[])?;
+    let mut out = MemSink::new(alloc, &[])?;
+    let mut clock = SetClock::new(0);
+    let status = pgbackup(alloc, &words, &mut site, &mut input, &mut out, &mut clock);
+    Ok(status == Status::Usage && out.bytes() == b"refused 1 Usage\n".as_slice())
+}
+
+#[test]
+fn words_that_are_no_text_are_refused(rt: HostRuntime) -> Result<(), NoMemory> {
+    assert!(rt; is_no_text(rt.alloc(), "replay")?);
     Ok(())
 }
 
