@@ -38,7 +38,7 @@ three : texts_ask (codes "init" ∷ codes "--segment-mib" ∷ codes "3" ∷ []) 
 unfolding clap_on_literals digits
 three = refl
 
--- what isn't taken by hand: `--`
+-- behind `--` a word is a name
 escaped : texts_ask (codes "verify" ∷ codes "--" ∷ codes "f1" ∷ []) ≡ texts_ask (codes "verify" ∷ codes "f1" ∷ [])
 unfolding clap_on_literals
 escaped = refl
