@@ -72,6 +72,8 @@ const FOLLOW: &[u8] = b"usage: pgbackup follow [--segment-mib M] [--relseg N] OU
 const HELP: &[u8] = b"usage: pgbackup help [COMMAND]
   prints how a command is used, or all of them: init, run, replay, verify, restore,
   combine, walsummary, follow
+usage: pgbackup --version
+  prints the program's name and version
 ";
 
 const VERSION: &[u8] = b"pgbackup 1.0
