@@ -1,8 +1,8 @@
--- An open store that was begun on areas, and areas that are handed back.
-use Rattle.std.proofs.Common.{◌≡◌, ℕ, zero, suc, ◌<◌, ◌≤◌, Bool, true, false, cond, List, [], ◌∷◌, map, length, replicate, Option, Some, None, IfSome, IsSome, is_some, inl, inr, refl, sym, ap, subst, ◌∙◌, arith}
+-- A store that was found on areas, and areas that are handed back.
+use Rattle.std.proofs.Common.{◌≡◌, ℕ, zero, suc, ◌<◌, ◌≤◌, Bool, true, false, cond, List, [], ◌∷◌, map, length, Option, Some, None, IfSome, IsSome, is_some, inl, inr, refl, sym, ap, subst, ◌∙◌, arith}
 use Rattle.std.specs.Prelude.{◌==◌, box_value}
 use Rattle.std.specs.FinMap.{get, empty, get-empty}
-use Rattle.std.proofs.lemmas.List.{length-map, length-replicate}
+use Rattle.std.proofs.lemmas.List.{length-map}
 use Rattle.std.proofs.lemmas.List.Elements.{All-nil, All-cons}
 use Rattle.lsn_core.specs.Causes.{Rose}
 use Rattle.lsn_core.specs.Files.{Files}
@@ -25,26 +25,27 @@ use Rattle.partitions.proofs.Folds.{parts_fold}
 use Rattle.partitions.proofs.Puts.{one_part}
 use Rattle.fuzzy_copies.specs.Orderly.{AllEndBy, AreOwnFrom}
 use Rattle.journal.specs.Lawful.{StandInPlace}
-use Rattle.journal.specs.Journal.{Written, EndsWith, IsTold}
+use Rattle.journal.specs.Journal.{EndsWith, IsTold}
 use Rattle.page_pool.specs.Part.{Part}
 use Rattle.page_pool.specs.Facts.{history_end}
 use Rattle.page_pool.proofs.Followed.{clean_follow}
 use Rattle.data_areas.specs.declared.areas.DataAreas.{DataAreas}
 use Rattle.data_areas.specs.Areas.{area_of, FaultsGrow, DataCause}
 use Rattle.data_areas.specs.declared.boxed.BoxedArea.{BoxedArea}
-use Rattle.data_areas.specs.declared.settling.Partitions.{Partitions}
 use Rattle.data_areas.specs.Boxed.{on_heap}
 use Rattle.data_areas.specs.Clearing.{ClearedSoFar}
 use Rattle.data_areas.specs.Phases.{CameSoFar}
 use Rattle.data_areas.specs.Rebuilt.{HoldsPages, IsRebuilt, AreRebuilt}
 use Rattle.recovery.specs.Causes.{HasSettings}
 use Rattle.shared_store.specs.declared.areas.StoreAreas.{StoreAreas}
-use Rattle.shared_store.specs.declared.begin.BeginWhy.TheVariants as why
-use Rattle.shared_store.specs.Seen.{Seen}
-use Rattle.shared_store.specs.Opened.{Faults, Opened, AreCounts, IsPartOf, IsOpen, data_count, NoneFell, opened_of}
-use Rattle.shared_store.specs.Begin.{faults_of, data_of, fresh_passes, IsWalPart, IsBegun, IsUnbegun, DataFails}
-use Rattle.shared_store.specs.Found.{areas_with, HoldHistory, IsFound}
-use Rattle.shared_store.proofs.Found.{whole_wal, found_some, found_ended, found_tells, none_counted}
+use Rattle.vault.specs.Frame.{IsDurable}
+use Rattle.shared_store.specs.declared.found.BeginWhy.TheVariants as why
+use Rattle.shared_store.specs.declared.found.Found.{Found}
+use Rattle.shared_store.specs.Opened.{Faults, Opened, IsPartOf, data_count, NoneFell}
+use Rattle.shared_store.specs.Begin.{faults_of, data_of, IsWalPart, IsBegun, IsStanding, IsUnbegun, DataFails, shown_of}
+use Rattle.shared_store.specs.Read.{IsFound}
+use Rattle.shared_store.specs.Filling.{areas_with, HoldHistory}
+use Rattle.shared_store.proofs.Readings.{whole_wal, found_some, found_ended, found_tells}
 
 -- ---- a partition that was rebuilt follows the history that was found
 
@@ -144,9 +145,9 @@ cause_boxed g wal back old new store.NoMemory cause = tt
 
 -- ---- begun
 
-pub begun_at : {V : Type 0} (g : Ghosts V) (areas : StoreAreas V) (workers : ℕ) (opened : Opened) (crew : List Seen) (tip : Tip) (history : List Entry) (pages : ℕ) → IsFound (g.files areas.wal) opened.settings history pages tip
-    → opened.history ≡ history → opened.flushed ≡ tip.end → opened.wal ≡ g.files areas.wal → crew ≡ fresh_passes workers history → NoneFell (faults_of g areas) opened.faults → IsBegun g areas workers opened crew tip
-begun_at g areas workers opened crew tip history pages found told flushed wal crew_is later = record {
+pub begun_at : {V : Type 0} (g : Ghosts V) (areas : StoreAreas V) (opened : Opened) (tip : Tip) (history : List Entry) (pages : ℕ) → IsFound (g.files areas.wal) opened.settings history pages tip
+    → opened.history ≡ history → opened.flushed ≡ tip.end → opened.wal ≡ g.files areas.wal → NoneFell (faults_of g areas) opened.faults → IsBegun g areas opened tip
+begun_at g areas opened tip history pages found told flushed wal later = record {
   has = record {
     given = found.given;
     found = found.has.found;
@@ -158,76 +159,46 @@ begun_at g areas workers opened crew tip history pages found told flushed wal cr
     made = λ some. ap (λ (es : List Entry). apply_all empty es) told ∙ found.has.made some;
     flushed = flushed;
     wal = wal;
-    crew_is = crew_is ∙ ap (fresh_passes workers) (sym told);
   };
   later = later;
 }
 
--- the parts of a store that is opened: its journal, and the partitions that were rebuilt
-pub record AreFitting {V : Type 0} (g : Ghosts V) (wal : V) (areas : DataAreas (BoxedArea V)) (s : StoreSettings) (tells : Type 0) (tip : Tip) (journal : Written V) (parts : Partitions V) : Type 0 where
-  pub pages : ℕ
-  pub found : IsFound (g.files wal) s journal.pen pages tip
-  pub held : HoldHistory (on_heap g) s.relseg (g.files wal) areas journal.pen
-  pub rebuilt : AreRebuilt (on_heap g) s.relseg tip.end areas parts
-  pub area : journal.wal.area ≡ wal
-  pub log : journal.wal.tail ≡ log_at s tip
-  pub known : IsLog (log_at s tip)
-  pub tell : tells → IsSome (g.files wal)
-  pub alike : (v : V) → is_some (g.files v) ≡ is_some (g.files wal)
-
-pub fits : {V : Type 0} (g : Ghosts V) (wal : V) (areas : DataAreas (BoxedArea V)) (s : StoreSettings) (tells : Type 0) (tip : Tip) (journal : Written V) (parts : Partitions V) (history : List Entry) (pages relseg end : ℕ)
-    → IsFound (g.files wal) s history pages tip → HoldHistory (on_heap g) s.relseg (g.files wal) areas history → AreRebuilt (on_heap g) relseg end areas parts → relseg ≡ s.relseg → end ≡ tip.end → journal.pen ≡ history → journal.wal.area ≡ wal → journal.wal.tail ≡ log_at s tip → IsLog (log_at s tip)
-    → (tells → IsSome (g.files wal)) → ((v : V) → is_some (g.files v) ≡ is_some (g.files wal)) → AreFitting g wal areas s tells tip journal parts
-fits g wal areas s tells tip journal parts history pages relseg end found held rebuilt size at pen area log known tell alike = record {
-  pages = pages;
-  found = subst (λ (es : List Entry). IsFound (g.files wal) s es pages tip) (sym pen) found;
-  held = subst (HoldHistory (on_heap g) s.relseg (g.files wal) areas) (sym pen) held;
-  rebuilt = subst (λ (r : ℕ). AreRebuilt (on_heap g) r tip.end areas parts) size (subst (λ (n : ℕ). AreRebuilt (on_heap g) relseg n areas parts) at rebuilt);
-  area = area;
-  log = log;
-  known = known;
-  tell = tell;
-  alike = alike;
-}
-
-module _ {V : Type 0} (g : Ghosts V) (wal : V) (areas : DataAreas (BoxedArea V)) (s : StoreSettings) (tells : Type 0) (tip : Tip) (journal : Written V) (parts : Partitions V) (fit : AreFitting g wal areas s tells tip journal parts) where
-  part_at : (q faults : ℕ) (part : Part) → q < 4 → IsRebuilt s.relseg tip.end faults ((on_heap g).files (area_of areas q)) part → IsPartOf q s.relseg tells journal.pen part
-  part_at q faults part below rebuilt =
+-- what was found: its WAL, and the partitions that were rebuilt
+module _ {V : Type 0} (g : Ghosts V) (wal : V) (areas : DataAreas (BoxedArea V)) (found : Found V) (area : found.wal ≡ wal) (is : IsFound (g.files wal) found.settings found.opened.list found.pages found.tip) (held : HoldHistory (on_heap g) found.settings.relseg (g.files wal) areas found.opened.list)
+    (rebuilt : AreRebuilt (on_heap g) found.settings.relseg found.tip.end areas found.parts) (known : IsLog (log_at found.settings found.tip)) (alike : (v : V) → is_some (g.files v) ≡ is_some (g.files wal)) where
+  part_at : (q faults : ℕ) (part : Part) → q < 4 → IsRebuilt found.settings.relseg found.tip.end faults ((on_heap g).files (area_of areas q)) part → IsPartOf q found.settings.relseg (IsSome (g.files wal)) found.opened.list part
+  part_at q faults part below was =
+      let history : List Entry = found.opened.list in
       let told : Option Files = (on_heap g).files (area_of areas q) in
-      let alike : is_some told ≡ is_some (g.files wal) = fit.alike (box_value (area_of areas q).area) in
-      let ended : EndsWith (log_at s tip) journal.pen = found_ended (g.files wal) s journal.pen fit.pages tip fit.found in
-      let some = found_some (g.files wal) s journal.pen fit.pages tip fit.found in
-      let long : 0 < length journal.pen = subst (λ (es : List Entry). 0 < length es) (sym fit.found.has.history_is) (omega (arith, some, length-map fit.found.has.found entry_of)) in
-      part_begun q s.relseg tip.end faults tells told journal.pen part rebuilt
-      (λ t. (let there = sym alike ∙ t in let made = fit.found.has.made there in (fit.found.has.store, (made, fit.held there fit.found.has.store made q below))))
-      (omega (arith, ended.end, end_at s.segment journal.pen long))
-      (λ t. told_own (log_at s tip) (g.files wal) journal.pen fit.pages ended (found_tells (g.files wal) s journal.pen fit.pages tip fit.known (fit.tell t) fit.found))
-      (λ t. alike ∙ fit.tell t)
+      let same : is_some told ≡ is_some (g.files wal) = alike (box_value (area_of areas q).area) in
+      let ended : EndsWith (log_at found.settings found.tip) history = found_ended (g.files wal) found.settings history found.pages found.tip is in
+      let some = found_some (g.files wal) found.settings history found.pages found.tip is in
+      let long : 0 < length history = subst (λ (es : List Entry). 0 < length es) (sym is.has.history_is) (omega (arith, some, length-map is.has.found entry_of)) in
+      part_begun q found.settings.relseg found.tip.end faults (IsSome (g.files wal)) told history part was
+      (λ t. (let there = sym same ∙ t in let made = is.has.made there in (is.has.store, (made, held there is.has.store made q below))))
+      (omega (arith, ended.end, end_at found.settings.segment history long))
+      (λ t. told_own (log_at found.settings found.tip) (g.files wal) history found.pages ended (found_tells (g.files wal) found.settings history found.pages found.tip known t is))
+      (λ t. same ∙ t)
 
-  pub opens : (workers : ℕ) (counts : List ℕ) (mark : ℕ) → counts ≡ replicate workers 0 → mark ≡ tip.end → IsOpen g s tells workers journal parts.part0 parts.part1 parts.part2 parts.part3 counts mark
-  opens workers counts mark none marked = record {
-    wal = record {
-      segment = ap (λ (log : Log). log.mib) fit.log;
-      system = ap (λ (log : Log). log.system) fit.log;
-      flushed = (let at = ap (λ (log : Log). log.flushed) fit.log in omega (arith, marked, at));
-      told = λ t. subst (λ (v : V). IsSome (g.files v)) (sym fit.area) (fit.tell t);
-    };
-    first = part_at 0 _ parts.part0 (omega arith) fit.rebuilt.part0;
-    second = part_at 1 _ parts.part1 (omega arith) fit.rebuilt.part1;
-    third = part_at 2 _ parts.part2 (omega arith) fit.rebuilt.part2;
-    fourth = part_at 3 _ parts.part3 (omega arith) fit.rebuilt.part3;
-    counted = subst (λ (ns : List ℕ). AreCounts ns journal.pen) (sym none) (subst (AreCounts (replicate workers 0)) (sym fit.found.has.history_is) (none_counted workers fit.found.has.found));
-    crew = ap (λ (ns : List ℕ). length ns) none ∙ length-replicate {A = ℕ} workers 0;
-  }
+  pub stands_with : IsDurable (g.files wal) (g.past wal) → IsStanding g found
+  stands_with durable =
+      let at : V → Type 0 = λ v. IsFound (g.files v) found.settings found.opened.list found.pages found.tip in
+      record {
+        is = subst at (sym area) is;
+        durable = subst (λ (v : V). IsDurable (g.files v) (g.past v)) (sym area) durable;
+        part0 = subst (λ (v : V). IsPartOf 0 found.settings.relseg (IsSome (g.files v)) found.opened.list found.parts.part0) (sym area) (part_at 0 _ found.parts.part0 (omega arith) rebuilt.part0);
+        part1 = subst (λ (v : V). IsPartOf 1 found.settings.relseg (IsSome (g.files v)) found.opened.list found.parts.part1) (sym area) (part_at 1 _ found.parts.part1 (omega arith) rebuilt.part1);
+        part2 = subst (λ (v : V). IsPartOf 2 found.settings.relseg (IsSome (g.files v)) found.opened.list found.parts.part2) (sym area) (part_at 2 _ found.parts.part2 (omega arith) rebuilt.part2);
+        part3 = subst (λ (v : V). IsPartOf 3 found.settings.relseg (IsSome (g.files v)) found.opened.list found.parts.part3) (sym area) (part_at 3 _ found.parts.part3 (omega arith) rebuilt.part3);
+      }
 
-  same_count : {a b : V} → a ≡ b → g.faults b ≤ g.faults a
-  same_count e = (let same = ap g.faults e in omega (arith, same))
+  same_count : g.faults wal ≤ g.faults found.wal
+  same_count = (let same = ap g.faults area in omega (arith, same))
 
-  pub begun_with : (workers : ℕ) (crew : List Seen) → crew ≡ fresh_passes workers journal.pen → IsBegun g (areas_with wal areas) workers (opened_of g s journal parts.part0 parts.part1 parts.part2 parts.part3) crew tip
-  begun_with workers crew fresh =
-      let opened = opened_of g s journal parts.part0 parts.part1 parts.part2 parts.part3 in
-      begun_at g (areas_with wal areas) workers opened crew tip journal.pen fit.pages fit.found refl (ap (λ (log : Log). log.flushed) fit.log) (ap g.files fit.area) fresh
-      (fell_none g (areas_with wal areas) opened.faults (same_count fit.area) fit.rebuilt.part0.later fit.rebuilt.part1.later fit.rebuilt.part2.later fit.rebuilt.part3.later)
+  pub begun_with : IsBegun g (areas_with wal areas) (shown_of g found) found.tip
+  begun_with =
+      begun_at g (areas_with wal areas) (shown_of g found) found.tip found.opened.list found.pages is refl refl (ap g.files area)
+      (fell_none g (areas_with wal areas) (shown_of g found).faults same_count rebuilt.part0.later rebuilt.part1.later rebuilt.part2.later rebuilt.part3.later)
 
 -- ---- not begun
 

@@ -10,8 +10,6 @@ use Rattle.lsn_core.specs.declared.ids.BlockId.{BlockId}
 use Rattle.lsn_core.specs.Store.{Store, ForkPages}
 use Rattle.lsn_core.specs.Blocks.{with_cut_pages, without_fork}
 use Rattle.lsn_core.specs.Tip.{Tip}
-use Rattle.lsn_core.specs.declared.fault.StoreFault.{StoreFault}
-use Rattle.lsn_core.specs.declared.fault.StoreFault.TheVariants as store
 use Rattle.wal_record.specs.Tips.{wal_limit, record_at_tip}
 use Rattle.wal_record.specs.declared.record.Kind.{Kind}
 use Rattle.wal_writer.specs.Log.{Log, next_record}
@@ -47,7 +45,7 @@ use Rattle.shared_store.specs.declared.fault.InsertFault.{InsertFault}
 use Rattle.shared_store.specs.declared.fault.InsertFault.TheVariants as fault
 use Rattle.shared_store.specs.Refusals.{most_pages, fault_at, judged_form, judged_total, judged_room, judged_at, IsRefused, IsRefusedBehind}
 use Rattle.shared_store.specs.Opened.{IsPartOf}
-use Rattle.shared_store.specs.Inside.{insert_fault, pages_behind, is_over, IsAdmitted}
+use Rattle.shared_store.specs.Inside.{pages_behind, is_over, IsAdmitted}
 
 -- ---- the store behind a history, and a partition's part of it
 
@@ -126,14 +124,6 @@ alone_refuses log o history pages command f tip answer is form alone same answer
     (refused_behind log history is.lawful.store command (fault_at log.tip.count f) is.lawful.made is.tip
     (refused_is log.mib is.lawful.store log.tip command (fault_at log.tip.count f)
     (second_is (judged_form command) (judged_op is.lawful.store command) _ (fault_at log.tip.count) f form (alone_first is.lawful.store command f alone))))
-
--- an area failed, or memory ran out
-pub area_refuses : (log : Log) (o : Option Files) (history : List Entry) (pages : ℕ) (command : Op) (f : StoreFault) → IsTold log o history pages → IsRefusedBehind log.mib history command (insert_fault f)
-area_refuses log o history pages command f is = refused_behind log history is.lawful.store command (insert_fault f) is.lawful.made is.tip (free f)
-  where
-    free : (f : StoreFault) → IsRefused log.mib is.lawful.store log.tip command (insert_fault f)
-    free (store.Failed area) = tt
-    free store.NoMemory = tt
 
 -- a partition refuses it
 pub part_refuses : (q : ℕ) (log : Log) (history : List Entry) (pages : ℕ) (part : Store) (command : Op) (f : OpFault) → Known q log history pages part → ConcernsNoOther q (act_of_op command) → judged_form command ≡ None → IsRefusedOp part command f

@@ -5,7 +5,7 @@ use Rattle.std.specs.Prelude.{◌==◌}
 use Rattle.std.specs.List.Sorted.{IsStrictlySortedBy}
 use Rattle.std.specs.declared.cmp.Ordering.{Ordering}
 use Rattle.std.specs.declared.cmp.Ordering.TheVariants.{Less, Equal, Greater}
-use Rattle.std.specs.FinMap.{get, entries, entries_sorted, contains_key, contains_key-keys, get-entries}
+use Rattle.std.specs.FinMap.{get, entries, entries_sorted, contains_key, contains_key-keys, get-entries, empty}
 use Rattle.std.specs.FinMap.Entries as list
 use Rattle.std.proofs.lemmas.List.Elements.{All-from_recursion, recursion_from_All}
 use Rattle.lsn_core.specs.declared.ids.BlockId.{BlockId}
@@ -27,8 +27,11 @@ use Rattle.partitions.specs.Parts.{is_of, is_rel_of, act_part, part_of, IsPart}
 use Rattle.fuzzy_copies.specs.Taken.{since, IsBlockCopied, IsListed}
 use Rattle.fuzzy_copies.specs.CoverLaws.{AnswersCopier}
 use Rattle.fuzzy_copies.proofs.Covering.{answers}
-use Rattle.wal_writer.specs.Log.{Log}
-use Rattle.journal.specs.Journal.{IsTold}
+use Rattle.history.specs.Apply.{apply_all}
+use Rattle.partitions.specs.Parts.{part_of}
+use Rattle.partitions.proofs.Folds.{parts_fold}
+use Rattle.journal.specs.Lawful.{IsLawful}
+use Rattle.journal.proofs.Follows.{empty_part}
 use Rattle.journal.proofs.Stands.{lawful_orderly, own_is_tidy}
 use Rattle.page_pool.specs.declared.work.Work.{Work}
 use Rattle.page_pool.specs.declared.work.Work.TheVariants.{Make, Cut, Remove}
@@ -41,7 +44,7 @@ use Rattle.page_pool.proofs.Covering.{followers_cover}
 use Rattle.page_pool.proofs.Torn.{lacks_mended}
 use Rattle.shared_store.specs.Opened.{IsPartOf}
 use Rattle.shared_store.specs.Copied.{HasRedoPoint, listed_length, ListsPart}
-use Rattle.shared_store.proofs.Behind.{known_of, part_made}
+use Rattle.shared_store.proofs.Behind.{part_made}
 use Rattle.shared_store.proofs.Kept.{part_read}
 use Rattle.shared_store.proofs.RedoPoints.{own_since}
 
@@ -200,21 +203,30 @@ disk_of q es now raw part fork is lacks since_then there =
     (λ settled. settled_own q es part.works fork (recursion_from_All (λ (w : Pending). is_entered (map (part_of q) es) w ≡ true) part.works since_then.entered) settled)
     (λ none. of_part q now part.frames fork is (sym (lacks.forks fork) ∙ unsettled part.works fork (contains_key raw fork) none ∙ there))
 
+same_store : (a b : Store) → Some a ≡ Some b → a ≡ b
+same_store a b e = cc
+
+-- what a partition's part of a lawful history makes is the part of what the history makes
+part_is : (q mib : ℕ) (history : List Entry) (part : Store) (lawful : IsLawful mib history) → apply_all empty (map (part_of q) history) ≡ Some part → IsPart q lawful.store part
+part_is q mib history part lawful made =
+    let folded = parts_fold q empty lawful.store empty history (empty_part q) lawful.made in
+    subst (IsPart q lawful.store) (same_store folded.0 part (sym folded.1 ∙ made)) folded.2
+
 -- a partition, whose area was read, follows a history in which its point is at a redo point or past it
-pub record IsRead (q from : ℕ) (tells : Type 0) (log : Log) (told : Option Files) (history : List Entry) (pages : ℕ) (old new : Part) : Type 0 where
+pub record IsRead (q from : ℕ) (tells : Type 0) (mib : ℕ) (history : List Entry) (old new : Part) : Type 0 where
   pub part : IsPartOf q old.relseg tells history new
-  pub journal : IsTold log told history pages
+  pub lawful : IsLawful mib history
   pub redo : HasRedoPoint history from
   pub raised : from ≤ new.point
   pub held : IsHeld new
   pub whole : AreWholePages new.frames
   pub reads : ReadsDisk old new
 
-pub read_of : (q from : ℕ) (tells : Type 0) (log : Log) (told : Option Files) (history : List Entry) (pages : ℕ) (old new : Part) → IsPartOf q old.relseg tells history old → IsTold log told history pages → HasRedoPoint history from → from ≤ old.point
-    → IsHeld new → AreWholePages new.frames → SameUnwritten old new → ReadsDisk old new → IsRead q from tells log told history pages old new
-read_of q from tells log told history pages old new part journal redo raised held whole same reads = record {
+pub read_of : (q from : ℕ) (tells : Type 0) (mib : ℕ) (history : List Entry) (old new : Part) → IsPartOf q old.relseg tells history old → IsLawful mib history → HasRedoPoint history from → from ≤ old.point
+    → IsHeld new → AreWholePages new.frames → SameUnwritten old new → ReadsDisk old new → IsRead q from tells mib history old new
+read_of q from tells mib history old new part lawful redo raised held whole same reads = record {
   part = part_read q old.relseg tells history old new same reads part;
-  journal = journal;
+  lawful = lawful;
   redo = redo;
   raised = omega (arith, raised, same.point);
   held = held;
@@ -222,17 +234,17 @@ read_of q from tells log told history pages old new part journal redo raised hel
   reads = reads;
 }
 
-module _ (q from : ℕ) (tells : Type 0) (log : Log) (told : Option Files) (history : List Entry) (pages : ℕ) (old new : Part) (tell : tells) (r : IsRead q from tells log told history pages old new) where
+module _ (q from : ℕ) (tells : Type 0) (mib : ℕ) (history : List Entry) (old new : Part) (tell : tells) (r : IsRead q from tells mib history old new) where
   held_raw : HasRaw new
   held_raw = raw_of new (r.part.told tell) r.held
 
   answered : (fork : ForkId) → is_of q fork ≡ true → AnswersCopier history from fork (mended held_raw.raw fork)
   answered fork mine =
-      let lawful = r.journal.lawful in
+      let lawful = r.lawful in
       let raw = held_raw in
-      let orderly = lawful_orderly log.mib history lawful in
-      answers (is_of q) (mended raw.raw fork) history from new.point fork orderly (own_since log.mib from history lawful r.redo).1 r.raised
-      (followers_cover q history new (mended raw.raw fork) lawful.store (record { orderly = orderly; made = lawful.made; tidy = own_is_tidy log.mib new.point history lawful (r.part.own tell) })
+      let orderly = lawful_orderly mib history lawful in
+      answers (is_of q) (mended raw.raw fork) history from new.point fork orderly (own_since mib from history lawful r.redo).1 r.raised
+      (followers_cover q history new (mended raw.raw fork) lawful.store (record { orderly = orderly; made = lawful.made; tidy = own_is_tidy mib new.point history lawful (r.part.own tell) })
       (r.part.told tell) r.part.follows (lacks_mended raw.raw new.frames new.marks new.works fork raw.files.hold.held r.whole raw.lacks)) mine
 
   raw_before : AreFilesOf old.relseg old.disk held_raw.raw
@@ -246,11 +258,11 @@ module _ (q from : ℕ) (tells : Type 0) (log : Log) (told : Option Files) (hist
   lists : ListsPart q history from (fork_lengths held_raw.raw)
   lists =
       let raw = held_raw.raw in
-      let known = known_of q log told history pages new.frames r.journal (part_made q old.relseg tells history new r.part tell) in
+      let is = part_is q mib history new.frames r.lawful (part_made q old.relseg tells history new r.part tell) in
       record {
         order = sorted (entries raw) (entries_sorted raw);
         ours = All-from_recursion (λ (l : ForkLen). is_of q l.fork ≡ true) (fork_lengths raw)
-            (ours_in q (entries raw) (λ fork there. disk_of q (since new.point history) known.store raw new fork known.is held_raw.lacks r.part.follows.unwritten (contains_key-keys raw fork ∙ there)));
+            (ours_in q (entries raw) (λ fork there. disk_of q (since new.point history) r.lawful.store raw new fork is held_raw.lacks r.part.follows.unwritten (contains_key-keys raw fork ∙ there)));
         listed = λ fork mine. subst (IsListed history from fork) (sym (counted raw fork)) (answered fork mine).listed;
       }
 

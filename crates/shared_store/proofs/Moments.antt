@@ -14,7 +14,6 @@ use Rattle.vault.proofs.Through.{adds_none, adds_on, adds_sync}
 use Rattle.history.specs.Entry.{Entry}
 use Rattle.history.specs.Apply.{apply_all}
 use Rattle.partitions.specs.Parts.{IsPart}
-use Rattle.journal.specs.Journal.{Written}
 use Rattle.data_areas.specs.declared.areas.DataAreas.{DataAreas}
 use Rattle.data_areas.specs.declared.boxed.BoxedArea.{BoxedArea}
 use Rattle.data_areas.specs.declared.settling.Partitions.{Partitions}
@@ -33,10 +32,12 @@ use Rattle.data_areas.proofs.Phases.{forks_are_others}
 use Rattle.data_areas.proofs.Stored.{changed, pasts_go_on}
 use Rattle.shared_store.specs.declared.areas.StoreAreas.{StoreAreas}
 use Rattle.shared_store.specs.declared.boxing.BoxedAreas.{BoxedAreas}
-use Rattle.shared_store.specs.Opened.{opened_of, past_of}
-use Rattle.shared_store.specs.Begin.{AllTell, data_of}
+use Rattle.shared_store.specs.declared.found.Found.{Found}
+use Rattle.shared_store.specs.Opened.{past_of}
+use Rattle.shared_store.specs.Begin.{AllTell, data_of, shown_of}
 use Rattle.shared_store.specs.Moments.{IsSync, IsReplayed, IsMarkedOrReplayed, LeavesReplay, IsSafelyLeft, RebuildsSafely}
-use Rattle.shared_store.specs.Found.{areas_with, IsFound, AreFilledBy, FillsSafely}
+use Rattle.shared_store.specs.Read.{IsFound}
+use Rattle.shared_store.specs.Filling.{areas_with, AreFilledBy, FillsSafely}
 
 -- ---- filled areas that are made durable and opened
 
@@ -108,18 +109,17 @@ module _ {V : Type 0} (g : Ghosts V) (s : StoreSettings) (old : BoxedAreas V) (h
   more : 0 < s.relseg
   more = omega (arith, some, size)
 
-  pub opened_safely : (journal : Written V) (from : ℕ) (parts : Partitions V) → journal.wal.area ≡ old.wal → AreRebuilt (on_heap g) relseg from old.pages parts → HaveEnded (on_heap g) relseg old.pages parts.part0.past → AllGoOn (pasts_of (on_heap g) old.pages) (pasts_in parts)
-      → FillsSafely g old (opened_of g s journal parts.part0 parts.part1 parts.part2 parts.part3).past
-  opened_safely journal from parts area rebuilt ended on = record {
+  pub opened_safely : (store : Found V) (from : ℕ) → store.wal ≡ old.wal → AreRebuilt (on_heap g) relseg from old.pages store.parts → HaveEnded (on_heap g) relseg old.pages store.parts.part0.past → AllGoOn (pasts_of (on_heap g) old.pages) (pasts_in store.parts)
+      → FillsSafely g old (shown_of g store).past
+  opened_safely store from area rebuilt ended on = record {
     wal = ap g.past area;
-    stops = λ told here. opened_leaves g s old history pages tip found filled more told here from parts
-        (subst (λ (n : ℕ). AreRebuilt (on_heap g) n from old.pages parts) size rebuilt) (subst (λ (n : ℕ). HaveEnded (on_heap g) n old.pages parts.part0.past) size ended) on;
+    stops = λ told here. opened_leaves g s old history pages tip found filled more told here from store.parts
+        (subst (λ (n : ℕ). AreRebuilt (on_heap g) n from old.pages store.parts) size rebuilt) (subst (λ (n : ℕ). HaveEnded (on_heap g) n old.pages store.parts.part0.past) size ended) on;
   }
 
-  pub opened_durably : (journal : Written V) (from : ℕ) (parts : Partitions V) → AreRebuilt (on_heap g) relseg from old.pages parts → IsSome (g.files old.wal)
-      → LeavesReplay (g.files old.wal) (data_of (opened_of g s journal parts.part0 parts.part1 parts.part2 parts.part3).past)
-  opened_durably journal from parts rebuilt told =
-      opened_replay g s old history pages tip found filled more told from parts (subst (λ (n : ℕ). AreRebuilt (on_heap g) n from old.pages parts) size rebuilt)
+  pub opened_durably : (store : Found V) (from : ℕ) → AreRebuilt (on_heap g) relseg from old.pages store.parts → IsSome (g.files old.wal) → LeavesReplay (g.files old.wal) (data_of (shown_of g store).past)
+  opened_durably store from rebuilt told =
+      opened_replay g s old history pages tip found filled more told from store.parts (subst (λ (n : ℕ). AreRebuilt (on_heap g) n from old.pages store.parts) size rebuilt)
 
   pub unopened_safely : (wal : V) (new : DataAreas (BoxedArea V)) (areas : StoreAreas V) → areas ≡ areas_with wal new → wal ≡ old.wal → SettledSoFar (on_heap g) relseg (held_by (on_heap g) relseg old.pages) old.pages new → AllGoOn (pasts_of (on_heap g) old.pages) (pasts_of (on_heap g) new)
       → FillsSafely g old (past_of g areas)

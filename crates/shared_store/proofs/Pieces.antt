@@ -16,6 +16,7 @@ use Rattle.lsn_core.specs.Tip.{Tip}
 use Rattle.lsn_core.specs.declared.lsn.Lsn.{Lsn}
 use Rattle.lsn_core.specs.declared.fault.StoreArea.TheVariants.{Wal}
 use Rattle.lsn_core.specs.declared.fault.StoreFault.{StoreFault}
+use Rattle.lsn_core.specs.declared.fault.StoreFault.TheVariants as store
 use Rattle.vault.specs.Frame.{OnlyReads}
 use Rattle.vault.specs.declared.area.Vault.{Ghosts}
 use Rattle.wal_pages.specs.Places.{start_after}
@@ -38,10 +39,10 @@ use Rattle.journal.specs.Journal.{EndsWith, Written, IsJournal}
 use Rattle.journal.proofs.Ends.{entry_ends, record_ends, log_ends}
 use Rattle.journal.proofs.Stands.{start_later}
 use Rattle.shared_store.specs.Opened.{IsWalOf}
-use Rattle.shared_store.specs.Records.{is_place_of, IsPlaceOf, ArePartOf, EndBehind, AreSome, RecordsEndAtEntries, PlacesStay}
+use Rattle.shared_store.specs.Records.{is_place_of, IsPlaceOf, ArePartOf, HasRecords, EndBehind, AreSome, RecordsEndAtEntries, PlacesStay}
 use Rattle.shared_store.specs.Inside.{AreaCause, KeepsWal, EndsAtDamage, written_end}
 use Rattle.shared_store.specs.Calls.{MayWriteWal}
-use Rattle.shared_store.proofs.Goes.{writes_none}
+use Rattle.shared_store.proofs.Goes.{writes_none, writes_on}
 use Rattle.shared_store.proofs.Closed.{IsHeld, history_held, some_of}
 
 -- ---- the places of a history's entries are those of its records
@@ -273,14 +274,44 @@ all_there (q ∷ rs) =
     (λ i lt. list_any_at (is_record_place (get_or (q ∷ rs) i q).end.0) (q ∷ rs) i q lt (ends_there (get_or (q ∷ rs) i q)))
 
 pub ends_at_entries : RecordsEndAtEntries
-ends_at_entries store from most records size has =
-    let s : StoreSettings = store.settings in
+ends_at_entries s seen from most records size (wal, has) =
     let log : List Record = log_of s.segment has.lawful.found has.lawful.own in
-    let h : IsHeld s.segment s.system store.history has.files = record { lawful = has.lawful; held = record { tip = has.held.tip; at = has.held.at; walk = has.held.read; whole = has.held.whole } } in
-    let P : Record → Type 0 = λ r. IsPlaceOf store.history r.end.0 in
-    let all : All P log = λ k d lt. sym (held_places s store.history has.files (slice_index_or log k d).end.0 size h) ∙ all_there log k d lt in
+    let h : IsHeld s.segment s.system seen has.files = record { lawful = has.lawful; held = record { tip = has.held.tip; at = has.held.at; walk = has.held.read; whole = has.held.whole } } in
+    let P : Record → Type 0 = λ r. IsPlaceOf seen r.end.0 in
+    let all : All P log = λ k d lt. sym (held_places s seen has.files (slice_index_or log k d).end.0 size h) ∙ all_there log k d lt in
     All-same P records (take most (from_place from log)) has.are (All-take P most (from_place from log) (All-filter (λ r. nat_le from r.start.0) P log all))
 
 pub places_stay : PlacesStay
 places_stay place old new is p =
     ap (list_any (is_place_of place)) (sym p.1) ∙ (list_any-append (is_place_of place) old p.0 ∙ ap (λ b. b || list_any (is_place_of place) p.0) is)
+
+-- ---- of a WAL that is flushed first
+
+pub keeps_on : {V : Type 0} (g : Ghosts V) (old mid new : Written V) → KeepsWal g old mid → KeepsWal g mid new → KeepsWal g old new
+keeps_on g old mid new one two =
+    let ends : written_end mid ≡ written_end old = cc (one.pen, one.segment) in
+    let next = subst (λ n. MayWriteWal n mid.wal.tail.flushed (written_end mid) (g.files mid.wal.area) (g.files new.wal.area)) one.segment two.files in
+    record {
+      pen = two.pen ∙ one.pen;
+      pages = two.pages ∙ one.pages;
+      segment = two.segment ∙ one.segment;
+      system = two.system ∙ one.system;
+      flushed = omega (arith, one.flushed, two.flushed);
+      within = omega (arith, two.within, ends);
+      files = writes_on old.wal.tail.mib old.wal.tail.flushed (written_end old) mid.wal.tail.flushed (written_end old) (g.files old.wal.area) (g.files mid.wal.area) (g.files new.wal.area)
+          one.flushed one.within (omega arith) one.files (subst (λ n. MayWriteWal old.wal.tail.mib mid.wal.tail.flushed n (g.files mid.wal.area) (g.files new.wal.area)) ends next);
+      told = λ some. two.told (one.told some);
+      faults = omega (arith, one.faults, two.faults);
+    }
+
+cause_one : (before mid now : ℕ) (why : StoreFault) → before ≤ mid → AreaCause Wal mid now why → AreaCause Wal before now why
+cause_one before mid now (store.Failed other) le cause = (cause.0, omega (arith, le, cause.1))
+cause_one before mid now store.NoMemory le cause = tt
+
+pub cause_from : {T : Type 0} (before mid now : ℕ) (r : Result T StoreFault) → before ≤ mid → IfErr r (AreaCause Wal mid now) → IfErr r (AreaCause Wal before now)
+cause_from before mid now (Ok x) le cause = tt
+cause_from before mid now (Err why) le cause = cause_one before mid now why le cause
+
+pub records_of : (s : StoreSettings) (old new : List Entry) (wal : Option Files) (from most : ℕ) (r : Result (Vec Record) StoreFault) → new ≡ old → IfOk r (λ v. ArePartOf s new wal from most v.items) → IfOk r (λ v. HasRecords s old from most v.items)
+records_of s old new wal from most (Ok v) same is = (wal, subst (λ (l : List Entry). ArePartOf s l wal from most v.items) same is)
+records_of s old new wal from most (Err why) same is = tt

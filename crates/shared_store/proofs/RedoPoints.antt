@@ -1,8 +1,8 @@
 -- Redo points of a history, and what comes behind them.
-use Rattle.std.proofs.Common.{◌≡◌, ℕ, ◌<◌, ◌≤◌, ◌&&◌, ◌||◌, Bool, true, false, cond, List, [], ◌∷◌, ◌++◌, length, append_assoc, Option, Some, is_some, refl, sym, ap, subst, ◌∙◌, arith}
+use Rattle.std.proofs.Common.{◌≡◌, ℕ, ◌<◌, ◌≤◌, ◌&&◌, ◌||◌, Bool, true, false, cond, List, [], ◌∷◌, ◌++◌, length, Option, Some, is_some, refl, sym, ap, subst, ◌∙◌, arith}
 use Rattle.std.specs.Prelude.{◌==◌}
 use Rattle.std.specs.List.{list_any}
-use Rattle.std.proofs.lemmas.Bool.{and_parts, eq-eqb, eqb-true}
+use Rattle.std.proofs.lemmas.Bool.{and_parts, eqb-true}
 use Rattle.std.proofs.lemmas.List.Folds.{list_any-append}
 use Rattle.lsn_core.specs.Tip.{Tip}
 use Rattle.wal_record.specs.Tips.{first_tip}
@@ -14,12 +14,11 @@ use Rattle.fuzzy_copies.specs.Covers.{AreTidyFrom}
 use Rattle.fuzzy_copies.proofs.Completed.{or_second}
 use Rattle.fuzzy_copies.proofs.Taken.{any_weaker}
 use Rattle.journal.specs.Lawful.{IsLawful}
-use Rattle.journal.specs.Journal.{EndsWith, IsEndOf}
-use Rattle.journal.proofs.Ends.{end_pushed}
+use Rattle.journal.specs.Journal.{EndsWith}
 use Rattle.journal.proofs.Stands.{lawful_orderly, own_places}
 use Rattle.page_pool.specs.Facts.{history_end}
-use Rattle.shared_store.specs.Copied.{is_redo_at, HasRedoPoint, CheckpointsHaveRedoPoints, RedoPointsStay, RedoPointsRun, BackupsEndBehind}
-use Rattle.shared_store.proofs.Begun.{end_at}
+use Rattle.shared_store.specs.Copied.{is_redo_at, HasRedoPoint, RedoPointsStay, RedoPointsRun}
+use Rattle.shared_store.proofs.Keeping.{end_at}
 
 -- ---- an entry that passes a test
 
@@ -80,21 +79,6 @@ all_three a b c e f g = rw (e, f, g) refl
 any_second : (a b c : Bool) → b ≡ true → (a || (b || c)) ≡ true
 any_second true b c e = refl
 any_second false b c e = rw e refl
-
-pub redo_left : CheckpointsHaveRedoPoints
-redo_left worker old new redo flushed h =
-    let place = redo.redo.0 in
-    let is : is_redo_at place h.first ≡ true = all_three (h.first.start == place) (is_redo h.first.act) (is_of_run h.first) (eq-eqb h.first.start place (sym h.redo_is)) (ap is_redo h.starts.0) (some_own h.first.worker worker h.starts.1) in
-    ap (list_any (is_redo_at place)) h.grown
-    ∙ (list_any-append (is_redo_at place) old (h.first ∷ h.last ∷ []) ∙ any_second (list_any (is_redo_at place) old) (is_redo_at place h.first) (list_any (is_redo_at place) (h.last ∷ [])) is)
-
-pub ends_behind : BackupsEndBehind
-ends_behind worker start from seen old new end flushed has p b = record {
-  behind = p.0 ++ (b.entry ∷ []);
-  all = b.grown ∙ (ap (λ (l : List Entry). l ++ (b.entry ∷ [])) (sym p.1) ∙ append_assoc seen p.0 (b.entry ∷ []));
-  holds = any_weaker (λ (e : Entry). e.start == from) (λ (e : Entry). is_redo e.act) seen (any_weaker (λ (e : Entry). (e.start == from) && is_redo e.act) is_of_run seen has);
-  ends = subst (λ (n : ℕ). IsEndOf (p.0 ++ (b.entry ∷ [])) n) (sym b.end_is) (end_pushed p.0 b.entry);
-}
 
 -- ---- the latest redo point
 

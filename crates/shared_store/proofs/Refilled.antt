@@ -29,13 +29,13 @@ use Rattle.data_areas.proofs.Phases.{forks_are_others}
 use Rattle.data_areas.proofs.Stored.{of_each, changed, faults_grow, tell_alike, named_cause, held_part, filled}
 use Rattle.shared_store.specs.declared.areas.StoreAreas.{StoreAreas}
 use Rattle.shared_store.specs.declared.boxing.BoxedAreas.{BoxedAreas}
-use Rattle.shared_store.specs.declared.begin.BeginFault.{BeginFault}
-use Rattle.shared_store.specs.declared.begin.BeginWhy.{BeginWhy}
-use Rattle.shared_store.specs.declared.begin.BeginWhy.TheVariants as why
-use Rattle.shared_store.specs.Seen.{Seen}
+use Rattle.shared_store.specs.declared.found.BeginFault.{BeginFault}
+use Rattle.shared_store.specs.declared.found.BeginWhy.{BeginWhy}
+use Rattle.shared_store.specs.declared.found.BeginWhy.TheVariants as why
 use Rattle.shared_store.specs.Opened.{Opened}
 use Rattle.shared_store.specs.Begin.{faults_of, data_of, BeginCause, MayComeLate, IsWalPart, DataFails, BeginsNot, HasBegun, IsBegun, IsUnbegun}
-use Rattle.shared_store.specs.Found.{areas_with, IsFound, ShowsHistory, HoldHistory, AreFilledBy, IsUnsettled, IsUnfilled}
+use Rattle.shared_store.specs.Read.{IsFound}
+use Rattle.shared_store.specs.Filling.{areas_with, ShowsHistory, HoldHistory, AreFilledBy, IsUnsettled, IsUnfilled}
 use Rattle.shared_store.proofs.Begun.{fell_boxed}
 use Rattle.shared_store.proofs.Unbegun.{among_held, unfilled_of, unfilled_at}
 
@@ -45,10 +45,9 @@ all_told g wal areas alike told q = alike (box_value (area_of areas q).area) ∙
 
 -- ---- a store begun on areas that had other faults before
 
-pub begun_before : {V : Type 0} (g : Ghosts V) (wal now : V) (x y : DataAreas (BoxedArea V)) (workers : ℕ) (o : Opened) (crew : List Seen) (tip : Tip) → g.files now ≡ g.files wal → g.faults wal ≤ g.faults now → FaultsGrow (on_heap g) x y → IsBegun g (areas_with now y) workers o crew tip
-    → IsBegun g (areas_with wal x) workers o crew tip
-begun_before g wal now x y workers o crew tip same counted grow is = record {
-  has = subst (λ (fs : Option Files). HasBegun fs workers o crew tip) same is.has;
+pub begun_before : {V : Type 0} (g : Ghosts V) (wal now : V) (x y : DataAreas (BoxedArea V)) (o : Opened) (tip : Tip) → g.files now ≡ g.files wal → g.faults wal ≤ g.faults now → FaultsGrow (on_heap g) x y → IsBegun g (areas_with now y) o tip → IsBegun g (areas_with wal x) o tip
+begun_before g wal now x y o tip same counted grow is = record {
+  has = subst (λ (fs : Option Files). HasBegun fs o tip) same is.has;
   later = λ area. omega (arith, fell_boxed g wal now x y counted grow area, is.later area);
 }
 
@@ -139,5 +138,5 @@ module _ {V : Type 0} (g : Ghosts V) (s : StoreSettings) (old : BoxedAreas V) (w
         (among_held g s (g.files old.wal) history pages tip b found holds) is
 
   -- they were
-  pub begun_over : (workers : ℕ) (o : Opened) (crew : List Seen) (tip : Tip) → IsBegun g (areas_with wal b) workers o crew tip → IsBegun g (areas_with old.wal old.pages) workers o crew tip
-  begun_over workers o crew tip is = begun_before g old.wal wal old.pages b workers o crew tip reads.files reads.faults grown is
+  pub begun_over : (o : Opened) (tip : Tip) → IsBegun g (areas_with wal b) o tip → IsBegun g (areas_with old.wal old.pages) o tip
+  begun_over o tip is = begun_before g old.wal wal old.pages b o tip reads.files reads.faults grown is

@@ -28,12 +28,13 @@ use Rattle.data_areas.specs.Settling.{SettledSoFar}
 use Rattle.data_areas.proofs.Phases.{so_far_on, came_so_far, cause_on, begun_on}
 use Rattle.shared_store.specs.declared.areas.StoreAreas.{StoreAreas}
 use Rattle.shared_store.specs.declared.boxing.BoxedAreas.{BoxedAreas}
-use Rattle.shared_store.specs.declared.begin.BeginFault.{BeginFault}
-use Rattle.shared_store.specs.declared.begin.BeginWhy.{BeginWhy}
-use Rattle.shared_store.specs.declared.begin.BeginWhy.TheVariants as why
+use Rattle.shared_store.specs.declared.found.BeginFault.{BeginFault}
+use Rattle.shared_store.specs.declared.found.BeginWhy.{BeginWhy}
+use Rattle.shared_store.specs.declared.found.BeginWhy.TheVariants as why
 use Rattle.shared_store.specs.Opened.{NoneFell}
 use Rattle.shared_store.specs.Begin.{faults_of, IsWalPart, BeginCause, MayComeLate, BeginsNot, IsUnbegun}
-use Rattle.shared_store.specs.Found.{areas_with, IsFound, HoldHistory, IsUnsettled, FillsNot, IsUnfilled}
+use Rattle.shared_store.specs.Read.{IsFound}
+use Rattle.shared_store.specs.Filling.{areas_with, HoldHistory, IsUnsettled, FillsNot, IsUnfilled}
 use Rattle.shared_store.proofs.Begun.{fell_boxed, cause_boxed, came_at}
 
 -- ---- areas that a replay filled

@@ -1,5 +1,5 @@
--- The areas of a store, a store that was begun on them, and why none was.
-use Rattle.std.specs.Prelude.{◌≡◌, ℕ, zero, suc, ◌<◌, ◌==◌, ◌⊎◌, List, [], ◌∷◌, ◌++◌, map, length, Option, None, IsSome, IfSome, if◌then◌else◌, Some}
+-- The areas of a store, a store that was found on them and begun, and why none was.
+use Rattle.std.specs.Prelude.{◌≡◌, ℕ, zero, suc, ◌<◌, ◌⊎◌, List, [], ◌∷◌, ◌++◌, map, length, Option, None, IsSome, IfSome, Some}
 use Rattle.lsn_core.specs.Causes.{Rose}
 use Rattle.std.specs.FinMap.{empty}
 use Rattle.lsn_core.specs.Files.{Files}
@@ -24,19 +24,19 @@ use Rattle.partitions.specs.Parts.{IsPart}
 use Rattle.data_areas.specs.declared.areas.DataAreas.{DataAreas}
 use Rattle.data_areas.specs.Phases.{HaveMarkSince, CameSoFar}
 use Rattle.shared_store.specs.declared.areas.StoreAreas.{StoreAreas}
-use Rattle.shared_store.specs.declared.begin.BeginWhy.{BeginWhy}
-use Rattle.shared_store.specs.declared.begin.BeginWhy.TheVariants as why
-use Rattle.shared_store.specs.declared.begin.BeginFault.{BeginFault}
-use Rattle.shared_store.specs.Seen.{Seen}
-use Rattle.shared_store.specs.Opened.{Faults, Opened, NoneFell, data_count}
+use Rattle.shared_store.specs.declared.found.BeginWhy.{BeginWhy}
+use Rattle.shared_store.specs.declared.found.BeginWhy.TheVariants as why
+use Rattle.shared_store.specs.declared.found.BeginFault.{BeginFault}
+use Rattle.shared_store.specs.declared.found.Found.{Found}
+use Rattle.store_ledgers.specs.declared.blanks.Blanks.{Blanks}
+use Rattle.vault.specs.Frame.{IsDurable}
+use Rattle.shared_store.specs.Seen.{Seen, no_faults}
+use Rattle.shared_store.specs.Opened.{Faults, Opened, NoneFell, data_count, past_of, IsPartOf}
+use Rattle.shared_store.specs.Locked.{WalStart}
+use Rattle.shared_store.specs.Close.{data_area}
+use Rattle.shared_store.specs.Read.{IsFound}
 
 -- ---- areas
-
--- the data area of a number
-abbrev pub data_area : {V : Type 0} → StoreAreas V → ℕ → V
-data_area areas q =
-    if q == 0 then areas.data0
-    else (if q == 1 then areas.data1 else (if q == 2 then areas.data2 else areas.data3))
 
 -- how often calls of them failed
 abbrev pub faults_of : {V : Type 0} → Ghosts V → StoreAreas V → Faults
@@ -48,26 +48,48 @@ faults_of g areas = record {
   data3 = g.faults areas.data3;
 }
 
+-- what their data areas tell of their files
+abbrev pub files_of_data : {V : Type 0} → Ghosts V → StoreAreas V → DataAreas (Option Files)
+files_of_data g areas = record {
+  data0 = g.files areas.data0;
+  data1 = g.files areas.data1;
+  data2 = g.files areas.data2;
+  data3 = g.files areas.data3;
+}
+
 -- each of them tells its files
 pub record AllTell {V : Type 0} (g : Ghosts V) (areas : StoreAreas V) : Type 0 where
   pub wal : IsSome (g.files areas.wal)
   pub pages : (q : ℕ) → q < 4 → IsSome (g.files (data_area areas q))
 
--- ---- a store that was begun
+-- ---- a store that was found
 
--- the passes of so many workers, in order: each has seen the history, and none of its commands was
--- accepted yet
-abbrev pub fresh_passes : ℕ → List Entry → List Seen
-fresh_passes zero history = []
-fresh_passes (suc worker) history =
-    fresh_passes worker history
-    ++ (record { worker = worker; accepted = 0; list = history } ∷ [])
+-- it shows what an open one does
+abbrev pub shown_of : {V : Type 0} → Ghosts V → Found V → Opened
+shown_of g found = record {
+  settings = found.settings;
+  history = found.opened.list;
+  faults = record {
+    wal = g.faults found.wal;
+    data0 = found.parts.part0.faults;
+    data1 = found.parts.part1.faults;
+    data2 = found.parts.part2.faults;
+    data3 = found.parts.part3.faults;
+  };
+  wal = g.files found.wal;
+  flushed = found.tip.end;
+  past = record {
+    wal = g.past found.wal;
+    data0 = found.parts.part0.past;
+    data1 = found.parts.part1.past;
+    data2 = found.parts.part2.past;
+    data3 = found.parts.part3.past;
+  };
+}
 
 -- the store's history is the entries that its WAL was found to have, of which there is one at least
--- and which make a store's pages, where areas tell their files, and all of it is flushed; every
--- worker has seen it
-pub record HasBegun (files : Option Files) (workers : ℕ) (store : Opened) (crew : List Seen)
-    (tip : Tip) : Type 0 where
+-- and which make a store's pages, where areas tell their files, and all of it is flushed
+pub record HasBegun (files : Option Files) (store : Opened) (tip : Tip) : Type 0 where
   pub given : HasSettings files store.settings
   pub found : List Record
   pub some : 0 < length found
@@ -78,13 +100,80 @@ pub record HasBegun (files : Option Files) (workers : ℕ) (store : Opened) (cre
   pub made : IsSome files → apply_all empty store.history ≡ Some pages
   pub flushed : store.flushed ≡ tip.end
   pub wal : store.wal ≡ files
-  pub crew_is : crew ≡ fresh_passes workers store.history
 
--- so it was begun on these areas, of which none's count of faults fell
-pub record IsBegun {V : Type 0} (g : Ghosts V) (areas : StoreAreas V) (workers : ℕ)
-    (store : Opened) (crew : List Seen) (tip : Tip) : Type 0 where
-  pub has : HasBegun (g.files areas.wal) workers store crew tip
+-- so it was found on these areas, of which none's count of faults fell
+pub record IsBegun {V : Type 0} (g : Ghosts V) (areas : StoreAreas V) (store : Opened) (tip : Tip)
+    : Type 0 where
+  pub has : HasBegun (g.files areas.wal) store tip
   pub later : NoneFell (faults_of g areas) store.faults
+
+-- what is known of it: its WAL was read whole to this history, durably, which each partition follows
+pub record IsStanding {V : Type 0} (g : Ghosts V) (found : Found V) : Type 0 where
+  pub is : IsFound (g.files found.wal) found.settings found.opened.list found.pages found.tip
+  pub durable : IsDurable (g.files found.wal) (g.past found.wal)
+  pub part0 : IsPartOf 0 found.settings.relseg (IsSome (g.files found.wal)) found.opened.list
+      found.parts.part0
+  pub part1 : IsPartOf 1 found.settings.relseg (IsSome (g.files found.wal)) found.opened.list
+      found.parts.part1
+  pub part2 : IsPartOf 2 found.settings.relseg (IsSome (g.files found.wal)) found.opened.list
+      found.parts.part2
+  pub part3 : IsPartOf 3 found.settings.relseg (IsSome (g.files found.wal)) found.opened.list
+      found.parts.part3
+
+-- ---- a store that was begun
+
+-- the passes of so many workers, in order: each has seen the history, none of its commands was
+-- accepted yet, and it was answered no fault
+abbrev pub fresh_pass : ℕ → List Entry → Seen
+fresh_pass worker history = record {
+  worker = worker;
+  accepted = 0;
+  list = history;
+  faults = no_faults;
+}
+
+abbrev pub fresh_passes : ℕ → List Entry → List Seen
+fresh_passes zero history = []
+fresh_passes (suc worker) history =
+    fresh_passes worker history ++ (fresh_pass worker history ∷ [])
+
+-- the ledgers that are handed over are those that are named, each with its parts
+pub record AreNamed (entries faults : ℕ → ℕ) (commands passes : ℕ) (blanks : Blanks) : Type 0 where
+  pub entries0 : (blanks.entries0.name ≡ entries 0) × (blanks.entries0.parts ≡ 1)
+  pub entries1 : (blanks.entries1.name ≡ entries 1) × (blanks.entries1.parts ≡ 1)
+  pub entries2 : (blanks.entries2.name ≡ entries 2) × (blanks.entries2.parts ≡ 1)
+  pub entries3 : (blanks.entries3.name ≡ entries 3) × (blanks.entries3.parts ≡ 1)
+  pub commands_are : (blanks.commands.name ≡ commands) × (blanks.commands.parts ≡ passes)
+  pub data0 : (blanks.data0.name ≡ faults 0) × (blanks.data0.parts ≡ passes)
+  pub data1 : (blanks.data1.name ≡ faults 1) × (blanks.data1.parts ≡ passes)
+  pub data2 : (blanks.data2.name ≡ faults 2) × (blanks.data2.parts ≡ passes)
+  pub data3 : (blanks.data3.name ≡ faults 3) × (blanks.data3.parts ≡ passes)
+  pub wal : (blanks.wal.name ≡ faults 4) × (blanks.wal.parts ≡ passes)
+  pub sums : (blanks.sums.name ≡ faults 5) × (blanks.sums.parts ≡ passes)
+
+-- how the areas are at the beginning
+pub record AreStarts {V : Type 0} (g : Ghosts V) (starts : ℕ → ℕ) (from : WalStart)
+    (found : Found V) : Type 0 where
+  pub data0 : starts 0 ≡ found.parts.part0.faults
+  pub data1 : starts 1 ≡ found.parts.part1.faults
+  pub data2 : starts 2 ≡ found.parts.part2.faults
+  pub data3 : starts 3 ≡ found.parts.part3.faults
+  pub wal : starts 4 ≡ g.faults found.wal
+  pub from_is : from ≡ record { files = g.files found.wal; flushed = found.tip.end }
+
+-- no memory: the areas of a store that was found are handed back as they were
+pub record AreBack {V : Type 0} (g : Ghosts V) (found : Found V) (areas : StoreAreas V)
+    : Type 0 where
+  pub wal : areas.wal ≡ found.wal
+  pub files : files_of_data g areas
+      ≡ record {
+        data0 = found.parts.part0.disk;
+        data1 = found.parts.part1.disk;
+        data2 = found.parts.part2.disk;
+        data3 = found.parts.part3.disk;
+      }
+  pub past : past_of g areas ≡ (shown_of g found).past
+  pub faults : faults_of g areas ≡ (shown_of g found).faults
 
 -- ---- why none was
 

@@ -12,9 +12,7 @@ use Rattle.history.specs.Entry.{Entry}
 use Rattle.history.specs.Written.{tip_of}
 use Rattle.fuzzy_copies.specs.Logged.{log_of}
 use Rattle.journal.specs.Lawful.{IsLawful}
-use Rattle.shared_store.specs.Calls.{GoesOn}
 use Rattle.shared_store.specs.Close.{HoldsRecords}
-use Rattle.shared_store.specs.Opened.{Opened, wal_top}
 
 -- an entry starts at a place, or ends there
 abbrev pub is_place_of : ℕ → Entry → Bool
@@ -35,10 +33,9 @@ pub record ArePartOf (s : StoreSettings) (history : List Entry) (wal : Option Fi
       HoldsRecords s (log_of s.segment lawful.found lawful.own) (tip_of s.segment history).end files
   pub are : records ≡ take most (from_place from (log_of s.segment lawful.found lawful.own))
 
--- so of an open store
-abbrev pub HasRecords : Opened → ℕ → ℕ → List Record → Type 0
-HasRecords store from most records =
-    ArePartOf store.settings store.history store.wal from most records
+-- so of an open store whose history was seen
+abbrev pub HasRecords : StoreSettings → List Entry → ℕ → ℕ → List Record → Type 0
+HasRecords s seen from most records = (wal : Option Files) × ArePartOf s seen wal from most records
 
 -- records that end one behind the other, the first of them past a place, each sound and within the
 -- room of the WAL
@@ -57,22 +54,12 @@ AreSome mib place most records = (length records ≤ most) × EndBehind mib plac
 -- be asked for from there
 abbrev pub RecordsEndAtEntries : Type 0
 RecordsEndAtEntries =
-    (store : Opened) (from most : ℕ) (records : List Record)
-    → IsSegmentMib store.settings.segment → HasRecords store from most records
-    → All (λ r. IsPlaceOf store.history r.end.0) records
+    (s : StoreSettings) (seen : List Entry) (from most : ℕ) (records : List Record)
+    → IsSegmentMib s.segment → HasRecords s seen from most records
+    → All (λ r. IsPlaceOf seen r.end.0) records
 
 -- and this stays as the history goes on
 abbrev pub PlacesStay : Type 0
 PlacesStay =
     (place : ℕ) (old new : List Entry) → IsPlaceOf old place → IsPrefix old new
     → IsPlaceOf new place
-
--- a store whose WAL was flushed up to its end answered records of it: behind calls on the store the
--- records that its WAL has begin with those that it had
-abbrev pub RecordsStay : Type 0
-RecordsStay =
-    (old new : Opened) (from to most many : ℕ) (rs qs : List Record)
-    → IsSegmentMib old.settings.segment → old.flushed ≡ wal_top old
-    → (one : HasRecords old from most rs) → (two : HasRecords new to many qs) → GoesOn old new
-    → IsPrefix (log_of old.settings.segment one.lawful.found one.lawful.own)
-    (log_of new.settings.segment two.lawful.found two.lawful.own)

@@ -1,7 +1,7 @@
 //! The areas of a store, of which the data areas move to the heap and back.
 
 ghost use Rattle.std.specs.Prelude.{◌≡◌, IfOk, IfErr, box_value};
-ghost use Rattle.shared_store.specs.Found.{areas_with};
+ghost use Rattle.shared_store.specs.Filling.{areas_with};
 
 use crate::areas::StoreAreas;
 use data_areas::{BoxedArea, DataAreas};

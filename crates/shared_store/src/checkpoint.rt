@@ -1,188 +1,198 @@
-//! Checkpoints of an open store.
+//! Checkpoints of an open store, and the ends of backups.
 
-ghost use Rattle.std.specs.Prelude.{◌≡◌, ◌<◌, ◌≤◌, true, IfOk, OnOk, OnErr, IfErr};
-ghost use mathlib.Core.List.{IsPrefix};
-ghost use Rattle.journal.specs.Journal.{IsEndOf};
-ghost use Rattle.history.specs.Entry.{Mark, RedoMark, Online};
+ghost use Rattle.std.specs.Prelude.{◌≡◌, ◌<◌, ◌≤◌, true, length, IfOk, IfErr, OnErr};
+ghost use Rattle.history.specs.Entry.{RedoMark, Online, BackupEnd};
+ghost use Rattle.journal.specs.Lawful.{IsLawful};
 ghost use Rattle.page_pool.specs.Facts.{history_end};
 ghost use Rattle.shared_store.specs.Seen.{StaysBy};
-ghost use Rattle.shared_store.specs.Opened.{IsLawfulOf, StoreCause};
-ghost use Rattle.shared_store.specs.Calls.{GoesOn, HasCheckpoint, MayHaveMark, MayHaveMarks};
-ghost use Rattle.shared_store.specs.Calls.{MarkCause, MayBeFull, MayBeFullFor};
-ghost use Rattle.shared_store.specs.Inside.{AreCleaned, IsCleaned, HasMark, IsFullFor};
+ghost use Rattle.shared_store.specs.Inside.{AreCleaned, IsCleaned};
+ghost use Rattle.shared_store.specs.Locked.{Follows, AppendsMark, FlushesMark};
+ghost use Rattle.shared_store.specs.Shared.{TakesFaults, TakesMarkFault, HasCheckpointIn, HasEnded, own_of, SameData};
+ghost use Rattle.shared_store.specs.Shared.{MayHaveStarted, MayFindNoRoom, MayHaveEnded, MayFindNoRoomFor, IsPlaced};
 
 use crate::fault::mark_fault;
-use crate::flush::flush;
-use crate::marks::{append_end, append_start};
+use crate::locking::clean_with;
 use crate::naming::OfCrew;
 use crate::pass::Pass;
 use crate::receipt::Redo;
 use crate::store::Store;
-use crate::sweep::clean_in;
 use lsn_core::{Lsn, MarkFault, Place, StoreFault};
 use page_pool::Cleaned;
 use std::alloc::Global;
+use std::sync::Wait;
 use vault::Vault;
 use wal_writer::Flushed;
 
 impl<J: OfCrew, V: Vault> Store<J, V> {
-    /// Appends the start of a checkpoint.
-    fn start_checkpoint(&mut self, alloc: Global, worker: u32) -> Result<Place, MarkFault>
-        ensures marked { IfOk result
-            (HasMark worker (RedoMark 1) self.old.history self.new.history) }
-        ensures full { IfErr result
-            (IsFullFor (Mark (RedoMark 1)) self.old.settings.segment self.old.history) }
-        ensures same { OnErr result (self.new.history ≡ self.old.history) }
-        ensures faults { self.new.faults ≡ self.old.faults }
-        ensures goes_on { GoesOn self.old self.new }
+    /// Appends the start of a checkpoint behind all that the pass has seen.
+    fn start(&self, rt: &impl Wait, alloc: Global, pass: &mut Pass<J>) -> Result<Place, MarkFault>
+        ensures marks { AppendsMark J.settings.segment (RedoMark 1) (own_of pass.old)
+            (own_of pass.new) result }
+        ensures was { Follows (own_of pass.old) (own_of pass.new) }
+        ensures lawful { J.tells ≡ true → IsLawful J.settings.segment pass.new.list }
+        ensures faults { pass.new.faults ≡ pass.old.faults }
     {
-        append_start(alloc, &self.line, &mut self.journal, worker)
-    }
-
-    /// Appends the end of the checkpoint of a redo point, behind which all partitions were written.
-    fn end_checkpoint(
-        &mut self,
-        alloc: Global,
-        redo: Lsn,
-        done: &[Cleaned; 4],
-        worker: u32,
-    ) -> Result<Place, MarkFault>
-        requires { AreCleaned redo done.now }
-        ensures marked { IfOk result
-            (HasMark worker (Online redo.0) self.old.history self.new.history) }
-        ensures full { IfErr result
-            (IsFullFor (Mark (Online redo.0)) self.old.settings.segment self.old.history) }
-        ensures same { OnErr result (self.new.history ≡ self.old.history) }
-        ensures faults { self.new.faults ≡ self.old.faults }
-        ensures goes_on { GoesOn self.old self.new }
-    {
-        append_end(alloc, &self.line, &mut self.journal, redo, done, worker)
+        self.desk.lock(rt).start(alloc, &self.line, &mut pass.own)
     }
 
     /// Writes all that a partition has dirty or pending, the WAL flushed first, and raises its point
     /// to the redo point, past which the WAL is flushed too.
-    fn clean_part(&mut self, alloc: Global, q: u32, redo: Lsn) -> Result<Cleaned, StoreFault>
-        requires number { q < 4 }
-        requires late { redo.0 ≤ history_end self.old.history }
-        ensures cleaned { IfOk result (IsCleaned q redo) }
-        ensures cause { IfErr result (StoreCause self.old.faults self.new.faults) }
-        ensures same { self.new.history ≡ self.old.history }
-        ensures goes_on { GoesOn self.old self.new }
-    {
-        let journal = &mut self.journal;
-        let mark = &mut self.mark;
-        match q {
-            0 => clean_in(alloc, journal, &mut self.part0, mark, redo),
-            1 => clean_in(alloc, journal, &mut self.part1, mark, redo),
-            2 => clean_in(alloc, journal, &mut self.part2, mark, redo),
-            _ => clean_in(alloc, journal, &mut self.part3, mark, redo),
-        }
-    }
-
-    /// Writes all that is dirty or pending in each partition, and raises their points.
-    #[tactic(auto, using(crate::proofs::Goes::goes_on, crate::proofs::Rounds::cause_on))]
-    fn clean_all(&mut self, alloc: Global, redo: Lsn) -> Result<[Cleaned; 4], StoreFault>
-        requires { redo.0 ≤ history_end self.old.history }
-        ensures cleaned { IfOk result (AreCleaned redo) }
-        ensures cause { IfErr result (StoreCause self.old.faults self.new.faults) }
-        ensures same { self.new.history ≡ self.old.history }
-        ensures goes_on { GoesOn self.old self.new }
-    {
-        let first = self.clean_part(alloc, 0, redo)?;
-        let second = self.clean_part(alloc, 1, redo)?;
-        let third = self.clean_part(alloc, 2, redo)?;
-        let fourth = self.clean_part(alloc, 3, redo)?;
-        Ok([first, second, third, fourth])
-    }
-
-    /// Flushes the WAL up to where an entry ends.
-    pub(crate) fn flush_to(&mut self, alloc: Global, to: Lsn) -> Result<Flushed, StoreFault>
-        requires { IsEndOf self.old.history to.0 }
-        ensures flushed { IfOk result (λ mark.
-            (to.0 ≤ mark.to.0) × (mark.to.0 ≤ self.new.flushed)) }
-        ensures cause { IfErr result (StoreCause self.old.faults self.new.faults) }
-        ensures same { self.new.history ≡ self.old.history }
-        ensures goes_on { GoesOn self.old self.new }
-    {
-        flush(alloc, &mut self.journal, &mut self.mark, to)?;
-        Ok(self.mark)
-    }
-
-    /// Starts a checkpoint: appends its start, and writes all that is dirty or pending.
-    #[tactic(auto, using(crate::proofs::Goes::goes_on, crate::proofs::Rounds::cause_on, crate::proofs::Rounds::store_cause, crate::proofs::Rounds::store_full, crate::proofs::Rounds::mark_cause, crate::proofs::Rounds::start_full, crate::proofs::Rounds::none_left, crate::proofs::Rounds::one_left, crate::proofs::Marked::mark_late))]
-    fn sweep(&mut self, alloc: Global, worker: u32) -> Result<(Place, [Cleaned; 4]), MarkFault>
-        ensures marked { IfOk result (λ x.
-            HasMark worker (RedoMark 1) self.old.history self.new.history x.0) }
-        ensures cleaned { IfOk result (λ x. AreCleaned x.0.start x.1) }
-        ensures left { OnErr result
-            (MayHaveMark worker (RedoMark 1) self.old.history self.new.history) }
-        ensures cause { IfErr result (MarkCause self.old self.new) }
-        ensures full { IfErr result (MayBeFull self.old.settings.segment worker
-            self.old.history self.new.history) }
-        ensures goes_on { GoesOn self.old self.new }
-    {
-        let start = match self.start_checkpoint(alloc, worker) {
-            Ok(start) => start,
-            Err(fault) => return Err(fault),
-        };
-        match self.clean_all(alloc, start.start) {
-            Ok(done) => Ok((start, done)),
-            Err(fault) => Err(mark_fault(fault)),
-        }
-    }
-
-    /// Ends the checkpoint of a redo point: appends its end, and flushes the WAL up to there.
-    #[tactic(auto, using(crate::proofs::Goes::goes_on, crate::proofs::Rounds::cause_on, crate::proofs::Rounds::store_cause, crate::proofs::Rounds::store_full_for, crate::proofs::Rounds::mark_cause, crate::proofs::Rounds::end_full, crate::proofs::Rounds::none_left, crate::proofs::Rounds::one_left, crate::proofs::Marked::mark_ends))]
-    fn finish(
-        &mut self,
+    fn clean_part(
+        &self,
+        rt: &impl Wait,
         alloc: Global,
-        worker: u32,
+        pass: &mut Pass<J>,
+        q: u32,
+        redo: Lsn,
+    ) -> Result<Cleaned, StoreFault>
+        requires number { q < 4 }
+        requires late { redo.0 ≤ history_end pass.old.list }
+        ensures cleaned { IfOk result (IsCleaned q redo) }
+        ensures was { Follows (own_of pass.old) (own_of pass.new) }
+        ensures lawful { J.tells ≡ true → IsLawful J.settings.segment pass.new.list }
+        ensures faults { TakesFaults pass.old pass.new result }
+    {
+        let Pass { own, shares } = pass;
+        let (line, desk) = (&self.line, &self.desk);
+        match q {
+            0 => clean_with(
+                rt,
+                alloc,
+                line,
+                desk,
+                &self.part0,
+                own,
+                &mut shares.data0,
+                redo,
+            ),
+            1 => clean_with(
+                rt,
+                alloc,
+                line,
+                desk,
+                &self.part1,
+                own,
+                &mut shares.data1,
+                redo,
+            ),
+            2 => clean_with(
+                rt,
+                alloc,
+                line,
+                desk,
+                &self.part2,
+                own,
+                &mut shares.data2,
+                redo,
+            ),
+            _ => clean_with(
+                rt,
+                alloc,
+                line,
+                desk,
+                &self.part3,
+                own,
+                &mut shares.data3,
+                redo,
+            ),
+        }
+    }
+
+    /// The end of the checkpoint of a redo point, behind which all partitions were written.
+    fn finish(
+        &self,
+        rt: &impl Wait,
+        alloc: Global,
+        pass: &mut Pass<J>,
         redo: Lsn,
         done: &[Cleaned; 4],
     ) -> Result<(Place, Flushed), MarkFault>
         requires { AreCleaned redo done.now }
-        ensures marked { IfOk result (λ x.
-            HasMark worker (Online redo.0) self.old.history self.new.history x.0) }
-        ensures reached { IfOk result (λ x. x.0.end.0 ≤ x.1.to.0) }
-        ensures flushed { IfOk result (λ x. x.1.to.0 ≤ self.new.flushed) }
-        ensures left { OnErr result
-            (MayHaveMark worker (Online redo.0) self.old.history self.new.history) }
-        ensures cause { IfErr result (MarkCause self.old self.new) }
-        ensures full { IfErr result (MayBeFullFor (Mark (Online redo.0))
-            self.old.settings.segment self.old.history self.new.history) }
-        ensures goes_on { GoesOn self.old self.new }
+        ensures marks { FlushesMark J.settings.segment (Online redo.0) (own_of pass.old)
+            (own_of pass.new) result }
+        ensures was { Follows (own_of pass.old) (own_of pass.new) }
+        ensures lawful { J.tells ≡ true → IsLawful J.settings.segment pass.new.list }
+        ensures faults { SameData pass.old.faults pass.new.faults }
     {
-        let end = match self.end_checkpoint(alloc, redo, done, worker) {
-            Ok(end) => end,
-            Err(fault) => return Err(fault),
-        };
-        match self.flush_to(alloc, end.end) {
-            Ok(flushed) => Ok((end, flushed)),
-            Err(fault) => Err(mark_fault(fault)),
-        }
+        self.desk
+            .lock(rt)
+            .finish(alloc, &self.line, &mut pass.own, redo, done)
     }
 
-    /// A checkpoint, as a worker.
-    #[tactic(auto, using(crate::proofs::Goes::goes_on, crate::proofs::Rounds::cause_behind, crate::proofs::Rounds::few_left, crate::proofs::Rounds::more_left, crate::proofs::Rounds::full_behind, crate::proofs::Rounds::checkpoint_of))]
-    fn run_checkpoint(&mut self, alloc: Global, worker: u32) -> Result<(Redo, Flushed), MarkFault>
-        ensures done { IfOk result (λ x.
-            HasCheckpoint worker self.old.history self.new.history x.0 x.1) }
-        ensures flushed { IfOk result (λ x. x.1.to.0 ≤ self.new.flushed) }
-        ensures left { OnErr result (MayHaveMarks worker self.old.history self.new.history) }
-        ensures cause { IfErr result (MarkCause self.old self.new) }
-        ensures full { IfErr result (MayBeFull self.old.settings.segment worker
-            self.old.history self.new.history) }
-        ensures goes_on { GoesOn self.old self.new }
+    /// The end of the backup that started at a place.
+    fn end_mark(
+        &self,
+        rt: &impl Wait,
+        alloc: Global,
+        pass: &mut Pass<J>,
+        start: Lsn,
+    ) -> Result<(Place, Flushed), MarkFault>
+        ensures marks { FlushesMark J.settings.segment (BackupEnd start.0) (own_of pass.old)
+            (own_of pass.new) result }
+        ensures placed { IfOk result (λ x. IsPlaced J.settings.segment pass.new.list x.0.end.0) }
+        ensures was { Follows (own_of pass.old) (own_of pass.new) }
+        ensures lawful { J.tells ≡ true → IsLawful J.settings.segment pass.new.list }
+        ensures faults { SameData pass.old.faults pass.new.faults }
     {
-        let (start, done) = match self.sweep(alloc, worker) {
-            Ok(swept) => swept,
+        self.desk
+            .lock(rt)
+            .end_backup(alloc, &self.line, &mut pass.own, start)
+    }
+
+    /// Writes all that is dirty or pending in each partition, one after the other.
+    fn clean_all(
+        &self,
+        rt: &impl Wait,
+        alloc: Global,
+        pass: &mut Pass<J>,
+        redo: Lsn,
+    ) -> Result<[Cleaned; 4], StoreFault>
+        requires { redo.0 ≤ history_end pass.old.list }
+        ensures cleaned { IfOk result (AreCleaned redo) }
+        ensures was { Follows (own_of pass.old) (own_of pass.new) }
+        ensures lawful { J.tells ≡ true → IsLawful J.settings.segment pass.new.list }
+        ensures faults { TakesFaults pass.old pass.new result }
+    {
+        let first = self.clean_part(rt, alloc, pass, 0, redo)?;
+        let second = self.clean_part(rt, alloc, pass, 1, redo)?;
+        let third = self.clean_part(rt, alloc, pass, 2, redo)?;
+        let fourth = self.clean_part(rt, alloc, pass, 3, redo)?;
+        Ok([first, second, third, fourth])
+    }
+
+    /// A checkpoint: appends its start, flushes the WAL past it, writes all that is dirty or pending
+    /// in each partition, appends its end, and flushes the WAL. Its entries stand behind all that
+    /// the pass had seen; other workers' may stand between them.
+    #[tactic(auto, using(crate::proofs::Checkpoints::checkpoint_in))]
+    pub fn checkpoint(
+        &self,
+        rt: &impl Wait,
+        alloc: Global,
+        pass: &mut Pass<J>,
+    ) -> Result<(Redo, Flushed), MarkFault>
+        ensures done { IfOk result (λ x.
+            HasCheckpointIn pass.old.worker pass.old.list pass.new.list x.0 x.1) }
+        ensures left { OnErr result
+            (MayHaveStarted pass.old.worker pass.old.list pass.new.list) }
+        ensures full { IfErr result (MayFindNoRoom J.settings.segment pass.old.worker
+            (length pass.old.list) pass.new.list) }
+        ensures faults { TakesMarkFault pass.old pass.new result }
+        ensures lawful { J.tells ≡ true → IsLawful J.settings.segment pass.new.list }
+        ensures seen { StaysBy pass.old pass.new }
+        ensures accepted { pass.new.accepted ≡ pass.old.accepted }
+    {
+        let start = match self.start(rt, alloc, pass) {
+            Ok(start) => start,
             Err(fault) => return Err(fault),
         };
-        let redo = start.start;
-        match self.finish(alloc, worker, redo, &done) {
+        let done = match self.clean_all(rt, alloc, pass, start.start) {
+            Ok(done) => done,
+            Err(fault) => return Err(mark_fault(fault)),
+        };
+        match self.finish(rt, alloc, pass, start.start, &done) {
             Ok((end, flushed)) => Ok((
                 Redo {
-                    redo,
+                    redo: start.start,
                     at: end.start,
                 },
                 flushed,
@@ -191,33 +201,32 @@ impl<J: OfCrew, V: Vault> Store<J, V> {
         }
     }
 
-    /// A checkpoint: appends its start, flushes the WAL past it, writes all that is dirty or pending
-    /// in each partition, appends its end, and flushes the WAL. Its entries stand behind all that
-    /// the pass had seen.
-    pub fn checkpoint(
-        &mut self,
+    /// Ends the backup that started at a place: appends the entry that says so, and flushes the WAL
+    /// up to there. The answer is where that entry ends, behind all that the pass had seen, and how
+    /// far the WAL is flushed.
+    #[tactic(auto, using(crate::proofs::Checkpoints::ended_in))]
+    pub fn end_backup(
+        &self,
+        rt: &impl Wait,
         alloc: Global,
         pass: &mut Pass<J>,
-    ) -> Result<(Redo, Flushed), MarkFault>
+        start: Lsn,
+    ) -> Result<(Lsn, Flushed), MarkFault>
         ensures done { IfOk result (λ x.
-            HasCheckpoint pass.old.worker self.old.history self.new.history x.0 x.1) }
-        ensures past { IsPrefix pass.old.list self.old.history }
-        ensures flushed { IfOk result (λ x. x.1.to.0 ≤ self.new.flushed) }
-        ensures lawful { OnOk result (IsLawfulOf (J.tells ≡ true) self.new) }
+            HasEnded pass.old.worker start.0 pass.old.list pass.new.list x.0 x.1) }
+        ensures placed { IfOk result (λ x. IsPlaced J.settings.segment pass.new.list x.0.0) }
         ensures left { OnErr result
-            (MayHaveMarks pass.old.worker self.old.history self.new.history) }
-        ensures cause { IfErr result (MarkCause self.old self.new) }
-        ensures full { IfErr result (MayBeFull self.old.settings.segment pass.old.worker
-            self.old.history self.new.history) }
+            (MayHaveEnded pass.old.worker start.0 pass.old.list pass.new.list) }
+        ensures full { IfErr result
+            (MayFindNoRoomFor (BackupEnd start.0) J.settings.segment pass.new.list) }
+        ensures faults { TakesMarkFault pass.old pass.new result }
+        ensures lawful { J.tells ≡ true → IsLawful J.settings.segment pass.new.list }
         ensures seen { StaysBy pass.old pass.new }
-        ensures whole { pass.new.list ≡ self.new.history }
         ensures accepted { pass.new.accepted ≡ pass.old.accepted }
-        ensures goes_on { GoesOn self.old self.new }
     {
-        pass.meet(&self.line, &mut self.journal);
-        let done = self.run_checkpoint(alloc, pass.worker());
-        pass.meet(&self.line, &mut self.journal);
-        self.know();
-        done
+        match self.end_mark(rt, alloc, pass, start) {
+            Ok((place, flushed)) => Ok((place.end, flushed)),
+            Err(fault) => Err(fault),
+        }
     }
 }

@@ -1,63 +1,69 @@
 //! The WAL of a store as it is found: read, and replayed into data areas, with the history that it
 //! tells.
 
-ghost use Rattle.std.specs.Prelude.{◌≡◌, ◌<◌, ◌≤◌, [], Some, None, IfOk, IfErr, OnOk, IsSome, replicate};
+ghost use Rattle.std.specs.Prelude.{◌≡◌, ◌<◌, ◌≤◌, ◌^◌, [], ◌∷◌, ◌++◌, IfOk, IfErr, OnOk, IsSome, length};
 ghost use Rattle.std.specs.FinMap.{empty};
 ghost use Rattle.vault.specs.Frame.{Adds, OnlyReads, IsDurable};
+ghost use Rattle.history.specs.Whole.{entry_of};
 ghost use Rattle.data_areas.specs.Boxed.{on_heap};
 ghost use Rattle.data_areas.specs.Stored.{ShowsParts, KeepsAll};
-ghost use Rattle.shared_store.specs.Begin.{BeginCause, MayComeFirst, fresh_passes};
+ghost use Rattle.shared_store.specs.Begin.{BeginCause, MayComeFirst};
 ghost use Rattle.shared_store.specs.Moments.{IsSync};
-ghost use Rattle.shared_store.specs.Found.{IsChecked, IsFound, ShowsHistory, IsUnreplayed};
+ghost use Rattle.shared_store.specs.Read.{IsFound};
+ghost use Rattle.shared_store.specs.Filling.{IsChecked, ShowsHistory, IsUnreplayed};
 
-use crate::crew::{Crew, enlist};
-use crate::naming::OfCrew;
 use data_areas::{BoxedArea, StoreForks};
-use journal::{HistoryEntry, append_found};
+use journal::HistoryEntry;
 use lsn_core::{Settings, WalTip};
 use recovery::{Listener, RecoveryFault, ReplayFault, read_through, replay_heard, settings_of};
 use std::alloc::Global;
 use std::marker::Brand;
-use timeline::{OfTimeline, Opened, Pen, Timeline};
+use timeline::{Names, Opened};
 use vault::Vault;
 use wal_record::Record;
 
 /// The history of a WAL that is read, which grows by each entry.
 #[derive(Drop)]
-struct Finding<J: OfTimeline> {
-    line: Timeline<HistoryEntry, J>,
-    pen: Pen<HistoryEntry, J>,
+struct Finding {
+    opened: Opened<HistoryEntry>,
 }
 
-impl<J: OfTimeline> Finding<J> {
-    /// No entry was read yet.
-    fn new(opened: Opened<HistoryEntry>) -> Finding<J>
-        requires { opened ≡ J.table }
-        ensures { result.pen ≡ [] }
-    {
-        let (line, pen) = Timeline::new::<Brand>(opened, 0);
-        Finding { line, pen }
-    }
-}
-
-impl<J: OfTimeline> Listener for Finding<J> {
+impl Listener for Finding {
     ghost use Rattle.std.specs.Prelude.{Some};
 
-    ghost heard = { λ f. Some f.pen };
+    ghost heard = { λ f. Some f.opened.list };
 
     fn hear(&mut self, entry: &Record) {
-        append_found(&self.line, &mut self.pen, entry);
+        append_found(&mut self.opened, entry);
     }
 }
 
-/// The WAL of a store that was replayed whole: how many pages its entries make, where it ends, and
-/// its history.
+/// Appends to the history the entry that a record of the WAL is.
+fn append_found(opened: &mut Opened<HistoryEntry>, entry: &Record)
+    requires { length opened.old.list < 2 ^ 50 }
+    ensures list { opened.new.list ≡ opened.old.list ++ entry_of entry.now ∷ [] }
+    ensures table { opened.new.table ≡ opened.old.table }
+{
+    tell_found::<Brand>(opened, entry);
+}
+
+/// The same. The call names the entry.
+fn tell_found<N: Names<HistoryEntry>>(opened: &mut Opened<HistoryEntry>, _entry: &Record)
+    requires named { N.next ≡ entry_of _entry.now ∷ [] }
+    requires room { length opened.old.list < 2 ^ 50 }
+    ensures list { opened.new.list ≡ opened.old.list ++ entry_of _entry.now ∷ [] }
+    ensures table { opened.new.table ≡ opened.old.table }
+{
+    opened.append::<N>();
+}
+
+/// The WAL of a store that was replayed whole: its history, how many pages that makes, and where it
+/// ends.
 #[derive(Drop)]
-pub(crate) struct Found<J: OfTimeline> {
+pub(crate) struct Heard {
+    pub opened: Opened<HistoryEntry>,
     pub pages: u64,
     pub tip: WalTip,
-    pub line: Timeline<HistoryEntry, J>,
-    pub pen: Pen<HistoryEntry, J>,
 }
 
 /// Reads the settings and the whole WAL of a store, which has an entry: of what replay refuses only
@@ -82,41 +88,34 @@ pub(crate) fn check<V: Vault>(alloc: Global, wal: &mut V) -> Result<Settings, Re
     Ok(settings)
 }
 
-/// Replays the whole WAL of a store into data areas that show no pages, and enlists its workers.
-pub(crate) fn find<J: OfCrew, V: Vault>(
+/// Replays the whole WAL of a store into data areas that show no pages.
+pub(crate) fn replay<V: Vault>(
     alloc: Global,
     opened: Opened<HistoryEntry>,
     wal: &mut V,
     settings: &Settings,
     forks: &mut StoreForks<BoxedArea<V>>,
-    workers: u32,
-) -> Result<(Found<J>, Crew<J>), ReplayFault>
-    requires name { opened ≡ J.table }
-    requires crew { workers ≡ J.workers }
+) -> Result<Heard, ReplayFault>
+    requires none { opened.list ≡ [] }
     requires checked { IsChecked (V.files wal.old) settings.now }
     requires fresh { IsSome (V.files wal.old) → ShowsParts (on_heap V.Vault) forks.old empty }
-    ensures found { IfOk result (λ x.
-        IsFound (V.files wal.old) settings.now x.0.pen x.0.pages x.0.tip) }
-    ensures shown { IfOk result
-        (λ x. ShowsHistory (on_heap V.Vault) (V.files wal.old) forks.new x.0.pen) }
-    ensures passes { IfOk result (λ x. x.1.passes.items ≡ fresh_passes workers x.0.pen) }
-    ensures counts { IfOk result (λ x. x.1.counts.items ≡ replicate workers 0) }
+    ensures found { IfOk result (λ heard.
+        IsFound (V.files wal.old) settings.now heard.opened.list heard.pages heard.tip) }
+    ensures shown { IfOk result (λ heard.
+        ShowsHistory (on_heap V.Vault) (V.files wal.old) forks.new heard.opened.list) }
     ensures refused { IfErr result (IsUnreplayed (V.files wal.old) (V.faults wal.old)
         (V.faults wal.new) forks.old.faults.count forks.new.faults.count) }
     ensures reads { OnlyReads V.Vault wal.old wal.new }
     ensures kept { KeepsAll (on_heap V.Vault) forks.old forks.new }
 {
-    let mut finding = Finding::new(opened);
+    let mut finding = Finding { opened };
     let replayed = replay_heard(alloc, wal, settings, None, forks, &mut finding)?;
     if replayed.tip.count == 0 {
         return Err(ReplayFault::Wal(RecoveryFault::NotInit));
     }
-    let crew = enlist(alloc, &finding.line, &mut finding.pen, workers)?;
-    let found = Found {
+    Ok(Heard {
+        opened: finding.opened,
         pages: replayed.pages,
         tip: replayed.tip,
-        line: finding.line,
-        pen: finding.pen,
-    };
-    Ok((found, crew))
+    })
 }

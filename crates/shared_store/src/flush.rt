@@ -1,16 +1,17 @@
-//! Flushing the WAL of an open store, and writing what a partition has dirty or pending.
+//! Flushing the WAL of an open store, up to a place or past what a partition hasn't written.
 
-ghost use Rattle.std.specs.Prelude.{◌≡◌, ◌≤◌, true, IfOk, OnOk, IfErr};
-ghost use Rattle.lsn_core.specs.declared.fault.StoreArea.TheVariants.{Wal, Data};
+ghost use Rattle.std.specs.Prelude.{◌≡◌, ◌≤◌, true, OnOk, IfErr};
+ghost use Rattle.lsn_core.specs.declared.fault.StoreArea.TheVariants.{Wal};
 ghost use Rattle.journal.specs.Journal.{IsEndOf};
-ghost use Rattle.page_pool.specs.Calls.{MayWriteNext};
+ghost use Rattle.page_pool.specs.Facts.{history_end};
+ghost use Rattle.page_pool.specs.Calls.{MayWriteNext, MayWriteAll};
 ghost use Rattle.shared_store.specs.Opened.{IsPartOf};
-ghost use Rattle.shared_store.specs.Inside.{AreaCause, WriteCause, KeepsWal, written_end};
+ghost use Rattle.shared_store.specs.Inside.{AreaCause, KeepsWal, written_end};
 
 use crate::fault::fault_of;
 use journal::{Journal, OfStore};
 use lsn_core::{Lsn, StoreArea, StoreFault};
-use page_pool::{Partition, Turn};
+use page_pool::Partition;
 use std::alloc::Global;
 use vault::Vault;
 use wal_writer::Flushed;
@@ -91,7 +92,7 @@ pub(crate) fn flush_past<J: OfStore, V: Vault>(
 }
 
 /// Flushes the WAL past the entry of what a partition writes next, where there is anything.
-fn flush_next<J: OfStore, V: Vault, W: Vault, const Q: u32>(
+pub(crate) fn flush_next<J: OfStore, V: Vault, W: Vault, const Q: u32>(
     alloc: Global,
     journal: &mut Journal<J, V>,
     part: &Partition<W, Q>,
@@ -112,42 +113,31 @@ fn flush_next<J: OfStore, V: Vault, W: Vault, const Q: u32>(
     }
 }
 
-/// Writes what comes next of a partition, before which the WAL is flushed.
-fn write_next<J: OfStore, V: Vault, W: Vault, const Q: u32>(
-    journal: &Journal<J, V>,
-    part: &mut Partition<W, Q>,
-    mark: &Flushed,
-) -> Result<Turn, StoreFault>
-    requires part { IsPartOf Q part.old.relseg (J.tells ≡ true) journal.now.pen part.old }
-    requires next { MayWriteNext part.old mark.now.to.0 }
-    ensures turn { IfOk result (λ turn. turn.part ≡ Q) }
-    ensures part { IsPartOf Q part.old.relseg (J.tells ≡ true) journal.now.pen part.new }
-    ensures later { part.old.faults ≤ part.new.faults }
-    ensures cause { IfErr result (AreaCause (Data Q) part.old.faults part.new.faults) }
-{
-    match part.write_one(mark) {
-        Ok(turn) => Ok(turn),
-        Err(fault) => Err(fault_of(StoreArea::Data(Q), fault)),
-    }
-}
-
-/// Writes one page, creation or cut of a partition to its area, the WAL flushed first.
-pub(crate) fn write_in<J: OfStore, V: Vault, W: Vault, const Q: u32>(
+/// Flushes the WAL past a redo point, and past the newest entry of what a partition hasn't written,
+/// where there is any.
+pub(crate) fn flush_newest<J: OfStore, V: Vault, W: Vault, const Q: u32>(
     alloc: Global,
     journal: &mut Journal<J, V>,
-    part: &mut Partition<W, Q>,
+    part: &Partition<W, Q>,
     mark: &mut Flushed,
-) -> Result<Turn, StoreFault>
-    requires part { IsPartOf Q part.old.relseg (J.tells ≡ true) journal.old.pen part.old }
+    redo: Lsn,
+) -> Result<(), StoreFault>
+    requires part { IsPartOf Q part.now.relseg (J.tells ≡ true) journal.old.pen part.now }
     requires marked { mark.old.to.0 ≤ journal.old.wal.tail.flushed }
-    ensures turn { IfOk result (λ turn. turn.part ≡ Q) }
+    requires late { redo.0 ≤ history_end journal.old.pen }
     ensures wal { KeepsWal V.Vault journal.old journal.new }
     ensures marked { mark.new.to.0 ≤ journal.new.wal.tail.flushed }
-    ensures part { IsPartOf Q part.old.relseg (J.tells ≡ true) journal.new.pen part.new }
-    ensures later { part.old.faults ≤ part.new.faults }
-    ensures cause { IfErr result (WriteCause (Data Q) (V.faults journal.old.wal.area)
-        (V.faults journal.new.wal.area) part.old.faults part.new.faults) }
+    ensures reached { OnOk result (MayWriteAll part.now mark.new.to.0) }
+    ensures redo { OnOk result (redo.0 ≤ mark.new.to.0) }
+    ensures cause { IfErr result (AreaCause Wal (V.faults journal.old.wal.area)
+        (V.faults journal.new.wal.area)) }
 {
-    flush_next(alloc, journal, part, mark)?;
-    write_next(journal, part, mark)
+    let _tip = journal.tip();
+    if mark.to() <= redo {
+        return flush_whole(alloc, journal, mark);
+    }
+    match part.newest_lsn() {
+        Some(to) => flush_past(alloc, journal, mark, to),
+        None => Ok(()),
+    }
 }

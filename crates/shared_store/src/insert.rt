@@ -1,8 +1,7 @@
 //! Inserting a command into one partition.
 
-ghost use Rattle.std.specs.Prelude.{◌≡◌, ◌+◌, ◌<◌, ◌≤◌, true, [], ◌∷◌, ◌++◌, None, Some, IfOk, OnOk, OnErr, IfErr, length};
+ghost use Rattle.std.specs.Prelude.{◌≡◌, ◌+◌, ◌<◌, true, [], ◌∷◌, ◌++◌, None, Some, IfOk, OnOk, OnErr, IfErr, length, slice_set};
 ghost use Rattle.history.specs.Op.{act_of_op};
-ghost use Rattle.lsn_core.specs.declared.fault.StoreArea.TheVariants.{Data};
 ghost use Rattle.wal_record.specs.Spelling.{IsWritable};
 ghost use Rattle.wal_writer.specs.Answers.{AppendAnswer};
 ghost use Rattle.partitions.specs.Parts.{ConcernsNoOther};
@@ -12,14 +11,12 @@ ghost use Rattle.page_pool.specs.Room.{blocks_of, HasFrames};
 ghost use Rattle.page_pool.specs.Calls.{SameUnwritten, SameDisk};
 ghost use Rattle.shared_store.specs.Refusals.{judged_form, judged_itself, IsRefusedBehind};
 ghost use Rattle.shared_store.specs.Opened.{IsPartOf, AreCounts};
-ghost use Rattle.shared_store.specs.Calls.{IsReceipt, IsTaken, most_waiting};
-ghost use Rattle.shared_store.specs.Inside.{pages_behind, is_over, IsAdmitted, AddsOnly, IsNextOf};
-ghost use Rattle.shared_store.specs.Inside.{CommandCause, GrowsWal, NamesNoArea, written_end};
+ghost use Rattle.shared_store.specs.Calls.{IsReceipt, IsTaken};
+ghost use Rattle.shared_store.specs.Inside.{pages_behind, is_over, IsAdmitted, AddsOnly, IsNextOf, NamesNoArea};
 
-use crate::fault::{InsertFault, fault_at, insert_fault};
+use crate::fault::{InsertFault, fault_at};
 use crate::form::{judge_form, partition_of_op};
 use crate::receipt::Receipt;
-use crate::room::prepare;
 use history::Op;
 use journal::{HistoryEntry, Journal, OfStore, know_pages};
 use lsn_core::Place;
@@ -28,61 +25,15 @@ use std::alloc::Global;
 use timeline::Timeline;
 use vault::Vault;
 use wal_record::Record;
-use wal_writer::{AppendFault, Flushed};
+use wal_writer::AppendFault;
 
 /// The most pages of a store (profile).
 const MOST_PAGES: u64 = 65_536;
 
-/// Inserts a command of a worker that concerns this partition alone: makes room in the partition, the
-/// WAL flushed before, judges the command, appends its entry, changes the pages, and counts it. A
-/// refusal is the first one in order, but for an area that fails, and leaves history and pages as
-/// they are.
-pub(crate) fn insert_in<J: OfStore, V: Vault, W: Vault, const Q: u32>(
-    alloc: Global,
-    line: &Timeline<HistoryEntry, J>,
-    journal: &mut Journal<J, V>,
-    part: &mut Partition<W, Q>,
-    counts: &mut Vec<u64>,
-    mark: &mut Flushed,
-    worker: u32,
-    op: &Op,
-) -> Result<Receipt, InsertFault>
-    requires form { judged_form op.now ≡ None }
-    requires items { HasItems op.now }
-    requires alone { ConcernsNoOther Q (act_of_op op.now) }
-    requires part { IsPartOf Q part.old.relseg (J.tells ≡ true) journal.old.pen part.old }
-    requires counts { AreCounts counts.old.items journal.old.pen }
-    requires marked { mark.old.to.0 ≤ journal.old.wal.tail.flushed }
-    requires worker { worker < length counts.old.items }
-    ensures accepted { IfOk result (IsReceipt worker op.now journal.old.pen journal.new.pen) }
-    ensures taken { J.tells ≡ true
-        → IfOk result (IsTaken journal.old.wal.tail.mib op.now journal.old.pen) }
-    ensures few { OnOk result
-        (written_end journal.old ≤ journal.new.wal.tail.flushed + most_waiting) }
-    ensures before { journal.new.wal.tail.flushed ≤ written_end journal.old }
-    ensures refused { J.tells ≡ true
-        → IfErr result (IsRefusedBehind journal.old.wal.tail.mib journal.old.pen op.now) }
-    ensures same { OnErr result (journal.new.pen ≡ journal.old.pen) }
-    ensures cause { IfErr result (CommandCause (Data Q) (V.faults journal.old.wal.area)
-        (V.faults journal.new.wal.area) part.old.faults part.new.faults) }
-    ensures grows { GrowsWal V.Vault journal.old journal.new }
-    ensures next { OnOk result (IsNextOf op.now journal.old.pen journal.new.pen) }
-    ensures part { IsPartOf Q part.old.relseg (J.tells ≡ true) journal.new.pen part.new }
-    ensures later { part.old.faults ≤ part.new.faults }
-    ensures counts { AreCounts counts.new.items journal.new.pen }
-    ensures crew { length counts.new.items ≡ length counts.old.items }
-    ensures marked { mark.new.to.0 ≤ journal.new.wal.tail.flushed }
-{
-    journal.know();
-    let _tip = journal.tip();
-    if let Err(fault) = prepare(alloc, journal, part, mark, op) {
-        return Err(insert_fault(fault));
-    }
-    insert_prepared(alloc, line, journal, part, counts, worker, op)
-}
-
-/// The same, where room is made: a refusal changes nothing.
-fn insert_prepared<J: OfStore, V: Vault, W: Vault, const Q: u32>(
+/// Inserts a command of a worker that concerns this partition alone, where room is made for it:
+/// judges it, appends its entry, changes the pages, and counts it. A refusal is the first one in
+/// order, and changes nothing.
+pub(crate) fn insert_prepared<J: OfStore, V: Vault, W: Vault, const Q: u32>(
     alloc: Global,
     line: &Timeline<HistoryEntry, J>,
     journal: &mut Journal<J, V>,
@@ -111,6 +62,9 @@ fn insert_prepared<J: OfStore, V: Vault, W: Vault, const Q: u32>(
     ensures faults { part.new.faults ≡ part.old.faults }
     ensures counts { AreCounts counts.new.items journal.new.pen }
     ensures crew { length counts.new.items ≡ length counts.old.items }
+    ensures counted { IfOk result (λ r.
+        counts.new.items ≡ slice_set counts.old.items worker (r.seq + 1)) }
+    ensures uncounted { OnErr result (counts.new ≡ counts.old) }
 {
     let tip = journal.tip();
     let (ready, pages) = check_in(alloc, journal, part, op)?;

@@ -1,101 +1,83 @@
 //! What a worker owns of an open store.
 
-ghost use Rattle.std.specs.Prelude.{◌≡◌, ◌+◌, ◌<◌};
-ghost use mathlib.Core.List.{IsPrefix};
-ghost use Rattle.shared_store.specs.Seen.{StaysBy};
-ghost use Rattle.shared_store.specs.Inside.{HasOneMore};
+ghost use Rattle.std.specs.Prelude.{◌≡◌, ◌<◌, ◌≤◌, true, length};
+ghost use Rattle.journal.specs.Lawful.{IsLawful};
+ghost use Rattle.shared_store.specs.Seen.{accepted_by};
+ghost use Rattle.shared_store.specs.Locked.{RunsOn};
 
 use crate::naming::OfCrew;
-use journal::{HistoryEntry, Journal};
+use crate::standing::Knowing;
 use std::marker::Model;
-use timeline::{Note, Timeline};
-use vault::Vault;
+use std::sync::ledger::Share;
+use store_ledgers::AreaFaults;
 
-/// What a worker owns of an open store: its number, how many of its commands were accepted, and a
-/// note of what it has seen of the history. Contracts see a `Seen` of `specs/Seen.antt`.
+/// A worker's shares of the faults of the areas that have a lock of their own.
+#[derive(Drop)]
+pub(crate) struct FaultShares<J: OfCrew> {
+    pub(crate) data0: Share<AreaFaults<J, 0>>,
+    pub(crate) data1: Share<AreaFaults<J, 1>>,
+    pub(crate) data2: Share<AreaFaults<J, 2>>,
+    pub(crate) data3: Share<AreaFaults<J, 3>>,
+    pub(crate) sums: Share<AreaFaults<J, 5>>,
+}
+
+/// What a worker owns of an open store: its number, how many of its commands were accepted, what it
+/// has seen of the history, and how many faults of each area it was answered. `know` tells what holds
+/// of it at any time. Contracts see a `Seen` of `specs/Seen.antt`.
 #[derive(Drop)]
 pub struct Pass<J: OfCrew> {
-    worker: u32,
-    accepted: u64,
-    note: Note<HistoryEntry, J>,
+    pub(crate) own: Knowing<J>,
+    pub(crate) shares: FaultShares<J>,
 }
 
 impl<J: OfCrew> Model for Pass<J> {
-    ghost use Rattle.std.specs.Prelude.{◌<◌, ◌≤◌, length};
-    ghost use Rattle.shared_store.specs.Seen.{Seen, accepted_by};
+    ghost use Rattle.std.specs.Prelude.{◌≡◌};
+    ghost use Rattle.shared_store.specs.Seen.{Seen};
 
     ghost Value = { Seen };
 
     ghost view = { λ p. record {
-      worker = p.worker;
-      accepted = p.accepted;
-      list = p.note.list;
+      worker = p.own.worker;
+      accepted = p.own.accepted;
+      list = p.own.list;
+      faults = record {
+        wal = p.own.wal;
+        data0 = p.shares.data0.amount;
+        data1 = p.shares.data1.amount;
+        data2 = p.shares.data2.amount;
+        data3 = p.shares.data3.amount;
+        sums = p.shares.sums.amount;
+      };
     } };
 
-    ghost invariant = { λ p. (p.worker < J.workers)
-        × (p.accepted ≤ length (accepted_by p.worker p.note.list)) };
+    ghost invariant = { λ p. (p.shares.data0.parts ≡ 1) × (p.shares.data1.parts ≡ 1)
+        × (p.shares.data2.parts ≡ 1) × (p.shares.data3.parts ≡ 1) × (p.shares.sums.parts ≡ 1) };
 }
 
 impl<J: OfCrew> Pass<J> {
-    /// The pass of a worker, who has seen what the note knows, and of whose commands none was
-    /// accepted yet.
-    pub fn new(worker: u32, note: Note<HistoryEntry, J>) -> Pass<J>
-        requires { worker < J.workers }
-        ensures worker { result.worker ≡ worker }
-        ensures accepted { result.accepted ≡ 0 }
-        ensures list { result.list ≡ note.list }
-    {
-        Pass {
-            worker,
-            accepted: 0,
-            note,
-        }
-    }
-
     /// The worker's number, below the number of workers.
     pub fn worker(&self) -> u32
         ensures number { result ≡ self.now.worker }
         ensures below { result < J.workers }
     {
-        self.worker
+        self.own.worker()
     }
 
     /// How many of its commands were accepted.
     pub fn accepted(&self) -> u64
         ensures { result ≡ self.now.accepted }
     {
-        self.accepted
+        self.own.accepted()
     }
 
-    /// The pass knows the whole history afterwards, of which it knew a beginning.
-    pub(crate) fn meet<V: Vault>(
-        &mut self,
-        line: &Timeline<HistoryEntry, J>,
-        journal: &mut Journal<J, V>,
-    )
-        ensures same { journal.new ≡ journal.old }
-        ensures was { IsPrefix self.old.list journal.old.pen }
-        ensures seen { StaysBy self.old self.new }
-        ensures whole { self.new.list ≡ journal.old.pen }
-        ensures accepted { self.new.accepted ≡ self.old.accepted }
+    /// What is known of it at any time: what it has seen begins with what was found, goes on by
+    /// entries of this run, has its accepted commands, and is lawful where areas tell their files.
+    pub fn know(&self)
+        ensures worker { self.now.worker < J.workers }
+        ensures accepted { self.now.accepted ≤ length (accepted_by self.now.worker self.now.list) }
+        ensures grown { RunsOn J.found self.now.list }
+        ensures lawful { J.tells ≡ true → IsLawful J.settings.segment self.now.list }
     {
-        journal.meet(line, &mut self.note);
-    }
-
-    /// The same behind the entry of a command of its own, which it counts.
-    pub(crate) fn count<V: Vault>(
-        &mut self,
-        line: &Timeline<HistoryEntry, J>,
-        journal: &mut Journal<J, V>,
-    )
-        requires { HasOneMore self.old.worker self.old.list journal.old.pen }
-        ensures same { journal.new ≡ journal.old }
-        ensures seen { StaysBy self.old self.new }
-        ensures whole { self.new.list ≡ journal.old.pen }
-        ensures accepted { self.new.accepted ≡ self.old.accepted + 1 }
-    {
-        let _tip = journal.tip();
-        journal.meet(line, &mut self.note);
-        self.accepted += 1;
+        self.own.know();
     }
 }

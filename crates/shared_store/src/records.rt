@@ -1,14 +1,15 @@
 //! The records that the WAL of an open store has for its history, piece by piece.
 
-ghost use Rattle.std.specs.Prelude.{◌≡◌, true, IfOk, OnOk, IfErr};
+ghost use Rattle.std.specs.Prelude.{◌≡◌, ◌≤◌, true, IfOk, IfErr};
 ghost use Rattle.lsn_core.specs.declared.fault.StoreArea.TheVariants.{Wal};
+ghost use Rattle.journal.specs.Lawful.{IsLawful};
 ghost use Rattle.shared_store.specs.Seen.{StaysBy};
-ghost use Rattle.shared_store.specs.Opened.{IsLawfulOf, IsWalOf, StoreCause, wal_top};
-ghost use Rattle.shared_store.specs.Calls.{GoesOn};
+ghost use Rattle.shared_store.specs.Opened.{IsWalOf};
 ghost use Rattle.shared_store.specs.Records.{IsPlaceOf, ArePartOf, HasRecords, AreSome};
+ghost use Rattle.shared_store.specs.Locked.{IsOfWal};
+ghost use Rattle.shared_store.specs.Shared.{TakesFaults};
 ghost use Rattle.shared_store.specs.Inside.{AreaCause, KeepsWal, EndsAtDamage, written_end};
 
-use crate::fault::fault_of;
 use crate::flush::flush_whole;
 use crate::naming::OfCrew;
 use crate::pass::Pass;
@@ -16,10 +17,12 @@ use crate::store::Store;
 use journal::{Journal, OfStore};
 use lsn_core::{Lsn, Settings, StoreArea, StoreFault};
 use std::alloc::Global;
+use std::sync::Wait;
 use vault::Vault;
 use wal_pages::Layout;
 use wal_reader::WalFault;
 use wal_record::Record;
+use wal_writer::Flushed;
 
 impl<J: OfCrew, V: Vault> Store<J, V> {
     /// Flushes the WAL, and answers the first `most` records of it that start at a place or past it,
@@ -28,7 +31,8 @@ impl<J: OfCrew, V: Vault> Store<J, V> {
     /// fewer exactly where the WAL has no more for the history. Over areas that don't tell their
     /// files, a WAL that can't be read there is taken as ended.
     pub fn records(
-        &mut self,
+        &self,
+        rt: &impl Wait,
         alloc: Global,
         pass: &mut Pass<J>,
         from: Lsn,
@@ -36,68 +40,43 @@ impl<J: OfCrew, V: Vault> Store<J, V> {
     ) -> Result<Vec<Record>, StoreFault>
         requires { J.tells ≡ true → IsPlaceOf pass.old.list from.0 }
         ensures records { J.tells ≡ true
-            → IfOk result (λ v. HasRecords self.new from.0 most v.items) }
-        ensures some { IfOk result (λ v. AreSome self.new.settings.segment from.0 most v.items) }
-        ensures flushed { OnOk result (self.new.flushed ≡ wal_top self.new) }
-        ensures lawful { OnOk result (IsLawfulOf (J.tells ≡ true) self.new) }
-        ensures cause { IfErr result (StoreCause self.old.faults self.new.faults) }
-        ensures same { self.new.history ≡ self.old.history }
+            → IfOk result (λ v. HasRecords J.settings pass.new.list from.0 most v.items) }
+        ensures some { IfOk result (λ v. AreSome J.settings.segment from.0 most v.items) }
+        ensures lawful { J.tells ≡ true → IsLawful J.settings.segment pass.new.list }
+        ensures wal { IfErr result IsOfWal }
+        ensures faults { TakesFaults pass.old pass.new result }
         ensures seen { StaysBy pass.old pass.new }
-        ensures whole { pass.new.list ≡ self.new.history }
         ensures accepted { pass.new.accepted ≡ pass.old.accepted }
-        ensures goes_on { GoesOn self.old self.new }
-    {
-        pass.meet(&self.line, &mut self.journal);
-        let records = self.records_next(alloc, from, most);
-        self.know();
-        records
-    }
-
-    /// The same without a pass.
-    #[tactic(auto, using(crate::proofs::Goes::goes_on, crate::proofs::Rounds::cause_on))]
-    fn records_next(
-        &mut self,
-        alloc: Global,
-        from: Lsn,
-        most: u32,
-    ) -> Result<Vec<Record>, StoreFault>
-        requires { J.tells ≡ true → IsPlaceOf self.old.history from.0 }
-        ensures records { J.tells ≡ true
-            → IfOk result (λ v. HasRecords self.new from.0 most v.items) }
-        ensures some { IfOk result (λ v. AreSome self.new.settings.segment from.0 most v.items) }
-        ensures flushed { OnOk result (self.new.flushed ≡ wal_top self.new) }
-        ensures cause { IfErr result (StoreCause self.old.faults self.new.faults) }
-        ensures same { self.new.history ≡ self.old.history }
-        ensures goes_on { GoesOn self.old self.new }
-    {
-        self.flush_all(alloc)?;
-        self.read_next(alloc, from, most)
-    }
-
-    /// Flushes the WAL up to its end.
-    fn flush_all(&mut self, alloc: Global) -> Result<(), StoreFault>
-        ensures flushed { OnOk result (self.new.flushed ≡ wal_top self.new) }
-        ensures cause { IfErr result (StoreCause self.old.faults self.new.faults) }
-        ensures same { self.new.history ≡ self.old.history }
-        ensures goes_on { GoesOn self.old self.new }
-    {
-        flush_whole(alloc, &mut self.journal, &mut self.mark)
-    }
-
-    /// Reads the records of a WAL that is flushed up to its end.
-    fn read_next(&mut self, alloc: Global, from: Lsn, most: u32) -> Result<Vec<Record>, StoreFault>
-        requires flushed { self.old.flushed ≡ wal_top self.old }
-        requires place { J.tells ≡ true → IsPlaceOf self.old.history from.0 }
-        ensures records { J.tells ≡ true
-            → IfOk result (λ v. HasRecords self.new from.0 most v.items) }
-        ensures some { IfOk result (λ v. AreSome self.new.settings.segment from.0 most v.items) }
-        ensures flushed { self.new.flushed ≡ wal_top self.new }
-        ensures cause { IfErr result (StoreCause self.old.faults self.new.faults) }
-        ensures same { self.new.history ≡ self.old.history }
-        ensures goes_on { GoesOn self.old self.new }
     {
         let settings = self.settings;
-        read_behind(alloc, &mut self.journal, &settings, from, most)
+        self.desk
+            .lock(rt)
+            .records(alloc, &self.line, &mut pass.own, &settings, from, most)
+    }
+}
+
+/// Flushes the WAL up to its end, and reads the first records behind a place.
+pub(crate) fn read_whole<J: OfStore, V: Vault>(
+    alloc: Global,
+    journal: &mut Journal<J, V>,
+    mark: &mut Flushed,
+    settings: &Settings,
+    from: Lsn,
+    most: u32,
+) -> Result<Vec<Record>, StoreFault>
+    requires wal { IsWalOf V.Vault settings.now (J.tells ≡ true) journal.old.wal mark.old.to.0 }
+    requires place { J.tells ≡ true → IsPlaceOf journal.old.pen from.0 }
+    ensures records { J.tells ≡ true → IfOk result
+        (λ v. HasRecords settings.now journal.old.pen from.0 most v.items) }
+    ensures some { IfOk result (λ v. AreSome settings.now.segment from.0 most v.items) }
+    ensures wal { KeepsWal V.Vault journal.old journal.new }
+    ensures marked { mark.new.to.0 ≤ journal.new.wal.tail.flushed }
+    ensures cause { IfErr result (AreaCause Wal (V.faults journal.old.wal.area)
+        (V.faults journal.new.wal.area)) }
+{
+    match flush_whole(alloc, journal, mark) {
+        Ok(()) => read_behind(alloc, journal, settings, from, most),
+        Err(fault) => Err(fault),
     }
 }
 

@@ -1,109 +1,112 @@
-//! An open store.
+//! An open store, shared by reference between workers.
 
-ghost use Rattle.std.specs.Prelude.{◌≡◌, ◌+◌, ◌<◌, ◌≤◌, true, IfOk, OnOk, OnErr, IfErr, IsSome};
+ghost use Rattle.std.specs.Prelude.{◌≡◌, ◌+◌, ◌<◌, ◌≤◌, ◌⊎◌, true, None, IfOk, OnOk, OnErr, IfErr};
+ghost use mathlib.Core.List.{IsPrefix};
+ghost use Rattle.lsn_core.specs.declared.fault.StoreArea.TheVariants.{Sums};
+ghost use Rattle.history.specs.Op.{act_of_op};
+ghost use Rattle.partitions.specs.Parts.{ConcernsNoOther};
+ghost use Rattle.page_pool.specs.Ready.{HasItems};
 ghost use Rattle.journal.specs.Journal.{IsEndOf};
-ghost use Rattle.wal_record.specs.Tips.{wal_limit};
-ghost use Rattle.shared_store.specs.Seen.{StaysBy};
-ghost use Rattle.shared_store.specs.Refusals.{IsRefusedBehind, judged_itself};
-ghost use Rattle.shared_store.specs.Opened.{IsOpen, IsLawfulOf, StoreCause, opened_of, wal_top};
-ghost use Rattle.shared_store.specs.Calls.{GoesOn, InsertCause, IsReceipt, IsTaken, most_waiting};
+ghost use Rattle.journal.specs.Lawful.{IsLawful};
+ghost use Rattle.shared_store.specs.Copied.{HasRedoPoint, ListsPart, CopiesBlock};
+ghost use Rattle.fuzzy_copies.specs.Taken.{IsBlockCopied};
+ghost use Rattle.shared_store.specs.Seen.{StaysBy, with_fault};
+ghost use Rattle.shared_store.specs.Locked.{RunsOn};
+ghost use Rattle.shared_store.specs.Refusals.{IsRefusedBehind, judged_form};
+ghost use Rattle.shared_store.specs.Inside.{NamesNoArea};
+ghost use Rattle.shared_store.specs.Shared.{TakesFaults, TakesInsertFault, InsertAnswer};
 
+use crate::crew::Undealt;
+use crate::desk::Desk;
 use crate::fault::InsertFault;
-use crate::flush::{flush, write_in};
-use crate::insert::{insert_in, partition_for};
+use crate::held::HeldPart;
+use crate::locking::{copy_with, insert_with, list_with, write_with};
 use crate::naming::OfCrew;
 use crate::pass::Pass;
 use crate::receipt::Receipt;
 use data_areas::BoxedArea;
 use history::Op;
-use journal::{HistoryEntry, Journal};
-use lsn_core::{Lsn, Settings, StoreFault};
-use page_pool::{Partition, Turn};
+use journal::HistoryEntry;
+use lsn_core::{BlockId, ForkLen, Lsn, Settings, StoreFault};
+use page_pool::Turn;
+use partitions::partition_of;
 use std::alloc::Global;
-use std::marker::Model;
-use timeline::Timeline;
+use std::sync::ledger::Book;
+use std::sync::{Mutex, Wait};
+use store_ledgers::AreaFaults;
+use timeline::{Note, Timeline};
 use vault::Vault;
 use wal_writer::Flushed;
 
-/// An open store: its WAL with the history, and its pages in four partitions. Contracts see an
-/// `Opened` of `specs/Opened.antt`.
+/// An open store: its WAL with the history under one lock, and its pages in four partitions, each
+/// under a lock of its own. A partition's lock is taken before the WAL's, and nobody holds two
+/// partitions' locks.
 #[derive(Drop)]
 pub struct Store<J: OfCrew, V: Vault> {
     pub(crate) line: Timeline<HistoryEntry, J>,
-    pub(crate) journal: Journal<J, V>,
-    pub(crate) part0: Partition<BoxedArea<V>, 0>,
-    pub(crate) part1: Partition<BoxedArea<V>, 1>,
-    pub(crate) part2: Partition<BoxedArea<V>, 2>,
-    pub(crate) part3: Partition<BoxedArea<V>, 3>,
+    pub(crate) desk: Mutex<Desk<J, BoxedArea<V>>>,
+    pub(crate) part0: Mutex<HeldPart<J, BoxedArea<V>, 0>>,
+    pub(crate) part1: Mutex<HeldPart<J, BoxedArea<V>, 1>>,
+    pub(crate) part2: Mutex<HeldPart<J, BoxedArea<V>, 2>>,
+    pub(crate) part3: Mutex<HeldPart<J, BoxedArea<V>, 3>>,
     pub(crate) settings: Settings,
-    /// How many commands of each worker were accepted.
-    counts: Vec<u64>,
-    /// The latest place up to which the WAL was flushed.
-    pub(crate) mark: Flushed,
-}
-
-impl<J: OfCrew, V: Vault> Model for Store<J, V> {
-    ghost use Rattle.std.specs.Prelude.{◌≡◌, true};
-    ghost use Rattle.shared_store.specs.Opened.{Opened, IsOpen, opened_of};
-    ghost use Rattle.shared_store.specs.OpenedCode.{opened_code};
-
-    ghost Value = { Opened };
-
-    ghost coded = { opened_code };
-
-    ghost view = { λ s. opened_of V.Vault s.settings s.journal s.part0 s.part1 s.part2 s.part3 };
-
-    ghost invariant = { λ s. IsOpen V.Vault s.settings (J.tells ≡ true) J.workers s.journal
-        s.part0 s.part1 s.part2 s.part3 s.counts.items s.mark.to.0 };
+    /// What is left of the workers' shares. Nobody locks it before the store is closed.
+    pub(crate) rest: Mutex<Undealt<J>>,
+    ghost settings_are: { settings ≡ J.settings },
 }
 
 impl<J: OfCrew, V: Vault> Store<J, V> {
-    /// The store of these parts: partitions that follow the history which the journal tells, and
-    /// the numbers of the workers' accepted commands.
-    pub fn new(
-        line: Timeline<HistoryEntry, J>,
-        journal: Journal<J, V>,
-        part0: Partition<BoxedArea<V>, 0>,
-        part1: Partition<BoxedArea<V>, 1>,
-        part2: Partition<BoxedArea<V>, 2>,
-        part3: Partition<BoxedArea<V>, 3>,
-        settings: Settings,
-        counts: Vec<u64>,
-        mark: Flushed,
-    ) -> Store<J, V>
-        requires { IsOpen V.Vault settings (J.tells ≡ true) J.workers journal
-            part0 part1 part2 part3 counts.items mark.to.0 }
-        ensures { result ≡ opened_of V.Vault settings journal part0 part1 part2 part3 }
-    {
-        Store {
-            line,
-            journal,
-            part0,
-            part1,
-            part2,
-            part3,
-            settings,
-            counts,
-            mark,
-        }
-    }
-
     /// The settings.
     pub fn settings(&self) -> Settings
-        ensures { result ≡ self.now.settings }
+        ensures { result ≡ J.settings }
     {
         self.settings
     }
 
-    /// Where its areas tell their files, a store's history is lawful; no more is flushed than its WAL
-    /// has, and that ends within its room.
-    pub fn know(&self)
-        ensures lawful { IsLawfulOf (J.tells ≡ true) self.now }
-        ensures within { self.now.flushed ≤ wal_top self.now }
-        ensures room { wal_top self.now ≤ wal_limit self.now.settings.segment }
+    /// The word by which notes of the history are split and joined.
+    pub fn line(&self) -> &Timeline<HistoryEntry, J> {
+        &self.line
+    }
+
+    /// A note of what the pass has seen.
+    pub fn seen(&self, pass: &mut Pass<J>) -> Note<HistoryEntry, J>
+        ensures list { result.list ≡ pass.old.list }
+        ensures same { pass.new ≡ pass.old }
     {
-        self.journal.know();
-        let _tip = self.journal.tip();
+        pass.own.seen(&self.line)
+    }
+
+    /// The pass sees what a note knows too: the longer of the two beginnings of the history.
+    pub fn learn(&self, pass: &mut Pass<J>, note: Note<HistoryEntry, J>)
+        requires grown { RunsOn J.found note.list }
+        requires lawful { J.tells ≡ true → IsLawful J.settings.segment note.list }
+        ensures one { (pass.new.list ≡ pass.old.list) ⊎ (pass.new.list ≡ note.list) }
+        ensures that { IsPrefix note.list pass.new.list }
+        ensures seen { StaysBy pass.old pass.new }
+        ensures accepted { pass.new.accepted ≡ pass.old.accepted }
+        ensures faults { pass.new.faults ≡ pass.old.faults }
+        ensures lawful { J.tells ≡ true → IsLawful J.settings.segment pass.new.list }
+    {
+        pass.own.learn(&self.line, note);
+        pass.own.know();
+    }
+
+    /// Books a fault of the area of the summaries, which the pass was answered.
+    pub fn failed(&self, pass: &mut Pass<J>, book: &mut Book<AreaFaults<J, 5>>)
+        ensures pass { pass.new ≡ record pass.old { faults = with_fault Sums pass.old.faults } }
+        ensures book { book.new.total ≡ book.old.total + 1 }
+    {
+        book.add(&mut pass.shares.sums, 1);
+    }
+
+    /// The pass sees the whole history, as it is then.
+    pub fn look(&self, rt: &impl Wait, pass: &mut Pass<J>)
+        ensures seen { StaysBy pass.old pass.new }
+        ensures accepted { pass.new.accepted ≡ pass.old.accepted }
+        ensures faults { pass.new.faults ≡ pass.old.faults }
+        ensures lawful { J.tells ≡ true → IsLawful J.settings.segment pass.new.list }
+    {
+        self.desk.lock(rt).look(&self.line, &mut pass.own);
     }
 
     /// Inserts a command: judges its form and what it shows by itself, makes room for its pages in
@@ -113,138 +116,314 @@ impl<J: OfCrew, V: Vault> Store<J, V> {
     /// is the first one in order, but for an area that fails, and leaves history and pages as they
     /// are; one that a command shows by itself changes nothing.
     pub fn insert(
-        &mut self,
+        &self,
+        rt: &impl Wait,
         alloc: Global,
         pass: &mut Pass<J>,
         op: &Op,
     ) -> Result<Receipt, InsertFault>
-        ensures accepted { IfOk result
-            (IsReceipt pass.old.worker op.now self.old.history self.new.history) }
-        ensures taken { J.tells ≡ true
-            → IfOk result (IsTaken self.old.settings.segment op.now self.old.history) }
-        ensures lawful { OnOk result (IsLawfulOf (J.tells ≡ true) self.new) }
-        ensures few { OnOk result (wal_top self.old ≤ self.new.flushed + most_waiting) }
-        ensures before { self.new.flushed ≤ wal_top self.old }
-        ensures same { OnErr result (self.new.history ≡ self.old.history) }
-        ensures itself { IsSome (judged_itself op.now) → self.new ≡ self.old }
-        ensures refused { J.tells ≡ true → IfErr result
-            (IsRefusedBehind self.old.settings.segment self.new.history op.now) }
+        ensures answer { InsertAnswer (J.tells ≡ true) J.settings.segment op.now pass.old pass.new
+            result }
+        ensures lawful { J.tells ≡ true → IsLawful J.settings.segment pass.new.list }
         ensures seen { StaysBy pass.old pass.new }
-        ensures whole { pass.new.list ≡ self.new.history }
-        ensures counted { OnOk result (pass.new.accepted ≡ pass.old.accepted + 1) }
-        ensures uncounted { OnErr result (pass.new.accepted ≡ pass.old.accepted) }
-        ensures cause { IfErr result (InsertCause self.old.faults self.new.faults) }
-        ensures goes_on { GoesOn self.old self.new }
+        ensures faults { TakesInsertFault pass.old pass.new result }
     {
-        pass.meet(&self.line, &mut self.journal);
-        let receipt = self.insert_next(alloc, pass.worker(), op)?;
-        pass.count(&self.line, &mut self.journal);
-        self.know();
-        Ok(receipt)
-    }
-
-    /// The same as a worker of this number.
-    fn insert_next(&mut self, alloc: Global, worker: u32, op: &Op) -> Result<Receipt, InsertFault>
-        requires { worker < J.workers }
-        ensures accepted { IfOk result
-            (IsReceipt worker op.now self.old.history self.new.history) }
-        ensures taken { J.tells ≡ true
-            → IfOk result (IsTaken self.old.settings.segment op.now self.old.history) }
-        ensures few { OnOk result (wal_top self.old ≤ self.new.flushed + most_waiting) }
-        ensures before { self.new.flushed ≤ wal_top self.old }
-        ensures same { OnErr result (self.new.history ≡ self.old.history) }
-        ensures itself { IsSome (judged_itself op.now) → self.new ≡ self.old }
-        ensures refused { J.tells ≡ true → IfErr result
-            (IsRefusedBehind self.old.settings.segment self.old.history op.now) }
-        ensures cause { IfErr result (InsertCause self.old.faults self.new.faults) }
-        ensures goes_on { GoesOn self.old self.new }
-    {
-        let _tip = self.journal.tip();
-        let q = partition_for(&self.journal, op)?;
-        let line = &self.line;
-        let log = &mut self.journal;
-        let counts = &mut self.counts;
-        let mark = &mut self.mark;
-        match q {
-            0 => insert_in(alloc, line, log, &mut self.part0, counts, mark, worker, op),
-            1 => insert_in(alloc, line, log, &mut self.part1, counts, mark, worker, op),
-            2 => insert_in(alloc, line, log, &mut self.part2, counts, mark, worker, op),
-            _ => insert_in(alloc, line, log, &mut self.part3, counts, mark, worker, op),
+        match self.admit(rt, pass, op) {
+            Ok(q) => self.insert_into(rt, alloc, pass, q, op),
+            Err(fault) => Err(fault),
         }
     }
 
-    /// The pass sees the whole history.
-    pub fn look(&mut self, pass: &mut Pass<J>)
-        ensures same { self.new ≡ self.old }
+    /// Judges a command by its form and what it shows by itself, behind all that the pass sees then.
+    fn admit(&self, rt: &impl Wait, pass: &mut Pass<J>, op: &Op) -> Result<u32, InsertFault>
+        ensures below { IfOk result (λ q. q < 4) }
+        ensures form { OnOk result (judged_form op.now ≡ None) }
+        ensures items { OnOk result (HasItems op.now) }
+        ensures alone { IfOk result (λ q. ConcernsNoOther q (act_of_op op.now)) }
+        ensures refused { J.tells ≡ true
+            → IfErr result (IsRefusedBehind J.settings.segment pass.new.list op.now) }
+        ensures named { IfErr result NamesNoArea }
+        ensures lawful { J.tells ≡ true → IsLawful J.settings.segment pass.new.list }
         ensures seen { StaysBy pass.old pass.new }
-        ensures whole { pass.new.list ≡ self.new.history }
         ensures accepted { pass.new.accepted ≡ pass.old.accepted }
+        ensures faults { pass.new.faults ≡ pass.old.faults }
     {
-        pass.meet(&self.line, &mut self.journal);
+        self.desk.lock(rt).admit(&self.line, &mut pass.own, op)
+    }
+
+    /// Inserts a command of good form into the partition that it concerns.
+    fn insert_into(
+        &self,
+        rt: &impl Wait,
+        alloc: Global,
+        pass: &mut Pass<J>,
+        q: u32,
+        op: &Op,
+    ) -> Result<Receipt, InsertFault>
+        requires number { q < 4 }
+        requires form { judged_form op.now ≡ None }
+        requires items { HasItems op.now }
+        requires alone { ConcernsNoOther q (act_of_op op.now) }
+        ensures answer { InsertAnswer (J.tells ≡ true) J.settings.segment op.now pass.old pass.new
+            result }
+        ensures lawful { J.tells ≡ true → IsLawful J.settings.segment pass.new.list }
+        ensures seen { StaysBy pass.old pass.new }
+        ensures faults { TakesInsertFault pass.old pass.new result }
+    {
+        let Pass { own, shares } = pass;
+        let (line, desk) = (&self.line, &self.desk);
+        match q {
+            0 => insert_with(
+                rt,
+                alloc,
+                line,
+                desk,
+                &self.part0,
+                own,
+                &mut shares.data0,
+                op,
+            ),
+            1 => insert_with(
+                rt,
+                alloc,
+                line,
+                desk,
+                &self.part1,
+                own,
+                &mut shares.data1,
+                op,
+            ),
+            2 => insert_with(
+                rt,
+                alloc,
+                line,
+                desk,
+                &self.part2,
+                own,
+                &mut shares.data2,
+                op,
+            ),
+            _ => insert_with(
+                rt,
+                alloc,
+                line,
+                desk,
+                &self.part3,
+                own,
+                &mut shares.data3,
+                op,
+            ),
+        }
     }
 
     /// Flushes the WAL up to where an entry ends that the pass has seen.
     pub fn flush_wal(
-        &mut self,
+        &self,
+        rt: &impl Wait,
         alloc: Global,
         pass: &mut Pass<J>,
         to: Lsn,
     ) -> Result<Flushed, StoreFault>
         requires { IsEndOf pass.old.list to.0 }
-        ensures flushed { IfOk result (λ mark.
-            (to.0 ≤ mark.to.0) × (mark.to.0 ≤ self.new.flushed)) }
-        ensures lawful { OnOk result (IsLawfulOf (J.tells ≡ true) self.new) }
-        ensures cause { IfErr result (StoreCause self.old.faults self.new.faults) }
-        ensures same { self.new.history ≡ self.old.history }
+        ensures flushed { IfOk result (λ mark. to.0 ≤ mark.to.0) }
+        ensures lawful { J.tells ≡ true → IsLawful J.settings.segment pass.new.list }
+        ensures faults { TakesFaults pass.old pass.new result }
         ensures seen { StaysBy pass.old pass.new }
-        ensures whole { pass.new.list ≡ self.new.history }
         ensures accepted { pass.new.accepted ≡ pass.old.accepted }
-        ensures goes_on { GoesOn self.old self.new }
     {
-        pass.meet(&self.line, &mut self.journal);
-        flush(alloc, &mut self.journal, &mut self.mark, to)?;
-        self.know();
-        Ok(self.mark)
+        self.desk
+            .lock(rt)
+            .flush_seen(alloc, &self.line, &mut pass.own, to)
     }
 
     /// Writes one page, creation or cut of a partition to its area, the WAL flushed first.
     pub fn write_page(
-        &mut self,
+        &self,
+        rt: &impl Wait,
         alloc: Global,
         pass: &mut Pass<J>,
         q: u32,
     ) -> Result<Turn, StoreFault>
         requires { q < 4 }
         ensures part { IfOk result (λ turn. turn.part ≡ q) }
-        ensures lawful { OnOk result (IsLawfulOf (J.tells ≡ true) self.new) }
-        ensures cause { IfErr result (StoreCause self.old.faults self.new.faults) }
-        ensures same { self.new.history ≡ self.old.history }
+        ensures lawful { J.tells ≡ true → IsLawful J.settings.segment pass.new.list }
+        ensures faults { TakesFaults pass.old pass.new result }
         ensures seen { StaysBy pass.old pass.new }
-        ensures whole { pass.new.list ≡ self.new.history }
         ensures accepted { pass.new.accepted ≡ pass.old.accepted }
-        ensures goes_on { GoesOn self.old self.new }
     {
-        pass.meet(&self.line, &mut self.journal);
-        let written = self.write_next(alloc, q);
-        self.know();
-        written
+        let Pass { own, shares } = pass;
+        let (line, desk) = (&self.line, &self.desk);
+        match q {
+            0 => write_with(rt, alloc, line, desk, &self.part0, own, &mut shares.data0),
+            1 => write_with(rt, alloc, line, desk, &self.part1, own, &mut shares.data1),
+            2 => write_with(rt, alloc, line, desk, &self.part2, own, &mut shares.data2),
+            _ => write_with(rt, alloc, line, desk, &self.part3, own, &mut shares.data3),
+        }
     }
 
-    /// Writes one page, creation or cut of a partition to its area, the WAL flushed first.
-    fn write_next(&mut self, alloc: Global, q: u32) -> Result<Turn, StoreFault>
-        requires { q < 4 }
-        ensures part { IfOk result (λ turn. turn.part ≡ q) }
-        ensures cause { IfErr result (StoreCause self.old.faults self.new.faults) }
-        ensures same { self.new.history ≡ self.old.history }
-        ensures goes_on { GoesOn self.old self.new }
+    /// Lists the forks of a partition with the numbers of their blocks, as of a redo point that the
+    /// pass has seen: what an entry since then touches, cuts or creates may be listed or not. All
+    /// that is dirty or pending in the partition is written first, unless that was done since the
+    /// redo point.
+    pub fn forks_of(
+        &self,
+        rt: &impl Wait,
+        alloc: Global,
+        pass: &mut Pass<J>,
+        q: u32,
+        from: Lsn,
+    ) -> Result<Vec<ForkLen>, StoreFault>
+        requires number { q < 4 }
+        requires redo { HasRedoPoint pass.old.list from.0 }
+        ensures list { J.tells ≡ true
+            → IfOk result (λ list. ListsPart q pass.new.list from.0 list.items) }
+        ensures lawful { J.tells ≡ true → IsLawful J.settings.segment pass.new.list }
+        ensures faults { TakesFaults pass.old pass.new result }
+        ensures seen { StaysBy pass.old pass.new }
+        ensures accepted { pass.new.accepted ≡ pass.old.accepted }
     {
-        let journal = &mut self.journal;
-        let mark = &mut self.mark;
+        let Pass { own, shares } = pass;
+        let (line, desk) = (&self.line, &self.desk);
         match q {
-            0 => write_in(alloc, journal, &mut self.part0, mark),
-            1 => write_in(alloc, journal, &mut self.part1, mark),
-            2 => write_in(alloc, journal, &mut self.part2, mark),
-            _ => write_in(alloc, journal, &mut self.part3, mark),
+            0 => list_with(
+                rt,
+                alloc,
+                line,
+                desk,
+                &self.part0,
+                own,
+                &mut shares.data0,
+                from,
+            ),
+            1 => list_with(
+                rt,
+                alloc,
+                line,
+                desk,
+                &self.part1,
+                own,
+                &mut shares.data1,
+                from,
+            ),
+            2 => list_with(
+                rt,
+                alloc,
+                line,
+                desk,
+                &self.part2,
+                own,
+                &mut shares.data2,
+                from,
+            ),
+            _ => list_with(
+                rt,
+                alloc,
+                line,
+                desk,
+                &self.part3,
+                own,
+                &mut shares.data3,
+                from,
+            ),
+        }
+    }
+
+    /// Copies a block as of a redo point that the pass has seen: where an entry since then touches
+    /// or cuts the block, it may be any. All that is dirty or pending in its partition is written
+    /// first, unless that was done since the redo point. False where the area has no such block;
+    /// `into` is then as before, and so it is after a fault.
+    pub fn copy_block(
+        &self,
+        rt: &impl Wait,
+        alloc: Global,
+        pass: &mut Pass<J>,
+        at: BlockId,
+        from: Lsn,
+        into: &mut [u8; 8192],
+    ) -> Result<bool, StoreFault>
+        requires redo { HasRedoPoint pass.old.list from.0 }
+        ensures copied { J.tells ≡ true
+            → IfOk result (CopiesBlock pass.new.list from.0 at into.old into.new) }
+        ensures kept { OnErr result (into.new ≡ into.old) }
+        ensures lawful { J.tells ≡ true → IsLawful J.settings.segment pass.new.list }
+        ensures faults { TakesFaults pass.old pass.new result }
+        ensures seen { StaysBy pass.old pass.new }
+        ensures accepted { pass.new.accepted ≡ pass.old.accepted }
+    {
+        match self.copy_page(rt, alloc, pass, &at, from) {
+            Ok(Some(page)) => {
+                *into = page;
+                Ok(true)
+            }
+            Ok(None) => Ok(false),
+            Err(fault) => Err(fault),
+        }
+    }
+
+    /// The same: the page, where it is there.
+    fn copy_page(
+        &self,
+        rt: &impl Wait,
+        alloc: Global,
+        pass: &mut Pass<J>,
+        at: &BlockId,
+        from: Lsn,
+    ) -> Result<Option<[u8; 8192]>, StoreFault>
+        requires redo { HasRedoPoint pass.old.list from.0 }
+        ensures copied { J.tells ≡ true
+            → IfOk result (IsBlockCopied pass.new.list from.0 at.now.fork at.now.block) }
+        ensures lawful { J.tells ≡ true → IsLawful J.settings.segment pass.new.list }
+        ensures faults { TakesFaults pass.old pass.new result }
+        ensures seen { StaysBy pass.old pass.new }
+        ensures accepted { pass.new.accepted ≡ pass.old.accepted }
+    {
+        let Pass { own, shares } = pass;
+        let (line, desk) = (&self.line, &self.desk);
+        match partition_of(at.fork.rel) {
+            0 => copy_with(
+                rt,
+                alloc,
+                line,
+                desk,
+                &self.part0,
+                own,
+                &mut shares.data0,
+                from,
+                at,
+            ),
+            1 => copy_with(
+                rt,
+                alloc,
+                line,
+                desk,
+                &self.part1,
+                own,
+                &mut shares.data1,
+                from,
+                at,
+            ),
+            2 => copy_with(
+                rt,
+                alloc,
+                line,
+                desk,
+                &self.part2,
+                own,
+                &mut shares.data2,
+                from,
+                at,
+            ),
+            _ => copy_with(
+                rt,
+                alloc,
+                line,
+                desk,
+                &self.part3,
+                own,
+                &mut shares.data3,
+                from,
+                at,
+            ),
         }
     }
 }

@@ -1,5 +1,6 @@
-use Rattle.std.proofs.Common.{◌≡◌, replicate}
+use Rattle.std.proofs.Common.{◌≡◌, ◌-◌, replicate}
 use Rattle.shared_store.specs.Begin.{fresh_passes}
+use Rattle.shared_store.specs.Locked.{empty_shares}
 use Rattle.shared_store.proofs.crew.enlist.Given as goal
 
 -- the first workers are there
@@ -8,4 +9,5 @@ invariant-loop-worker g l = record {
   passes : l.passes.items ≡ fresh_passes l.worker l.fn.pen;
   counts : l.counts.items ≡ replicate l.worker 0;
   same : l.pen ≡ l.fn.pen;
+  left : l.pool ≡ empty_shares (l.workers - l.worker);
 }

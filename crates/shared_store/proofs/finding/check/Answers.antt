@@ -3,7 +3,7 @@ use Rattle.std.proofs.Common.{◌≡◌, [], IfSome, refl, sym, ap, subst, ◌�
 use Rattle.lsn_core.specs.Tip.{Tip}
 use Rattle.wal_record.specs.Tips.{first_tip}
 use Rattle.wal_reader.specs.Wal.{IsWal}
-use Rattle.shared_store.proofs.Found.{none_in}
+use Rattle.shared_store.proofs.Readings.{none_in}
 use Rattle.vault.proofs.Through.{adds_none}
 use Rattle.shared_store.specs.Moments.{IsSync}
 use Rattle.shared_store.proofs.Moments.{synced_between}

@@ -1,5 +1,4 @@
 use Rattle.shared_store.proofs.Pieces.{ends_at_entries, places_stay}
-use Rattle.shared_store.proofs.Staying.{records_stay}
 use Rattle.shared_store.proofs.laws.records_go_on.Goals as goal
 
 pub returns-clause-end : goal.returns-clause-end
@@ -7,6 +6,3 @@ returns-clause-end c = ends_at_entries
 
 pub returns-clause-stays : goal.returns-clause-stays
 returns-clause-stays c = places_stay
-
-pub returns-clause-kept : goal.returns-clause-kept
-returns-clause-kept c = records_stay
