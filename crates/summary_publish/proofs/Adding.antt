@@ -1,5 +1,6 @@
 -- Summaries that are published one behind the other.
-use Rattle.std.proofs.Common.{◌≡◌, Err, ℕ, ◌+◌, IfSome, List, [], ◌∷◌, ◌++◌, Option, Some, None, option_map, refl, sym, ap, subst, ◌∙◌, arith, length-append}
+use Rattle.std.proofs.Common.{◌≡◌, Result, Ok, Err, IfOk, IfErr, ℕ, ◌+◌, IfSome, List, [], ◌∷◌, ◌++◌, Option, Some, None, option_map, refl, sym, ap, subst, ◌∙◌, arith, length-append}
+use Rattle.std.proofs.lemmas.List.{append-nil}
 use Rattle.std.specs.List.{AllByRecursion}
 use Rattle.lsn_core.specs.Files.{Files}
 use Rattle.vault.specs.declared.area.Vault.{Ghosts}
@@ -10,17 +11,23 @@ use Rattle.wal_summary.specs.declared.kept.CoverFault.{CoverFault}
 use Rattle.wal_summary.specs.declared.kept.CoverFault.TheVariants as cover
 use Rattle.wal_summary.specs.Kept.{CoverAnswers, IsGap}
 use Rattle.summary_publish.specs.declared.advancing.AdvanceFault.{AdvanceFault}
-use Rattle.vault.specs.Frame.{IsDurable, OnlyReads}
+use Rattle.vault.specs.Frame.{OnlyReads, IsDurable}
 use Rattle.summary_store.specs.Kept.{AreKept, end_behind}
-use Rattle.timeline.proofs.Prefixes.{prefix_trans}
-use Rattle.shared_store.specs.Seen.{Seen}
-use Rattle.shared_store.specs.Opened.{Opened}
-use Rattle.shared_store.proofs.Goes.{goes_on}
+use Rattle.summary_publish.proofs.Later.{prefix_trans}
+use Rattle.fuzzy_copies.specs.Orderly.{IsOrderly}
+use mathlib.Core.List.{IsPrefix}
+use Rattle.lsn_core.specs.declared.fault.StoreFault.{StoreFault}
+use Rattle.shared_store.specs.Locked.{IsOfWal}
+use Rattle.shared_store.specs.Shared.{TakesFaults}
+use Rattle.shared_store.specs.Seen.{Seen, Booked, share_of, SharesStay}
+use Rattle.shared_store.proofs.Booked.{shares_on}
+use Rattle.summary_publish.specs.Published.{LooksOn, ReadTakes}
+use Rattle.summary_publish.proofs.Later.{next_on, are_next_on}
 use Rattle.summary_publish.specs.Entries.{first_start, next_redo}
-use Rattle.summary_publish.specs.Published.{OnlyReadsHistory, IsNext, AreNext, IsWhole, ArePublished, Advances, AdvancesTo, AdvanceAnswers, with_file, with_files}
+use Rattle.summary_publish.specs.Published.{IsNext, AreNext, IsWhole, ArePublished, KeepsUpTo, Advances, AdvancesTo, AdvanceAnswers, with_file, with_files}
 use Rattle.summary_publish.specs.Inside.{cover_fault, Publishes, PublishesNext, PublishesTo}
 
-end_append : (low : ℕ) (xs ys : List Summary) → end_behind low (xs ++ ys) ≡ end_behind (end_behind low xs) ys
+pub end_append : (low : ℕ) (xs ys : List Summary) → end_behind low (xs ++ ys) ≡ end_behind (end_behind low xs) ys
 end_append low [] ys = refl
 end_append low (x ∷ xs) ys = end_append x.end.0 xs ys
 
@@ -47,8 +54,9 @@ whole_append (x ∷ xs) s all is = (all.0, whole_append xs s all.1 is)
 pub to_none : {V : Type 0} (g : Ghosts V) (told : Type 0) (h : List Entry) (from made : ℕ) (area : V) → PublishesTo g told h from made area area from 0
 to_none g told h from made area = record { sums = []; next = λ t. tt; whole = tt; ends = refl; counted = refl; fits = omega arith; files = files_none (g.files area) }
 
-pub to_next : {V : Type 0} (g : Ghosts V) (told : Type 0) (h now : List Entry) (from made : ℕ) (old mid new : V) (at count : ℕ) (end : Lsn) → PublishesTo g told h from made old mid at count → now ≡ h → PublishesNext g told now at made mid new (Some end) → PublishesTo g told h from made old new end.0 (count + 1)
-to_next g told h now from made old mid new at count end to same next =
+pub to_next : {V : Type 0} (g : Ghosts V) (told : Type 0) (h now : List Entry) (from made : ℕ) (old mid new : V) (at count : ℕ) (end : Lsn) → PublishesTo g told h from made old mid at count → IsPrefix h now → (told → IsOrderly 0 now) → PublishesNext g told now at made mid new (Some end)
+    → PublishesTo g told now from made old new end.0 (count + 1)
+to_next g told h now from made old mid new at count end to prefix order next =
     let s = next.0 in
     let ends : s.end.0 ≡ end.0 = ap (λ (x : Lsn). x.0) next.1 in
     let up = next.2 in
@@ -57,8 +65,7 @@ to_next g told h now from made old mid new at count end to same next =
     let long = length-append to.sums (s ∷ []) in
     record {
       sums = to.sums ++ (s ∷ []);
-      next = λ t. next_append h made from to.sums s (to.next t)
-          (subst (λ (x : ℕ). IsNext h made x s) to.ends (subst (λ (x : List Entry). IsNext x made at s) same (next.3 t)));
+      next = λ t. next_append now made from to.sums s (are_next_on h now made from to.sums prefix (order t) (to.next t)) (subst (λ (x : ℕ). IsNext now made x s) to.ends (next.3 t));
       whole = whole_append to.sums s to.whole next.4;
       ends = sym ends ∙ sym (end_append from to.sums (s ∷ []));
       counted = omega (arith, n, long);
@@ -66,38 +73,51 @@ to_next g told h now from made old mid new at count end to same next =
       files = next.5 ∙ ap (option_map (with_file s)) to.files ∙ files_more to.sums s (g.files old);
     }
 
--- reading behind reading
-pub fed_on : (old mid new : Opened) (p q r : Seen) → OnlyReadsHistory old mid p q → OnlyReadsHistory mid new q r → OnlyReadsHistory old new p r
-fed_on old mid new p q r one two = record {
-  same = two.same ∙ one.same;
-  seen = two.seen ∙ one.same;
-  goes_on = goes_on old mid new one.goes_on two.goes_on;
-  stays = record { seen = prefix_trans p.list q.list r.list one.stays.seen two.stays.seen; worker = two.stays.worker ∙ one.stays.worker };
+-- ---- faults that were answered
+
+pub stays_same : (a b : Booked) → b ≡ a → SharesStay a b
+stays_same a b same = record { later = λ area. let e = ap (share_of area) same in omega (arith, e) }
+
+pub read_takes : {T : Type 0} (old new : Seen) (r : Result T StoreFault) → IfErr r IsOfWal → TakesFaults old new r → ReadTakes old new r
+read_takes old new (Ok x) is takes = takes
+read_takes old new (Err fault) is takes = (is, takes)
+
+-- a look behind a look
+pub looks_on : (p q r : Seen) → LooksOn p q → LooksOn q r → LooksOn p r
+looks_on p q r one two = record {
+  seen = prefix_trans p.list q.list r.list one.seen two.seen;
+  worker = two.worker ∙ one.worker;
   accepted = two.accepted ∙ one.accepted;
+  shares = shares_on p.faults q.faults r.faults one.shares two.shares;
 }
 
-when_some : (o : Option Files) (P : Files → Type 0) (Q : Files → List Summary → Type 0) (sums : List Summary) → ((m : Files) → P m → Q m sums) → IfSome o P → IfSome o (λ m. Q m sums)
-when_some None P Q sums f held = tt
-when_some (Some m) P Q sums f held = f m held
+pub ok_on : {T E : Type 0} (r : Result T E) (P Q : T → Type 0) → ((t : T) → P t → Q t) → IfOk r P → IfOk r Q
+ok_on (Ok t) P Q f h = f t h
+ok_on (Err e) P Q f h = tt
+
+pub looks_still : (p : Seen) → LooksOn p p
+looks_still p = record { seen = ([], append-nil p.list); worker = refl; accepted = refl; shares = stays_same p.faults p.faults refl }
+
+when_some : (o : Option Files) (P : Files → Type 0) (Q : Files → Type 0) → ((m : Files) → P m → Q m) → IfSome o P → IfSome o Q
+when_some None P Q f held = tt
+when_some (Some m) P Q f held = f m held
 
 -- an area that was only read before summaries were published in it
-pub advanced : {V : Type 0} (g : Ghosts V) (told : Type 0) (h : List Entry) (made from first count : ℕ) (old mid new : V) (kept : List Summary) → OnlyReads g old mid → IfSome (g.files old) (λ m. AreKept m kept) → from ≡ end_behind first kept → (told → first ≡ first_start h)
-    → Publishes g told h from made mid new count → Advances g told h made old new count
-advanced g told h made from first count old mid new kept reads held from_is first_is p =
-    let start : told → from ≡ end_behind (first_start h) kept = λ t. from_is ∙ ap (λ n. end_behind n kept) (first_is t) in
-    record {
-      sums = p.sums;
-      published = λ t. when_some (g.files old) (λ m. AreKept m kept) (ArePublished h made) p.sums (λ m are. record {
-        kept = kept;
-        held = are;
-        next = subst (λ n. AreNext h made n p.sums) (start t) (p.next t);
-        last = subst (λ n. next_redo (end_behind n p.sums) h ≡ None) (start t) (p.last t);
-        whole = p.whole;
-      }) held;
-      counted = p.counted;
-      files = p.files ∙ ap (option_map (with_files p.sums)) reads.files;
-      durable = p.durable;
-    }
+pub advanced : {V : Type 0} (g : Ghosts V) (told : Type 0) (h : List Entry) (made from count end : ℕ) (old mid new : V) → OnlyReads g old mid → (told → IfSome (g.files old) (KeepsUpTo (first_start h) from)) → Publishes g told h from made mid new count end
+    → Advances g told h made old new count
+advanced g told h made from count end old mid new reads held p = record {
+  sums = p.sums;
+  published = λ t. when_some (g.files old) (KeepsUpTo (first_start h) from) (λ m. ArePublished h made m p.sums) (λ m k. record {
+    kept = k.kept;
+    held = k.held;
+    next = subst (λ n. AreNext h made n p.sums) k.end_is (p.next t);
+    last = subst (λ n. next_redo (end_behind n p.sums) h ≡ None) k.end_is (p.last t);
+    whole = p.whole;
+  }) (held t);
+  counted = p.counted;
+  files = p.files ∙ ap (option_map (with_files p.sums)) reads.files;
+  durable = p.durable;
+}
 
 -- and read again then
 pub advanced_to : {V : Type 0} (g : Ghosts V) (told : Type 0) (h : List Entry) (made count : ℕ) (old mid new : V) (kept : List Summary) (P : List Summary → Type 0) → Advances g told h made old mid count → OnlyReads g mid new → IfSome (g.files mid) (λ m. AreKept m kept) → P kept

@@ -1,8 +1,15 @@
 pub mod Files
+pub mod Torn
+pub mod OfStore
+pub mod OfLog
 pub mod Ranges
 pub mod Fitting
 pub mod Adding
-pub mod OfLog
 pub mod Honest
-pub mod OfStore
+pub mod Since
+pub mod Later
 pub mod Frames
+pub mod Partly
+pub mod SummaryNames
+pub mod KeptFiles
+pub mod Going

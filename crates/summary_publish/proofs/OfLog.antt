@@ -14,7 +14,7 @@ use Rattle.fuzzy_copies.proofs.Logged.{act_touches_same, act_limit_same}
 use Rattle.fuzzy_copies.proofs.ReadBack.{log_is_written}
 use Rattle.journal.specs.Lawful.{IsLawful}
 use Rattle.wal_summary.proofs.Tables.{same_table}
-use Rattle.shared_store.specs.Opened.{Opened}
+use Rattle.lsn_core.specs.Segment.{StoreSettings}
 use Rattle.shared_store.specs.Records.{HasRecords, EndBehind}
 use Rattle.summary_publish.specs.Inside.{AreRecordsOf, RiseBehind, from_place}
 
@@ -83,13 +83,12 @@ first_records (suc most) (r ∷ rs) [] h = absurd h
 first_records (suc most) (r ∷ rs) (e ∷ es) h = (h.0, first_records most rs es h.1)
 
 -- what an open store answers
-pub store_records : (store : Opened) (history : List Entry) (from most : ℕ) (rs : List Record) → store.history ≡ history → HasRecords store from most rs → AreRecordsOf rs (take most (from_place from history))
-store_records store history from most rs same has =
-    let mib : ℕ = store.settings.segment in
-    let log : List Record = log_of mib has.lawful.found has.lawful.own in
-    subst (λ (es : List Entry). AreRecordsOf rs (take most (from_place from es))) same
-    (subst (λ (l : List Record). AreRecordsOf l (take most (from_place from store.history))) (sym has.are)
-    (first_records most (records_from from log) (from_place from store.history) (records_from_place from log store.history (log_records mib store.history has.lawful))))
+pub store_records : (s : StoreSettings) (history : List Entry) (from most : ℕ) (rs : List Record) → HasRecords s history from most rs → AreRecordsOf rs (take most (from_place from history))
+store_records s history from most rs has =
+    let part = has.1 in
+    let log : List Record = log_of s.segment part.lawful.found part.lawful.own in
+    subst (λ (l : List Record). AreRecordsOf l (take most (from_place from history))) (sym part.are)
+    (first_records most (records_from from log) (from_place from history) (records_from_place from log history (log_records s.segment history part.lawful)))
 
 pub end_rise : (mib place : ℕ) (rs : List Record) → EndBehind mib place rs → RiseBehind place rs
 end_rise mib place [] h = tt

@@ -152,7 +152,7 @@ none_from low at (e ∷ es) o le =
     ap (λ (t : Bool). cond t (e ∷ from_place at es) (from_place at es)) (lt-leb at e.start (omega (arith, le, up, rest)))
     ∙ none_from e.end at es o.3 le
 
-all_from : (low at : ℕ) (es : List Entry) → IsOrderly low es → at ≤ low → from_place at es ≡ es
+pub all_from : (low at : ℕ) (es : List Entry) → IsOrderly low es → at ≤ low → from_place at es ≡ es
 all_from low at [] o le = refl
 all_from low at (e ∷ es) o le =
     let first = o.0 in
@@ -195,7 +195,7 @@ none_before_first [] from o = refl
 none_before_first (e ∷ es) from o = none_past from e.start e.start (e ∷ es) (omega arith) (omega arith, o.1, o.2, o.3)
 
 -- what entries say, and others behind them
-said_append : (xs ys : List Entry) (from to : ℕ) → summary_of (xs ++ ys) from to ≡ both_summed (summary_of xs from to) (summary_of ys from to)
+pub said_append : (xs ys : List Entry) (from to : ℕ) → summary_of (xs ++ ys) from to ≡ both_summed (summary_of xs from to) (summary_of ys from to)
 said_append xs ys from to =
     ap (λ (l : List Entry). summed (map table_of l)) (filter-append (is_in from to) xs ys)
     ∙ ap summed (map-append table_of (window xs from to) (window ys from to))
@@ -240,7 +240,7 @@ redo_append : (from : ℕ) (xs ys : List Entry) → next_redo from xs ≡ None �
 redo_append from [] ys none = refl
 redo_append from (x ∷ xs) ys none = none_yet (is_redo x.act && nat_lt from x.start) x.start (next_redo from xs) (next_redo from (xs ++ ys)) (next_redo from ys) (λ e. redo_append from xs ys e) none
 
-redo_first : (from place : ℕ) (xs ys : List Entry) → next_redo from xs ≡ Some place → next_redo from (xs ++ ys) ≡ Some place
+pub redo_first : (from place : ℕ) (xs ys : List Entry) → next_redo from xs ≡ Some place → next_redo from (xs ++ ys) ≡ Some place
 redo_first from place [] ys some = absurd cc
 redo_first from place (x ∷ xs) ys some = first_yet (is_redo x.act && nat_lt from x.start) x.start place (next_redo from xs) (next_redo from (xs ++ ys)) (λ e. redo_first from place xs ys e) some
 
@@ -476,7 +476,7 @@ past_step true true from s place a is f e = let same = some_same s place e in le
 past_step true false from s place a is f e = f e
 past_step false t from s place a is f e = f e
 
-past_redo : (from place : ℕ) (h : List Entry) → next_redo from h ≡ Some place → from < place
+pub past_redo : (from place : ℕ) (h : List Entry) → next_redo from h ≡ Some place → from < place
 past_redo from place [] is = absurd cc
 past_redo from place (e ∷ es) is = past_step (is_redo e.act) (nat_lt from e.start) from e.start place (next_redo from es) refl (λ k. past_redo from place es k) is
 

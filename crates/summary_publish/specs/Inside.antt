@@ -2,13 +2,14 @@
 use Rattle.std.specs.Prelude.{◌≡◌, nat_le, ◌⊎◌, ℕ, ◌+◌, ◌-◌, ◌^◌, ◌<◌, ◌≤◌, List, [], ◌∷◌, length, Option, Some, None}
 use Rattle.std.specs.Option.{option_map}
 use Rattle.std.specs.List.{AllByRecursion, filter}
-use Rattle.lsn_core.specs.Causes.{Rose}
+use Rattle.lsn_core.specs.Files.{Files}
 use Rattle.lsn_core.specs.declared.lsn.Lsn.{Lsn}
 use Rattle.lsn_core.specs.declared.fault.AreaFault.{AreaFault}
 use Rattle.lsn_core.specs.declared.fault.AreaFault.TheVariants as area
 use Rattle.lsn_core.specs.declared.fault.StoreArea.TheVariants.{Sums as SumsArea}
 use Rattle.lsn_core.specs.declared.fault.StoreFault.{StoreFault}
 use Rattle.lsn_core.specs.declared.fault.StoreFault.TheVariants as store
+use Rattle.vault.specs.Area.{Related}
 use Rattle.vault.specs.Frame.{IsDurable}
 use Rattle.vault.specs.declared.area.Vault.{Ghosts}
 use Rattle.wal_record.specs.declared.record.Record.{Record}
@@ -28,6 +29,7 @@ use Rattle.summary_store.specs.Kept.{end_behind}
 use Rattle.shared_store.specs.Records.{IsPlaceOf}
 use Rattle.summary_publish.specs.Entries.{next_redo}
 use Rattle.summary_publish.specs.Published.{IsNext, AreNext, IsWhole, with_file, with_files}
+use Rattle.summary_publish.specs.Partly.{MayWriteSummary}
 use Rattle.summary_publish.specs.declared.advancing.AdvanceFault.{AdvanceFault}
 use Rattle.summary_publish.specs.declared.advancing.AdvanceFault.TheVariants as advance
 
@@ -118,6 +120,19 @@ PublishesNext g told history place made old new (Some end) =
 PublishesNext g told history place made old new None =
     (new ≡ old) × (told → next_redo place history ≡ None)
 
+-- what publishing the next one leaves, whatever it answers, where the area tells its files: it is
+-- written, or a part of it
+pub record LeavesOne (told : Type 0) (history : List Entry) (made place : ℕ) (old new : Files)
+    : Type 0 where
+  pub left : (new ≡ old)
+      ⊎ ((sum : Summary) × (told → IsNext history made place sum) × IsWhole sum
+      × MayWriteSummary sum old new)
+
+abbrev pub LeavesNext :
+    Type 0 → List Entry → ℕ → ℕ → Option Files → Option Files → Type 0
+LeavesNext told history made place old new =
+    Related (LeavesOne told history made place) old new
+
 -- summaries were published from a place up to another one, so many
 pub record PublishesTo {V : Type 0} (g : Ghosts V) (told : Type 0) (history : List Entry)
     (from made : ℕ) (old new : V) (at count : ℕ) : Type 0 where
@@ -129,13 +144,14 @@ pub record PublishesTo {V : Type 0} (g : Ghosts V) (told : Type 0) (history : Li
   pub fits : from + count ≤ at
   pub files : g.files new ≡ option_map (with_files sums) (g.files old)
 
--- summaries were published from a place on up to the last redo point, durably: none lies past the last
--- one's end
+-- summaries were published from a place on up to the last redo point, durably: none lies past the end,
+-- which is that of the last one
 pub record Publishes {V : Type 0} (g : Ghosts V) (told : Type 0) (history : List Entry)
-    (from made : ℕ) (old new : V) (count : ℕ) : Type 0 where
+    (from made : ℕ) (old new : V) (count end : ℕ) : Type 0 where
   pub sums : List Summary
   pub next : told → AreNext history made from sums
   pub whole : AllByRecursion IsWhole sums
+  pub ends : end ≡ end_behind from sums
   pub last : told → next_redo (end_behind from sums) history ≡ None
   pub counted : count ≡ length sums
   pub files : g.files new ≡ option_map (with_files sums) (g.files old)
@@ -145,11 +161,6 @@ pub record Publishes {V : Type 0} (g : Ghosts V) (told : Type 0) (history : List
 abbrev pub sums_fault : AreaFault → StoreFault
 sums_fault area.Failed = store.Failed SumsArea
 sums_fault area.NoMemory = store.NoMemory
-
--- it is of that area, and comes only where its count rose
-abbrev pub SumsCause : ℕ → ℕ → StoreFault → Type 0
-SumsCause before now (store.Failed area) = (area ≡ SumsArea) × Rose before now
-SumsCause before now store.NoMemory = Unit {0}
 
 -- the fault of an advance for one of covering
 abbrev pub cover_fault : CoverFault → AdvanceFault

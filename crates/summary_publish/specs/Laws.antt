@@ -1,7 +1,6 @@
--- What holds of areas in which summaries are published.
-use Rattle.std.specs.Prelude.{◌≡◌, ◌<◌, ◌≤◌, ℕ, true, List, ◌++◌}
+-- What holds of areas in which several workers publish summaries.
+use Rattle.std.specs.Prelude.{◌≡◌, ◌<◌, ◌≤◌, ℕ, true, List, [], ◌++◌}
 use Rattle.std.specs.List.{list_any}
-use mathlib.Core.List.{IsPrefix}
 use Rattle.lsn_core.specs.Files.{Files}
 use Rattle.history.specs.Entry.{Entry}
 use Rattle.fuzzy_copies.specs.Orderly.{IsOrderly}
@@ -12,28 +11,39 @@ use Rattle.wal_summary.specs.Kept.{IsCovering}
 use Rattle.summary_store.specs.Kept.{AreKept}
 use Rattle.summary_store.specs.Honest.{is_redo_start, IsHonest}
 use Rattle.summary_publish.specs.Published.{ArePublished, with_files}
+use Rattle.summary_publish.specs.Partly.{MayAdvance}
+use Rattle.summary_publish.specs.True.{IsTrue}
 
--- an area that is honest for a history stays so as the history goes on
-abbrev pub HonestAreasStayHonest : Type 0
-HonestAreasStayHonest =
-    (old new : List Entry) (files : Files)
-    → IsOrderly 0 new → IsPrefix old new → IsHonest old files → IsHonest new files
+-- where a run begins an area that is honest is true; a true one is honest
+abbrev pub RunsBeginTrue : Type 0
+RunsBeginTrue =
+    (found : List Entry) (files : Files) → IsHonest found files → IsTrue found [] files
 
--- and as summaries of the history are published there
-abbrev pub PublishedAreasAreHonest : Type 0
-PublishedAreasAreHonest =
-    (history : List Entry) (made : ℕ) (files : Files) (sums : List Summary)
-    → IsHonest history files → ArePublished history made files sums
-    → IsHonest history (with_files sums files)
+abbrev pub TrueIsHonest : Type 0
+TrueIsHonest =
+    (found own : List Entry) (files : Files) → IsTrue found own files → IsHonest (found ++ own) files
 
--- an area was honest for older entries, and summaries were published there: what then covers a range
--- up to a redo point behind those entries ends there, and is the summary from its start to there
-abbrev pub AdvancesSumUp : Type 0
-AdvancesSumUp =
-    (older more : List Entry) (made : ℕ) (files : Files) (sums kept : List Summary)
+-- it stays so as other workers' entries are added
+abbrev pub TrueStays : Type 0
+TrueStays =
+    (found own more : List Entry) (files : Files) → IsOrderly 0 (found ++ (own ++ more))
+    → IsTrue found own files → IsTrue found (own ++ more) files
+
+-- and as summaries are published there, wholly or in part
+abbrev pub PublishingKeepsTrue : Type 0
+PublishingKeepsTrue =
+    (found own : List Entry) (made : ℕ) (old new : Files) → IsOrderly 0 (found ++ own)
+    → IsTrue found own old → MayAdvance (Unit {0}) (found ++ own) made old new
+    → IsTrue found own new
+
+-- what then covers a range up to a redo point of the run's own entries, whichever worker published it,
+-- ends there, and is the summary from its start to there
+abbrev pub CrewSumsUp : Type 0
+CrewSumsUp =
+    (found own : List Entry) (made : ℕ) (files : Files) (sums kept : List Summary)
     (from to : ℕ) (sum : Summary)
-    → IsOrderly 0 (older ++ more) → list_any (is_redo_start to) more ≡ true
-    → IsHonest older files → ArePublished (older ++ more) made files sums
+    → IsOrderly 0 (found ++ own) → list_any (is_redo_start to) own ≡ true
+    → IsTrue found own files → ArePublished (found ++ own) made files sums
     → AreKept (with_files sums files) kept → from < to → IsCovering kept from to sum
     → (sum.end.0 ≡ to) × (sum.start.0 ≤ from)
-    × IsSummary (summary_of (older ++ more) sum.start.0 to) sum.forks
+    × IsSummary (summary_of (found ++ own) sum.start.0 to) sum.forks

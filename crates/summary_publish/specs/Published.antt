@@ -1,8 +1,9 @@
 -- Which summaries are published of a history, and what that leaves of their area.
-use Rattle.std.specs.Prelude.{◌≡◌, ◌⊎◌, ℕ, List, [], ◌∷◌, length, Some, None, IfSome, Result, Ok, Err}
+use Rattle.std.specs.Prelude.{◌≡◌, ◌⊎◌, ℕ, List, [], ◌∷◌, length, Option, Some, None, IfSome, Result, Ok, Err}
 use Rattle.std.specs.Option.{option_map}
 use Rattle.std.specs.List.{AllByRecursion}
 use Rattle.std.specs.FinMap.{insert}
+use mathlib.Core.List.{IsPrefix}
 use Rattle.lsn_core.specs.Files.{Files}
 use Rattle.lsn_core.specs.Causes.{Rose}
 use Rattle.lsn_core.specs.declared.fault.StoreArea.TheVariants.{Sums as SumsArea}
@@ -18,10 +19,11 @@ use Rattle.wal_summary.specs.Kept.{IsCovering, IsGap}
 use Rattle.summary_file.specs.File.{IsFileOf, summary_bytes}
 use Rattle.summary_file.specs.Name.{summary_name_bytes}
 use Rattle.summary_store.specs.Kept.{AreKept, end_behind}
-use Rattle.shared_store.specs.Seen.{Seen, StaysBy}
-use Rattle.shared_store.specs.Opened.{Opened, Faults, count_of}
-use Rattle.shared_store.specs.Calls.{GoesOn}
+use Rattle.shared_store.specs.Seen.{Seen, SharesStay, TakesFault}
+use Rattle.shared_store.specs.Locked.{IsOfWal}
+use Rattle.shared_store.specs.Records.{IsPlaceOf}
 use Rattle.summary_publish.specs.Entries.{first_start, next_redo}
+use Rattle.summary_publish.specs.declared.known.Known.{Known}
 use Rattle.summary_publish.specs.declared.advancing.AdvanceFault.{AdvanceFault}
 use Rattle.summary_publish.specs.declared.advancing.AdvanceFault.TheVariants.{Gap, Store}
 
@@ -53,6 +55,20 @@ IsSummaryName name = (start : ℕ) × (end : ℕ) × (name ≡ summary_name_byte
 -- the bytes that are written of a summary are its file
 abbrev pub IsWhole : Summary → Type 0
 IsWhole sum = IsFileOf sum (summary_bytes sum)
+
+-- what is kept of an area's files ends at a place, or where nothing is kept, that is a first one
+pub record KeepsUpTo (first end : ℕ) (files : Files) : Type 0 where
+  pub kept : List Summary
+  pub held : AreKept files kept
+  pub end_is : end ≡ end_behind first kept
+
+-- where publishing goes on: the WAL is read from a place on; and the end of what is kept of an area's
+-- files is this one, where it is known
+pub record GoesOnFrom (told : Type 0) (history : List Entry) (files : Option Files) (known : Known)
+    : Type 0 where
+  pub at : told → IsPlaceOf history known.place.0
+  pub kept :
+      told → IfSome known.end (λ e. IfSome files (KeepsUpTo (first_start history) e.0))
 
 -- summaries to publish of a history behind those that are kept of an area's files: from the greatest
 -- kept end on, or from the first entry's start where none is kept, up to the last redo point
@@ -92,24 +108,42 @@ AdvanceAnswers g told history made from to old new (Err (Gap place)) =
     AdvancesTo g told history made old new (λ kept. IsGap kept from to place.0)
 AdvanceAnswers g told history made from to old new (Err (Store fault)) = Unit {0}
 
--- the history of a store was only read, by a pass that has then seen all of it: the store goes on
--- with the same history, the pass stays by what it had seen, and no command of it is counted
-pub record OnlyReadsHistory (old new : Opened) (before pass : Seen) : Type 0 where
-  pub same : new.history ≡ old.history
-  pub seen : pass.list ≡ old.history
-  pub goes_on : GoesOn old new
-  pub stays : StaysBy before pass
-  pub accepted : pass.accepted ≡ before.accepted
+-- a pass only looked on: nothing that it had seen is lost, the worker stays, no command of it is
+-- counted, and no fault that it was answered is forgotten
+pub record LooksOn (old new : Seen) : Type 0 where
+  pub seen : IsPrefix old.list new.list
+  pub worker : new.worker ≡ old.worker
+  pub accepted : new.accepted ≡ old.accepted
+  pub shares : SharesStay old.faults new.faults
 
--- the area of the summaries failed only where its count rose, another one of a store only where its
--- own did; want of memory may come at any time
-abbrev pub PublishCause : ℕ → ℕ → Faults → Faults → StoreFault → Type 0
-PublishCause before now others_before others_now (store.Failed area) =
-    ((area ≡ SumsArea) × Rose before now)
-    ⊎ Rose (count_of area others_before) (count_of area others_now)
-PublishCause before now others_before others_now store.NoMemory = Unit {0}
+-- ---- faults
 
-abbrev pub AdvanceCause : ℕ → ℕ → Faults → Faults → AdvanceFault → Type 0
-AdvanceCause before now others_before others_now (Gap place) = Unit {0}
-AdvanceCause before now others_before others_now (Store fault) =
-    PublishCause before now others_before others_now fault
+-- the WAL was read, and its area failed: that is booked; want of memory may come at any time
+abbrev pub WalCause : Seen → Seen → StoreFault → Type 0
+WalCause old new fault = IsOfWal fault × TakesFault old new fault
+
+-- the area of the summaries failed, only where its count rose
+abbrev pub SumsCause : ℕ → ℕ → StoreFault → Type 0
+SumsCause before now (store.Failed area) = (area ≡ SumsArea) × Rose before now
+SumsCause before now store.NoMemory = Unit {0}
+
+-- one of the two failed. A fault of the area of the summaries is left to book
+abbrev pub PublishCause : ℕ → ℕ → Seen → Seen → StoreFault → Type 0
+PublishCause before now old new fault =
+    WalCause old new fault ⊎ (SumsCause before now fault × (new.faults ≡ old.faults))
+
+-- the faults that a reading of the WAL booked, and those that a publishing did
+abbrev pub ReadTakes : {T : Type 0} → Seen → Seen → Result T StoreFault → Type 0
+ReadTakes old new (Ok x) = new.faults ≡ old.faults
+ReadTakes old new (Err fault) = WalCause old new fault
+
+abbrev pub PublishTakes :
+    {T : Type 0} → ℕ → ℕ → Seen → Seen → Result T StoreFault → Type 0
+PublishTakes before now old new (Ok x) = new.faults ≡ old.faults
+PublishTakes before now old new (Err fault) = PublishCause before now old new fault
+
+abbrev pub AdvanceTakes :
+    {T : Type 0} → ℕ → ℕ → Seen → Seen → Result T AdvanceFault → Type 0
+AdvanceTakes before now old new (Ok x) = new.faults ≡ old.faults
+AdvanceTakes before now old new (Err (Gap place)) = new.faults ≡ old.faults
+AdvanceTakes before now old new (Err (Store fault)) = PublishCause before now old new fault

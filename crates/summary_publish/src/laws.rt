@@ -1,14 +1,20 @@
-//! Laws of areas in which summaries are published: each is the contract of a function that does
-//! nothing.
+//! Laws of areas in which several workers publish summaries: each is the contract of a function that
+//! does nothing.
 
-ghost use Rattle.summary_publish.specs.Laws.{HonestAreasStayHonest, PublishedAreasAreHonest, AdvancesSumUp};
+ghost use Rattle.summary_publish.specs.Laws.{RunsBeginTrue, TrueIsHonest, TrueStays};
+ghost use Rattle.summary_publish.specs.Laws.{PublishingKeepsTrue, CrewSumsUp};
 
-/// An area that is honest for a history stays so as the history goes on, and as `advance` publishes
-/// summaries of it there. What `advance_covering` then answers for a range up to a redo point of
-/// newer entries is the summary of the history's entries up to there, from the range's start or a
-/// place below it on.
-pub fn honest_areas_stay_honest()
-    ensures stay { HonestAreasStayHonest }
-    ensures published { PublishedAreasAreHonest }
-    ensures covers { AdvancesSumUp }
+/// An area that is honest when a run begins is true for it, and a true one is honest. It stays true
+/// as workers add entries and publish there, whether their publishing came to its end or failed.
+pub fn areas_stay_true()
+    ensures begins { RunsBeginTrue }
+    ensures honest { TrueIsHonest }
+    ensures stays { TrueStays }
+    ensures publishing { PublishingKeepsTrue }
+{}
+
+/// What covers a range up to a redo point of the run, whoever published it, is the summary up to
+/// there.
+pub fn crew_sums_up()
+    ensures { CrewSumsUp }
 {}

@@ -2,15 +2,20 @@
 //!
 //! `advance` writes the summaries of the ranges between neighbouring redo points of an open store's
 //! history, from the greatest kept end on, and `advance_covering` then answers what covers a range
-//! (`specs/Published.antt`). The history is read piece by piece from the store's WAL. Where the area
-//! was honest for the history it stays so (`specs/Laws.antt`).
+//! (`specs/Published.antt`). The history is read piece by piece from the store's WAL, and what is
+//! published is said over what the worker's pass has seen, which grows meanwhile. A summary's file gets
+//! its first byte last: what a publishing that failed leaves is a beginning of what it would publish,
+//! and no file that says anything else (`specs/Partly.antt`). So an area that was honest for what a run
+//! found stays true for all that its workers do, whoever of them publishes (`specs/True.antt`,
+//! `specs/Laws.antt`).
 //!
-//! Left to others: what a summary says (`wal_summary`), its file (`summary_file`), and which files of
-//! an area are kept (`summary_store`).
+//! Left to others: what a summary says (`wal_summary`), its file (`summary_file`), which files of an
+//! area are kept (`summary_store`), and the lock under which workers share the area.
 #![tactic(auto)]
 
 mod advancing;
 mod feed;
+mod known;
 mod laws;
 mod publishing;
 mod reading;
@@ -18,4 +23,5 @@ mod writing;
 
 pub use advancing::{AdvanceFault, advance, advance_covering};
 pub use feed::first_start;
-pub use laws::honest_areas_stay_honest;
+pub use known::Known;
+pub use laws::{areas_stay_true, crew_sums_up};

@@ -1,22 +1,23 @@
 //! The next range of a WAL that is to be summarised.
 
-ghost use Rattle.std.specs.Prelude.{◌≡◌, true, ◌<◌, ◌^◌, ◌&&◌, ◌⊎◌, nat_lt, map, IfOk, OnOk, IfErr, IfSome};
+ghost use Rattle.std.specs.Prelude.{◌≡◌, true, ◌<◌, ◌^◌, ◌&&◌, ◌⊎◌, nat_lt, map, IfOk, OnOk, IfSome};
 ghost use Rattle.std.specs.Option.{option_map};
 ghost use Rattle.history.specs.Whole.{says, entry_of};
 ghost use Rattle.history.specs.Written.{is_redo};
 ghost use Rattle.fuzzy_copies.specs.Summary.{both_summed, summary_of};
 ghost use Rattle.wal_summary.specs.Marks.{table_of_marks};
 ghost use Rattle.summary_file.specs.File.{IsWritable};
-ghost use Rattle.shared_store.specs.Records.{IsPlaceOf};
-ghost use Rattle.shared_store.specs.Opened.{StoreCause};
 ghost use Rattle.summary_publish.specs.Entries.{next_redo};
-ghost use Rattle.summary_publish.specs.Published.{OnlyReadsHistory};
+ghost use Rattle.fuzzy_copies.specs.Orderly.{IsOrderly};
+ghost use Rattle.shared_store.specs.Records.{IsPlaceOf};
+ghost use Rattle.summary_publish.specs.Published.{LooksOn, ReadTakes};
 ghost use Rattle.summary_publish.specs.Inside.{CanStart, NextAnswer, CanFollow, HasCount, HaveCounts, place_or, last_end};
 
-use crate::feed::{meet, records_from};
+use crate::feed::records_from;
 use lsn_core::{Lsn, NoMemory, StoreFault};
 use shared_store::{OfCrew, Pass, Store};
 use std::alloc::Global;
+use std::sync::Wait;
 use vault::Vault;
 use wal_record::{Kind, Record};
 use wal_summary::{MarkMap, Summary};
@@ -117,29 +118,31 @@ impl Reading {
 /// such redo point. Entries are read from `known` on, which moves on to the last place up to the
 /// first one that a piece of them ends with.
 pub(crate) fn next_range<J: OfCrew, V: Vault>(
+    rt: &impl Wait,
     alloc: Global,
-    store: &mut Store<J, V>,
+    store: &Store<J, V>,
     pass: &mut Pass<J>,
     known: &mut Lsn,
     from: Lsn,
     when: u64,
 ) -> Result<Option<Summary>, StoreFault>
-    requires start { J.tells ≡ true → CanStart store.old.history from.0 known.old.0 }
+    requires orderly { J.tells ≡ true → IsOrderly 0 pass.old.list }
+    requires start { J.tells ≡ true → CanStart pass.old.list from.0 known.old.0 }
     ensures found { J.tells ≡ true
-        → IfOk result (NextAnswer store.old.history when from.0) }
-    ensures place { J.tells ≡ true → IsPlaceOf store.old.history known.new.0 }
+        → IfOk result (NextAnswer pass.new.list when from.0) }
+    ensures place { J.tells ≡ true → IsPlaceOf pass.new.list known.new.0 }
     ensures written { IfOk result (λ found. IfSome found (CanFollow from.0)) }
-    ensures cause { IfErr result (StoreCause store.old.faults store.new.faults) }
-    ensures fed { OnlyReadsHistory store.old store.new pass.old pass.new }
+    ensures orderly { J.tells ≡ true → IsOrderly 0 pass.new.list }
+    ensures looks { LooksOn pass.old pass.new }
+    ensures faults { ReadTakes pass.old pass.new result }
 {
-    meet(store, pass);
     let mut reading = Reading {
         marks: MarkMap::new(alloc),
         at: *known,
     };
     let mut ended = false;
     while !ended {
-        let piece = records_from(alloc, store, pass, reading.at, PIECE)?;
+        let piece = records_from(rt, alloc, store, pass, reading.at, PIECE)?;
         if let Some(end) = reading.take_piece(&piece, from)? {
             let forks = reading.marks.summaries(alloc)?;
             return Ok(Some(Summary {

@@ -4,11 +4,11 @@ use Rattle.summary_publish.proofs.OfStore.{first_of}
 use Rattle.summary_publish.proofs.feed.first_start.Goals as goal
 
 pub returns-clause-first : goal.returns-clause-first
-returns-clause-first g c = λ told. (first_of c.args.store.now.settings.segment c.start_after.result.0 c.args.store.now.history (c.know.ensures.lawful told)
+returns-clause-first g c = λ told. (first_of g.J.OfCrew.settings.segment c.start_after.result.0 c.args.pass.now.list (c.know.ensures.lawful told)
     (c.start_after.ensures ∙ ap (λ s. start_after s.segment c.bytes.result) (c.new.ensures ∙ c.settings-settings.ensures)
-    ∙ ap (start_after c.args.store.now.settings.segment) (c.bytes.ensures.bytes ∙ ap (λ n. n * 1048576) (c.segment.ensures.value ∙ ap (λ s. s.segment) c.settings-settings.ensures)))).first
+    ∙ ap (start_after g.J.OfCrew.settings.segment) (c.bytes.ensures.bytes ∙ ap (λ n. n * 1048576) (c.segment.ensures.value ∙ ap (λ s. s.segment) c.settings-settings.ensures)))).first
 
 pub returns-clause-place : goal.returns-clause-place
-returns-clause-place g c = λ told. (first_of c.args.store.now.settings.segment c.start_after.result.0 c.args.store.now.history (c.know.ensures.lawful told)
+returns-clause-place g c = λ told. (first_of g.J.OfCrew.settings.segment c.start_after.result.0 c.args.pass.now.list (c.know.ensures.lawful told)
     (c.start_after.ensures ∙ ap (λ s. start_after s.segment c.bytes.result) (c.new.ensures ∙ c.settings-settings.ensures)
-    ∙ ap (start_after c.args.store.now.settings.segment) (c.bytes.ensures.bytes ∙ ap (λ n. n * 1048576) (c.segment.ensures.value ∙ ap (λ s. s.segment) c.settings-settings.ensures)))).there
+    ∙ ap (start_after g.J.OfCrew.settings.segment) (c.bytes.ensures.bytes ∙ ap (λ n. n * 1048576) (c.segment.ensures.value ∙ ap (λ s. s.segment) c.settings-settings.ensures)))).there

@@ -1,13 +1,21 @@
-use Rattle.std.proofs.Common.{◌∙◌}
+use Rattle.std.proofs.Common.{◌≡◌, true}
+use Rattle.shared_store.proofs.Booked.{takes_stays}
 use Rattle.summary_publish.proofs.OfLog.{store_records, end_rise}
-use Rattle.summary_publish.proofs.OfStore.{ok_on}
+use Rattle.summary_publish.proofs.OfStore.{orderly_now}
+use Rattle.summary_publish.proofs.Adding.{ok_on, read_takes}
 use Rattle.summary_publish.proofs.feed.records_from.Goals as goal
 
 pub returns-clause-records : goal.returns-clause-records
-returns-clause-records g c = λ told. ok_on c.records.result _ _ (λ v has. store_records c.records.new.self c.args.store.now.history c.args.from.0 c.args.most v.items c.records.ensures.same has) (c.records.ensures.records told)
+returns-clause-records g c = λ told. ok_on c.records-answer.result _ _ (λ v has. store_records g.J.OfCrew.settings c.records-answer.new.pass.list c.args.from.0 c.args.most v.items has) (c.records-answer.ensures.records told)
 
 pub returns-clause-rise : goal.returns-clause-rise
-returns-clause-rise g c = ok_on c.records.result _ _ (λ v some. end_rise c.records.new.self.settings.segment c.args.from.0 v.items some.1) c.records.ensures.some
+returns-clause-rise g c = ok_on c.records-answer.result _ _ (λ v some. end_rise g.J.OfCrew.settings.segment c.args.from.0 v.items some.1) c.records-answer.ensures.some
 
-pub returns-clause-fed : goal.returns-clause-fed
-returns-clause-fed g c = record { same = c.records.ensures.same; seen = c.records.ensures.whole ∙ c.records.ensures.same; goes_on = c.records.ensures.goes_on; stays = c.records.ensures.seen; accepted = c.records.ensures.accepted }
+pub returns-clause-orderly : goal.returns-clause-orderly
+returns-clause-orderly g c = orderly_now (g.J.OfStore.tells ≡ true) g.J.OfCrew.settings.segment c.records-answer.new.pass.list c.know.ensures.lawful
+
+pub returns-clause-looks : goal.returns-clause-looks
+returns-clause-looks g c = record { seen = c.records-answer.ensures.seen.seen; worker = c.records-answer.ensures.seen.worker; accepted = c.records-answer.ensures.accepted; shares = takes_stays c.args.pass.now c.records-answer.new.pass c.records-answer.result c.records-answer.ensures.faults }
+
+pub returns-clause-faults : goal.returns-clause-faults
+returns-clause-faults g c = read_takes c.args.pass.now c.records-answer.new.pass c.records-answer.result c.records-answer.ensures.wal c.records-answer.ensures.faults

@@ -1,21 +1,24 @@
 use Rattle.std.proofs.Common.{◌≡◌, ◌-◌, ◌^◌, true, cond}
+use Rattle.std.specs.Prelude.{None}
+use Rattle.fuzzy_copies.specs.Orderly.{IsOrderly}
 use Rattle.wal_summary.specs.Marks.{table_of_marks}
 use Rattle.shared_store.specs.Records.{IsPlaceOf}
+use Rattle.summary_publish.specs.Published.{LooksOn}
 use Rattle.summary_publish.specs.Entries.{next_redo}
-use Rattle.summary_publish.specs.Published.{OnlyReadsHistory}
 use Rattle.summary_publish.proofs.Ranges.{IsReadTo}
 use Rattle.summary_publish.proofs.Fitting.{Fits}
 use Rattle.summary_publish.proofs.reading.next_range.Given as goal
-use Rattle.std.specs.Prelude.{None}
 
 abbrev pub invariant-loop-ended : goal.invariant-loop-ended
 invariant-loop-ended g l = record {
-  fed : OnlyReadsHistory l.fn.store l.store l.fn.pass l.pass;
-  read : g.J.OfStore.tells ≡ true → IsReadTo l.fn.store.history l.from.0 l.reading.at.0 (table_of_marks l.reading.marks);
+  looks : LooksOn l.fn.pass l.pass;
+  faults : l.pass.faults ≡ l.fn.pass.faults;
+  orderly : g.J.OfStore.tells ≡ true → IsOrderly 0 l.pass.list;
+  read : g.J.OfStore.tells ≡ true → IsReadTo l.pass.list l.from.0 l.reading.at.0 (table_of_marks l.reading.marks);
   fits : Fits (table_of_marks l.reading.marks);
-  place : g.J.OfStore.tells ≡ true → IsPlaceOf l.fn.store.history l.reading.at.0;
-  known : g.J.OfStore.tells ≡ true → IsPlaceOf l.fn.store.history l.known.0;
-  none : l.ended ≡ true → g.J.OfStore.tells ≡ true → next_redo l.from.0 l.fn.store.history ≡ None;
+  place : g.J.OfStore.tells ≡ true → IsPlaceOf l.pass.list l.reading.at.0;
+  known : g.J.OfStore.tells ≡ true → IsPlaceOf l.pass.list l.known.0;
+  none : l.ended ≡ true → g.J.OfStore.tells ≡ true → next_redo l.from.0 l.pass.list ≡ None;
 }
 
 abbrev pub decreases-loop-ended : goal.decreases-loop-ended

@@ -1,0 +1,68 @@
+-- What lies under the lock of the summaries. No public contract cites these.
+use Rattle.std.specs.Prelude.{◌≡◌, ℕ, ◌+◌, List, Option, Some, None, Result, Ok, Err}
+use Rattle.lsn_core.specs.Files.{Files}
+use Rattle.lsn_core.specs.Segment.{StoreSettings}
+use Rattle.lsn_core.specs.declared.fault.StoreArea.TheVariants.{Wal, Data, Sums}
+use Rattle.lsn_core.specs.declared.fault.StoreFault.{StoreFault}
+use Rattle.lsn_core.specs.declared.fault.StoreFault.TheVariants as store
+use Rattle.vault.specs.declared.area.Vault.{Ghosts}
+use Rattle.history.specs.Entry.{Entry}
+use Rattle.journal.specs.Lawful.{IsLawful}
+use Rattle.shared_store.specs.Seen.{Seen, Booked, with_fault}
+use Rattle.shared_store.specs.Locked.{RunsOn, HasRisen}
+use Rattle.summary_publish.specs.Published.{GoesOnFrom}
+use Rattle.summary_publish.specs.declared.known.Known.{Known}
+use Rattle.summary_publish.specs.declared.advancing.AdvanceFault.{AdvanceFault}
+use Rattle.summary_publish.specs.declared.advancing.AdvanceFault.TheVariants.{Gap, Store}
+use Rattle.shared_summaries.specs.Shelf.{AreShelved}
+
+-- what the lock holds: the area, the beginning of the history that its summaries were made of, where
+-- publishing goes on there, and the faults of the area that are booked
+pub record Shelf (V : Type 0) : Type 0 where
+  pub area : V
+  pub list : List Entry
+  pub known : Known
+  pub booked : ℕ
+
+-- what it keeps: that beginning goes on from what was found, lawfully, the area is true for it, and it
+-- failed at least as often as is booked
+pub record IsShelf {V : Type 0} (g : Ghosts V) (tells : Type 0) (s : StoreSettings)
+    (found : List Entry) (begun : Option Files) (start : ℕ) (shelf : Shelf V) : Type 0 where
+  pub begins : RunsOn found shelf.list
+  pub lawful : tells → IsLawful s.segment shelf.list
+  pub shelved : AreShelved tells found begun shelf.list (g.files shelf.area)
+  pub going : GoesOnFrom tells shelf.list (g.files shelf.area) shelf.known
+  pub risen : HasRisen start shelf.booked (g.faults shelf.area)
+
+-- the fault that a call answers, if any
+abbrev pub fault_of : {T : Type 0} → Result T StoreFault → Option StoreFault
+fault_of (Ok x) = None
+fault_of (Err fault) = Some fault
+
+abbrev pub advance_fault : {T : Type 0} → Result T AdvanceFault → Option StoreFault
+advance_fault (Ok x) = None
+advance_fault (Err (Gap place)) = None
+advance_fault (Err (Store fault)) = Some fault
+
+-- one of the area of summaries is booked; another one was booked before
+abbrev pub sums_failures : Option StoreFault → ℕ
+sums_failures None = 0
+sums_failures (Some (store.Failed Wal)) = 0
+sums_failures (Some (store.Failed (Data q))) = 0
+sums_failures (Some (store.Failed Sums)) = 1
+sums_failures (Some store.NoMemory) = 0
+
+abbrev pub with_sums : Option StoreFault → Booked → Booked
+with_sums None b = b
+with_sums (Some (store.Failed Wal)) b = b
+with_sums (Some (store.Failed (Data q))) b = b
+with_sums (Some (store.Failed Sums)) b = with_fault Sums b
+with_sums (Some store.NoMemory) b = b
+
+-- a pass that this was booked of, and the book's total
+pub record HasBooked (fault : Option StoreFault) (old new : Seen) (book now : ℕ) : Type 0 where
+  pub list : new.list ≡ old.list
+  pub worker : new.worker ≡ old.worker
+  pub accepted : new.accepted ≡ old.accepted
+  pub faults : new.faults ≡ with_sums fault old.faults
+  pub total : now ≡ book + sums_failures fault

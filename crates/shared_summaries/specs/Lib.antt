@@ -1,0 +1,4 @@
+pub mod Grown
+pub mod Shelf
+pub mod Laws
+pub mod Inside
