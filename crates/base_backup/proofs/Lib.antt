@@ -1,4 +1,5 @@
 pub mod Steps
+pub mod Marks
 pub mod PageLists
 pub mod Contents
 pub mod Segments

@@ -1,7 +1,6 @@
 -- A whole backup, from what its steps do.
 use Rattle.std.proofs.Common.{◌≡◌, ℕ, ◌≤◌, List, Option, Some, None, Result, IfErr, refl, sym, subst, ◌∙◌, arith, inl, inr}
 use Rattle.std.specs.Result.{IsErrAnd}
-use Rattle.std.proofs.lemmas.List.{append-nil}
 use Rattle.lsn_core.specs.Files.{Files}
 use Rattle.lsn_core.specs.Names.{segment_number}
 use Rattle.lsn_core.specs.Segment.{IsRelseg, StoreSettings}
@@ -11,47 +10,19 @@ use Rattle.lsn_core.specs.declared.fault.AreaFault.{AreaFault}
 use Rattle.lsn_core.specs.declared.fault.AreaFault.TheVariants as area
 use Rattle.lsn_core.specs.declared.lsn.Lsn.{Lsn}
 use Rattle.vault.specs.declared.area.Vault.{Ghosts}
-use Rattle.history.specs.Entry.{Entry, Marking, Mark, RedoMark, Online, BackupEnd}
 use Rattle.manifest.specs.declared.listing.FileRow.{FileRow}
 use Rattle.shared_store.specs.declared.receipt.Redo.{Redo}
-use Rattle.shared_store.specs.Opened.{Opened}
+use Rattle.shared_store.specs.Seen.{Seen}
 use Rattle.base_backup.specs.declared.fault.BackupFault.{BackupFault}
 use Rattle.base_backup.specs.declared.fault.BackupFault.TheVariants as fault
 use Rattle.backup_files.specs.Area.{KeepsManifest, RoseTwice, LeavesText, with_file}
 use Rattle.backup_files.specs.Directory.{manifest_name}
 use Rattle.backup_files.proofs.Kept.{kept_on, kept_same, rose_later}
 use Rattle.backup_files.proofs.Passed.{err_cause}
-use Rattle.base_backup.specs.Backup.{HasBackup, IsTakenFull, IsTakenWhole, LeavesManifest, MayHaveBackup}
+use Rattle.base_backup.specs.Backup.{IsTakenFull, IsTakenWhole, LeavesManifest}
 use Rattle.backup_files.specs.Area.{SparesManifest}
 use Rattle.base_backup.specs.Inside.{CanFinish, Finishes, HoldsCopy, IsRun, area_fault}
 use Rattle.base_backup.proofs.Listings.{copy_held, full_finished}
-
--- ---- entries
-
-abbrev mark_entry : ℕ → Marking → Entry
-mark_entry worker marking = record { act = Mark marking; start = 0; end = 0; worker = Some worker; seq = None }
-
--- nothing was done
-pub nothing_left : (worker : ℕ) (old new : List Entry) → new ≡ old → MayHaveBackup worker old new
-nothing_left worker old new same = record {
-  first = mark_entry worker (RedoMark 1);
-  last = mark_entry worker (Online 0);
-  stop = mark_entry worker (BackupEnd 0);
-  entries = record { starts = (refl, refl, refl); completes = (refl, refl, refl); ends = (refl, refl, refl) };
-  many = 0;
-  grown = same ∙ sym (append-nil old);
-}
-
--- all was done
-pub all_left : (worker : ℕ) (old new : List Entry) (start checkpoint end : ℕ) → HasBackup worker old new start checkpoint end → MayHaveBackup worker old new
-all_left worker old new start checkpoint end h = record {
-  first = h.first;
-  last = h.last;
-  stop = h.stop;
-  entries = h.entries;
-  many = 3;
-  grown = h.grown;
-}
 
 -- ---- the manifest
 
@@ -80,20 +51,20 @@ leaves_text g whole text old mid new area.NoMemory kept le all (inr (inr stands)
 
 -- ---- the backup
 
-pub taken_full : (tells : Type 0) (worker : ℕ) (name : List ℕ) (when : ℕ) (old new : Opened) (modified : List ℕ) (mid files : Option Files) (redo : Redo) (end : Lsn) (rows : List FileRow) (count : ℕ)
-    → IsRelseg new.settings.relseg → IsRun tells worker old new modified mid redo end rows → Finishes new.settings name when modified mid files redo None end rows count → IsTakenFull tells worker name when old new files (record { start = redo.redo; end = end; files = count })
-taken_full tells worker name when old new modified mid files redo end rows count range run finishes = record {
+pub taken_full : (tells : Type 0) (settings : StoreSettings) (name : List ℕ) (when : ℕ) (old new : Seen) (modified : List ℕ) (mid files : Option Files) (redo : Redo) (end : Lsn) (rows : List FileRow) (count : ℕ)
+    → IsRelseg settings.relseg → IsRun tells settings old new modified mid redo end rows → Finishes settings name when modified mid files redo None end rows count → IsTakenFull tells settings name when old new files (record { start = redo.redo; end = end; files = count })
+taken_full tells settings name when old new modified mid files redo end rows count range run finishes = record {
   copy = run.copy;
   checkpoint = redo.at.0;
   entries = run.entries;
-  directory = full_finished new.settings redo end name when modified mid files rows run.copy count range run.held finishes;
+  directory = full_finished settings redo end name when modified mid files rows run.copy count range run.held finishes;
   taken = run.taken;
 }
 
-pub taken_whole : (tells : Type 0) (worker : ℕ) (name : List ℕ) (when : ℕ) (old new : Opened) (modified : List ℕ) (mid files : Option Files) (redo : Redo) (end : Lsn) (rows : List FileRow)
-    → IsRelseg new.settings.relseg → IsRun tells worker old new modified mid redo end rows → (count : ℕ) × Finishes new.settings name when modified mid files redo None end rows count → IsTakenWhole tells worker name when old new files
-taken_whole tells worker name when old new modified mid files redo end rows range run finishes =
-    (record { start = redo.redo; end = end; files = finishes.0 }, taken_full tells worker name when old new modified mid files redo end rows finishes.0 range run finishes.1)
+pub taken_whole : (tells : Type 0) (settings : StoreSettings) (name : List ℕ) (when : ℕ) (old new : Seen) (modified : List ℕ) (mid files : Option Files) (redo : Redo) (end : Lsn) (rows : List FileRow)
+    → IsRelseg settings.relseg → IsRun tells settings old new modified mid redo end rows → (count : ℕ) × Finishes settings name when modified mid files redo None end rows count → IsTakenWhole tells settings name when old new files
+taken_whole tells settings name when old new modified mid files redo end rows range run finishes =
+    (record { start = redo.redo; end = end; files = finishes.0 }, taken_full tells settings name when old new modified mid files redo end rows finishes.0 range run finishes.1)
 
 -- ---- steps that failed
 
@@ -104,9 +75,9 @@ publish_failed g whole text old mid new r why is kept le all left = err_cause r 
 
 -- ---- a backup that was run
 
-pub can_finish : (tells : Type 0) (worker : ℕ) (old new : Opened) (modified : List ℕ) (files : Option Files) (redo : Redo) (end : Lsn) (rows : List FileRow) (settings : StoreSettings) → settings ≡ new.settings → IsRelseg settings.relseg → IsRun tells worker old new modified files redo end rows
+pub can_finish : (tells : Type 0) (store : StoreSettings) (old new : Seen) (modified : List ℕ) (files : Option Files) (redo : Redo) (end : Lsn) (rows : List FileRow) (settings : StoreSettings) → settings ≡ store → IsRelseg settings.relseg → IsRun tells store old new modified files redo end rows
     → CanFinish settings modified files redo end rows
-can_finish tells worker old new modified files redo end rows settings same range run = record {
+can_finish tells store old new modified files redo end rows settings same range run = record {
   put = store_files settings.relseg run.copy;
   held = copy_held settings.relseg run.copy modified files rows range (subst (λ (s : StoreSettings). HoldsCopy s.relseg run.copy modified files rows) (sym same) run.held);
   rises = run.rises;
@@ -114,12 +85,12 @@ can_finish tells worker old new modified files redo end rows settings same range
 }
 
 -- its end failed
-pub finish_left : {V T : Type 0} (g : Ghosts V) (tells : Type 0) (worker : ℕ) (name : List ℕ) (when : ℕ) (old new : Opened) (modified : List ℕ) (a b c d : V) (redo : Redo) (end : Lsn) (rows : List FileRow) (settings : StoreSettings) (r : Result T BackupFault) (why : BackupFault) → IsErrAnd r (λ x. x ≡ why) → settings ≡ new.settings → IsRelseg settings.relseg
-    → g.files b ≡ g.files a → g.faults a ≤ g.faults b → SparesManifest g b c → IsRun tells worker old new modified (g.files c) redo end rows → LeavesManifest g ((count : ℕ) × Finishes settings name when modified (g.files c) (g.files d) redo None end rows count) c d why
-    → IfErr r (LeavesManifest g (IsTakenWhole tells worker name when old new (g.files d)) a d)
-finish_left g tells worker name when old new modified a b c d redo end rows settings r why is same range files le spares run left =
-    err_cause r why (LeavesManifest g (IsTakenWhole tells worker name when old new (g.files d)) a d) is
-    (leaves_behind g ((count : ℕ) × Finishes new.settings name when modified (g.files c) (g.files d) redo None end rows count) (IsTakenWhole tells worker name when old new (g.files d)) a c d why
+pub finish_left : {V T : Type 0} (g : Ghosts V) (tells : Type 0) (store : StoreSettings) (name : List ℕ) (when : ℕ) (old new : Seen) (modified : List ℕ) (a b c d : V) (redo : Redo) (end : Lsn) (rows : List FileRow) (settings : StoreSettings) (r : Result T BackupFault) (why : BackupFault) → IsErrAnd r (λ x. x ≡ why) → settings ≡ store → IsRelseg settings.relseg
+    → g.files b ≡ g.files a → g.faults a ≤ g.faults b → SparesManifest g b c → IsRun tells store old new modified (g.files c) redo end rows → LeavesManifest g ((count : ℕ) × Finishes settings name when modified (g.files c) (g.files d) redo None end rows count) c d why
+    → IfErr r (LeavesManifest g (IsTakenWhole tells store name when old new (g.files d)) a d)
+finish_left g tells store name when old new modified a b c d redo end rows settings r why is same range files le spares run left =
+    err_cause r why (LeavesManifest g (IsTakenWhole tells store name when old new (g.files d)) a d) is
+    (leaves_behind g ((count : ℕ) × Finishes store name when modified (g.files c) (g.files d) redo None end rows count) (IsTakenWhole tells store name when old new (g.files d)) a c d why
     (kept_on (g.files a) (g.files b) (g.files c) (kept_same (g.files a) (g.files b) files) spares.manifest) (omega (arith, le, spares.faults))
-    (λ f. taken_whole tells worker name when old new modified (g.files c) (g.files d) redo end rows (subst (λ (s : StoreSettings). IsRelseg s.relseg) same range) run f)
+    (λ f. taken_whole tells store name when old new modified (g.files c) (g.files d) redo end rows (subst (λ (s : StoreSettings). IsRelseg s.relseg) same range) run f)
     (subst (λ (s : StoreSettings). LeavesManifest g ((count : ℕ) × Finishes s name when modified (g.files c) (g.files d) redo None end rows count) c d why) same left))

@@ -7,18 +7,16 @@ use Rattle.lsn_core.specs.declared.lsn.Lsn.{Lsn}
 use Rattle.lsn_core.specs.declared.fault.StoreArea.TheVariants.{Sums}
 use Rattle.lsn_core.specs.declared.fault.StoreFault.TheVariants as store
 use Rattle.vault.specs.declared.area.Vault.{Ghosts}
-use Rattle.wal_record.specs.Tips.{wal_limit}
 use Rattle.wal_writer.specs.declared.state.Flushed.{Flushed}
 use Rattle.wal_summary.specs.declared.summary.Summary.{Summary}
 use Rattle.history.specs.Entry.{Entry, Mark, BackupEnd}
 use Rattle.manifest.specs.Listing.{Listing}
 use Rattle.manifest.specs.declared.listing.FileRow.{FileRow}
 use Rattle.shared_store.specs.declared.receipt.Redo.{Redo}
-use Rattle.shared_store.specs.Seen.{Seen, StaysBy}
-use Rattle.shared_store.specs.Opened.{Opened, count_of, wal_top}
-use Rattle.shared_store.specs.Calls.{GoesOn, HasCheckpoint, HasNoRoom, FindsNoRoom, MayHaveMark}
-use Rattle.shared_store.specs.Copied.{HasBackupEnd}
-use Rattle.summary_publish.specs.Published.{AdvanceAnswers}
+use Rattle.shared_store.specs.Seen.{Seen, ShareRose}
+use Rattle.shared_store.specs.Calls.{HasNoRoom}
+use Rattle.shared_store.specs.Shared.{HasCheckpointIn, HasEnded, FindsNoRoomIn, IsPlaced}
+use Rattle.shared_summaries.specs.Shelf.{HasCovered}
 use Rattle.summary_publish.specs.declared.advancing.AdvanceFault.{AdvanceFault}
 use Rattle.summary_publish.specs.declared.advancing.AdvanceFault.TheVariants as advance
 use Rattle.base_backup.specs.declared.fault.BackupFault.{BackupFault}
@@ -28,8 +26,9 @@ use Rattle.base_backup.specs.declared.incr_fault.IncrFault.TheVariants as fault
 use Rattle.base_backup.specs.declared.basis.Basis.{Basis}
 use Rattle.backup_files.specs.Area.{HoldsNothing, HoldsSomething}
 use Rattle.base_backup.specs.Backup.{Site}
+use Rattle.base_backup.specs.Entries.{HasCheckpointAt}
 use Rattle.base_backup.specs.Prior.{PriorAnswer}
-use Rattle.base_backup.specs.Incr.{BeginsAt}
+use Rattle.base_backup.specs.Incr.{Origin, IsSummedUp}
 use Rattle.base_backup.specs.IncrInside.{SendsStore}
 
 -- ---- faults
@@ -64,91 +63,69 @@ EarlyRefusal g system before behind old new _ = ⊥
 -- ---- the checkpoint and the summary
 
 -- the summary from the prior's start to a redo point, or why there is none
-abbrev pub SumAnswer : {V : Type 0} → Ghosts V → Type 0 → ℕ → Opened → Opened → Listing → Lsn → V
-    → V → Result Summary IncrFault → Type 0
-SumAnswer g tells when old new m redo before now (Ok sum) =
+abbrev pub SumAnswer :
+    Type 0 → Origin → ℕ → Seen → Seen → Listing → Lsn → Result Summary IncrFault → Type 0
+SumAnswer tells o when old new m redo (Ok sum) =
+    (m.end ≤ redo.0) × HasCovered tells o.found o.sums new.list when m.start redo.0 (Ok sum)
+SumAnswer tells o when old new m redo (Err (fault.Overlap start end)) =
+    (start ≡ redo) × (end.0 ≡ m.end) × (redo.0 < m.end)
+SumAnswer tells o when old new m redo (Err (fault.Gap place)) =
     (m.end ≤ redo.0)
-    × AdvanceAnswers g tells old.history when m.start redo.0 before now (Ok sum)
-SumAnswer g tells when old new m redo before now (Err (fault.Overlap start end)) =
-    (start ≡ redo) × (end.0 ≡ m.end) × (redo.0 < m.end) × (now ≡ before)
-SumAnswer g tells when old new m redo before now (Err (fault.Gap place)) =
-    (m.end ≤ redo.0)
-    × AdvanceAnswers g tells old.history when m.start redo.0 before now
-    (Err (advance.Gap place))
-SumAnswer g tells when old new m redo before now (Err (fault.StoreFailed area)) =
-    Rose (count_of area old.faults) (count_of area new.faults)
-SumAnswer g tells when old new m redo before now (Err fault.SumsFailed) =
-    Rose (g.faults before) (g.faults now)
-SumAnswer g tells when old new m redo before now (Err fault.NoMemory) = Unit {0}
-SumAnswer g tells when old new m redo before now (Err _) = ⊥
-
--- the store goes on, and the pass has lost nothing and counts no command
-pub record StoreProceeds (old : Opened) (was : Seen) (new : Opened) (now : Seen) : Type 0 where
-  pub store : GoesOn old new
-  pub seen : StaysBy was now
-  pub accepted : now.accepted ≡ was.accepted
+    × HasCovered tells o.found o.sums new.list when m.start redo.0 (Err (advance.Gap place))
+SumAnswer tells o when old new m redo (Err (fault.StoreFailed area)) = ShareRose area old new
+SumAnswer tells o when old new m redo (Err fault.SumsFailed) = ShareRose Sums old new
+SumAnswer tells o when old new m redo (Err fault.NoMemory) = Unit {0}
+SumAnswer tells o when old new m redo (Err _) = ⊥
 
 -- a checkpoint stands, and the WAL is summed up to its redo point
-pub record HasBegun {V : Type 0} (g : Ghosts V) (tells : Type 0) (worker when : ℕ)
-    (old new : Opened) (m : Listing) (before now : V) (redo : Redo) (b : Basis) : Type 0 where
+pub record HasBegun (tells : Type 0) (o : Origin) (when : ℕ) (old new : Seen) (m : Listing)
+    (redo : Redo) (b : Basis) : Type 0 where
+  pub mid : List Entry
   pub flushed : Flushed
-  pub checkpoint : HasCheckpoint worker old.history new.history redo flushed
-  pub relseg : b.relseg ≡ new.settings.relseg
+  pub checkpoint : HasCheckpointIn old.worker old.list mid redo flushed
+  pub behind : IsPrefix mid new.list
+  pub relseg : b.relseg ≡ o.settings.relseg
   pub prior : b.prior ≡ m
-  pub behind : m.end ≤ redo.redo.0
-  pub covers :
-      AdvanceAnswers g tells new.history when m.start redo.redo.0 before now (Ok b.summary)
+  pub apart : m.end ≤ redo.redo.0
+  pub summed : IsSummedUp tells o when old new redo.redo.0 m.start (Ok b.summary)
 
 -- why it doesn't
-abbrev pub BeginRefusal : {V : Type 0} → Ghosts V → Type 0 → ℕ → Opened → Opened → Seen → Seen
-    → Listing → V → V → IncrFault → Type 0
-BeginRefusal g tells when old new was seen m before now (fault.Overlap start end) =
-    BeginsAt was.worker old.history new.history start.0 × (m.end ≡ end.0) × (start.0 < end.0)
-    × (now ≡ before)
-BeginRefusal g tells when old new was seen m before now (fault.Gap place) =
-    (start : ℕ) × BeginsAt was.worker old.history new.history start × (m.end ≤ start)
-    × AdvanceAnswers g tells new.history when m.start start before now (Err (advance.Gap place))
-BeginRefusal g tells when old new was seen m before now (fault.WalFull n) =
-    (n ≡ length new.history) × (seen.list ≡ new.history)
-    × FindsNoRoom old.settings.segment was.worker old.history new.history × (now ≡ before)
-BeginRefusal g tells when old new was seen m before now (fault.StoreFailed area) =
-    Rose (count_of area old.faults) (count_of area new.faults)
-BeginRefusal g tells when old new was seen m before now fault.SumsFailed =
-    Rose (g.faults before) (g.faults now)
-BeginRefusal g tells when old new was seen m before now fault.NoMemory = Unit {0}
-BeginRefusal g tells when old new was seen m before now _ = ⊥
+abbrev pub BeginRefusal :
+    Type 0 → Origin → ℕ → Seen → Seen → Listing → IncrFault → Type 0
+BeginRefusal tells o when old new m (fault.Overlap start end) =
+    HasCheckpointAt old.worker (length old.list) new.list start.0 × (m.end ≡ end.0)
+    × (start.0 < end.0)
+BeginRefusal tells o when old new m (fault.Gap place) =
+    (start : ℕ) × (m.end ≤ start)
+    × IsSummedUp tells o when old new start m.start (Err (advance.Gap place))
+BeginRefusal tells o when old new m (fault.WalFull n) =
+    (n ≡ length new.list) × FindsNoRoomIn o.settings.segment old.worker (length old.list) new.list
+BeginRefusal tells o when old new m (fault.StoreFailed area) = ShareRose area old new
+BeginRefusal tells o when old new m fault.SumsFailed = ShareRose Sums old new
+BeginRefusal tells o when old new m fault.NoMemory = Unit {0}
+BeginRefusal tells o when old new m _ = ⊥
 
 -- ---- the files
 
 -- all files stand, and the backup's end
-pub record IsSentWhole (tells : Type 0) (worker : ℕ) (old new : Opened) (b : Basis)
+pub record IsSentWhole (tells : Type 0) (mib : ℕ) (old new : Seen) (b : Basis)
     (modified : List ℕ) (files : Option Files) (redo : Redo) (end : Lsn) (rows : List FileRow)
     : Type 0 where
   pub seen : List Entry
-  pub before : IsPrefix seen old.history
+  pub later : IsPrefix old.list seen
   pub sends : SendsStore tells seen redo.redo.0 b modified files rows
   pub flushed : Flushed
-  pub ends : HasBackupEnd worker redo.redo.0 old.history new.history end flushed
-  pub top : wal_top old ≤ wal_top new
-  pub size : 1 ≤ new.settings.segment
-  pub room : wal_top new ≤ wal_limit new.settings.segment
+  pub ends : HasEnded old.worker redo.redo.0 seen new.list end flushed
+  pub placed : IsPlaced mib new.list end.0
+  pub size : 1 ≤ mib
 
--- the WAL had no room for the backup's end; or a device failed whose count rose
-abbrev pub SendCause : {V : Type 0} → Ghosts V → Redo → Site V → Site V → BackupFault → Type 0
-SendCause g redo old new backup.NotEmpty = ⊥
-SendCause g redo old new (backup.WalFull n) =
-    (n ≡ length new.store.history) × (new.seen.list ≡ new.store.history)
-    × (new.store.history ≡ old.store.history)
-    × HasNoRoom old.store.settings.segment old.store.history (Mark (BackupEnd redo.redo.0))
-SendCause g redo old new (backup.StoreFailed which) =
-    Rose (count_of which old.store.faults) (count_of which new.store.faults)
-SendCause g redo old new backup.OutFailed = Rose (g.faults old.out) (g.faults new.out)
-SendCause g redo old new backup.NoMemory = Unit {0}
-
--- the WAL had no room for the backup's end, or a device failed whose count rose, or memory ran out;
--- and whether that end was appended
-pub record SendRefusal {V : Type 0} (g : Ghosts V) (redo : Redo) (old new : Site V)
-    (fault : BackupFault) : Type 0 where
-  pub cause : SendCause g redo old new fault
-  pub left : MayHaveMark old.seen.worker (BackupEnd redo.redo.0) old.store.history
-      new.store.history
+-- the WAL had no room for the backup's end; or a device failed: of the store one of whose faults the
+-- pass's share rose, or the area's, whose count rose
+abbrev pub SendCause :
+    {V : Type 0} → Ghosts V → ℕ → Redo → Site V → Site V → BackupFault → Type 0
+SendCause g mib redo old new backup.NotEmpty = ⊥
+SendCause g mib redo old new (backup.WalFull n) =
+    (n ≡ length new.seen.list) × HasNoRoom mib new.seen.list (Mark (BackupEnd redo.redo.0))
+SendCause g mib redo old new (backup.StoreFailed which) = ShareRose which old.seen new.seen
+SendCause g mib redo old new backup.OutFailed = Rose (g.faults old.out) (g.faults new.out)
+SendCause g mib redo old new backup.NoMemory = Unit {0}

@@ -41,16 +41,15 @@ use Rattle.manifest.specs.Shape.{is_path}
 use Rattle.manifest.specs.declared.kinds.SumKind.TheVariants as kind
 use Rattle.manifest.specs.declared.listing.FileRow.{FileRow}
 use Rattle.shared_store.specs.declared.receipt.Redo.{Redo}
-use Rattle.shared_store.specs.Seen.{Seen, StaysBy}
-use Rattle.shared_store.specs.Opened.{Opened, count_of}
-use Rattle.shared_store.specs.Calls.{GoesOn}
+use Rattle.shared_store.specs.Seen.{Seen, ShareRose}
 use Rattle.shared_store.specs.Copied.{HasRedoPoint, listed_length}
 use Rattle.base_backup.specs.declared.fault.BackupFault.{BackupFault}
 use Rattle.base_backup.specs.declared.fault.BackupFault.TheVariants as fault
 use Rattle.backup_files.specs.Area.{HoldsSomething}
 use Rattle.backup_files.specs.Directory.{label_name, manifest_name, row_of}
 use Rattle.base_backup.specs.Directory.{IsDirectory}
-use Rattle.base_backup.specs.Backup.{Site, HasBackup}
+use Rattle.base_backup.specs.Backup.{LooksOn, Site}
+use Rattle.base_backup.specs.Entries.{HasBackupAt}
 use Rattle.backup_files.specs.Area.{Lacks, with_file}
 use Rattle.backup_files.specs.Area.{SparesManifest}
 
@@ -69,25 +68,23 @@ mark_fault (mark.Failed which) = fault.StoreFailed which
 mark_fault (mark.WalFull n) = fault.WalFull n
 mark_fault mark.NoMemory = fault.NoMemory
 
--- copying failed: a device did whose count rose, or memory ran out
+-- a call of the store failed: of the area that did the pass's share of faults rose
+abbrev pub CallCause : Seen → Seen → StoreFault → Type 0
+CallCause old new (store.Failed which) = ShareRose which old new
+CallCause old new store.NoMemory = Unit {0}
+
+-- copying failed: a device of the store did, of whose faults the pass's share rose, or the area's,
+-- whose count rose, or memory ran out
 abbrev pub CopyCause : {V : Type 0} → Ghosts V → Site V → Site V → BackupFault → Type 0
 CopyCause g old new fault.NotEmpty = ⊥
 CopyCause g old new (fault.WalFull n) = ⊥
-CopyCause g old new (fault.StoreFailed which) =
-    Rose (count_of which old.store.faults) (count_of which new.store.faults)
+CopyCause g old new (fault.StoreFailed which) = ShareRose which old.seen new.seen
 CopyCause g old new fault.OutFailed = Rose (g.faults old.out) (g.faults new.out)
 CopyCause g old new fault.NoMemory = Unit {0}
 
--- the store goes on without a new entry, and the pass has lost nothing
-pub record ReadsOn (old : Opened) (was : Seen) (new : Opened) (now : Seen) : Type 0 where
-  pub store : GoesOn old new
-  pub same : new.history ≡ old.history
-  pub seen : StaysBy was now
-  pub accepted : now.accepted ≡ was.accepted
-
 -- a step of copying
 pub record CopiesOn {V : Type 0} (g : Ghosts V) (old new : Site V) : Type 0 where
-  pub reads : ReadsOn old.store old.seen new.store new.seen
+  pub looks : LooksOn old.seen new.seen
   pub spares : SparesManifest g old.out new.out
 
 -- ---- pages
@@ -260,14 +257,15 @@ pub record CopiesStore (tells : Type 0) (seen : List Entry) (from relseg : ℕ)
   pub copied : tells → IsCopiedSoFar seen from copy
 
 -- a backup's entries stand, and its files but the label and the manifest
-pub record IsRun (tells : Type 0) (worker : ℕ) (old new : Opened) (modified : List ℕ)
-    (files : Option Files) (redo : Redo) (end : Lsn) (rows : List FileRow) : Type 0 where
-  pub entries : HasBackup worker old.history new.history redo.redo.0 redo.at.0 end.0
+pub record IsRun (tells : Type 0) (settings : StoreSettings) (old new : Seen)
+    (modified : List ℕ) (files : Option Files) (redo : Redo) (end : Lsn) (rows : List FileRow)
+    : Type 0 where
+  pub entries : HasBackupAt old.worker (length old.list) new.list redo.redo.0 redo.at.0 end.0
   pub copy : Store
-  pub held : HoldsCopy new.settings.relseg copy modified files rows
-  pub taken : tells → IsTaken copy new.history redo.redo.0 end.0
+  pub held : HoldsCopy settings.relseg copy modified files rows
+  pub taken : tells → IsTaken copy new.list redo.redo.0 end.0
   pub rises : redo.redo.0 < end.0
-  pub segment : segment_number redo.redo.0 new.settings.segment ≤ most_segments
+  pub segment : segment_number redo.redo.0 settings.segment ≤ most_segments
 
 -- the label of a backup, full or over a prior one that starts at a place
 abbrev pub backup_label : Redo → Option Lsn → List ℕ → List ℕ → Label

@@ -1,4 +1,5 @@
 pub mod Directory
+pub mod Entries
 pub mod Backup
 pub mod Prior
 pub mod Sent

@@ -8,11 +8,13 @@ ghost use Rattle.base_backup.specs.Backup.{site_of};
 ghost use Rattle.base_backup.specs.Inside.{CopyCause, CopiesOn, AddsPiece, WritesCopies};
 
 use crate::fault::BackupFault;
+use crate::gate::Gate;
 use crate::pages::copy_pages;
 use lsn_core::{ForkId, Lsn, PAGE};
 use sha2::{Digest, Sha256};
 use shared_store::{OfCrew, Pass, Store};
 use std::alloc::Global;
+use std::sync::Wait;
 use vault::Vault;
 
 /// How many blocks are copied and written at once: 64 KiB.
@@ -20,9 +22,11 @@ const PIECE: u32 = 8;
 
 /// Copies so many blocks behind those that a file has already, which are `done`.
 fn copy_piece<J: OfCrew, V: Vault>(
+    rt: &impl Wait,
     alloc: Global,
-    store: &mut Store<J, V>,
+    store: &Store<J, V>,
     pass: &mut Pass<J>,
+    gate: &impl Gate,
     out: &mut V,
     path: &[u8],
     fork: &ForkId,
@@ -38,13 +42,14 @@ fn copy_piece<J: OfCrew, V: Vault>(
     requires other { path.now ≢ manifest_name }
     ensures added { OnOk result (AddsPiece (J.tells ≡ true) pass.new.list from.0 fork.now block
         done count path.now (V.files out.old) (V.files out.new) hasher.old hasher.new) }
-    ensures copies_on { CopiesOn V.Vault (site_of store.old pass.old out.old)
-        (site_of store.new pass.new out.new) }
-    ensures cause { IfErr result (CopyCause V.Vault (site_of store.old pass.old out.old)
-        (site_of store.new pass.new out.new)) }
+    ensures copies_on { CopiesOn V.Vault (site_of pass.old out.old) (site_of pass.new out.new) }
+    ensures cause { IfErr result (CopyCause V.Vault (site_of pass.old out.old)
+        (site_of pass.new out.new)) }
 {
     piece.clear();
-    copy_pages(alloc, store, pass, fork, block, count, from, piece)?;
+    copy_pages(
+        rt, alloc, store, pass, gate, fork, block, count, from, piece,
+    )?;
     out.write_at(path, u64::from(done) * PAGE, piece)?;
     hasher.update(&*piece);
     Ok(())
@@ -53,9 +58,11 @@ fn copy_piece<J: OfCrew, V: Vault>(
 /// Copies so many blocks of a fork, from a block on, into a file that isn't there, and gives the
 /// SHA-256 of the file.
 pub(crate) fn copy_file<J: OfCrew, V: Vault>(
+    rt: &impl Wait,
     alloc: Global,
-    store: &mut Store<J, V>,
+    store: &Store<J, V>,
     pass: &mut Pass<J>,
+    gate: &impl Gate,
     out: &mut V,
     path: &[u8],
     fork: &ForkId,
@@ -69,13 +76,10 @@ pub(crate) fn copy_file<J: OfCrew, V: Vault>(
     requires missing { Lacks (V.files out.old) path.now }
     ensures copied { IfOk result (WritesCopies (J.tells ≡ true) pass.new.list from.0 fork.now
         block count path.now (V.files out.old) (V.files out.new)) }
-    ensures copies_on { CopiesOn V.Vault (site_of store.old pass.old out.old)
-        (site_of store.new pass.new out.new) }
-    ensures cause { IfErr result (CopyCause V.Vault (site_of store.old pass.old out.old)
-        (site_of store.new pass.new out.new)) }
+    ensures copies_on { CopiesOn V.Vault (site_of pass.old out.old) (site_of pass.new out.new) }
+    ensures cause { IfErr result (CopyCause V.Vault (site_of pass.old out.old)
+        (site_of pass.new out.new)) }
 {
-    // known: no more is flushed than the WAL has
-    store.know();
     out.write_at(path, 0, &[])?;
     let mut hasher = Sha256::new();
     let mut piece = Vec::new(alloc);
@@ -84,9 +88,11 @@ pub(crate) fn copy_file<J: OfCrew, V: Vault>(
         let step = PIECE.min(count - done);
         let at = block + done;
         copy_piece(
+            rt,
             alloc,
             store,
             pass,
+            gate,
             out,
             path,
             fork,

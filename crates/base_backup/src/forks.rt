@@ -12,11 +12,13 @@ ghost use Rattle.base_backup.specs.Inside.{CopyCause, CopiesOn, LacksFork, PutsS
 
 use crate::fault::BackupFault;
 use crate::files::copy_file;
+use crate::gate::Gate;
 use backup_files::file_row;
 use lsn_core::{ForkId, ForkLen, Lsn, NoMemory, PAGE, Text, fork_path};
 use manifest::FileRow;
 use shared_store::{OfCrew, Pass, Store};
 use std::alloc::Global;
+use std::sync::Wait;
 use vault::Vault;
 
 /// The path of a segment file of a fork, plain or incremental.
@@ -51,9 +53,11 @@ pub(crate) fn segment_count(relseg: u32, blocks: u32) -> u32
 
 /// Copies the blocks of one segment of a fork into its file, which isn't there, and lists it.
 pub(crate) fn copy_segment<J: OfCrew, V: Vault>(
+    rt: &impl Wait,
     alloc: Global,
-    store: &mut Store<J, V>,
+    store: &Store<J, V>,
     pass: &mut Pass<J>,
+    gate: &impl Gate,
     out: &mut V,
     fork: &ForkLen,
     relseg: u32,
@@ -68,21 +72,20 @@ pub(crate) fn copy_segment<J: OfCrew, V: Vault>(
     requires missing { Lacks (V.files out.old) (fork_path_bytes fork.now.fork seg false) }
     ensures put { OnOk result (PutsSegment (J.tells ≡ true) pass.new.list from.0 relseg fork.now
         seg modified.now (V.files out.old) (V.files out.new) rows.old.items rows.new.items) }
-    ensures copies_on { CopiesOn V.Vault (site_of store.old pass.old out.old)
-        (site_of store.new pass.new out.new) }
-    ensures cause { IfErr result (CopyCause V.Vault (site_of store.old pass.old out.old)
-        (site_of store.new pass.new out.new)) }
+    ensures copies_on { CopiesOn V.Vault (site_of pass.old out.old) (site_of pass.new out.new) }
+    ensures cause { IfErr result (CopyCause V.Vault (site_of pass.old out.old)
+        (site_of pass.new out.new)) }
 {
-    // known: no more is flushed than the WAL has
-    store.know();
     let blocks = fork.blocks;
     let block = seg * relseg;
     let count = relseg.min(blocks - block);
     let path = segment_path(alloc, &fork.fork, seg, false)?;
     let sum = copy_file(
+        rt,
         alloc,
         store,
         pass,
+        gate,
         out,
         path.as_bytes(),
         &fork.fork,
@@ -97,9 +100,11 @@ pub(crate) fn copy_segment<J: OfCrew, V: Vault>(
 
 /// Copies a fork into its files, of which none is there, and lists them.
 fn copy_fork<J: OfCrew, V: Vault>(
+    rt: &impl Wait,
     alloc: Global,
-    store: &mut Store<J, V>,
+    store: &Store<J, V>,
     pass: &mut Pass<J>,
+    gate: &impl Gate,
     out: &mut V,
     fork: &ForkLen,
     relseg: u32,
@@ -112,20 +117,18 @@ fn copy_fork<J: OfCrew, V: Vault>(
     requires missing { LacksFork (V.files out.old) fork.now.fork }
     ensures put { OnOk result (PutsFork (J.tells ≡ true) pass.new.list from.0 relseg fork.now
         modified.now (V.files out.old) (V.files out.new) rows.old.items rows.new.items) }
-    ensures copies_on { CopiesOn V.Vault (site_of store.old pass.old out.old)
-        (site_of store.new pass.new out.new) }
-    ensures cause { IfErr result (CopyCause V.Vault (site_of store.old pass.old out.old)
-        (site_of store.new pass.new out.new)) }
+    ensures copies_on { CopiesOn V.Vault (site_of pass.old out.old) (site_of pass.new out.new) }
+    ensures cause { IfErr result (CopyCause V.Vault (site_of pass.old out.old)
+        (site_of pass.new out.new)) }
 {
-    // known: no more is flushed than the WAL has, and the fork's numbers fit
-    store.know();
+    // known: the fork's numbers fit
     let blocks = fork.blocks;
     know_fork(&fork.fork, blocks);
     let count = segment_count(relseg, blocks);
     let mut seg = 0;
     while seg < count {
         copy_segment(
-            alloc, store, pass, out, fork, relseg, seg, from, modified, rows,
+            rt, alloc, store, pass, gate, out, fork, relseg, seg, from, modified, rows,
         )?;
         seg += 1;
     }
@@ -134,9 +137,11 @@ fn copy_fork<J: OfCrew, V: Vault>(
 
 /// Copies the forks of a list into an area that holds nothing, and lists their files.
 pub(crate) fn copy_forks<J: OfCrew, V: Vault>(
+    rt: &impl Wait,
     alloc: Global,
-    store: &mut Store<J, V>,
+    store: &Store<J, V>,
     pass: &mut Pass<J>,
+    gate: &impl Gate,
     out: &mut V,
     forks: &[ForkLen],
     relseg: u32,
@@ -149,18 +154,15 @@ pub(crate) fn copy_forks<J: OfCrew, V: Vault>(
     requires empty { HoldsNothing (V.files out.old) }
     ensures put { IfOk result (λ rows. PutsStore (J.tells ≡ true) pass.new.list from.0 relseg
         forks.now modified.now (V.files out.old) (V.files out.new) rows.items) }
-    ensures copies_on { CopiesOn V.Vault (site_of store.old pass.old out.old)
-        (site_of store.new pass.new out.new) }
-    ensures cause { IfErr result (CopyCause V.Vault (site_of store.old pass.old out.old)
-        (site_of store.new pass.new out.new)) }
+    ensures copies_on { CopiesOn V.Vault (site_of pass.old out.old) (site_of pass.new out.new) }
+    ensures cause { IfErr result (CopyCause V.Vault (site_of pass.old out.old)
+        (site_of pass.new out.new)) }
 {
-    // known: no more is flushed than the WAL has
-    store.know();
     let mut rows = Vec::new(alloc);
     let mut left = forks;
     while let Some((fork, behind)) = left.split_first() {
         copy_fork(
-            alloc, store, pass, out, fork, relseg, from, modified, &mut rows,
+            rt, alloc, store, pass, gate, out, fork, relseg, from, modified, &mut rows,
         )?;
         left = behind;
     }

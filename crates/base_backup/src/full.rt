@@ -1,11 +1,10 @@
 //! A full backup.
 
 ghost use Rattle.std.specs.Prelude.{◌≡◌, ◌<◌, ◌≤◌, ℕ, true, codes, IfOk, OnOk, OnErr, IfErr};
-ghost use Rattle.shared_store.specs.Opened.{IsLawfulOf};
 ghost use Rattle.shared_store.specs.Copied.{HasRedoPoint};
 ghost use Rattle.backup_label.specs.Time.{IsTimeText};
 ghost use Rattle.backup_files.specs.Area.{EndsSynced, HoldsNothing};
-ghost use Rattle.base_backup.specs.Backup.{site_of, Proceeds, MayHaveBackup, IsTakenFull, IsTakenWhole, KeepsFull};
+ghost use Rattle.base_backup.specs.Backup.{LooksOn, site_of, IsTakenFull, IsTakenWhole, KeepsFull};
 ghost use Rattle.base_backup.specs.Backup.{BackupCause, GoesPast, LeavesManifest};
 ghost use Rattle.backup_files.specs.Area.{SparesManifest};
 ghost use Rattle.base_backup.specs.Inside.{CopyCause, CopiesOn, CopiesStore, IsRun};
@@ -14,6 +13,7 @@ ghost use Rattle.base_backup.specs.Inside.{LookCause, EndCause, CanFinish, Finis
 use crate::done::Done;
 use crate::fault::BackupFault;
 use crate::forks::copy_forks;
+use crate::gate::{Gate, StepKind};
 use crate::listed::add_label;
 use crate::listing::all_forks;
 use backup_files::{is_empty, manifest_text, publish};
@@ -22,6 +22,7 @@ use lsn_core::{Lsn, Settings, Text};
 use manifest::FileRow;
 use shared_store::{OfCrew, Pass, Redo, Store};
 use std::alloc::Global;
+use std::sync::Wait;
 use vault::Vault;
 
 /// Looks whether an area is empty. Errs with `NotEmpty` exactly where it holds a file.
@@ -40,9 +41,11 @@ pub(crate) fn check_empty<V: Vault>(alloc: Global, out: &mut V) -> Result<(), Ba
 
 /// Copies all forks of a store as of a redo point, each at its moment, and lists their files.
 fn copy_store<J: OfCrew, V: Vault>(
+    rt: &impl Wait,
     alloc: Global,
-    store: &mut Store<J, V>,
+    store: &Store<J, V>,
     pass: &mut Pass<J>,
+    gate: &impl Gate,
     out: &mut V,
     from: Lsn,
     modified: &Text,
@@ -50,45 +53,43 @@ fn copy_store<J: OfCrew, V: Vault>(
     requires redo { HasRedoPoint pass.old.list from.0 }
     requires empty { HoldsNothing (V.files out.old) }
     ensures copied { IfOk result (λ rows. CopiesStore (J.tells ≡ true) pass.new.list from.0
-        store.old.settings.relseg modified.now (V.files out.new) rows.items) }
-    ensures copies_on { CopiesOn V.Vault (site_of store.old pass.old out.old)
-        (site_of store.new pass.new out.new) }
-    ensures cause { IfErr result (CopyCause V.Vault (site_of store.old pass.old out.old)
-        (site_of store.new pass.new out.new)) }
+        J.settings.relseg modified.now (V.files out.new) rows.items) }
+    ensures copies_on { CopiesOn V.Vault (site_of pass.old out.old) (site_of pass.new out.new) }
+    ensures cause { IfErr result (CopyCause V.Vault (site_of pass.old out.old)
+        (site_of pass.new out.new)) }
 {
-    let forks = all_forks(alloc, store, pass, from)?;
+    let forks = all_forks(rt, alloc, store, pass, gate, from)?;
     let relseg = store.settings().relseg();
-    copy_forks(alloc, store, pass, out, &forks, relseg, from, modified)
+    copy_forks(
+        rt, alloc, store, pass, gate, out, &forks, relseg, from, modified,
+    )
 }
 
 /// Does a checkpoint, copies all files, and appends the end of the backup.
 fn run_backup<J: OfCrew, V: Vault>(
+    rt: &impl Wait,
     alloc: Global,
-    store: &mut Store<J, V>,
+    store: &Store<J, V>,
     pass: &mut Pass<J>,
+    gate: &impl Gate,
     out: &mut V,
     modified: &Text,
 ) -> Result<(Redo, Lsn, Vec<FileRow>), BackupFault>
     requires { HoldsNothing (V.files out.old) }
-    ensures run { IfOk result (λ x. IsRun (J.tells ≡ true) pass.old.worker store.old store.new
+    ensures run { IfOk result (λ x. IsRun (J.tells ≡ true) J.settings pass.old pass.new
         modified.now (V.files out.new) x.0 x.1 x.2.items) }
-    ensures lawful { OnOk result (IsLawfulOf (J.tells ≡ true) store.new) }
-    ensures whole { OnOk result (pass.new.list ≡ store.new.history) }
-    ensures flushed { IfOk result (λ x. x.1.0 ≤ store.new.flushed) }
-    ensures left { OnErr result
-        (MayHaveBackup pass.old.worker store.old.history store.new.history) }
-    ensures proceeds { Proceeds V.Vault (site_of store.old pass.old out.old)
-        (site_of store.new pass.new out.new) }
+    ensures looks { LooksOn pass.old pass.new }
     ensures spares { SparesManifest V.Vault out.old out.new }
-    ensures cause { IfErr result (BackupCause V.Vault (site_of store.old pass.old out.old)
-        (site_of store.new pass.new out.new)) }
+    ensures cause { IfErr result (BackupCause V.Vault J.settings.segment (site_of pass.old out.old)
+        (site_of pass.new out.new)) }
 {
-    let (redo, _) = store.checkpoint(alloc, pass)?;
-    let rows = copy_store(alloc, store, pass, out, redo.redo, modified)?;
-    let (end, _) = store.end_backup(alloc, pass, redo.redo)?;
-    // known: the WAL ends within its room, and so does the start of its file; and that has bytes
-    store.know();
+    // known: a segment of the WAL has bytes
     let _size = store.settings().segment();
+    let (redo, _) = store.checkpoint(rt, alloc, pass)?;
+    gate.passed(pass.worker(), StepKind::Begin);
+    let rows = copy_store(rt, alloc, store, pass, gate, out, redo.redo, modified)?;
+    let (end, _) = store.end_backup(rt, alloc, pass, redo.redo)?;
+    gate.passed(pass.worker(), StepKind::End);
     Ok((redo, end, rows))
 }
 
@@ -129,47 +130,43 @@ pub(crate) fn finish<V: Vault>(
 }
 
 /// Takes a full backup of an open store into an area, under a name and at a moment in seconds since
-/// 1970 UTC: a checkpoint, whose redo point is the backup's start; the forks of each partition; their
-/// blocks, file by file, zeros for a block that is gone when it is copied; the end of the backup; the
-/// label; and the manifest behind a sync, which a sync follows. Beside a buffer of 64 KiB it takes
-/// memory for the manifest's rows and text alone, and has that before it writes the manifest.
+/// 1970 UTC, while other workers change the store: a checkpoint, whose redo point is the backup's
+/// start; the forks of each partition; their blocks, file by file, zeros for a block that is gone when
+/// it is copied; the end of the backup; the label; and the manifest behind a sync, which a sync
+/// follows. The gate is passed behind each step that is done on the store. Beside a buffer of 64 KiB it
+/// takes memory for the manifest's rows and text alone, and has that before it writes the manifest.
 ///
 /// Errs with `NotEmpty` exactly where the area holds a file, before anything is done to the store,
 /// otherwise with what the store's calls answer. After a refusal the area has no manifest, unless the
 /// manifest's removal failed too (PostgreSQL manual, pg_basebackup; the order: profile).
 pub fn take_full<J: OfCrew, V: Vault>(
+    rt: &impl Wait,
     alloc: Global,
-    store: &mut Store<J, V>,
+    store: &Store<J, V>,
     pass: &mut Pass<J>,
+    gate: &impl Gate,
     out: &mut V,
     name: &Text,
     when: u64,
 ) -> Result<Done, BackupFault>
     requires { when ≤ 253402207199 }
-    ensures taken { IfOk result (IsTakenFull (J.tells ≡ true) pass.old.worker name.now when
-        store.old store.new (V.files out.new)) }
+    ensures taken { IfOk result (IsTakenFull (J.tells ≡ true) J.settings name.now when
+        pass.old pass.new (V.files out.new)) }
     ensures synced { OnOk result (EndsSynced V.Vault out.new) }
-    ensures lawful { OnOk result (IsLawfulOf (J.tells ≡ true) store.new) }
-    ensures whole { OnOk result (pass.new.list ≡ store.new.history) }
     ensures empty { OnOk result (HoldsNothing (V.files out.old)) }
     ensures looked { IfErr result (GoesPast (V.files out.old)) }
-    ensures kept { OnErr result (KeepsFull V.Vault (site_of store.old pass.old out.old)
-        (site_of store.new pass.new out.new)) }
-    ensures flushed { IfOk result (λ done. done.end.0 ≤ store.new.flushed) }
-    ensures left { OnErr result
-        (MayHaveBackup pass.old.worker store.old.history store.new.history) }
+    ensures kept { OnErr result (KeepsFull V.Vault (site_of pass.old out.old)
+        (site_of pass.new out.new)) }
     ensures manifest { IfErr result (LeavesManifest V.Vault (IsTakenWhole (J.tells ≡ true)
-        pass.old.worker name.now when store.old store.new (V.files out.new)) out.old out.new) }
-    ensures cause { IfErr result (BackupCause V.Vault (site_of store.old pass.old out.old)
-        (site_of store.new pass.new out.new)) }
-    ensures proceeds { Proceeds V.Vault (site_of store.old pass.old out.old)
-        (site_of store.new pass.new out.new) }
+        J.settings name.now when pass.old pass.new (V.files out.new)) out.old out.new) }
+    ensures cause { IfErr result (BackupCause V.Vault J.settings.segment (site_of pass.old out.old)
+        (site_of pass.new out.new)) }
+    ensures looks { LooksOn pass.old pass.new }
+    ensures later { V.faults out.old ≤ V.faults out.new }
 {
-    // known: no more is flushed than the WAL has
-    store.know();
     check_empty(alloc, out)?;
     let modified = time_text(alloc, when, b"GMT")?;
-    let (redo, end, rows) = run_backup(alloc, store, pass, out, &modified)?;
+    let (redo, end, rows) = run_backup(rt, alloc, store, pass, gate, out, &modified)?;
     let settings = store.settings();
     // known: a file of a fork has blocks
     let _blocks = settings.relseg();

@@ -4,13 +4,15 @@ ghost use Rattle.std.specs.Prelude.{◌≡◌, ◌<◌, true, [], ◌∷◌, IfO
 ghost use Rattle.lsn_core.specs.Store.{fork_cmp};
 ghost use Rattle.std.specs.BTreeMap.{IsOrdered};
 ghost use Rattle.shared_store.specs.Copied.{HasRedoPoint};
-ghost use Rattle.shared_store.specs.Opened.{StoreCause};
-ghost use Rattle.base_backup.specs.Inside.{ReadsOn, NotesAll, ListsForks, lengths_in};
+ghost use Rattle.base_backup.specs.Backup.{LooksOn};
+ghost use Rattle.base_backup.specs.Inside.{CallCause, NotesAll, ListsForks, lengths_in};
 
+use crate::gate::{Gate, StepKind};
 use lsn_core::{ForkId, ForkLen, Lsn, NoMemory, StoreFault};
 use shared_store::{OfCrew, Pass, Store};
 use std::alloc::Global;
 use std::collections::BTreeMap;
+use std::sync::Wait;
 use vault::Vault;
 
 /// Notes the length of a fork, unless one is known.
@@ -50,23 +52,24 @@ fn lengths(alloc: Global, known: &BTreeMap<ForkId, u32>) -> Result<Vec<ForkLen>,
 
 /// Lists the forks of all partitions as of a redo point, in order, each once.
 pub(crate) fn all_forks<J: OfCrew, V: Vault>(
+    rt: &impl Wait,
     alloc: Global,
-    store: &mut Store<J, V>,
+    store: &Store<J, V>,
     pass: &mut Pass<J>,
+    gate: &impl Gate,
     from: Lsn,
 ) -> Result<Vec<ForkLen>, StoreFault>
     requires { HasRedoPoint pass.old.list from.0 }
     ensures list { IfOk result (λ list.
         ListsForks (J.tells ≡ true) pass.new.list from.0 list.items) }
-    ensures reads { ReadsOn store.old pass.old store.new pass.new }
-    ensures cause { IfErr result (StoreCause store.old.faults store.new.faults) }
+    ensures looks { LooksOn pass.old pass.new }
+    ensures cause { IfErr result (CallCause pass.old pass.new) }
 {
-    // known: no more is flushed than the WAL has
-    store.know();
     let mut known = BTreeMap::new(alloc);
     let mut q = 0;
     while q < 4 {
-        let list = store.forks_of(alloc, pass, q, from)?;
+        let list = store.forks_of(rt, alloc, pass, q, from)?;
+        gate.passed(pass.worker(), StepKind::ListForks);
         note_all(&mut known, &list)?;
         q += 1;
     }

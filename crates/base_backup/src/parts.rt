@@ -3,19 +3,20 @@
 ghost use Rattle.std.specs.Prelude.{◌≡◌, ◌≢◌, ◌+◌, ◌*◌, ◌^◌, ◌<◌, true, length, IfOk, OnOk, IfErr};
 ghost use Rattle.std.specs.List.{AllByRecursion};
 ghost use Rattle.shared_store.specs.Copied.{HasRedoPoint};
-ghost use Rattle.shared_store.specs.Opened.{StoreCause};
 ghost use Rattle.backup_files.specs.Area.{Lacks};
 ghost use Rattle.backup_files.specs.Directory.{manifest_name};
-ghost use Rattle.base_backup.specs.Backup.{site_of};
-ghost use Rattle.base_backup.specs.Inside.{CopyCause, CopiesOn, ReadsOn};
+ghost use Rattle.base_backup.specs.Backup.{LooksOn, site_of};
+ghost use Rattle.base_backup.specs.Inside.{CallCause, CopyCause, CopiesOn};
 ghost use Rattle.base_backup.specs.IncrInside.{AddsBlocks, WritesBlocks, WritesPart};
 
 use crate::fault::BackupFault;
+use crate::gate::Gate;
 use crate::pages::copy_page;
 use lsn_core::{BlockId, ForkId, Lsn, StoreFault};
 use sha2::{Digest, Sha256};
 use shared_store::{OfCrew, Pass, Store};
 use std::alloc::Global;
+use std::sync::Wait;
 use vault::Vault;
 
 /// How many blocks are copied and written at once: 64 KiB.
@@ -23,9 +24,11 @@ const PIECE: usize = 8;
 
 /// Adds listed blocks of a fork to a piece, counted from a first one.
 fn copy_blocks<J: OfCrew, V: Vault>(
+    rt: &impl Wait,
     alloc: Global,
-    store: &mut Store<J, V>,
+    store: &Store<J, V>,
     pass: &mut Pass<J>,
+    gate: &impl Gate,
     fork: &ForkId,
     first: u32,
     blocks: &[u32],
@@ -36,18 +39,16 @@ fn copy_blocks<J: OfCrew, V: Vault>(
     requires redo { HasRedoPoint pass.old.list from.0 }
     ensures copied { OnOk result (AddsBlocks (J.tells ≡ true) pass.new.list from.0
         fork.now first blocks.now piece.old.items piece.new.items) }
-    ensures reads { ReadsOn store.old pass.old store.new pass.new }
-    ensures cause { IfErr result (StoreCause store.old.faults store.new.faults) }
+    ensures looks { LooksOn pass.old pass.new }
+    ensures cause { IfErr result (CallCause pass.old pass.new) }
 {
-    // known: no more is flushed than the WAL has
-    store.know();
     let mut left = blocks;
     while let Some((block, behind)) = left.split_first() {
         let at = BlockId {
             fork: *fork,
             block: first + *block,
         };
-        copy_page(alloc, store, pass, at, from, piece)?;
+        copy_page(rt, alloc, store, pass, gate, at, from, piece)?;
         left = behind;
     }
     Ok(())
@@ -55,9 +56,11 @@ fn copy_blocks<J: OfCrew, V: Vault>(
 
 /// Copies listed blocks to a place of a file.
 fn copy_part_piece<J: OfCrew, V: Vault>(
+    rt: &impl Wait,
     alloc: Global,
-    store: &mut Store<J, V>,
+    store: &Store<J, V>,
     pass: &mut Pass<J>,
+    gate: &impl Gate,
     out: &mut V,
     path: &[u8],
     at: u64,
@@ -74,13 +77,14 @@ fn copy_part_piece<J: OfCrew, V: Vault>(
     ensures written { OnOk result (WritesBlocks (J.tells ≡ true) pass.new.list from.0 fork.now first
         blocks.now path.now at piece.new.items (V.files out.old) (V.files out.new)
         hasher.old hasher.new) }
-    ensures copies_on { CopiesOn V.Vault (site_of store.old pass.old out.old)
-        (site_of store.new pass.new out.new) }
-    ensures cause { IfErr result (CopyCause V.Vault (site_of store.old pass.old out.old)
-        (site_of store.new pass.new out.new)) }
+    ensures copies_on { CopiesOn V.Vault (site_of pass.old out.old) (site_of pass.new out.new) }
+    ensures cause { IfErr result (CopyCause V.Vault (site_of pass.old out.old)
+        (site_of pass.new out.new)) }
 {
     piece.clear();
-    copy_blocks(alloc, store, pass, fork, first, blocks, from, piece)?;
+    copy_blocks(
+        rt, alloc, store, pass, gate, fork, first, blocks, from, piece,
+    )?;
     out.write_at(path, at, piece)?;
     hasher.update(&*piece);
     Ok(())
@@ -89,9 +93,11 @@ fn copy_part_piece<J: OfCrew, V: Vault>(
 /// Copies listed blocks of a fork behind a front, into a file that isn't there, and gives the
 /// SHA-256 of the file.
 pub(crate) fn copy_part<J: OfCrew, V: Vault>(
+    rt: &impl Wait,
     alloc: Global,
-    store: &mut Store<J, V>,
+    store: &Store<J, V>,
     pass: &mut Pass<J>,
+    gate: &impl Gate,
     out: &mut V,
     path: &[u8],
     front: &[u8],
@@ -107,13 +113,10 @@ pub(crate) fn copy_part<J: OfCrew, V: Vault>(
     requires missing { Lacks (V.files out.old) path.now }
     ensures copied { IfOk result (WritesPart (J.tells ≡ true) pass.new.list from.0 fork.now first
         front.now blocks.now path.now (V.files out.old) (V.files out.new)) }
-    ensures copies_on { CopiesOn V.Vault (site_of store.old pass.old out.old)
-        (site_of store.new pass.new out.new) }
-    ensures cause { IfErr result (CopyCause V.Vault (site_of store.old pass.old out.old)
-        (site_of store.new pass.new out.new)) }
+    ensures copies_on { CopiesOn V.Vault (site_of pass.old out.old) (site_of pass.new out.new) }
+    ensures cause { IfErr result (CopyCause V.Vault (site_of pass.old out.old)
+        (site_of pass.new out.new)) }
 {
-    // known: no more is flushed than the WAL has
-    store.know();
     out.write_at(path, 0, front)?;
     let mut hasher = Sha256::new();
     hasher.update(front);
@@ -123,9 +126,11 @@ pub(crate) fn copy_part<J: OfCrew, V: Vault>(
     while !left.is_empty() {
         let (now, behind) = left.split_at(PIECE.min(left.len()));
         copy_part_piece(
+            rt,
             alloc,
             store,
             pass,
+            gate,
             out,
             path,
             at,

@@ -18,6 +18,7 @@ ghost use Rattle.base_backup.specs.IncrInside.{LacksForms, SendsFiles, SendsList
 use crate::basis::Basis;
 use crate::fault::BackupFault;
 use crate::forks::{copy_segment, know_fork, segment_count, segment_path};
+use crate::gate::Gate;
 use crate::listing::all_forks;
 use crate::parts::copy_part;
 use crate::planning::file_plan;
@@ -27,14 +28,17 @@ use lsn_core::{ForkId, ForkLen, Lsn, PAGE, Text};
 use manifest::FileRow;
 use shared_store::{OfCrew, Pass, Store};
 use std::alloc::Global;
+use std::sync::Wait;
 use vault::Vault;
 
 /// Copies the blocks that a head lists of a segment of a fork, which begins at a block of it, into
 /// its incremental file, which isn't there, and lists it.
 fn send_part<J: OfCrew, V: Vault>(
+    rt: &impl Wait,
     alloc: Global,
-    store: &mut Store<J, V>,
+    store: &Store<J, V>,
     pass: &mut Pass<J>,
+    gate: &impl Gate,
     out: &mut V,
     fork: &ForkId,
     seg: u32,
@@ -50,21 +54,20 @@ fn send_part<J: OfCrew, V: Vault>(
     requires missing { Lacks (V.files out.old) (fork_path_bytes fork.now seg true) }
     ensures sent { OnOk result (SendsPart (J.tells ≡ true) pass.new.list from.0 fork.now seg first
         head.now modified.now (V.files out.old) (V.files out.new) rows.old.items rows.new.items) }
-    ensures copies_on { CopiesOn V.Vault (site_of store.old pass.old out.old)
-        (site_of store.new pass.new out.new) }
-    ensures cause { IfErr result (CopyCause V.Vault (site_of store.old pass.old out.old)
-        (site_of store.new pass.new out.new)) }
+    ensures copies_on { CopiesOn V.Vault (site_of pass.old out.old) (site_of pass.new out.new) }
+    ensures cause { IfErr result (CopyCause V.Vault (site_of pass.old out.old)
+        (site_of pass.new out.new)) }
 {
-    // known: no more is flushed than the WAL has
-    store.know();
     let path = segment_path(alloc, fork, seg, true)?;
     let front = encode_head(alloc, head)?;
     let blocks = head.blocks.as_slice();
     let size = front.len() as u64 + PAGE * blocks.len() as u64;
     let sum = copy_part(
+        rt,
         alloc,
         store,
         pass,
+        gate,
         out,
         path.as_bytes(),
         &front,
@@ -80,9 +83,11 @@ fn send_part<J: OfCrew, V: Vault>(
 /// Sends one segment file of a fork as it is planned, where it is there in neither form, and lists
 /// it.
 fn send_segment<J: OfCrew, V: Vault>(
+    rt: &impl Wait,
     alloc: Global,
-    store: &mut Store<J, V>,
+    store: &Store<J, V>,
     pass: &mut Pass<J>,
+    gate: &impl Gate,
     out: &mut V,
     basis: &Basis,
     fork: &ForkLen,
@@ -100,23 +105,22 @@ fn send_segment<J: OfCrew, V: Vault>(
     ensures sent { OnOk result (SendsFiles (J.tells ≡ true) pass.new.list from.0
         (segment_plan basis.now fork.now seg ∷ []) modified.now (V.files out.old) (V.files out.new)
         rows.old.items rows.new.items) }
-    ensures copies_on { CopiesOn V.Vault (site_of store.old pass.old out.old)
-        (site_of store.new pass.new out.new) }
-    ensures cause { IfErr result (CopyCause V.Vault (site_of store.old pass.old out.old)
-        (site_of store.new pass.new out.new)) }
+    ensures copies_on { CopiesOn V.Vault (site_of pass.old out.old) (site_of pass.new out.new) }
+    ensures cause { IfErr result (CopyCause V.Vault (site_of pass.old out.old)
+        (site_of pass.new out.new)) }
 {
-    // known: no more is flushed than the WAL has, and the fork's length fits
-    store.know();
+    // known: the fork's length fits
     let _blocks = fork.blocks;
     let relseg = basis.relseg();
     match file_plan(alloc, basis, fork, seg)? {
         FilePlan::Whole => copy_segment(
-            alloc, store, pass, out, fork, relseg, seg, from, modified, rows,
+            rt, alloc, store, pass, gate, out, fork, relseg, seg, from, modified, rows,
         ),
         FilePlan::Incr(head) => {
             let first = seg * relseg;
             send_part(
-                alloc, store, pass, out, &fork.fork, seg, first, &head, from, modified, rows,
+                rt, alloc, store, pass, gate, out, &fork.fork, seg, first, &head, from, modified,
+                rows,
             )
         }
     }
@@ -124,9 +128,11 @@ fn send_segment<J: OfCrew, V: Vault>(
 
 /// Sends the segment files of a fork, of which none is there in a form, and lists them.
 fn send_fork<J: OfCrew, V: Vault>(
+    rt: &impl Wait,
     alloc: Global,
-    store: &mut Store<J, V>,
+    store: &Store<J, V>,
     pass: &mut Pass<J>,
+    gate: &impl Gate,
     out: &mut V,
     basis: &Basis,
     fork: &ForkLen,
@@ -142,20 +148,18 @@ fn send_fork<J: OfCrew, V: Vault>(
     ensures sent { OnOk result (SendsFiles (J.tells ≡ true) pass.new.list from.0
         (fork_plans basis.now fork.now) modified.now (V.files out.old) (V.files out.new)
         rows.old.items rows.new.items) }
-    ensures copies_on { CopiesOn V.Vault (site_of store.old pass.old out.old)
-        (site_of store.new pass.new out.new) }
-    ensures cause { IfErr result (CopyCause V.Vault (site_of store.old pass.old out.old)
-        (site_of store.new pass.new out.new)) }
+    ensures copies_on { CopiesOn V.Vault (site_of pass.old out.old) (site_of pass.new out.new) }
+    ensures cause { IfErr result (CopyCause V.Vault (site_of pass.old out.old)
+        (site_of pass.new out.new)) }
 {
-    // known: no more is flushed than the WAL has, and the fork's numbers fit
-    store.know();
+    // known: the fork's numbers fit
     let blocks = fork.blocks;
     know_fork(&fork.fork, blocks);
     let count = segment_count(basis.relseg(), blocks);
     let mut seg = 0;
     while seg < count {
         send_segment(
-            alloc, store, pass, out, basis, fork, seg, from, modified, rows,
+            rt, alloc, store, pass, gate, out, basis, fork, seg, from, modified, rows,
         )?;
         seg += 1;
     }
@@ -164,9 +168,11 @@ fn send_fork<J: OfCrew, V: Vault>(
 
 /// Sends the forks of a list into an area that holds nothing, and lists their files.
 fn send_forks<J: OfCrew, V: Vault>(
+    rt: &impl Wait,
     alloc: Global,
-    store: &mut Store<J, V>,
+    store: &Store<J, V>,
     pass: &mut Pass<J>,
+    gate: &impl Gate,
     out: &mut V,
     basis: &Basis,
     forks: &[ForkLen],
@@ -180,18 +186,15 @@ fn send_forks<J: OfCrew, V: Vault>(
     requires empty { HoldsNothing (V.files out.old) }
     ensures sent { IfOk result (λ rows. SendsList (J.tells ≡ true) pass.new.list from.0 basis.now
         forks.now modified.now (V.files out.old) (V.files out.new) rows.items) }
-    ensures copies_on { CopiesOn V.Vault (site_of store.old pass.old out.old)
-        (site_of store.new pass.new out.new) }
-    ensures cause { IfErr result (CopyCause V.Vault (site_of store.old pass.old out.old)
-        (site_of store.new pass.new out.new)) }
+    ensures copies_on { CopiesOn V.Vault (site_of pass.old out.old) (site_of pass.new out.new) }
+    ensures cause { IfErr result (CopyCause V.Vault (site_of pass.old out.old)
+        (site_of pass.new out.new)) }
 {
-    // known: no more is flushed than the WAL has
-    store.know();
     let mut rows = Vec::new(alloc);
     let mut left = forks;
     while let Some((fork, behind)) = left.split_first() {
         send_fork(
-            alloc, store, pass, out, basis, fork, from, modified, &mut rows,
+            rt, alloc, store, pass, gate, out, basis, fork, from, modified, &mut rows,
         )?;
         left = behind;
     }
@@ -201,9 +204,11 @@ fn send_forks<J: OfCrew, V: Vault>(
 /// Sends all forks of a store as of a redo point, each listed and copied at its moment, and lists
 /// their files.
 pub(crate) fn send_store<J: OfCrew, V: Vault>(
+    rt: &impl Wait,
     alloc: Global,
-    store: &mut Store<J, V>,
+    store: &Store<J, V>,
     pass: &mut Pass<J>,
+    gate: &impl Gate,
     out: &mut V,
     basis: &Basis,
     from: Lsn,
@@ -215,11 +220,12 @@ pub(crate) fn send_store<J: OfCrew, V: Vault>(
     requires empty { HoldsNothing (V.files out.old) }
     ensures sent { IfOk result (λ rows. SendsStore (J.tells ≡ true) pass.new.list from.0 basis.now
         modified.now (V.files out.new) rows.items) }
-    ensures copies_on { CopiesOn V.Vault (site_of store.old pass.old out.old)
-        (site_of store.new pass.new out.new) }
-    ensures cause { IfErr result (CopyCause V.Vault (site_of store.old pass.old out.old)
-        (site_of store.new pass.new out.new)) }
+    ensures copies_on { CopiesOn V.Vault (site_of pass.old out.old) (site_of pass.new out.new) }
+    ensures cause { IfErr result (CopyCause V.Vault (site_of pass.old out.old)
+        (site_of pass.new out.new)) }
 {
-    let forks = all_forks(alloc, store, pass, from)?;
-    send_forks(alloc, store, pass, out, basis, &forks, from, modified)
+    let forks = all_forks(rt, alloc, store, pass, gate, from)?;
+    send_forks(
+        rt, alloc, store, pass, gate, out, basis, &forks, from, modified,
+    )
 }

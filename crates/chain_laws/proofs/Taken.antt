@@ -1,5 +1,5 @@
 -- A backup that was taken on a prior one is an increment of the history as it went on.
-use Rattle.std.proofs.Common.{◌≡◌, ℕ, ◌<◌, ◌≤◌, ◌+◌, ◌&&◌, ◌||◌, Bool, true, false, cond, List, [], ◌∷◌, ◌++◌, map, append-nil, append_assoc, Option, Some, IfSome, Ok, refl, sym, ap, subst, ◌∙◌, arith}
+use Rattle.std.proofs.Common.{◌≡◌, ℕ, ◌<◌, ◌≤◌, ◌+◌, ◌&&◌, ◌||◌, Bool, true, false, cond, List, [], ◌∷◌, ◌++◌, map, append-nil, Option, Some, IfSome, Ok, refl, sym, ap, subst, ◌∙◌, arith}
 use Rattle.std.specs.Prelude.{◌==◌, nat_le}
 use Rattle.std.specs.List.{list_any}
 use Rattle.std.specs.Option.{option_map}
@@ -15,7 +15,6 @@ use Rattle.history.specs.Written.{is_redo}
 use Rattle.fuzzy_copies.specs.Orderly.{IsOrderly}
 use Rattle.fuzzy_copies.specs.Sound.{is_in, window}
 use Rattle.fuzzy_copies.specs.Summary.{summary_of, summed, table_of}
-use Rattle.fuzzy_copies.specs.Taken.{IsSeen}
 use Rattle.fuzzy_copies.proofs.Completed.{or_second}
 use Rattle.fuzzy_copies.proofs.Ranges.{and_false}
 use Rattle.fuzzy_copies.proofs.Taken.{Later, rest_rising, rising_front}
@@ -23,23 +22,17 @@ use Rattle.wal_summary.specs.Summary.{IsSummary}
 use Rattle.wal_summary.specs.declared.summary.Summary.{Summary}
 use Rattle.summary_store.specs.Honest.{IsHonest, is_redo_start}
 use Rattle.summary_store.specs.Kept.{AreKept}
-use Rattle.summary_publish.specs.Laws.{AdvancesSumUp}
+use Rattle.shared_summaries.specs.Laws.{AnswersSumUp}
+use Rattle.shared_summaries.specs.Shelf.{IsTrueFor}
 use Rattle.summary_publish.specs.Published.{AdvanceAnswers, ArePublished, with_files}
 use Rattle.base_backup.specs.declared.basis.Basis.{Basis}
 use Rattle.backup_files.specs.Directory.{directory_with}
 use Rattle.base_backup.specs.Sent.{SentFile, AreListed, AreSent, IsCopyOf, IsSentAs, blocks_sent, file_of}
 use Rattle.base_backup.proofs.Blocks.{for_more}
+use Rattle.base_backup.proofs.Sound.{seen_on}
 use Rattle.chain_laws.specs.Increment.{IsIncrementOf}
 
 -- ---- a history that goes on
-
-pub seen_on : (seen history more : List Entry) (from to : ℕ) → IsSeen seen history from to → IsSeen seen (history ++ more) from to
-seen_on seen history more from to s = record {
-  behind = s.behind ++ more;
-  all = ap (λ (es : List Entry). es ++ more) s.all ∙ append_assoc seen s.behind more;
-  holds = s.holds;
-  ends = list_any-append (λ (e : Entry). e.end == to) s.behind more ∙ or_left (list_any (λ (e : Entry). e.end == to) s.behind) (list_any (λ (e : Entry). e.end == to) more) s.ends;
-}
 
 -- what was listed and copied while a beginning of it was written
 pub listed_on : (tells : Type 0) → tells → (history more : List Entry) (from to : ℕ) (list : List ForkLen) → AreListed tells history from to list → AreListed (Unit {0}) (history ++ more) from to list
@@ -112,19 +105,19 @@ pub record IsSumOf (history : List Entry) (prior from : ℕ) (sum : Summary) : T
   pub begins : sum.start.0 ≤ prior
   pub says : IsSummary (summary_of history sum.start.0 from) sum.forks
 
-pub sum_of : AdvancesSumUp → {V : Type 0} (g : Ghosts V) (tells : Type 0) → tells → (older more rest : List Entry) (when prior from : ℕ) (old new : V) (files : Files) (sum : Summary) → IsOrderly 0 ((older ++ more) ++ rest) → list_any (is_redo_start from) more ≡ true
-    → g.files old ≡ Some files → IsHonest older files → AdvanceAnswers g tells (older ++ more) when prior from old new (Ok sum) → prior < from → IsSumOf ((older ++ more) ++ rest) prior from sum
-sum_of law g tells told older more rest when prior from old new files sum order redo is honest a less =
+pub sum_of : AnswersSumUp → {V : Type 0} (g : Ghosts V) (tells : Type 0) → tells → (found own rest : List Entry) (begun : Option Files) (when prior from : ℕ) (old new : V) (files : Files) (sum : Summary) → IsOrderly 0 ((found ++ own) ++ rest) → list_any (is_redo_start from) own ≡ true → IfSome begun (IsHonest found) → IsTrueFor found begun (found ++ own) (g.files old)
+    → g.files old ≡ Some files → AdvanceAnswers g tells (found ++ own) when prior from old new (Ok sum) → prior < from → IsSumOf ((found ++ own) ++ rest) prior from sum
+sum_of law g tells told found own rest begun when prior from old new files sum order redo was true_for is a less =
     let done = a.advances in
-    let published : ArePublished (older ++ more) when files done.sums = subst (λ (o : Option Files). IfSome o (λ m. ArePublished (older ++ more) when m done.sums)) is (done.published told) in
+    let published : ArePublished (found ++ own) when files done.sums = subst (λ (o : Option Files). IfSome o (λ m. ArePublished (found ++ own) when m done.sums)) is (done.published told) in
     let now : g.files new ≡ Some (with_files done.sums files) = done.files ∙ ap (option_map (with_files done.sums)) is in
     let held : AreKept (with_files done.sums files) a.kept = subst (λ (o : Option Files). IfSome o (λ m. AreKept m a.kept)) now a.held in
-    let front : IsOrderly 0 (older ++ more) = rising_front 0 (older ++ more) rest order in
-    let all = law older more when files done.sums a.kept prior from sum front redo honest published held less a.so in
-    let there : list_any (λ e. e.start == from) (older ++ more) ≡ true = list_any-append (λ (e : Entry). e.start == from) older more ∙ or_right (list_any (λ (e : Entry). e.start == from) older) (list_any (λ (e : Entry). e.start == from) more) (starts_there from more redo) in
+    let front : IsOrderly 0 (found ++ own) = rising_front 0 (found ++ own) rest order in
+    let all = law found own begun when files done.sums a.kept prior from sum front was (subst (IsTrueFor found begun (found ++ own)) is true_for) redo published held less a.so in
+    let there : list_any (λ e. e.start == from) (found ++ own) ≡ true = list_any-append (λ (e : Entry). e.start == from) found own ∙ or_right (list_any (λ (e : Entry). e.start == from) found) (list_any (λ (e : Entry). e.start == from) own) (starts_there from own redo) in
     record {
       begins = all.1;
-      says = subst (λ (es : List Entry). IsSummary (summed (map table_of es)) sum.forks) (sym (window_on (older ++ more) rest sum.start.0 from order there)) all.2;
+      says = subst (λ (es : List Entry). IsSummary (summed (map table_of es)) sum.forks) (sym (window_on (found ++ own) rest sum.start.0 from order there)) all.2;
     }
 
 -- ---- the directory

@@ -8,7 +8,7 @@ use Rattle.base_backup.proofs.files.copy_file.Given as goal
 abbrev pub invariant-loop-done : goal.invariant-loop-done
 invariant-loop-done g l = record {
   within : l.done ≤ l.count;
-  step : CopiesOn g.V.Vault (site_of l.fn.store l.fn.pass l.fn.out) (site_of l.store l.pass l.out);
+  step : CopiesOn g.V.Vault (site_of l.fn.pass l.fn.out) (site_of l.pass l.out);
   far : SoFar (g.J.OfStore.tells ≡ true) l.pass.list l.from.0 l.fork l.block l.done l.path (g.V.Vault.files l.fn.out) (g.V.Vault.files l.out) l.hasher;
 }
 

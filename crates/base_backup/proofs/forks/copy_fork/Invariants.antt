@@ -8,7 +8,7 @@ use Rattle.base_backup.proofs.forks.copy_fork.Given as goal
 abbrev pub invariant-loop-seg : goal.invariant-loop-seg
 invariant-loop-seg g l = record {
   within : l.seg ≤ l.count;
-  step : CopiesOn g.V.Vault (site_of l.fn.store l.fn.pass l.fn.out) (site_of l.store l.pass l.out);
+  step : CopiesOn g.V.Vault (site_of l.fn.pass l.fn.out) (site_of l.pass l.out);
   far : ForkSoFar (g.J.OfStore.tells ≡ true) l.pass.list l.from.0 l.relseg l.fork l.seg l.modified (g.V.Vault.files l.fn.out) (g.V.Vault.files l.out) l.fn.rows.items l.rows.items;
 }
 

@@ -1,68 +1,61 @@
-use Rattle.std.proofs.Common.{◌≡◌, ◌≤◌, ℕ, true, ap, sym, subst, ◌∙◌}
+use Rattle.std.proofs.Common.{◌≡◌, ◌≤◌, ℕ, true, ap, refl, subst, ◌∙◌}
 use Rattle.lsn_core.specs.Segment.{StoreSettings}
-use Rattle.shared_store.proofs.Goes.{goes_on}
-use Rattle.base_backup.specs.Backup.{site_of}
-use Rattle.backup_files.proofs.Passed.{on_err}
-use Rattle.base_backup.proofs.Runs.{copy_left, ending_failed, is_run, marks_left, proceeds_copy, proceeds_on, proceeds_store, run_left}
+use Rattle.timeline.proofs.Prefixes.{prefix_refl, prefix_trans}
+use Rattle.shared_store.proofs.SharedLaws.{checkpoint_leaves}
+use Rattle.base_backup.proofs.Runs.{checkpoint_failed, copying_failed, ending_failed, is_run}
+use Rattle.base_backup.proofs.Steps.{looks_on, mark_looks}
 use Rattle.base_backup.proofs.full.run_backup.Goals as goal
 
 -- ---- the checkpoint failed
 
-pub returns-in_err-redo-clause-left : goal.returns-in_err-redo-clause-left
-returns-in_err-redo-clause-left g c = on_err c.from_residual.result _ (marks_left c.args.pass.now.worker c.args.store.now.history c.checkpoint.new.self.history c.in_err-redo.ensures.left)
+pub returns-in_err-redo-clause-looks : goal.returns-in_err-redo-clause-looks
+returns-in_err-redo-clause-looks g c = mark_looks c.args.pass.now c.checkpoint.new.pass c.checkpoint.result c.checkpoint.ensures.seen c.checkpoint.ensures.accepted c.checkpoint.ensures.faults
 
-pub returns-in_err-rows-clause-left : goal.returns-in_err-rows-clause-left
-returns-in_err-rows-clause-left g c =
-    on_err c.from_residual-in_err-rows.result _
-    (copy_left c.args.pass.now.worker c.args.store.now.history c.checkpoint.new.self.history c.copy_store.new.store.history c.in_ok-redo.redo c.in_ok-redo.field-0-1 c.in_ok-redo.ensures.done c.copy_store.ensures.copies_on.reads.same)
+pub returns-in_err-redo-clause-cause : goal.returns-in_err-redo-clause-cause
+returns-in_err-redo-clause-cause g c =
+    checkpoint_failed g.V.Vault g.J.OfCrew.settings.segment c.args.pass.now c.checkpoint.new.pass c.args.out.now c.from_residual.result c.in_err-redo.field-0.0 c.from_residual.ensures.1 c.in_err-redo.ensures.full c.in_err-redo.ensures.faults
 
-pub returns-in_err-rows-clause-proceeds : goal.returns-in_err-rows-clause-proceeds
-returns-in_err-rows-clause-proceeds g c =
-    let a = site_of c.args.store.now c.args.pass.now c.args.out.now in
-    let b = site_of c.checkpoint.new.self c.checkpoint.new.pass c.args.out.now in
-    let d = site_of c.copy_store.new.store c.copy_store.new.pass c.copy_store.new.out in
-    proceeds_on g.V.Vault a b d (proceeds_store g.V.Vault c.args.store.now c.checkpoint.new.self c.args.pass.now c.checkpoint.new.pass c.args.out.now c.checkpoint.ensures.goes_on c.checkpoint.ensures.seen c.checkpoint.ensures.accepted)
-    (proceeds_copy g.V.Vault b d c.copy_store.ensures.copies_on)
+-- ---- copying failed
 
-pub returns-in_err-end-clause-left : goal.returns-in_err-end-clause-left
-returns-in_err-end-clause-left g c =
-    on_err c.from_residual-in_err-end.result _
-    (run_left c.args.pass.now.worker c.copy_store.new.pass.worker c.args.store.now.history c.checkpoint.new.self.history c.copy_store.new.store.history c.end_backup.new.self.history c.in_ok-redo.redo c.in_ok-redo.field-0-1 c.in_ok-redo.ensures.done
-    c.copy_store.ensures.copies_on.reads.same (c.copy_store.ensures.copies_on.reads.seen.worker ∙ c.checkpoint.ensures.seen.worker) c.in_err-end.ensures.left)
+pub copy_store-requires-clause-redo : goal.copy_store-requires-clause-redo
+copy_store-requires-clause-redo g c = λ κs lives. checkpoint_leaves c.args.pass.now.worker c.args.pass.now.list c.checkpoint.new.pass.list c.in_ok-redo.redo c.in_ok-redo.field-0-1 c.in_ok-redo.ensures.done
+
+pub returns-in_err-rows-clause-looks : goal.returns-in_err-rows-clause-looks
+returns-in_err-rows-clause-looks g c =
+    looks_on c.args.pass.now c.checkpoint.new.pass c.copy_store.new.pass (mark_looks c.args.pass.now c.checkpoint.new.pass c.checkpoint.result c.checkpoint.ensures.seen c.checkpoint.ensures.accepted c.checkpoint.ensures.faults) c.copy_store.ensures.copies_on.looks
+
+pub returns-in_err-rows-clause-cause : goal.returns-in_err-rows-clause-cause
+returns-in_err-rows-clause-cause g c =
+    copying_failed g.V.Vault g.J.OfCrew.settings.segment c.args.pass.now c.checkpoint.new.pass c.copy_store.new.pass c.args.out.now c.copy_store.new.out c.from_residual-in_err-rows.result c.in_err-rows.field-0.0 c.from_residual-in_err-rows.ensures.1
+    (mark_looks c.args.pass.now c.checkpoint.new.pass c.checkpoint.result c.checkpoint.ensures.seen c.checkpoint.ensures.accepted c.checkpoint.ensures.faults) c.in_err-rows.ensures.cause
+
+-- ---- its end failed
+
+pub returns-in_err-end-clause-looks : goal.returns-in_err-end-clause-looks
+returns-in_err-end-clause-looks g c =
+    let first = mark_looks c.args.pass.now c.checkpoint.new.pass c.checkpoint.result c.checkpoint.ensures.seen c.checkpoint.ensures.accepted c.checkpoint.ensures.faults in
+    let on = looks_on c.args.pass.now c.checkpoint.new.pass c.copy_store.new.pass first c.copy_store.ensures.copies_on.looks in
+    looks_on c.args.pass.now c.copy_store.new.pass c.end_backup.new.pass on (mark_looks c.copy_store.new.pass c.end_backup.new.pass c.end_backup.result c.end_backup.ensures.seen c.end_backup.ensures.accepted c.end_backup.ensures.faults)
 
 pub returns-in_err-end-clause-cause : goal.returns-in_err-end-clause-cause
 returns-in_err-end-clause-cause g c =
-    let goes = goes_on c.args.store.now c.checkpoint.new.self c.copy_store.new.store c.checkpoint.ensures.goes_on c.copy_store.ensures.copies_on.reads.store in
-    ending_failed g.V.Vault (site_of c.args.store.now c.args.pass.now c.args.out.now) (site_of c.copy_store.new.store c.copy_store.new.pass c.copy_store.new.out) (site_of c.end_backup.new.self c.end_backup.new.pass c.copy_store.new.out)
-    c.copy_store.new.store.settings.segment c.checkpoint.new.self.history c.in_ok-redo.redo c.in_ok-redo.field-0-1 c.from_residual-in_err-end.result c.in_err-end.field-0.0 c.from_residual-in_err-end.ensures.1 goes
-    (ap (λ (s : StoreSettings). s.segment) goes.settings) (sym {a = c.copy_store.new.store.history} {b = c.checkpoint.new.self.history} c.copy_store.ensures.copies_on.reads.same) c.in_ok-redo.ensures.done c.in_err-end.ensures.cause c.in_err-end.ensures.full c.end_backup.ensures.whole
+    let first = mark_looks c.args.pass.now c.checkpoint.new.pass c.checkpoint.result c.checkpoint.ensures.seen c.checkpoint.ensures.accepted c.checkpoint.ensures.faults in
+    let on = looks_on c.args.pass.now c.checkpoint.new.pass c.copy_store.new.pass first c.copy_store.ensures.copies_on.looks in
+    ending_failed g.V.Vault g.J.OfCrew.settings.segment c.args.pass.now c.copy_store.new.pass c.end_backup.new.pass c.checkpoint.new.pass.list c.args.out.now c.copy_store.new.out c.in_ok-redo.redo c.in_ok-redo.field-0-1 c.from_residual-in_err-end.result c.in_err-end.field-0.0
+    c.from_residual-in_err-end.ensures.1 c.in_ok-redo.ensures.done (prefix_trans c.checkpoint.new.pass.list c.copy_store.new.pass.list c.end_backup.new.pass.list c.copy_store.ensures.copies_on.looks.stays.seen c.end_backup.ensures.seen.seen) on
+    c.in_err-end.ensures.full c.in_err-end.ensures.faults
 
-pub returns-in_err-end-clause-proceeds : goal.returns-in_err-end-clause-proceeds
-returns-in_err-end-clause-proceeds g c =
-    let a = site_of c.args.store.now c.args.pass.now c.args.out.now in
-    let b = site_of c.checkpoint.new.self c.checkpoint.new.pass c.args.out.now in
-    let d = site_of c.copy_store.new.store c.copy_store.new.pass c.copy_store.new.out in
-    let e = site_of c.end_backup.new.self c.end_backup.new.pass c.copy_store.new.out in
-    proceeds_on g.V.Vault a d e
-    (proceeds_on g.V.Vault a b d (proceeds_store g.V.Vault c.args.store.now c.checkpoint.new.self c.args.pass.now c.checkpoint.new.pass c.args.out.now c.checkpoint.ensures.goes_on c.checkpoint.ensures.seen c.checkpoint.ensures.accepted)
-    (proceeds_copy g.V.Vault b d c.copy_store.ensures.copies_on))
-    (proceeds_store g.V.Vault c.copy_store.new.store c.end_backup.new.self c.copy_store.new.pass c.end_backup.new.pass c.copy_store.new.out c.end_backup.ensures.goes_on c.end_backup.ensures.seen c.end_backup.ensures.accepted)
+-- ---- all was done
 
 pub returns-clause-run : goal.returns-clause-run
 returns-clause-run g c =
-    is_run (g.J.OfStore.tells ≡ true) c.args.pass.now.worker c.copy_store.new.pass.worker c.args.store.now c.checkpoint.new.self c.copy_store.new.store c.end_backup.new.self c.copy_store.new.pass.list c.args.modified.now
-    (g.V.Vault.files c.copy_store.new.out) c.in_ok-redo.redo c.in_ok-end.end c.in_ok-redo.field-0-1 c.in_ok-end.field-0-1 c.in_ok-rows.rows.items c.in_ok-redo.ensures.done c.copy_store.ensures.copies_on.reads.store
-    c.copy_store.ensures.copies_on.reads.same c.end_backup.ensures.goes_on c.in_ok-rows.ensures.copied c.in_ok-end.ensures.past (c.copy_store.ensures.copies_on.reads.seen.worker ∙ c.checkpoint.ensures.seen.worker) c.in_ok-end.ensures.done
+    is_run (g.J.OfStore.tells ≡ true) g.J.OfCrew.settings c.args.pass.now c.checkpoint.new.pass c.copy_store.new.pass c.end_backup.new.pass c.copy_store.new.pass.list c.args.modified.now (g.V.Vault.files c.copy_store.new.out) c.in_ok-redo.redo c.in_ok-end.end c.in_ok-redo.field-0-1
+    c.in_ok-end.field-0-1 c.in_ok-rows.rows.items c.in_ok-redo.ensures.done (mark_looks c.args.pass.now c.checkpoint.new.pass c.checkpoint.result c.checkpoint.ensures.seen c.checkpoint.ensures.accepted c.checkpoint.ensures.faults) c.copy_store.ensures.copies_on.looks
+    (prefix_refl c.copy_store.new.pass.list) c.in_ok-rows.ensures.copied c.in_ok-end.ensures.done c.end_backup.ensures.seen.seen c.in_ok-end.ensures.placed
     (subst (λ (n : ℕ). 1 ≤ n) (c.segment-size.ensures.value ∙ ap (λ (s : StoreSettings). s.segment) c.settings.ensures) c.segment-size.ensures.range.least)
-    c.know.ensures.room
 
-pub returns-clause-proceeds : goal.returns-clause-proceeds
-returns-clause-proceeds g c =
-    let a = site_of c.args.store.now c.args.pass.now c.args.out.now in
-    let b = site_of c.checkpoint.new.self c.checkpoint.new.pass c.args.out.now in
-    let d = site_of c.copy_store.new.store c.copy_store.new.pass c.copy_store.new.out in
-    let e = site_of c.end_backup.new.self c.end_backup.new.pass c.copy_store.new.out in
-    proceeds_on g.V.Vault a d e
-    (proceeds_on g.V.Vault a b d (proceeds_store g.V.Vault c.args.store.now c.checkpoint.new.self c.args.pass.now c.checkpoint.new.pass c.args.out.now c.checkpoint.ensures.goes_on c.checkpoint.ensures.seen c.checkpoint.ensures.accepted)
-    (proceeds_copy g.V.Vault b d c.copy_store.ensures.copies_on))
-    (proceeds_store g.V.Vault c.copy_store.new.store c.end_backup.new.self c.copy_store.new.pass c.end_backup.new.pass c.copy_store.new.out c.end_backup.ensures.goes_on c.end_backup.ensures.seen c.end_backup.ensures.accepted)
+pub returns-clause-looks : goal.returns-clause-looks
+returns-clause-looks g c =
+    let first = mark_looks c.args.pass.now c.checkpoint.new.pass c.checkpoint.result c.checkpoint.ensures.seen c.checkpoint.ensures.accepted c.checkpoint.ensures.faults in
+    let on = looks_on c.args.pass.now c.checkpoint.new.pass c.copy_store.new.pass first c.copy_store.ensures.copies_on.looks in
+    looks_on c.args.pass.now c.copy_store.new.pass c.end_backup.new.pass on (mark_looks c.copy_store.new.pass c.end_backup.new.pass c.end_backup.result c.end_backup.ensures.seen c.end_backup.ensures.accepted c.end_backup.ensures.faults)

@@ -1,5 +1,5 @@
 use Rattle.std.proofs.Common.{◌≡◌, ◌≤◌, ◌-◌, true}
-use Rattle.base_backup.specs.Inside.{ReadsOn}
+use Rattle.base_backup.specs.Backup.{LooksOn}
 use Rattle.base_backup.proofs.Lengths.{KnowsForks}
 use Rattle.base_backup.proofs.listing.all_forks.Given as goal
 
@@ -7,7 +7,7 @@ use Rattle.base_backup.proofs.listing.all_forks.Given as goal
 abbrev pub invariant-loop-q : goal.invariant-loop-q
 invariant-loop-q g l = record {
   within : l.q ≤ 4;
-  reads : ReadsOn l.fn.store l.fn.pass l.store l.pass;
+  looks : LooksOn l.fn.pass l.pass;
   known : KnowsForks (g.J.OfStore.tells ≡ true) l.pass.list l.from.0 l.q l.known;
 }
 

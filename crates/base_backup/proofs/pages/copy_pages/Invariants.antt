@@ -1,12 +1,13 @@
 use Rattle.std.proofs.Common.{◌≡◌, ◌≤◌, ◌-◌, true}
-use Rattle.base_backup.specs.Inside.{ReadsOn, AddsCopies}
+use Rattle.base_backup.specs.Backup.{LooksOn}
+use Rattle.base_backup.specs.Inside.{AddsCopies}
 use Rattle.base_backup.proofs.pages.copy_pages.Given as goal
 
 -- so many blocks were copied
 abbrev pub invariant-loop-done : goal.invariant-loop-done
 invariant-loop-done g l = record {
   within : l.done ≤ l.count;
-  reads : ReadsOn l.fn.store l.fn.pass l.store l.pass;
+  looks : LooksOn l.fn.pass l.pass;
   added : AddsCopies (g.J.OfStore.tells ≡ true) l.pass.list l.from.0 l.fork l.block l.done l.fn.piece.items l.piece.items;
 }
 

@@ -1,13 +1,13 @@
 use Rattle.std.proofs.Common.{◌≡◌, ◌+◌, ◌^◌, ◌<◌, length, true}
 use Rattle.std.specs.List.{AllByRecursion}
-use Rattle.base_backup.specs.Inside.{ReadsOn}
+use Rattle.base_backup.specs.Backup.{LooksOn}
 use Rattle.base_backup.proofs.Blocks.{BlocksSoFar}
 use Rattle.base_backup.proofs.parts.copy_blocks.Given as goal
 
 -- all blocks but those that are left were copied
 abbrev pub invariant-loop-block : goal.invariant-loop-block
 invariant-loop-block g l = record {
-  reads : ReadsOn l.fn.store l.fn.pass l.store l.pass;
+  looks : LooksOn l.fn.pass l.pass;
   within : AllByRecursion (λ block. l.first + block < 2 ^ 32) l.left;
   far : BlocksSoFar (g.J.OfStore.tells ≡ true) l.pass.list l.from.0 l.fork l.first l.blocks l.left l.fn.piece.items l.piece.items;
 }

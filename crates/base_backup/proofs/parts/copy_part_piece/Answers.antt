@@ -9,25 +9,25 @@ use Rattle.base_backup.proofs.Blocks.{piece_written}
 use Rattle.base_backup.proofs.parts.copy_part_piece.Goals as goal
 
 pub returns-in_err-copy_blocks-clause-copies_on : goal.returns-in_err-copy_blocks-clause-copies_on
-returns-in_err-copy_blocks-clause-copies_on g c = copies_store g.V.Vault c.args.store.now c.copy_blocks.new.store c.args.pass.now c.copy_blocks.new.pass c.args.out.now c.copy_blocks.ensures.reads
+returns-in_err-copy_blocks-clause-copies_on g c = copies_store g.V.Vault c.args.pass.now c.copy_blocks.new.pass c.args.out.now c.copy_blocks.ensures.looks
 
 pub returns-in_err-copy_blocks-clause-cause : goal.returns-in_err-copy_blocks-clause-cause
 returns-in_err-copy_blocks-clause-cause g c =
-    store_failed g.V.Vault (site_of c.args.store.now c.args.pass.now c.args.out.now) (site_of c.copy_blocks.new.store c.copy_blocks.new.pass c.args.out.now) c.from_residual.result c.in_err-copy_blocks.field-0.0 c.from_residual.ensures.1 c.in_err-copy_blocks.ensures.cause
+    store_failed g.V.Vault (site_of c.args.pass.now c.args.out.now) (site_of c.copy_blocks.new.pass c.args.out.now) c.from_residual.result c.in_err-copy_blocks.field-0.0 c.from_residual.ensures.1 c.in_err-copy_blocks.ensures.cause
 
 pub returns-in_err-write_at-clause-copies_on : goal.returns-in_err-write_at-clause-copies_on
 returns-in_err-write_at-clause-copies_on g c =
-    both_on g.V.Vault c.args.store.now c.copy_blocks.new.store c.args.pass.now c.copy_blocks.new.pass c.args.out.now c.write_at.new.self c.copy_blocks.ensures.reads
+    both_on g.V.Vault c.args.pass.now c.copy_blocks.new.pass c.args.out.now c.write_at.new.self c.copy_blocks.ensures.looks
     (spares_write g.V.Vault c.args.out.now c.write_at.new.self c.args.path.now c.deref.result.now _ c.write_at.result c.requires.other c.write_at.ensures.written c.write_at.ensures.memory c.write_at.ensures.failed c.write_at.ensures.cause)
 
 pub returns-in_err-write_at-clause-cause : goal.returns-in_err-write_at-clause-cause
 returns-in_err-write_at-clause-cause g c =
-    area_failed g.V.Vault c.args.store.now c.copy_blocks.new.store c.args.pass.now c.copy_blocks.new.pass c.args.out.now c.write_at.new.self c.from_residual-in_err-write_at.result c.in_err-write_at.field-0.0 c.copy_blocks.ensures.reads
+    area_failed g.V.Vault c.args.pass.now c.copy_blocks.new.pass c.args.out.now c.write_at.new.self c.from_residual-in_err-write_at.result c.in_err-write_at.field-0.0 c.copy_blocks.ensures.looks
     c.from_residual-in_err-write_at.ensures.1 c.in_err-write_at.ensures.cause
 
 pub returns-clause-copies_on : goal.returns-clause-copies_on
 returns-clause-copies_on g c =
-    both_on g.V.Vault c.args.store.now c.copy_blocks.new.store c.args.pass.now c.copy_blocks.new.pass c.args.out.now c.write_at.new.self c.copy_blocks.ensures.reads
+    both_on g.V.Vault c.args.pass.now c.copy_blocks.new.pass c.args.out.now c.write_at.new.self c.copy_blocks.ensures.looks
     (spares_write g.V.Vault c.args.out.now c.write_at.new.self c.args.path.now c.deref.result.now _ c.write_at.result c.requires.other c.write_at.ensures.written c.write_at.ensures.memory c.write_at.ensures.failed c.write_at.ensures.cause)
 
 pub returns-clause-written : goal.returns-clause-written

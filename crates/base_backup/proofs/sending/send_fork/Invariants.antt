@@ -10,7 +10,7 @@ use Rattle.base_backup.proofs.sending.send_fork.Given as goal
 abbrev pub invariant-loop-seg : goal.invariant-loop-seg
 invariant-loop-seg g l = record {
   within : l.seg ≤ l.count;
-  step : CopiesOn g.V.Vault (site_of l.fn.store l.fn.pass l.fn.out) (site_of l.store l.pass l.out);
+  step : CopiesOn g.V.Vault (site_of l.fn.pass l.fn.out) (site_of l.pass l.out);
   far : SendsFiles (g.J.OfStore.tells ≡ true) l.pass.list l.from.0 (map (segment_plan l.basis l.fork) (range_with_len 0 l.seg)) l.modified (g.V.Vault.files l.fn.out) (g.V.Vault.files l.out) l.fn.rows.items l.rows.items;
 }
 

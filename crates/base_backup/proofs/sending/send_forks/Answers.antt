@@ -8,12 +8,12 @@ use Rattle.base_backup.proofs.sending.send_forks.Goals as goal
 
 pub loop-fork-init : goal.loop-fork-init
 loop-fork-init g c = record {
-  step = copies_nothing g.V.Vault c.args.store.now c.args.pass.now c.args.out.now c.know.ensures.within;
+  step = copies_nothing g.V.Vault c.args.pass.now c.args.out.now;
   far = list_begun (g.J.OfStore.tells ≡ true) c.args.pass.now.list c.args.from.0 c.args.basis.now c.args.forks.now c.args.modified.now (g.V.Vault.files c.args.out.now) c.new-rows.result.items c.new-rows.ensures.items;
 }
 
 pub send_fork-requires-clause-redo : goal.send_fork-requires-clause-redo
-send_fork-requires-clause-redo g c = λ κs lives. redo_on c.args.store.now c.loop-fork.store c.args.pass.now c.loop-fork.pass c.args.from.0 c.loop-fork.invariant.step.reads c.requires.redo
+send_fork-requires-clause-redo g c = λ κs lives. redo_on c.args.pass.now c.loop-fork.pass c.args.from.0 c.loop-fork.invariant.step.looks c.requires.redo
 
 pub send_fork-requires-clause-missing : goal.send_fork-requires-clause-missing
 send_fork-requires-clause-missing g c = λ κs lives.
@@ -22,20 +22,20 @@ send_fork-requires-clause-missing g c = λ κs lives.
 
 pub loop-fork-preserved : goal.loop-fork-preserved
 loop-fork-preserved g c = record {
-  step = copies_on g.V.Vault (site_of c.args.store.now c.args.pass.now c.args.out.now) (site_of c.loop-fork.store c.loop-fork.pass c.loop-fork.out) (site_of c.send_fork.new.store c.send_fork.new.pass c.send_fork.new.out) c.loop-fork.invariant.step
+  step = copies_on g.V.Vault (site_of c.args.pass.now c.args.out.now) (site_of c.loop-fork.pass c.loop-fork.out) (site_of c.send_fork.new.pass c.send_fork.new.out) c.loop-fork.invariant.step
       c.send_fork.ensures.copies_on;
   far = list_further (g.J.OfStore.tells ≡ true) c.loop-fork.pass.list c.send_fork.new.pass.list c.args.from.0 c.args.basis.now c.args.forks.now c.loop-fork.left.now c.in-Some.behind.now c.in-Some.fork.now c.args.modified.now (g.V.Vault.files c.args.out.now)
-      (g.V.Vault.files c.loop-fork.out) (g.V.Vault.files c.send_fork.new.out) c.loop-fork.rows.items c.send_fork.new.rows.items c.in-Some.ensures.cases.0 c.send_fork.ensures.copies_on.reads.seen.seen c.send_fork.ensures.named c.loop-fork.invariant.far c.in_ok-send_fork.ensures.sent;
+      (g.V.Vault.files c.loop-fork.out) (g.V.Vault.files c.send_fork.new.out) c.loop-fork.rows.items c.send_fork.new.rows.items c.in-Some.ensures.cases.0 c.send_fork.ensures.copies_on.looks.stays.seen c.send_fork.ensures.named c.loop-fork.invariant.far c.in_ok-send_fork.ensures.sent;
 }
 
 pub returns-in_err-send_fork-clause-copies_on : goal.returns-in_err-send_fork-clause-copies_on
 returns-in_err-send_fork-clause-copies_on g c =
-    copies_on g.V.Vault (site_of c.args.store.now c.args.pass.now c.args.out.now) (site_of c.loop-fork.store c.loop-fork.pass c.loop-fork.out) (site_of c.send_fork.new.store c.send_fork.new.pass c.send_fork.new.out) c.loop-fork.invariant.step
+    copies_on g.V.Vault (site_of c.args.pass.now c.args.out.now) (site_of c.loop-fork.pass c.loop-fork.out) (site_of c.send_fork.new.pass c.send_fork.new.out) c.loop-fork.invariant.step
     c.send_fork.ensures.copies_on
 
 pub returns-in_err-send_fork-clause-cause : goal.returns-in_err-send_fork-clause-cause
 returns-in_err-send_fork-clause-cause g c =
-    step_failed g.V.Vault (site_of c.args.store.now c.args.pass.now c.args.out.now) (site_of c.loop-fork.store c.loop-fork.pass c.loop-fork.out) (site_of c.send_fork.new.store c.send_fork.new.pass c.send_fork.new.out) c.from_residual.result
+    step_failed g.V.Vault (site_of c.args.pass.now c.args.out.now) (site_of c.loop-fork.pass c.loop-fork.out) (site_of c.send_fork.new.pass c.send_fork.new.out) c.from_residual.result
     c.in_err-send_fork.field-0.0 c.loop-fork.invariant.step c.from_residual.ensures.1 c.in_err-send_fork.ensures.cause
 
 pub returns-clause-sent : goal.returns-clause-sent

@@ -7,7 +7,7 @@ use Rattle.base_backup.proofs.sending.send_forks.Given as goal
 -- all forks but those that are left were sent
 abbrev pub invariant-loop-fork : goal.invariant-loop-fork
 invariant-loop-fork g l = record {
-  step : CopiesOn g.V.Vault (site_of l.fn.store l.fn.pass l.fn.out) (site_of l.store l.pass l.out);
+  step : CopiesOn g.V.Vault (site_of l.fn.pass l.fn.out) (site_of l.pass l.out);
   far : ListSoFar (g.J.OfStore.tells ≡ true) l.pass.list l.from.0 l.basis l.forks l.left l.modified (g.V.Vault.files l.fn.out) (g.V.Vault.files l.out) l.rows.items;
 }
 
