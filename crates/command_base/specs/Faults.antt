@@ -21,8 +21,8 @@ use Rattle.recovery.specs.declared.fault.RecoveryFault.{RecoveryFault}
 use Rattle.recovery.specs.declared.fault.RecoveryFault.TheVariants as wal
 use Rattle.command_base.specs.declared.status.Status.{Status}
 use Rattle.command_base.specs.declared.status.Status.TheVariants as status
-use Rattle.shared_store.specs.declared.begin.BeginWhy.{BeginWhy}
-use Rattle.shared_store.specs.declared.begin.BeginWhy.TheVariants as begin
+use Rattle.shared_store.specs.declared.found.BeginWhy.{BeginWhy}
+use Rattle.shared_store.specs.declared.found.BeginWhy.TheVariants as begin
 use Rattle.command_base.specs.Areas.{wal_name, area_name}
 
 -- texts behind each other

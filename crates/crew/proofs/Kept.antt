@@ -24,7 +24,7 @@ use Rattle.lsn_core.specs.Store.{Store, files_of}
 use Rattle.backup_files.specs.Area.{HoldsNothing}
 use Rattle.backup_files.specs.Directory.{label_name, manifest_name}
 use Rattle.base_backup.specs.Directory.{directory_of}
-use Rattle.command_base.specs.Areas.{backup_name, sums_name, AreaIsDurable}
+use Rattle.command_base.specs.Areas.{backup_name, AreaIsDurable}
 use Rattle.command_base.proofs.Told.{some_told, at_told}
 use Rattle.crew.specs.declared.script.Command.{Command}
 use Rattle.crew.specs.declared.script.Command.TheVariants as command
@@ -53,9 +53,6 @@ at_name n held mid same = ap (λ (f : Areas). f n) same
 not_asked : (n name : List ℕ) (line : Command) → line ≡ command.Full name → IsNoneOf n (area_asked line) → n ≢ backup_name name
 not_asked n name line is none = (subst (λ (c : Command). IsNoneOf n (area_asked c)) is none).0
 
-not_summarised : (n : List ℕ) (line : Command) → line ≡ command.Summarise → IsNoneOf n (area_asked line) → n ≢ sums_name
-not_summarised n line is none = (subst (λ (c : Command). IsNoneOf n (area_asked c)) is none).0
-
 line_stays : (tells : Type 0) (b : Basis) (w from : ℕ) (now : List Entry) (line : Command) (x : Answer) (made : List Entry) (held mid : Areas) (n : List ℕ) → LineAnswer tells b w from now line x made held mid → IsNoneOf n (area_asked line) → mid n ≡ held n
 line_stays tells b w from now line (Accepted place) made held mid n a none = at_name n held mid a.4
 line_stays tells b w from now line (Refused why) made held mid n a none = at_name n held mid a.4
@@ -64,9 +61,8 @@ line_stays tells b w from now line (Stopped k why) made held mid n a none = at_n
 line_stays tells b w from now line (Redo redo) made held mid n a none = at_name n held mid a.3
 line_stays tells b w from now line (CheckpointRefused why) made held mid n a none = at_name n held mid a.3
 line_stays tells b w from now line (Wrote k) made held mid n a none = at_name n held mid a.4
-line_stays tells b w from now line (Published k) made held mid n a none = a.2.others n (not_summarised n line a.0 none)
-line_stays tells b w from now line (CallFailed why) made held mid n (made_is, inl a) none = at_name n held mid a.2
-line_stays tells b w from now line (CallFailed why) made held mid n (made_is, inr a) none = a.1.others n (not_summarised n line a.0 none)
+line_stays tells b w from now line (Published k) made held mid n a none = at_name n held mid a.3
+line_stays tells b w from now line (CallFailed why) made held mid n a none = at_name n held mid a.2
 line_stays tells b w from now line (Backup start end) made held mid n (made_is, inl t) none = t.3.others n (not_asked n t.0 line t.1 none)
 line_stays tells b w from now line (Backup start end) made held mid n (made_is, inr t) none = t.4.others n none
 line_stays tells b w from now line (BackupRefused why) made held mid n a none = a.3.others n (not_asked n a.0 line a.1 none)
@@ -98,9 +94,8 @@ line_rises tells b w from now line (Stopped k why) made held mid n a = same_faul
 line_rises tells b w from now line (Redo redo) made held mid n a = same_faults n held mid (at_name n held mid a.3)
 line_rises tells b w from now line (CheckpointRefused why) made held mid n a = same_faults n held mid (at_name n held mid a.3)
 line_rises tells b w from now line (Wrote k) made held mid n a = same_faults n held mid (at_name n held mid a.4)
-line_rises tells b w from now line (Published k) made held mid n a = only_rises sums_name n held mid a.2
-line_rises tells b w from now line (CallFailed why) made held mid n (made_is, inl a) = same_faults n held mid (at_name n held mid a.2)
-line_rises tells b w from now line (CallFailed why) made held mid n (made_is, inr a) = only_rises sums_name n held mid a.1
+line_rises tells b w from now line (Published k) made held mid n a = same_faults n held mid (at_name n held mid a.3)
+line_rises tells b w from now line (CallFailed why) made held mid n a = same_faults n held mid (at_name n held mid a.2)
 line_rises tells b w from now line (Backup start end) made held mid n (made_is, inl t) = only_rises (backup_name t.0) n held mid t.3
 line_rises tells b w from now line (Backup start end) made held mid n (made_is, inr t) = among_rises (area_asked line) n held mid t.4
 line_rises tells b w from now line (BackupRefused why) made held mid n a = only_rises (backup_name a.0) n held mid a.3
@@ -127,10 +122,6 @@ area_rises tells b w h from (l ∷ lines) (x ∷ answers) es to held new n a =
 
 -- ---- areas with a file
 
--- the area of a backup is not that of the summaries
-pub never_sums : (name : List ℕ) → backup_name name ≢ sums_name
-never_sums name is = absurd cc
-
 pub never_empty : (m : Files) (k v : List ℕ) → insert m k v ≢ empty
 never_empty m k v is =
     let there : get (insert m k v) k ≡ Some v = get-insert nat_list_cmp_total m k v k ∙ ap (λ c. cond c (Some v) (get m k)) ((eq_by_cmp_equiv nat_list_cmp_total).refl k) in
@@ -149,15 +140,14 @@ still_same old new same = record { files = ap (λ (s : AreaState). s.files) same
 pub still_on : (first second third : AreaState) → IsStill first second → IsStill second third → IsStill first third
 still_on first second third early late = record { files = late.files ∙ early.files; past = late.past ∙ early.past }
 
--- an area that holds a file and isn't the summaries', of a line whose backup's area stays where it holds one
+-- an area that holds a file, of a line whose backup's area stays where it holds one
 incr_keeps : (name prior n : List ℕ) (line : Command) (held mid : Areas) (m : Files) → line ≡ command.Incr name prior → OnlyAmong (area_asked line) held mid → IsStill (held (backup_name prior)) (mid (backup_name prior))
-    → StaysFull (held (backup_name name)) (mid (backup_name name)) → n ≢ sums_name → (held n).files ≡ Some m → m ≢ empty → IsStill (held n) (mid n)
-incr_keeps name prior n line held mid m is only same keeps apart told some =
-    elim (one_or_none n (backup_name name ∷ backup_name prior ∷ sums_name ∷ [])) [
+    → StaysFull (held (backup_name name)) (mid (backup_name name)) → (held n).files ≡ Some m → m ≢ empty → IsStill (held n) (mid n)
+incr_keeps name prior n line held mid m is only same keeps told some =
+    elim (one_or_none n (backup_name name ∷ backup_name prior ∷ [])) [
       | inl (inl out) ↦ at_told (held n).files m (λ f. f ≢ empty → IsStill (held n) (mid n)) told (subst (λ (k : List ℕ). StaysFull (held k) (mid k)) (sym out) keeps) some
       | inl (inr (inl before)) ↦ subst (λ (k : List ℕ). IsStill (held k) (mid k)) (sym before) same
-      | inl (inr (inr (inl sums))) ↦ absurd (apart sums)
-      | inl (inr (inr (inr never))) ↦ absurd never
+      | inl (inr (inr never)) ↦ absurd never
       | inr none ↦ still_same (held n) (mid n) (only.others n (subst (λ (c : Command). IsNoneOf n (area_asked c)) (sym is) none))
     ]
 
@@ -168,41 +158,40 @@ bare_stays (Some m) old new nothing = λ some. absurd (some nothing)
 nothing_stays : (old new : AreaState) → HoldsNothing old.files → StaysFull old new
 nothing_stays old new nothing = bare_stays old.files old new nothing
 
-line_keeps : (tells : Type 0) (b : Basis) (w from : ℕ) (now : List Entry) (line : Command) (x : Answer) (made : List Entry) (held mid : Areas) (n : List ℕ) (m : Files) → LineAnswer tells b w from now line x made held mid → n ≢ sums_name → (held n).files ≡ Some m → m ≢ empty
+line_keeps : (tells : Type 0) (b : Basis) (w from : ℕ) (now : List Entry) (line : Command) (x : Answer) (made : List Entry) (held mid : Areas) (n : List ℕ) (m : Files) → LineAnswer tells b w from now line x made held mid → (held n).files ≡ Some m → m ≢ empty
     → IsStill (held n) (mid n)
-line_keeps tells b w from now line (Accepted place) made held mid n m a apart told some = still_same (held n) (mid n) (at_name n held mid a.4)
-line_keeps tells b w from now line (Refused why) made held mid n m a apart told some = still_same (held n) (mid n) (at_name n held mid a.4)
-line_keeps tells b w from now line (Grown k place) made held mid n m a apart told some = still_same (held n) (mid n) (at_name n held mid a.5)
-line_keeps tells b w from now line (Stopped k why) made held mid n m a apart told some = still_same (held n) (mid n) (at_name n held mid a.7)
-line_keeps tells b w from now line (Redo redo) made held mid n m a apart told some = still_same (held n) (mid n) (at_name n held mid a.3)
-line_keeps tells b w from now line (CheckpointRefused why) made held mid n m a apart told some = still_same (held n) (mid n) (at_name n held mid a.3)
-line_keeps tells b w from now line (Wrote k) made held mid n m a apart told some = still_same (held n) (mid n) (at_name n held mid a.4)
-line_keeps tells b w from now line (Published k) made held mid n m a apart told some = still_same (held n) (mid n) (a.2.others n apart)
-line_keeps tells b w from now line (CallFailed why) made held mid n m (made_is, inl a) apart told some = still_same (held n) (mid n) (at_name n held mid a.2)
-line_keeps tells b w from now line (CallFailed why) made held mid n m (made_is, inr a) apart told some = still_same (held n) (mid n) (a.1.others n apart)
-line_keeps tells b w from now line (Backup start end) made held mid n m (made_is, inl t) apart told some =
+line_keeps tells b w from now line (Accepted place) made held mid n m a told some = still_same (held n) (mid n) (at_name n held mid a.4)
+line_keeps tells b w from now line (Refused why) made held mid n m a told some = still_same (held n) (mid n) (at_name n held mid a.4)
+line_keeps tells b w from now line (Grown k place) made held mid n m a told some = still_same (held n) (mid n) (at_name n held mid a.5)
+line_keeps tells b w from now line (Stopped k why) made held mid n m a told some = still_same (held n) (mid n) (at_name n held mid a.7)
+line_keeps tells b w from now line (Redo redo) made held mid n m a told some = still_same (held n) (mid n) (at_name n held mid a.3)
+line_keeps tells b w from now line (CheckpointRefused why) made held mid n m a told some = still_same (held n) (mid n) (at_name n held mid a.3)
+line_keeps tells b w from now line (Wrote k) made held mid n m a told some = still_same (held n) (mid n) (at_name n held mid a.4)
+line_keeps tells b w from now line (Published k) made held mid n m a told some = still_same (held n) (mid n) (at_name n held mid a.3)
+line_keeps tells b w from now line (CallFailed why) made held mid n m a told some = still_same (held n) (mid n) (at_name n held mid a.2)
+line_keeps tells b w from now line (Backup start end) made held mid n m (made_is, inl t) told some =
     elim (same_or_not n (backup_name t.0)) [
       | inl is ↦ absurd (some (at_told (held n).files m (λ f. f ≡ empty) told (subst (λ (k : List ℕ). HoldsNothing (held k).files) (sym is) t.2)))
       | inr other ↦ still_same (held n) (mid n) (t.3.others n other)
     ]
-line_keeps tells b w from now line (Backup start end) made held mid n m (made_is, inr t) apart told some =
-    incr_keeps t.0 t.1 n line held mid m t.2 t.4 t.5 (nothing_stays (held (backup_name t.0)) (mid (backup_name t.0)) t.3) apart told some
-line_keeps tells b w from now line (BackupRefused why) made held mid n m a apart told some =
+line_keeps tells b w from now line (Backup start end) made held mid n m (made_is, inr t) told some =
+    incr_keeps t.0 t.1 n line held mid m t.2 t.4 t.5 (nothing_stays (held (backup_name t.0)) (mid (backup_name t.0)) t.3) told some
+line_keeps tells b w from now line (BackupRefused why) made held mid n m a told some =
     elim (same_or_not n (backup_name a.0)) [
       | inl is ↦ at_told (held n).files m (λ f. f ≢ empty → IsStill (held n) (mid n)) told (subst (λ (k : List ℕ). StaysFull (held k) (mid k)) (sym is) a.4) some
       | inr other ↦ still_same (held n) (mid n) (a.3.others n other)
     ]
-line_keeps tells b w from now line (IncrRefused why) made held mid n m a apart told some = incr_keeps a.0 a.1 n line held mid m a.2 a.4 a.5 a.6 apart told some
-line_keeps tells b w from now line NotRun made held mid n m a apart told some = still_same (held n) (mid n) (at_name n held mid a.1)
+line_keeps tells b w from now line (IncrRefused why) made held mid n m a told some = incr_keeps a.0 a.1 n line held mid m a.2 a.4 a.5 a.6 told some
+line_keeps tells b w from now line NotRun made held mid n m a told some = still_same (held n) (mid n) (at_name n held mid a.1)
 
-pub area_keeps : (tells : Type 0) (b : Basis) (w : ℕ) (h : List Entry) (from : ℕ) (lines : List Line) (answers : List Answer) (es : List Entry) (to : ℕ) (held new : Areas) (n : List ℕ) (m : Files) → Answered tells b w h from lines answers es to held new → n ≢ sums_name → (held n).files ≡ Some m → m ≢ empty
+pub area_keeps : (tells : Type 0) (b : Basis) (w : ℕ) (h : List Entry) (from : ℕ) (lines : List Line) (answers : List Answer) (es : List Entry) (to : ℕ) (held new : Areas) (n : List ℕ) (m : Files) → Answered tells b w h from lines answers es to held new → (held n).files ≡ Some m → m ≢ empty
     → IsStill (held n) (new n)
-area_keeps tells b w h from [] [] es to held new n m a apart told some = still_same (held n) (new n) (at_name n held new a.2)
-area_keeps tells b w h from [] (x ∷ answers) es to held new n m a apart told some = absurd a
-area_keeps tells b w h from (l ∷ lines) [] es to held new n m a apart told some = absurd a
-area_keeps tells b w h from (l ∷ lines) (x ∷ answers) es to held new n m a apart told some =
-    let here : IsStill (held n) (a.3 n) = line_keeps tells b w from (take a.0 h) l.command x a.1 held a.3 n m a.7 apart told some in
-    still_on (held n) (a.3 n) (new n) here (area_keeps tells b w h a.0 lines answers a.2 to a.3 new n m a.8 apart (here.files ∙ told) some)
+area_keeps tells b w h from [] [] es to held new n m a told some = still_same (held n) (new n) (at_name n held new a.2)
+area_keeps tells b w h from [] (x ∷ answers) es to held new n m a told some = absurd a
+area_keeps tells b w h from (l ∷ lines) [] es to held new n m a told some = absurd a
+area_keeps tells b w h from (l ∷ lines) (x ∷ answers) es to held new n m a told some =
+    let here : IsStill (held n) (a.3 n) = line_keeps tells b w from (take a.0 h) l.command x a.1 held a.3 n m a.7 told some in
+    still_on (held n) (a.3 n) (new n) here (area_keeps tells b w h a.0 lines answers a.2 to a.3 new n m a.8 (here.files ∙ told) some)
 
 -- ---- backups that stand
 
@@ -243,7 +232,7 @@ keeps_told tells b w before now name start end files P t some keeps =
     keeps m.0 m.1 (never_bare _ _ _ _ m.0 (at_told files m.0 _ m.1 t.directory.files_are))
 
 stand_for : (tells : Type 0) (b : Basis) (w : ℕ) (h : List Entry) (from next : ℕ) (line : Line) (lines : List Line) (x : Answer) (made : List Entry) (held mid new : Areas) → next ≤ length h → LineAnswer tells b w from (take next h) line.command x made held mid
-    → ((n : List ℕ) → IsNoneOf n (areas_asked lines) → new n ≡ mid n) → ((n : List ℕ) (m : Files) → n ≢ sums_name → (mid n).files ≡ Some m → m ≢ empty → IsStill (mid n) (new n)) → StandsFor tells b w h line lines x new
+    → ((n : List ℕ) → IsNoneOf n (areas_asked lines) → new n ≡ mid n) → ((n : List ℕ) (m : Files) → (mid n).files ≡ Some m → m ≢ empty → IsStill (mid n) (new n)) → StandsFor tells b w h line lines x new
 stand_for tells b w h from next line lines (Accepted place) made held mid new within a rest keeps = tt
 stand_for tells b w h from next line lines (Refused why) made held mid new within a rest keeps = tt
 stand_for tells b w h from next line lines (Grown k place) made held mid new within a rest keeps = tt
@@ -264,7 +253,7 @@ stand_for tells b w h from next line lines (Backup start end) made held mid new 
       sooner tells b w from (take next h) name start end area.files taken,
       subst (λ (m : List ℕ). AreaIsDurable (mid (backup_name m))) same t.5,
       λ still. elim still [
-        | inl some ↦ keeps_told tells b w from (take next h) name start end area.files (IsStill area (new (backup_name name))) taken some (λ m told full. keeps (backup_name name) m (never_sums name) told full)
+        | inl some ↦ keeps_told tells b w from (take next h) name start end area.files (IsStill area (new (backup_name name))) taken some (λ m told full. keeps (backup_name name) m told full)
         | inr none ↦ still_same area (new (backup_name name)) (rest (backup_name name) none)
       ],
     )
@@ -276,7 +265,7 @@ all_stand : (tells : Type 0) (b : Basis) (w : ℕ) (h : List Entry) (from : ℕ)
 all_stand tells b w h from [] answers es to held new a = tt
 all_stand tells b w h from (l ∷ lines) [] es to held new a = tt
 all_stand tells b w h from (l ∷ lines) (x ∷ answers) es to held new a = (
-  stand_for tells b w h from a.0 l lines x a.1 held a.3 new a.5 a.7 (λ n none. area_stays tells b w h a.0 lines answers a.2 to a.3 new n a.8 none) (λ n m apart told some. area_keeps tells b w h a.0 lines answers a.2 to a.3 new n m a.8 apart told some),
+  stand_for tells b w h from a.0 l lines x a.1 held a.3 new a.5 a.7 (λ n none. area_stays tells b w h a.0 lines answers a.2 to a.3 new n a.8 none) (λ n m told some. area_keeps tells b w h a.0 lines answers a.2 to a.3 new n m a.8 told some),
   all_stand tells b w h a.0 lines answers a.2 to a.3 new a.8,
 )
 

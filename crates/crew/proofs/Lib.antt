@@ -1,4 +1,5 @@
 pub mod Lists
+pub mod Shares
 pub mod Moments
 pub mod Steps
 pub mod Growth
@@ -10,9 +11,10 @@ pub mod Kept
 pub mod Summed
 pub mod Incremented
 pub mod Increased
-pub mod Three
+pub mod Two
 pub mod Priors
 pub mod RunLaws
+pub mod Joined
 pub mod Pieces
 pub mod Each
 pub mod ItemWords

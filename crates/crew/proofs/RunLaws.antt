@@ -1,6 +1,5 @@
 -- What holds of every run.
-use Rattle.std.proofs.Common.{◌≡◌, ℕ, true, List, ◌++◌, length, None, refl, ap, sym, subst, ◌∙◌, arith, ◌⊎◌, inl, inr}
-use Rattle.std.proofs.lemmas.List.Elements.{filter-append}
+use Rattle.std.proofs.Common.{◌≡◌, ℕ, true, List, None, refl, ap, sym, ◌∙◌, ◌⊎◌, inl, inr}
 use Rattle.lsn_core.specs.Store.{Store}
 use Rattle.lsn_core.specs.declared.fault.StoreArea.{StoreArea}
 use Rattle.history.specs.declared.op.Op.{Op}
@@ -8,24 +7,12 @@ use Rattle.history.specs.Entry.{Entry}
 use Rattle.history.specs.Written.{tip_of}
 use Rattle.shared_store.specs.declared.fault.InsertFault.{InsertFault}
 use Rattle.shared_store.specs.declared.fault.InsertFault.TheVariants as insert
-use Rattle.shared_store.specs.Seen.{is_by, accepted_by}
 use Rattle.shared_store.specs.Refusals.{judged_at, IsRefused}
-use Rattle.crew.specs.Run.{Answered, AnswersStay, RunsAreAnswered, TakenOrRefused}
+use Rattle.crew.specs.Run.{AnswersStay, TakenOrRefused}
 use Rattle.crew.proofs.Moments.{answered_later}
 
 pub answers_hold : AnswersStay
-answers_hold tells b worker seen history from to lines answers made held new p le a = answered_later (tells ≡ true) b worker seen history from lines answers made to held new p a
-
-pub runs_answer : RunsAreAnswered
-runs_answer tells b lines old new held mid answers run none =
-    let all : accepted_by old.worker run.own ≡ accepted_by old.worker new.list =
-    sym (ap (accepted_by old.worker) run.grown ∙ filter-append (is_by old.worker) old.list run.own ∙ ap (λ (es : List Entry). es ++ accepted_by old.worker run.own) none) in
-    record {
-      to = length new.list;
-      within = omega arith;
-      answered = subst (λ (es : List Entry). Answered (tells ≡ true) b old.worker new.list (length old.list) lines answers es (length new.list) held mid) all run.answered;
-      order = run.order;
-    }
+answers_hold tells b worker seen history from to lines answers made held new p a = answered_later (tells ≡ true) b worker seen history from lines answers made to held new p a
 
 -- an area that failed, or want of memory
 abbrev IsFree : InsertFault → Type 0

@@ -1,5 +1,4 @@
--- The backups that commands take: their names, and the areas that are asked for, those of backups and of
--- summaries.
+-- The backups that commands take: their names, and the areas of backups that are asked for.
 use Rattle.std.specs.Prelude.{◌≢◌, List, [], ◌∷◌, ℕ}
 use Rattle.std.specs.List.{AllByRecursion, flat_map}
 use Rattle.vault.specs.declared.area.Vault.{Ghosts}
@@ -7,7 +6,7 @@ use Rattle.vault.specs.declared.lending.Held.{Held}
 use Rattle.vault.specs.Site.{Areas, at_home}
 use Rattle.vault.specs.Lending.{Names, IsOneOf, names_of, all_back}
 use Rattle.std.specs.Prelude.{None}
-use Rattle.command_base.specs.Areas.{backup_name, sums_name}
+use Rattle.command_base.specs.Areas.{backup_name}
 use Rattle.crew.specs.declared.script.Command.{Command}
 use Rattle.crew.specs.declared.script.Command.TheVariants.{Insert, Grow, Checkpoint, Flush, Summarise, Full, Incr}
 use Rattle.crew.specs.declared.script.Line.{Line}
@@ -45,15 +44,15 @@ HasOtherPrior (Incr name prior) = name ≢ prior
 abbrev pub HaveOtherPriors : List Line → Type 0
 HaveOtherPriors lines = AllByRecursion (λ line. HasOtherPrior line.command) lines
 
--- the areas that a command asks for, beside those of its store
+-- the areas that a command asks for, beside those that workers share
 abbrev pub area_asked : Command → Names
 area_asked (Insert order) = []
 area_asked (Grow at count shape) = []
 area_asked Checkpoint = []
 area_asked (Flush count) = []
-area_asked Summarise = sums_name ∷ []
+area_asked Summarise = []
 area_asked (Full name) = backup_name name ∷ []
-area_asked (Incr name prior) = backup_name name ∷ backup_name prior ∷ sums_name ∷ []
+area_asked (Incr name prior) = backup_name name ∷ backup_name prior ∷ []
 
 -- those that lines ask for, in their order
 abbrev pub areas_asked : List Line → Names

@@ -1,7 +1,7 @@
 -- What the lines of a worker are answered, over the history that it has seen.
 use Rattle.std.specs.Prelude.{◌≡◌, ◌≢◌, ℕ, ◌+◌, ◌<◌, ◌≤◌, ◌⊎◌, ◌||◌, Bool, true, false, List, [], ◌∷◌, ◌++◌, map, length, take, slice_get, Option, Some, None, IsSome, IfSome, Result, Ok, Err}
 use Rattle.std.specs.List.{All}
-use Rattle.std.specs.Option.{is_some, option_map}
+use Rattle.std.specs.Option.{is_some}
 use Rattle.std.specs.FinMap.{empty}
 use mathlib.Core.List.{IsPrefix}
 use Rattle.lsn_core.specs.declared.ids.BlockId.{BlockId}
@@ -9,7 +9,7 @@ use Rattle.lsn_core.specs.declared.lsn.Place.{Place}
 use Rattle.lsn_core.specs.declared.fault.MarkFault.{MarkFault}
 use Rattle.lsn_core.specs.declared.fault.MarkFault.TheVariants as mark
 use Rattle.lsn_core.specs.declared.fault.StoreArea.{StoreArea}
-use Rattle.lsn_core.specs.declared.fault.StoreArea.TheVariants.{Wal, Data, Sums}
+use Rattle.lsn_core.specs.declared.fault.StoreArea.TheVariants.{Sums}
 use Rattle.lsn_core.specs.declared.fault.StoreFault.TheVariants as store
 use Rattle.lsn_core.specs.Causes.{Rose}
 use Rattle.lsn_core.specs.Files.{Files}
@@ -19,24 +19,21 @@ use Rattle.lsn_core.specs.declared.lsn.Lsn.{Lsn}
 use Rattle.lsn_core.specs.declared.ids.ForkLen.{ForkLen}
 use Rattle.vault.specs.Site.{Areas, AreaState, IsStill}
 use Rattle.vault.specs.Lending.{Names, IsOneOf, IsNoneOf}
-use Rattle.vault.specs.declared.area.Vault.{Ghosts}
 use Rattle.history.specs.declared.op.Op.{Op}
-use Rattle.history.specs.Entry.{Entry, RedoMark, Online, BackupEnd}
-use Rattle.fuzzy_copies.specs.Orderly.{IsOrderly}
+use Rattle.history.specs.Entry.{Entry}
 use Rattle.fuzzy_copies.specs.Taken.{IsTaken}
 use Rattle.history.specs.Apply.{apply_all}
 use Rattle.history.specs.Op.{act_of_op}
 use Rattle.history.specs.Written.{record_of, tip_of}
 use Rattle.shared_store.specs.declared.fault.InsertFault.{InsertFault}
 use Rattle.shared_store.specs.declared.fault.InsertFault.TheVariants as insert
-use Rattle.shared_store.specs.Seen.{Seen, StaysBy, is_by, accepted_by}
+use Rattle.shared_store.specs.Seen.{Seen, StaysBy, ShareRose, accepted_by}
 use Rattle.shared_store.specs.Refusals.{judged_at, IsRefusedBehind}
-use Rattle.shared_store.specs.Opened.{Opened, count_of}
-use Rattle.shared_store.specs.Calls.{IsMarkOf, FindsNoRoom, GoesOn}
+use Rattle.shared_store.specs.Shared.{FindsNoRoomIn}
 use Rattle.base_backup.specs.declared.fault.BackupFault.{BackupFault}
 use Rattle.base_backup.specs.declared.fault.BackupFault.TheVariants as backup
 use Rattle.backup_files.specs.Area.{HoldsNothing, HoldsSomething, KeepsManifest, RoseTwice}
-use Rattle.base_backup.specs.Backup.{AreOfBackup, FindsNoRoomFor}
+use Rattle.base_backup.specs.Entries.{HasCheckpointAt, HasBackupAt, MeetsFullWal, SumsUp}
 use Rattle.base_backup.specs.Directory.{IsFullBackup, IsDirectory, incr_label}
 use Rattle.base_backup.specs.declared.basis.Basis.{Basis as Plan}
 use Rattle.base_backup.specs.declared.incr_fault.IncrFault.{IncrFault}
@@ -44,7 +41,7 @@ use Rattle.base_backup.specs.declared.incr_fault.IncrFault.TheVariants as incr
 use Rattle.base_backup.specs.Prior.{HasListing, IsOfStore, PriorAnswer}
 use Rattle.base_backup.specs.Sent.{SentFile, AreListed, AreSent, file_of}
 use Rattle.manifest.specs.Listing.{Listing}
-use Rattle.command_base.specs.Areas.{backup_name, sums_name, AreaIsDurable}
+use Rattle.command_base.specs.Areas.{backup_name, AreaIsDurable}
 use Rattle.crew.specs.declared.script.Command.{Command}
 use Rattle.crew.specs.declared.script.Command.TheVariants as command
 use Rattle.crew.specs.declared.script.Line.{Line}
@@ -56,10 +53,8 @@ use Rattle.crew.specs.declared.answer.Stop.TheVariants as stop
 use Rattle.crew.specs.Backups.{area_asked, areas_asked, backup_taken, prior_taken}
 use Rattle.crew.specs.Orders.{op_asked, grow_op, grow_ops}
 use Rattle.crew.specs.Shape.{Shape}
-use Rattle.wal_summary.specs.declared.summary.Summary.{Summary}
 use Rattle.summary_store.specs.Honest.{IsHonest}
-use Rattle.summary_publish.specs.Published.{ArePublished, Advances, AdvanceAnswers, with_files}
-use Rattle.summary_publish.specs.declared.advancing.AdvanceFault.{AdvanceFault}
+use Rattle.shared_summaries.specs.Shelf.{HasPublished}
 use Rattle.summary_publish.specs.declared.advancing.AdvanceFault.TheVariants as advance
 
 -- ---- commands in a history
@@ -111,59 +106,27 @@ IsRefusedNow tells mib now asked why = tells → IsRefusedBehind mib now asked w
 
 -- ---- checkpoints in a history
 
--- a checkpoint of a worker, behind so many entries: its start, which stands at the redo point, and
--- behind it the end that names that
-pub record HasCheckpointAt (worker before : ℕ) (now : List Entry) (redo : ℕ) : Type 0 where
-  pub first : Entry
-  pub number : ℕ
-  pub later : before ≤ number
-  pub there : slice_get now number ≡ Some first
-  pub starts : IsMarkOf worker (RedoMark 1) first
-  pub redo_is : first.start ≡ redo
-  pub last : Entry
-  pub number_last : ℕ
-  pub behind : number < number_last
-  pub there_last : slice_get now number_last ≡ Some last
-  pub ends : IsMarkOf worker (Online redo) last
-
--- a checkpoint was refused for want of room in the WAL, which it met behind a beginning of the
--- history; want of memory and devices that fail may come at any time
+-- a checkpoint was refused for want of room in the WAL, which it met behind all that was seen then;
+-- want of memory and devices that fail may come at any time
 abbrev pub IsCheckpointRefused : ℕ → ℕ → ℕ → List Entry → MarkFault → Type 0
 IsCheckpointRefused mib worker before now (mark.Failed area) = Unit {0}
 IsCheckpointRefused mib worker before now (mark.WalFull n) =
-    (n ≡ length now)
-    × ((at : ℕ) × (before ≤ at) × FindsNoRoom mib worker (take at now) now)
+    (n ≡ length now) × FindsNoRoomIn mib worker before now
 IsCheckpointRefused mib worker before now mark.NoMemory = Unit {0}
 
 -- ---- backups
 
--- what lines run on: the settings of the store, and the moment of their backups
+-- what lines run on: the settings of the store, the moment of their backups, the entries that the run
+-- found, and the files that the area of summaries had then, where it told them
 pub record Basis : Type 0 where
   pub settings : StoreSettings
   pub when : ℕ
+  pub found : List Entry
+  pub sums : Option Files
 
-abbrev pub basis_of : StoreSettings → ℕ → Basis
-basis_of settings when = record { settings = settings; when = when }
-
--- a backup of a worker, behind so many entries: its checkpoint, and behind that its end
-pub record HasBackupAt (worker before : ℕ) (now : List Entry) (start checkpoint end : ℕ)
-    : Type 0 where
-  pub first : Entry
-  pub last : Entry
-  pub stop : Entry
-  pub entries : AreOfBackup worker first last stop
-  pub number : ℕ
-  pub later : before ≤ number
-  pub there : slice_get now number ≡ Some first
-  pub number_last : ℕ
-  pub behind : number < number_last
-  pub there_last : slice_get now number_last ≡ Some last
-  pub number_stop : ℕ
-  pub behind_last : number_last < number_stop
-  pub there_stop : slice_get now number_stop ≡ Some stop
-  pub start_is : start ≡ first.start
-  pub checkpoint_is : checkpoint ≡ last.start
-  pub end_is : end ≡ stop.end
+abbrev pub basis_of : StoreSettings → ℕ → List Entry → Option Files → Basis
+basis_of settings when found sums =
+    record { settings = settings; when = when; found = found; sums = sums }
 
 -- files are the directory of that backup under a name. Its pages were copied, each at a moment of
 -- its own, while this history was written
@@ -192,11 +155,6 @@ pub record OnlyAt (name : List ℕ) (held mid : Areas) : Type 0 where
 abbrev pub StaysFull : AreaState → AreaState → Type 0
 StaysFull old new = IfSome old.files (λ m. m ≢ empty → IsStill old new)
 
--- the WAL had no room for the backup, behind a beginning of the history
-abbrev pub MeetsFullWal : ℕ → ℕ → ℕ → List Entry → Type 0
-MeetsFullWal mib worker before now =
-    (at : ℕ) × (before ≤ at) × FindsNoRoomFor mib worker (take at now) now
-
 -- why a backup into an area was refused, and what it left there: no manifest, in an area that held
 -- none. Where its device failed in the manifest's removal too, or memory was missing then, one may be
 -- left: a part of it, or the whole
@@ -216,40 +174,16 @@ IsBackupRefused tells b worker before now name old new backup.NoMemory =
     KeepsManifest old.files new.files
     ⊎ (Rose old.faults new.faults ⊎ HoldsSomeBackup tells b worker before now name new.files)
 
--- ---- summaries
-
--- so many summaries of a history were published at a moment behind those that were kept of an area's
--- files, which stand there beside these, all of them durably
-pub record HoldsSummaries (tells : Type 0) (history : List Entry) (when : ℕ)
-    (old new : AreaState) (count : ℕ) : Type 0 where
-  pub sums : List Summary
-  pub published : tells → IfSome old.files (λ m. ArePublished history when m sums)
-  pub counted : count ≡ length sums
-  pub files : new.files ≡ option_map (with_files sums) old.files
-  pub durable : AreaIsDurable new
-
 -- ---- incremental backups
 
--- areas as they are known at home
-abbrev pub states : Ghosts AreaState
-states = record {
-  files = λ area. area.files;
-  faults = λ area. area.faults;
-  past = λ area. area.past;
-}
-
--- the areas of an incremental backup: of the summaries, of the prior backup, and its own
+-- the areas of an incremental backup that are its worker's: of the prior backup, and its own
 pub record IncrAreas : Type 0 where
-  pub sums : AreaState
   pub prior : AreaState
   pub out : AreaState
 
 abbrev pub incr_areas : Areas → List ℕ → List ℕ → IncrAreas
-incr_areas areas name prior = record {
-  sums = areas sums_name;
-  prior = areas (backup_name prior);
-  out = areas (backup_name name);
-}
+incr_areas areas name prior =
+    record { prior = areas (backup_name prior); out = areas (backup_name name) }
 
 -- of the areas that a worker holds these alone may have changed, and no count fell
 pub record OnlyAmong (names : Names) (held mid : Areas) : Type 0 where
@@ -263,15 +197,6 @@ pub record IsPriorOf (system : ℕ) (prior : AreaState) (m : Listing) (start : �
   pub ours : IsOfStore system m
   pub behind : m.end ≤ start
 
--- behind a checkpoint of a worker with this redo point, all summaries were published of the
--- history as it was seen then, and this is what covers the WAL from a place up to the redo point
-pub record SumsUp (tells : Type 0) (when worker before : ℕ) (now : List Entry) (redo from : ℕ)
-    (old new : AreaState) (answer : Result Summary AdvanceFault) : Type 0 where
-  pub seen : ℕ
-  pub within : seen ≤ length now
-  pub checkpoint : HasCheckpointAt worker before (take seen now) redo
-  pub covers : AdvanceAnswers states tells (take seen now) when from redo old new answer
-
 -- the files of its own area are the directory of that backup under a name: those of the forks that
 -- were listed, each as it is planned by the prior backup's manifest and the summary of the WAL since
 -- that backup's start. Each fork was listed and each page that is sent was copied at a moment of its
@@ -284,8 +209,8 @@ pub record HoldsIncr (tells : Type 0) (b : Basis) (worker before : ℕ) (now : L
   pub plan : Plan
   pub relseg : plan.relseg ≡ b.settings.relseg
   pub prior : IsPriorOf b.settings.system old.prior plan.prior start.0
-  pub summed : SumsUp tells b.when worker before now start.0 plan.prior.start
-      old.sums new.sums (Ok plan.summary)
+  pub summed : SumsUp tells b.found b.sums b.when worker before now start.0 plan.prior.start
+      (Ok plan.summary)
   pub list : List ForkLen
   pub listed : AreListed tells now start.0 end.0 list
   pub files : List SentFile
@@ -300,10 +225,9 @@ abbrev pub HoldsSomeIncr :
 HoldsSomeIncr tells b worker before now name old new =
     (start : Lsn) × (end : Lsn) × HoldsIncr tells b worker before now name start end old new
 
--- nothing was added to the history, and the summaries and the backup's area are as they were
+-- the worker has seen no more, and the backup's area is as it was
 pub record StandsStill (before : ℕ) (now : List Entry) (old new : IncrAreas) : Type 0 where
   pub history : length now ≡ before
-  pub sums : new.sums ≡ old.sums
   pub out : IsStill old.out new.out
 
 -- the backup's area held nothing, and the prior's manifest is answered so, where its area tells it
@@ -331,20 +255,12 @@ pub record Overlaps (b : Basis) (worker before : ℕ) (now : List Entry) (old : 
 
 -- the checkpoint was done and summaries were published, and they don't cover a place
 pub record LeavesGap (tells : Type 0) (b : Basis) (worker before : ℕ) (now : List Entry)
-    (old new : IncrAreas) (place : Lsn) : Type 0 where
+    (old : IncrAreas) (place : Lsn) : Type 0 where
   pub manifest : Listing
   pub start : ℕ
   pub prior : IsPriorOf b.settings.system old.prior manifest start
-  pub summed : SumsUp tells b.when worker before now start manifest.start
-      old.sums new.sums (Err (advance.Gap place))
-
--- the area of summaries is as it was, or all summaries of the history as it was seen at a moment
--- were published there
-abbrev pub MayAdvance : Type 0 → ℕ → ℕ → List Entry → AreaState → AreaState → Type 0
-MayAdvance tells when before now old new =
-    (new ≡ old)
-    ⊎ ((seen : ℕ) × (before ≤ seen) × (seen ≤ length now)
-    × (count : ℕ) × Advances states tells (take seen now) when old new count)
+  pub summed : SumsUp tells b.found b.sums b.when worker before now start manifest.start
+      (Err (advance.Gap place))
 
 -- why an incremental backup was refused, what was judged before that, and what it left: of the
 -- backup's area no manifest, as for a full one
@@ -359,20 +275,16 @@ IsIncrRefused tells b worker before now name old new (incr.ManifestRefused why) 
 IsIncrRefused tells b worker before now name old new (incr.SystemDiffers have expected) =
     RefusesPrior b old (incr.SystemDiffers have expected) × StandsStill before now old new
 IsIncrRefused tells b worker before now name old new (incr.Overlap start end) =
-    TakesPrior b old × Overlaps b worker before now old start.0 end.0
-    × (new.sums ≡ old.sums) × IsStill old.out new.out
+    TakesPrior b old × Overlaps b worker before now old start.0 end.0 × IsStill old.out new.out
 IsIncrRefused tells b worker before now name old new (incr.Gap place) =
-    TakesPrior b old × LeavesGap tells b worker before now old new place
-    × IsStill old.out new.out
+    TakesPrior b old × LeavesGap tells b worker before now old place × IsStill old.out new.out
 IsIncrRefused tells b worker before now name old new (incr.WalFull n) =
     TakesPrior b old × (n ≡ length now) × MeetsFullWal b.settings.segment worker before now
-    × MayAdvance tells b.when before now old.sums new.sums
     × KeepsManifest old.out.files new.out.files
 IsIncrRefused tells b worker before now name old new (incr.StoreFailed area) =
     TakesPrior b old × KeepsManifest old.out.files new.out.files
 IsIncrRefused tells b worker before now name old new incr.SumsFailed =
-    TakesPrior b old × Rose old.sums.faults new.sums.faults
-    × KeepsManifest old.out.files new.out.files
+    TakesPrior b old × KeepsManifest old.out.files new.out.files
 IsIncrRefused tells b worker before now name old new incr.PriorFailed =
     HoldsNothing old.out.files × Rose old.prior.faults new.prior.faults
     × StandsStill before now old new
@@ -405,9 +317,9 @@ TakesIncr tells b worker before now line start end held mid =
     (incr_areas held name prior) (incr_areas mid name prior)
     × AreaIsDurable (mid (backup_name name))
 
--- a line flushes pages, which leaves the areas that are held
-abbrev pub IsFlushOf : Command → Areas → Areas → Type 0
-IsFlushOf line held mid = (count : ℕ) × (line ≡ command.Flush count) × (mid ≡ held)
+-- a line flushes pages, or publishes summaries
+abbrev pub IsCallOf : Command → Type 0
+IsCallOf line = ((count : ℕ) × (line ≡ command.Flush count)) ⊎ (line ≡ command.Summarise)
 
 -- what a line's command was answered by a worker that had seen so many entries before and has seen
 -- this history now, the entries that its commands made, and what it left of the areas that are held
@@ -437,11 +349,10 @@ LineAnswer tells b worker before now line (CheckpointRefused why) made held mid 
 LineAnswer tells b worker before now line (Wrote k) made held mid =
     (count : ℕ) × (line ≡ command.Flush count) × (made ≡ []) × (k ≤ count) × (mid ≡ held)
 LineAnswer tells b worker before now line (Published k) made held mid =
-    (line ≡ command.Summarise) × (made ≡ []) × OnlyAt sums_name held mid
-    × HoldsSummaries tells now b.when (held sums_name) (mid sums_name) k
+    (line ≡ command.Summarise) × (made ≡ [])
+    × HasPublished tells b.found b.sums now b.when k × (mid ≡ held)
 LineAnswer tells b worker before now line (CallFailed why) made held mid =
-    (made ≡ [])
-    × (IsFlushOf line held mid ⊎ ((line ≡ command.Summarise) × OnlyAt sums_name held mid))
+    (made ≡ []) × IsCallOf line × (mid ≡ held)
 LineAnswer tells b worker before now line (Backup start end) made held mid =
     (made ≡ []) × (TakesFull tells b worker before now line start end held mid
     ⊎ TakesIncr tells b worker before now line start end held mid)
@@ -547,63 +458,25 @@ InOrder stopped (answer ∷ answers) =
 abbrev pub TellsFault : StoreArea → Answer → Type 0
 TellsFault area answer = stop_of answer ≡ Some (stop.Store (store.Failed area))
 
--- the count of an area's faults rose while a line's command was run: of one of the store, or of the
--- area of summaries as it is held, where the line asks for that
-abbrev pub CountRose : StoreArea → Command → Opened → Opened → Areas → Areas → Type 0
-CountRose Wal line old new held mid = Rose (count_of Wal old.faults) (count_of Wal new.faults)
-CountRose (Data q) line old new held mid =
-    Rose (count_of (Data q) old.faults) (count_of (Data q) new.faults)
-CountRose Sums line old new held mid =
-    IsOneOf sums_name (area_asked line) × Rose (held sums_name).faults (mid sums_name).faults
-
--- each area that an answer tells to have failed has a count of faults that rose
-abbrev pub FaultsRose :
-    List Line → List Answer → Opened → Opened → Areas → Areas → Type 0
-FaultsRose [] [] old new held mid = Unit {0}
-FaultsRose [] (answer ∷ answers) old new held mid = ⊥
-FaultsRose (line ∷ lines) [] old new held mid = ⊥
-FaultsRose (line ∷ lines) (answer ∷ answers) old new held mid =
-    ((area : StoreArea) → TellsFault area answer → CountRose area line.command old new held mid)
-    × FaultsRose lines answers old new held mid
-
--- no answer stops the worker
-abbrev pub NoneStops : List Answer → Type 0
-NoneStops answers = All (λ answer. stop_of answer ≡ None) answers
+-- of the faults of each area that an answer tells to have failed, the pass's share rose
+abbrev pub SharesRose : List Answer → Seen → Seen → Type 0
+SharesRose answers old new =
+    All (λ answer. (area : StoreArea) → TellsFault area answer → ShareRose area old new) answers
 
 -- ---- a worker's run
 
--- an entry of this worker that is no command's: the start or the end of a checkpoint, or the end of
--- a backup
-abbrev pub IsMarkBy : ℕ → Entry → Type 0
-IsMarkBy worker entry =
-    IsMarkOf worker (RedoMark 1) entry
-    ⊎ (((redo : ℕ) × IsMarkOf worker (Online redo) entry)
-    ⊎ ((start : ℕ) × IsMarkOf worker (BackupEnd start) entry))
-
--- a worker made the entry, by a command or as such a mark
-abbrev pub IsOfWorker : ℕ → Entry → Type 0
-IsOfWorker worker entry = (is_by worker entry ≡ true) ⊎ IsMarkBy worker entry
-
--- a worker ran its lines: the history goes on with entries of its own, of which those of commands
--- are those that its answers name, in order
-pub record HasRun (tells : Type 0) (b : Basis) (lines : List Line) (old new : Seen)
+-- a worker ran its lines: over what it has seen now each is answered, its accepted commands there are
+-- those that the answers name, in order, and an answer names an area of the store, or of summaries, only
+-- where the pass's share of its faults rose
+pub record RunsLines (tells : Type 0) (b : Basis) (lines : List Line) (old new : Seen)
     (held mid : Areas) (answers : List Answer) : Type 0 where
   pub stays : StaysBy old new
-  pub own : List Entry
-  pub grown : new.list ≡ old.list ++ own
-  pub by : All (IsOfWorker old.worker) own
-  pub answered : Answered tells b old.worker new.list (length old.list) lines answers
-      (accepted_by old.worker own) (length new.list) held mid
-  pub counted : new.accepted ≡ old.accepted + length (accepted_by old.worker own)
+  pub made : List Entry
+  pub answered : Answered tells b old.worker new.list (length old.list) lines answers made
+      (length new.list) held mid
+  pub counted : new.accepted ≡ old.accepted + length made
   pub order : InOrder false answers
-
--- so it is where a pass has seen a store's history, and the store goes on
-pub record RunsLines (tells : Type 0) (when : ℕ) (lines : List Line) (old new : Seen)
-    (before behind : Opened) (held mid : Areas) (answers : List Answer) : Type 0 where
-  pub run : HasRun tells (basis_of before.settings when) lines old new held mid answers
-  pub whole : new.list ≡ behind.history
-  pub goes_on : GoesOn before behind
-  pub risen : FaultsRose lines answers before behind held mid
+  pub risen : SharesRose answers old new
 
 -- a worker's answers over the finished history, of which so many entries were found: its accepted
 -- commands are exactly those that the answers name, in order
@@ -670,50 +543,60 @@ IsHonestFor history area = IfSome area.files (IsHonest history)
 -- ---- what stands of incremental backups when all lines were run
 
 -- where a line was answered that its incremental backup was taken, the area of its name had the
--- directory of the backup then, durably, taken over a beginning of the history on what the prior's
--- area held; both have it still. The area of summaries told the truth then, where it did of what was
--- found
+-- directory of the backup then, durably, taken over a beginning of the history, behind what was found,
+-- on what the prior's area held; both have it still
 abbrev pub IncrStandsFor :
-    Type 0 → Basis → ℕ → List Entry → ℕ → AreaState → Line → List Line → Answer → Areas → Type 0
-IncrStandsFor tells b worker history found sums line lines (Backup start end) areas =
+    Type 0 → Basis → ℕ → List Entry → Line → List Line → Answer → Areas → Type 0
+IncrStandsFor tells b worker history line lines (Backup start end) areas =
     (name : List ℕ) (prior : List ℕ) → line.command ≡ command.Incr name prior
     → (before : ℕ) × (next : ℕ) × (old : IncrAreas) × (new : IncrAreas)
-    × (found ≤ before) × (next ≤ length history)
+    × (length b.found ≤ before) × (next ≤ length history)
     × HoldsIncr tells b worker before (take next history) name start end old new
     × AreaIsDurable new.out
     × KeepsTo (backup_name name) lines new.out areas
     × KeepsTo (backup_name prior) lines old.prior areas
-    × (tells → IsOrderly 0 history → IsHonestFor (take found history) sums
-    → IsHonestFor (take before history) old.sums)
-IncrStandsFor tells b worker history found sums line lines answer areas = Unit {0}
+IncrStandsFor tells b worker history line lines answer areas = Unit {0}
 
 abbrev pub IncrsStand :
-    Type 0 → Basis → ℕ → List Entry → ℕ → AreaState → List Line → List Answer → Areas → Type 0
-IncrsStand tells b worker history found sums [] answers areas = Unit {0}
-IncrsStand tells b worker history found sums (line ∷ lines) [] areas = Unit {0}
-IncrsStand tells b worker history found sums (line ∷ lines) (answer ∷ answers) areas =
-    IncrStandsFor tells b worker history found sums line lines answer areas
-    × IncrsStand tells b worker history found sums lines answers areas
+    Type 0 → Basis → ℕ → List Entry → List Line → List Answer → Areas → Type 0
+IncrsStand tells b worker history [] answers areas = Unit {0}
+IncrsStand tells b worker history (line ∷ lines) [] areas = Unit {0}
+IncrsStand tells b worker history (line ∷ lines) (answer ∷ answers) areas =
+    IncrStandsFor tells b worker history line lines answer areas
+    × IncrsStand tells b worker history lines answers areas
 
 -- ---- laws
 
--- what was answered over a beginning of a history is answered over the history
+-- what was answered over a beginning of a history is answered over the history, whatever other workers
+-- do later
 abbrev pub AnswersStay : Type 0
 AnswersStay =
     (tells : Bool) (b : Basis) (worker : ℕ) (seen history : List Entry) (from to : ℕ)
     (lines : List Line) (answers : List Answer) (made : List Entry) (held new : Areas)
-    → IsPrefix seen history → to ≤ length seen
+    → IsPrefix seen history
     → Answered (tells ≡ true) b worker seen from lines answers made to held new
     → Answered (tells ≡ true) b worker history from lines answers made to held new
 
--- a worker of whose commands none is in what was found is answered so over what its run left
-abbrev pub RunsAreAnswered : Type 0
-RunsAreAnswered =
-    (tells : Bool) (b : Basis) (lines : List Line) (old new : Seen) (held mid : Areas)
-    (answers : List Answer)
-    → HasRun (tells ≡ true) b lines old new held mid answers
-    → accepted_by old.worker old.list ≡ []
-    → IsAnswered (tells ≡ true) b old.worker new.list (length old.list) lines answers held mid
+-- how a worker's pass began and ended in a run: it saw what was found, and what it has seen is a
+-- beginning of the history, where as many of its commands stand as were accepted
+pub record RanSo (tells : Type 0) (b : Basis) (history : List Entry) (worker : ℕ)
+    (lines : List Line) (answers : List Answer) (held kept : Areas) : Type 0 where
+  pub old : Seen
+  pub new : Seen
+  pub ran : RunsLines tells b lines old new held kept answers
+  pub who : old.worker ≡ worker
+  pub found : length old.list ≡ length b.found
+  pub none : old.accepted ≡ 0
+  pub seen : IsPrefix new.list history
+  pub all : new.accepted ≡ length (accepted_by new.worker history)
+
+-- a worker's accepted commands stand in the history once, in the order of its answers
+abbrev pub CrewIsJoined : Type 0
+CrewIsJoined =
+    (tells : Bool) (b : Basis) (history : List Entry) (worker : ℕ)
+    (lines : List Line) (answers : List Answer) (held kept : Areas)
+    → RanSo (tells ≡ true) b history worker lines answers held kept
+    → IsAnswered (tells ≡ true) b worker history (length b.found) lines answers held kept
 
 -- each backup that was answered stands, and each of its areas that failed has a count that rose
 abbrev pub AnswersTellBackups : Type 0
@@ -727,21 +610,10 @@ AnswersTellBackups =
 -- each incremental backup that was answered stands
 abbrev pub AnswersTellIncrs : Type 0
 AnswersTellIncrs =
-    (tells : Bool) (b : Basis) (worker : ℕ) (history : List Entry) (found : ℕ)
+    (tells : Bool) (b : Basis) (worker : ℕ) (history : List Entry)
     (lines : List Line) (answers : List Answer) (held new : Areas)
-    → IsAnswered (tells ≡ true) b worker history found lines answers held new
-    → IncrsStand (tells ≡ true) b worker history found (held sums_name) lines answers new
-
--- where areas tell their files, an area of summaries that was honest for the entries that were found is
--- honest for the whole history, unless an answer stopped the worker
-abbrev pub AnswersKeepSummariesHonest : Type 0
-AnswersKeepSummariesHonest =
-    (tells : Bool) (b : Basis) (worker : ℕ) (history : List Entry) (found : ℕ)
-    (lines : List Line) (answers : List Answer) (held new : Areas)
-    → tells ≡ true → IsOrderly 0 history
-    → IsAnswered (tells ≡ true) b worker history found lines answers held new
-    → NoneStops answers → IsHonestFor (take found history) (held sums_name)
-    → IsHonestFor history (new sums_name)
+    → IsAnswered (tells ≡ true) b worker history (length b.found) lines answers held new
+    → IncrsStand (tells ≡ true) b worker history lines answers new
 
 -- behind one history a command is taken or refused, and never both, but for an area that fails and
 -- want of memory

@@ -6,14 +6,16 @@ ghost use Rattle.vault.specs.Lending.{AreLater};
 ghost use Rattle.command_base.specs.Areas.{backup_name};
 ghost use Rattle.crew.specs.declared.script.Command.TheVariants as command;
 ghost use Rattle.crew.specs.Backups.{areas_of, AreHeld};
-ghost use Rattle.crew.specs.Running.{Knows, LineRuns, BackupRuns};
+ghost use Rattle.crew.specs.Run.{basis_of};
+ghost use Rattle.crew.specs.Running.{LineRuns, BackupRuns};
 
 use crate::answer::Answer;
-use base_backup::take_full;
+use base_backup::{Gate, take_full};
 use command_base::is_backup_name;
 use lsn_core::Text;
 use shared_store::{OfCrew, Pass, Store};
 use std::alloc::Global;
+use std::sync::Wait;
 use vault::{Held, Vault};
 
 /// Where the area of this backup stands.
@@ -26,46 +28,46 @@ pub(crate) fn place_of<V: Vault>(held: &[Held<V>], name: &[u8]) -> Option<usize>
 
 /// Takes a full backup into an area.
 fn backup_into<J: OfCrew, V: Vault>(
+    rt: &impl Wait,
     alloc: Global,
-    store: &mut Store<J, V>,
+    store: &Store<J, V>,
     pass: &mut Pass<J>,
     area: &mut V,
+    gate: &impl Gate,
     when: u64,
     name: &Text,
 ) -> Answer
-    requires knows { Knows pass.old store.old }
     requires when { when ≤ 253402207199 }
-    ensures runs { BackupRuns V.Vault (J.tells ≡ true) when name.now pass.old pass.new
-        store.old store.new area.old area.new result }
+    ensures runs { BackupRuns V.Vault (J.tells ≡ true) (basis_of J.settings when J.found J.sums)
+        name.now pass.old pass.new area.old area.new result }
     ensures later { V.faults area.old ≤ V.faults area.new }
 {
-    match take_full(alloc, store, pass, area, name, when) {
+    match take_full(rt, alloc, store, pass, gate, area, name, when) {
         Ok(done) => Answer::Backup(done.start, done.end),
-        Err(why) => {
-            store.look(pass);
-            Answer::BackupRefused(why)
-        }
+        Err(why) => Answer::BackupRefused(why),
     }
 }
 
 /// Takes a full backup into the area of its name, which is held.
 pub(crate) fn full<J: OfCrew, V: Vault>(
+    rt: &impl Wait,
     alloc: Global,
-    store: &mut Store<J, V>,
+    store: &Store<J, V>,
     pass: &mut Pass<J>,
     held: &mut [Held<V>],
+    gate: &impl Gate,
     when: u64,
     name: &Text,
 ) -> Answer
-    requires knows { Knows pass.old store.old }
     requires when { when ≤ 253402207199 }
     requires held { AreHeld (backup_name name.now ∷ []) held.old }
-    ensures runs { LineRuns (J.tells ≡ true) when (command.Full name.now) false pass.old pass.new
-        store.old store.new (areas_of V.Vault held.old) (areas_of V.Vault held.new) result }
+    ensures runs { LineRuns (J.tells ≡ true) (basis_of J.settings when J.found J.sums)
+        (command.Full name.now) false pass.old pass.new (areas_of V.Vault held.old)
+        (areas_of V.Vault held.new) result }
     ensures later { AreLater V.Vault held.old held.new }
 {
     match place_of(held, name.as_bytes()) {
-        Some(at) => backup_into(alloc, store, pass, &mut held[at].area, when, name),
+        Some(at) => backup_into(rt, alloc, store, pass, &mut held[at].area, gate, when, name),
         None => unreachable!(),
     }
 }

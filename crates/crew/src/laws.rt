@@ -1,8 +1,8 @@
 //! Laws of scripts and of their runs: each is the contract of a function that does nothing.
 
 ghost use Rattle.crew.specs.Laws.{HasOneAnswer};
-ghost use Rattle.crew.specs.Run.{AnswersStay, RunsAreAnswered, AnswersTellBackups, TakenOrRefused};
-ghost use Rattle.crew.specs.Run.{AnswersTellIncrs, AnswersKeepSummariesHonest};
+ghost use Rattle.crew.specs.Run.{AnswersStay, CrewIsJoined, AnswersTellBackups, TakenOrRefused};
+ghost use Rattle.crew.specs.Run.{AnswersTellIncrs};
 
 /// The answers on a script shut each other out: it is taken as one list of commands, or refused at
 /// one line for one reason.
@@ -10,15 +10,15 @@ pub fn script_has_one_answer()
     ensures { HasOneAnswer }
 {}
 
-/// Lines that were answered over a beginning of a history are answered so over the history.
+/// Lines that were answered over a beginning of a history are answered so over the history, whatever
+/// other workers do later.
 pub fn answers_stay()
     ensures { AnswersStay }
 {}
 
-/// A worker of whose commands none was found is answered, by its run, over the history that the run
-/// left: its accepted commands there are those that the answers name, in order.
-pub fn runs_are_answered()
-    ensures { RunsAreAnswered }
+/// Each worker's accepted commands stand in the finished history once, in the order of its answers.
+pub fn crew_is_joined()
+    ensures { CrewIsJoined }
 {}
 
 /// A worker's answers tell of its backups: the directory of each that was taken stands in its area when
@@ -32,12 +32,6 @@ pub fn answers_tell_backups()
 /// in its area when all lines were run, as those of full ones do, and so does what it was taken on.
 pub fn answers_tell_incrs()
     ensures { AnswersTellIncrs }
-{}
-
-/// An area of summaries that was honest for the entries that were found is honest for the whole history
-/// when all lines were run, unless an answer stopped the worker.
-pub fn answers_keep_summaries_honest()
-    ensures { AnswersKeepSummariesHonest }
 {}
 
 /// A command that is taken behind a history is refused there for want of memory alone.

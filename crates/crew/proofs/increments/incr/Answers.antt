@@ -1,9 +1,9 @@
--- The three areas, lent at once.
+-- The two areas, lent at once.
 use Rattle.std.proofs.Common.{List, ℕ, sym, subst}
 use Rattle.crew.specs.Backups.{area_asked, areas_of, AreHeld}
 use Rattle.crew.specs.declared.script.Command.TheVariants as command
 use Rattle.crew.specs.Running.{AreAt}
-use Rattle.crew.proofs.Three.{three_parts}
+use Rattle.crew.proofs.Two.{two_parts}
 use Rattle.crew.proofs.increments.incr.Goals as goal
 
 pub places_of-at-requires-clause-held : goal.places_of-at-requires-clause-held
@@ -16,19 +16,17 @@ returns-clause-runs g c =
     let at : AreAt c.args.name.now c.args.prior.now c.args.held.now c.places_of-at.result =
     subst (λ (n : List ℕ). AreAt n c.args.prior.now c.args.held.now c.places_of-at.result) c.as_bytes.ensures
     (subst (λ (n : List ℕ). AreAt c.as_bytes.result.now n c.args.held.now c.places_of-at.result) c.as_bytes-2.ensures c.places_of-at.ensures) in
-    let lent = three_parts g.V.Vault c.args.name.now c.args.prior.now c.places_of-at.result.turn c.args.held.now c.split_at_mut-front.result.0.now c.split_at_mut-front.result.1.now c.split_at_mut-front-2.result.0.now c.split_at_mut-front-2.result.1.now
-    c.places_of-at.result.low c.places_of-at.result.middle c.places_of-at.result.high c.index-front-at.result c.index-mid-0.result c.index-back-0.result c.incr_turned.new.low c.incr_turned.new.mid c.incr_turned.new.high
-    c.requires.apart at.first at.second at.within at.sums_at at.prior_at at.out_at c.split_at_mut-front.ensures.front c.split_at_mut-front.ensures.back c.split_at_mut-front-2.ensures.front c.split_at_mut-front-2.ensures.back
-    c.incr_turned.ensures.low c.incr_turned.ensures.mid c.incr_turned.ensures.high in
-    c.incr_turned.ensures.runs c.args.prior.now (areas_of g.V.Vault c.args.held.now) _ (lent.was c.args.store.now c.args.pass.now) (lent.is c.incr_turned.new.store c.incr_turned.new.pass) lent.others
+    let lent = two_parts g.V.Vault c.args.name.now c.args.prior.now c.places_of-at.result.turn c.args.held.now c.split_at_mut-front.result.0.now c.split_at_mut-front.result.1.now c.places_of-at.result.low c.places_of-at.result.high
+    c.index-front-at.result c.index-back-0.result c.incr_turned.new.low c.incr_turned.new.high c.requires.apart at.order at.within at.prior_at at.out_at c.split_at_mut-front.ensures.front c.split_at_mut-front.ensures.back
+    c.incr_turned.ensures.low c.incr_turned.ensures.high in
+    c.incr_turned.ensures.runs c.args.prior.now (areas_of g.V.Vault c.args.held.now) _ (lent.was c.args.pass.now) (lent.is c.incr_turned.new.pass) lent.others
 
 pub returns-clause-later : goal.returns-clause-later
 returns-clause-later g c =
     let at : AreAt c.args.name.now c.args.prior.now c.args.held.now c.places_of-at.result =
     subst (λ (n : List ℕ). AreAt n c.args.prior.now c.args.held.now c.places_of-at.result) c.as_bytes.ensures
     (subst (λ (n : List ℕ). AreAt c.as_bytes.result.now n c.args.held.now c.places_of-at.result) c.as_bytes-2.ensures c.places_of-at.ensures) in
-    let lent = three_parts g.V.Vault c.args.name.now c.args.prior.now c.places_of-at.result.turn c.args.held.now c.split_at_mut-front.result.0.now c.split_at_mut-front.result.1.now c.split_at_mut-front-2.result.0.now c.split_at_mut-front-2.result.1.now
-    c.places_of-at.result.low c.places_of-at.result.middle c.places_of-at.result.high c.index-front-at.result c.index-mid-0.result c.index-back-0.result c.incr_turned.new.low c.incr_turned.new.mid c.incr_turned.new.high
-    c.requires.apart at.first at.second at.within at.sums_at at.prior_at at.out_at c.split_at_mut-front.ensures.front c.split_at_mut-front.ensures.back c.split_at_mut-front-2.ensures.front c.split_at_mut-front-2.ensures.back
-    c.incr_turned.ensures.low c.incr_turned.ensures.mid c.incr_turned.ensures.high in
+    let lent = two_parts g.V.Vault c.args.name.now c.args.prior.now c.places_of-at.result.turn c.args.held.now c.split_at_mut-front.result.0.now c.split_at_mut-front.result.1.now c.places_of-at.result.low c.places_of-at.result.high
+    c.index-front-at.result c.index-back-0.result c.incr_turned.new.low c.incr_turned.new.high c.requires.apart at.order at.within at.prior_at at.out_at c.split_at_mut-front.ensures.front c.split_at_mut-front.ensures.back
+    c.incr_turned.ensures.low c.incr_turned.ensures.high in
     lent.later

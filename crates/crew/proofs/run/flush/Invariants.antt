@@ -2,9 +2,9 @@ use Rattle.std.proofs.Common.{◌≤◌, []}
 use Rattle.crew.specs.Running.{WentOn}
 use Rattle.crew.proofs.run.flush.Given as goal
 
--- nothing was added to the history
+-- no command was done
 abbrev pub invariant-loop-k : goal.invariant-loop-k
 invariant-loop-k g l = record {
-  went : WentOn l.fn.pass l.pass l.fn.store l.store [];
+  went : WentOn l.fn.pass l.pass [];
   few : l.wrote ≤ l.k;
 }
