@@ -4,6 +4,7 @@ pub mod ToldLess
 pub mod OwnEntries
 pub mod Noted
 pub mod RunDone
+pub mod OneWorker
 pub mod RunAnswers
 pub mod AnswerLines
 pub mod Stops

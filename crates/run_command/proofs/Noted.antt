@@ -3,7 +3,7 @@ use Rattle.std.proofs.Common.{◌≡◌, ◌≢◌, ℕ, ◌≤◌, ◌⊎◌, B
 use Rattle.std.specs.Prelude.{bytes_eq, nat_eq, ◌||◌}
 use Rattle.std.proofs.lemmas.Bool.{eq-eqb}
 use Rattle.std.specs.List.{list_any}
-use Rattle.std.proofs.lemmas.List.{append-nil}
+use Rattle.std.proofs.lemmas.List.{append-nil, append_assoc}
 use Rattle.std.proofs.lemmas.Grind.{flat_map-append}
 use Rattle.std.proofs.lemmas.Slice.Eq.{bytes_eq-Decides}
 use Rattle.vault.specs.Lending.{Names, IsOneOf, IsNoneOf, AreDistinct}
@@ -125,27 +125,29 @@ noted_more lines more line names new is each adds =
 apart_at : (k : ℕ) (a b : List ℕ) → nat_eq (get_or a k 0) (get_or b k 0) ≡ false → a ≢ b
 apart_at k a b other = λ e. true≢false (sym (eq-eqb (get_or a k 0) (get_or b k 0) (ap (λ (xs : List ℕ). get_or xs k 0) e)) ∙ other)
 
-no_store : (name : List ℕ) → IsNoneOf (backup_name name) store_asks
-no_store name = (apart_at 0 (backup_name name) wal_name refl, (apart_at 0 (backup_name name) (data_name 0) refl, (apart_at 0 (backup_name name) (data_name 1) refl, (apart_at 0 (backup_name name) (data_name 2) refl, (apart_at 0 (backup_name name) (data_name 3) refl, tt)))))
+-- that of summaries, and those of a store
+abbrev rest_asks : Names
+rest_asks = sums_name ∷ store_asks
 
-pub sums_apart : IsNoneOf sums_name store_asks
+no_store : (name : List ℕ) → IsNoneOf (backup_name name) rest_asks
+no_store name = (apart_at 0 (backup_name name) sums_name refl, (apart_at 0 (backup_name name) wal_name refl, (apart_at 0 (backup_name name) (data_name 0) refl, (apart_at 0 (backup_name name) (data_name 1) refl, (apart_at 0 (backup_name name) (data_name 2) refl, (apart_at 0 (backup_name name) (data_name 3) refl, tt))))))
+
+sums_apart : IsNoneOf sums_name store_asks
 sums_apart = (apart_at 0 sums_name wal_name refl, (apart_at 0 sums_name (data_name 0) refl, (apart_at 0 sums_name (data_name 1) refl, (apart_at 0 sums_name (data_name 2) refl, (apart_at 0 sums_name (data_name 3) refl, tt)))))
 
-none_asked : (command : Command) (n : List ℕ) → IsOneOf n (area_asked command) → IsNoneOf n store_asks
+none_asked : (command : Command) (n : List ℕ) → IsOneOf n (area_asked command) → IsNoneOf n rest_asks
 none_asked (command.Insert order) n one = absurd one
 none_asked (command.Grow at count shape) n one = absurd one
 none_asked command.Checkpoint n one = absurd one
 none_asked (command.Flush count) n one = absurd one
-none_asked command.Summarise n (inl is) = subst (λ (m : List ℕ). IsNoneOf m store_asks) (sym is) sums_apart
-none_asked command.Summarise n (inr none) = absurd none
-none_asked (command.Full name) n (inl is) = subst (λ (m : List ℕ). IsNoneOf m store_asks) (sym is) (no_store name)
+none_asked command.Summarise n one = absurd one
+none_asked (command.Full name) n (inl is) = subst (λ (m : List ℕ). IsNoneOf m rest_asks) (sym is) (no_store name)
 none_asked (command.Full name) n (inr none) = absurd none
-none_asked (command.Incr name prior) n (inl is) = subst (λ (m : List ℕ). IsNoneOf m store_asks) (sym is) (no_store name)
-none_asked (command.Incr name prior) n (inr (inl is)) = subst (λ (m : List ℕ). IsNoneOf m store_asks) (sym is) (no_store prior)
-none_asked (command.Incr name prior) n (inr (inr (inl is))) = subst (λ (m : List ℕ). IsNoneOf m store_asks) (sym is) sums_apart
-none_asked (command.Incr name prior) n (inr (inr (inr none))) = absurd none
+none_asked (command.Incr name prior) n (inl is) = subst (λ (m : List ℕ). IsNoneOf m rest_asks) (sym is) (no_store name)
+none_asked (command.Incr name prior) n (inr (inl is)) = subst (λ (m : List ℕ). IsNoneOf m rest_asks) (sym is) (no_store prior)
+none_asked (command.Incr name prior) n (inr (inr none)) = absurd none
 
-none_of_store : (lines : List Line) (n : List ℕ) → IsOneOf n (areas_asked lines) → IsNoneOf n store_asks
+none_of_store : (lines : List Line) (n : List ℕ) → IsOneOf n (areas_asked lines) → IsNoneOf n rest_asks
 none_of_store [] n one = absurd one
 none_of_store (line ∷ lines) n one =
     elim (one_either n (area_asked line.command) (areas_asked lines) one) [
@@ -153,7 +155,7 @@ none_of_store (line ∷ lines) n one =
       | inr later ↦ none_of_store lines n later
     ]
 
-pub none_both : (n : List ℕ) (front rest : Names) → IsNoneOf n front → IsNoneOf n rest → IsNoneOf n (front ++ rest)
+none_both : (n : List ℕ) (front rest : Names) → IsNoneOf n front → IsNoneOf n rest → IsNoneOf n (front ++ rest)
 none_both n [] rest first last = last
 none_both n (name ∷ front) rest first last = (first.0, none_both n front rest first.1 last)
 
@@ -171,12 +173,23 @@ store_distinct = (
   ),
 )
 
+rest_distinct : AreDistinct rest_asks
+rest_distinct = (sums_apart, store_distinct)
+
+-- the names as they are asked for, of backups, of summaries and of the store
+asked_as : (lines : List Line) (names : Names) (asked : AreAsked lines names) → names ≡ asked.backups ++ rest_asks
+asked_as lines names asked = asked.names_are ∙ append_assoc asked.backups (sums_name ∷ []) store_asks
+
 pub all_distinct : (lines : List Line) (names : Names) → AreAsked lines names → AreDistinct names
 all_distinct lines names asked =
-    subst AreDistinct (sym asked.names_are) (distinct_both asked.backups store_asks asked.each.distinct store_distinct (λ n one. none_of_store lines n (asked.each.only n one)))
+    subst AreDistinct (sym (asked_as lines names asked)) (distinct_both asked.backups rest_asks asked.each.distinct rest_distinct (λ n one. none_of_store lines n (asked.each.only n one)))
 
-pub five_at_least : (lines : List Line) (names : Names) → AreAsked lines names → 5 ≤ length names
-five_at_least lines names asked = omega (arith, ap (λ (ns : Names). length ns) asked.names_are, length-append asked.backups store_asks)
+pub six_at_least : (lines : List Line) (names : Names) → AreAsked lines names → 6 ≤ length names
+six_at_least lines names asked = omega (arith, ap (λ (ns : Names). length ns) (asked_as lines names asked), length-append asked.backups rest_asks)
+
+-- names behind those of backups
+pub asked_all : (lines : List Line) (backups names : Names) → AreEachOnce (areas_asked lines) backups → names ≡ backups ++ rest_asks → AreAsked lines names
+asked_all lines backups names each is = record { backups = backups; each = each; names_are = is ∙ sym (append_assoc backups (sums_name ∷ []) store_asks) }
 
 -- ---- of a script
 

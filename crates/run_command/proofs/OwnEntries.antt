@@ -31,8 +31,8 @@ use Rattle.history.proofs.WrittenLaws.{written_is_applied}
 use Rattle.fuzzy_copies.specs.Logged.{history_of, log_of, found_before}
 use Rattle.journal.proofs.Ends.{own_alone}
 use Rattle.journal.proofs.Goes.{known_behind}
-use Rattle.shared_store.specs.Seen.{is_number, accepted_by}
-use Rattle.crew.specs.Run.{IsOfWorker}
+use Rattle.shared_store.specs.Seen.{is_number}
+use Rattle.shared_store.specs.Calls.{IsOfWorker}
 
 -- ---- own entries
 
@@ -51,9 +51,9 @@ of_worker w e (inr (inl mark)) = ap is_some mark.1
 of_worker w e (inr (inr (inl mark))) = ap is_some mark.1.1
 of_worker w e (inr (inr (inr mark))) = ap is_some mark.1.1
 
-pub all_own : (w : ℕ) (es : List Entry) → All (IsOfWorker w) es → AreOwn es
-all_own w [] all = tt
-all_own w (e ∷ es) all = (of_worker w e (all 0 e (omega arith)), all_own w es (λ k d within. all (suc k) d (omega arith)))
+pub owned : (es : List Entry) → All (λ e. is_of_run e ≡ true) es → AreOwn es
+owned [] all = tt
+owned (e ∷ es) all = (all 0 e (omega arith), owned es (λ k d within. all (suc k) d (omega arith)))
 
 pub written_own : (mib : ℕ) (before : Before) (es : List Entry) → AreWrittenInPlace mib before es → AreOwn es
 written_own mib before [] placed = tt
@@ -81,11 +81,6 @@ parted (r ∷ rs) [] es os own other e = absurd (found_or_own r (map entry_of rs
 parted (r ∷ rs) (q ∷ qs) es os own other e =
     let more = parted rs qs es os own other (ap back_of e) in
     (omega (arith, more.0), more.1)
-
--- no entry that was found is of a worker's commands
-pub none_by : (w : ℕ) (rs : List Record) → accepted_by w (map entry_of rs) ≡ []
-none_by w [] = refl
-none_by w (r ∷ rs) = none_by w rs
 
 -- ---- two readings of one archive
 

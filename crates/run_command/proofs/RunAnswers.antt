@@ -8,22 +8,21 @@ use Rattle.vault.specs.Site.{Areas, AreaState, state_in}
 use Rattle.vault.specs.Lending.{Names, IsOneOf, IsNoneOf}
 use Rattle.recovery.specs.declared.fault.RecoveryFault.{RecoveryFault}
 use Rattle.shared_store.specs.declared.areas.StoreAreas.{StoreAreas}
-use Rattle.shared_store.specs.declared.begin.BeginWhy.{BeginWhy}
-use Rattle.shared_store.specs.declared.begin.BeginWhy.TheVariants as begin
+use Rattle.shared_store.specs.declared.found.BeginWhy.{BeginWhy}
+use Rattle.shared_store.specs.declared.found.BeginWhy.TheVariants as begin
 use Rattle.lsn_core.specs.declared.fault.StoreArea.TheVariants.{Data}
 use Rattle.lsn_core.specs.declared.fault.StoreFault.{StoreFault}
 use Rattle.lsn_core.specs.declared.fault.StoreFault.TheVariants as store
-use Rattle.shared_store.specs.Begin.{IsUnbegun, BeginCause, MayComeLate, DataFails, SameData, faults_of}
+use Rattle.shared_store.specs.Begin.{BeginCause, MayComeLate, DataFails, SameData, faults_of}
 use Rattle.crew.specs.declared.script.Task.{Task}
 use Rattle.run_command.specs.declared.command.RunReport.{RunReport}
 use Rattle.run_command.specs.declared.command.RunFault.TheVariants as run
 use Rattle.command_base.specs.Areas.{wal_name, data_name, sums_name, Keeps}
 use Rattle.vault.specs.declared.lending.Held.{Held}
 use Rattle.crew.specs.Backups.{areas_of}
-use Rattle.run_command.specs.Run.{store_asks, backups_asked, KeepAll, AreAsAt, tasks_told, DataAreaFails, CantBegin}
-use Rattle.run_command.specs.Inner.{all_tell, IsRunOn, RunsScript}
-use Rattle.run_command.proofs.StoreLent.{AreAt, RunBack, one_either, wal_files, wal_faults, all_told, rose_at}
-use Rattle.run_command.proofs.Noted.{none_both, sums_apart}
+use Rattle.run_command.specs.Run.{store_asks, backups_asked, others_asked, KeepAll, AreAsAt, tasks_told, DataAreaFails, CantBegin}
+use Rattle.run_command.specs.Inner.{IsRunOn, HasNotBegun, MayNotBegin, RunsScript}
+use Rattle.run_command.proofs.StoreLent.{AreAt, RunBack, one_either, wal_files, wal_faults, rose_at}
 use Rattle.run_command.proofs.RunDone.{run_done}
 
 -- ---- areas that are as they were
@@ -65,41 +64,52 @@ wal_cause g old new a b fault was at cause =
 wal_kept : {V : Type 0} (g : Vaults V) (old new : Areas) (a b : StoreAreas V) → AreAt g old a → AreAt g new b → g.files b.wal ≡ g.files a.wal → Keeps (old wal_name) (new wal_name)
 wal_kept g old new a b was at same = wal_files g new b at ∙ (same ∙ sym (wal_files g old a was))
 
-pub cant_begin : {V : Type 0} (g : Vaults V) (script : List Task) (old new : Areas) (a b : StoreAreas V) (why : BeginWhy) → KeepAll (backups_asked script) old new → AreAt g old a → AreAt g new b → IsUnbegun g a (record { areas = b; why = why }) → CantBegin script old new why
-cant_begin g script old new a b (begin.Wal fault) backups was at un =
-    let same : SameData a b = un.cause.1.1 in (
-      both_keep (backups_asked script) store_asks old new backups
-          (keeps_one old new store_asks (wal_kept g old new a b was at un.wal, (same_area g (old (data_name 0)) (new (data_name 0)) a.data0 b.data0 was.data0 at.data0 same.data0, (same_area g (old (data_name 1)) (new (data_name 1)) a.data1 b.data1 was.data1 at.data1 same.data1, (same_area g (old (data_name 2)) (new (data_name 2)) a.data2 b.data2 was.data2 at.data2 same.data2, (same_area g (old (data_name 3)) (new (data_name 3)) a.data3 b.data3 was.data3 at.data3 same.data3, tt)))))),
-      (un.cause.1.0, wal_cause g old new a b fault was at un.cause.0),
+-- the areas of the backups and that of summaries
+others_keep : {V : Type 0} (g : Vaults V) (script : List Task) (old new : Areas) (before sums : V) → KeepAll (backups_asked script) old new → old sums_name ≡ state_in g before → new sums_name ≡ state_in g sums → sums ≡ before → KeepAll (others_asked script) old new
+others_keep g script old new before sums backups was at same =
+    both_keep (backups_asked script) (sums_name ∷ []) old new backups (keeps_one old new (sums_name ∷ []) (same_area g (old sums_name) (new sums_name) before sums was at same, tt))
+
+pub cant_begin : {V : Type 0} (g : Vaults V) (script : List Task) (old new : Areas) (a b : StoreAreas V) (why : BeginWhy) → KeepAll (others_asked script) old new → AreAt g old a → AreAt g new b → g.files b.wal ≡ g.files a.wal → MayNotBegin g a b why → CantBegin script old new why
+cant_begin g script old new a b (begin.Wal fault) others was at wal (inl cause) =
+    let same : SameData a b = cause.1.1 in (
+      both_keep (others_asked script) store_asks old new others
+          (keeps_one old new store_asks (wal_kept g old new a b was at wal, (same_area g (old (data_name 0)) (new (data_name 0)) a.data0 b.data0 was.data0 at.data0 same.data0, (same_area g (old (data_name 1)) (new (data_name 1)) a.data1 b.data1 was.data1 at.data1 same.data1, (same_area g (old (data_name 2)) (new (data_name 2)) a.data2 b.data2 was.data2 at.data2 same.data2, (same_area g (old (data_name 3)) (new (data_name 3)) a.data3 b.data3 was.data3 at.data3 same.data3, tt)))))),
+      (cause.1.0, wal_cause g old new a b fault was at cause.0),
     )
-cant_begin g script old new a b (begin.Replay fault) backups was at un = (
-  backups,
+cant_begin g script old new a b (begin.Wal fault) others was at wal (inr memory) = absurd cc
+cant_begin g script old new a b (begin.Replay fault) others was at wal (inl cause) = (
+  others,
   (
-    wal_kept g old new a b was at un.wal,
+    wal_kept g old new a b was at wal,
     (
-      subst (λ (f : Option Files). IfSome f (λ m. MayComeLate fault)) (sym (wal_files g old a was)) un.cause.1.0,
-      wal_cause g old new a b fault was at un.cause.0,
+      subst (λ (f : Option Files). IfSome f (λ m. MayComeLate fault)) (sym (wal_files g old a was)) cause.1.0,
+      wal_cause g old new a b fault was at cause.0,
     ),
   ),
 )
-cant_begin g script old new a b (begin.Data fault) backups was at un =
-    (backups, wal_kept g old new a b was at un.wal, data_fails g old new a b fault was at un.cause.0)
+cant_begin g script old new a b (begin.Replay fault) others was at wal (inr memory) = absurd cc
+cant_begin g script old new a b (begin.Data fault) others was at wal (inl cause) =
+    (others, wal_kept g old new a b was at wal, data_fails g old new a b fault was at cause.0)
+cant_begin g script old new a b (begin.Data fault) others was at wal (inr memory) =
+    let same : fault ≡ store.NoMemory = cc in
+    (others, wal_kept g old new a b was at wal, subst (λ (w : StoreFault). DataAreaFails old new w) (sym same) tt)
 
 -- ---- the answers
 
-pub ran_ok : {S V : Type 0} (s : Sites S V) (g : Vaults V) (when : ℕ) (script : List Task) (old new : S) (held kept : List (Held V)) (a b : StoreAreas V) (report : RunReport) → RunBack s g (backups_asked script) old new held kept a b
-    → IsRunOn g (all_tell g a) when a b (areas_of g held) (areas_of g kept) report → tasks_told report.told ≡ script → RunsScript s when script old new (Ok report)
-ran_ok s g when script old new held kept a b report back ran same = λ left rest reads now before behind has.
+pub ran_ok : {S V : Type 0} (s : Sites S V) (g : Vaults V) (when : ℕ) (script : List Task) (old new : S) (held kept : List (Held V)) (before sums : V) (a b : StoreAreas V) (report : RunReport) → RunBack s g script old new held kept before sums a b
+    → IsRunOn g when a b before sums (areas_of g held) (areas_of g kept) report → tasks_told report.told ≡ script → RunsScript s when script old new (Ok report)
+ran_ok s g when script old new held kept before sums a b report back ran same = λ left rest reads now moment behind has.
     let were : AreAsAt (backups_asked (tasks_told report.told)) (areas_of g held) (s.areas old) = subst (λ (ts : List Task). AreAsAt (backups_asked ts) (areas_of g held) (s.areas old)) (sym same) back.were in
     let are : AreAsAt (backups_asked (tasks_told report.told)) (areas_of g kept) (s.areas new) = subst (λ (ts : List Task). AreAsAt (backups_asked ts) (areas_of g kept) (s.areas new)) (sym same) back.after in
-    let quiet : IsNoneOf sums_name (backups_asked (tasks_told report.told)) → Keeps (s.areas old sums_name) (s.areas new sums_name) =
-    λ none. back.site.others sums_name (none_both sums_name (backups_asked script) store_asks (subst (λ (ts : List Task). IsNoneOf sums_name (backups_asked ts)) same none) sums_apart) in
-    (same, has, run_done g (all_tell g a) when (s.areas old) (s.areas new) a b (areas_of g held) (areas_of g kept) report back.was back.is were are quiet (λ told. all_told g (s.areas old) a back.was told) ran)
+    (same, has, run_done g when (s.areas old) (s.areas new) a b before sums (areas_of g held) (areas_of g kept) report back.was back.is back.before back.behind were are ran)
 
-pub ran_err : {S V : Type 0} (s : Sites S V) (g : Vaults V) (when : ℕ) (script : List Task) (old new : S) (held kept : List (Held V)) (a b : StoreAreas V) (why : BeginWhy) → RunBack s g (backups_asked script) old new held kept a b
-    → areas_of g kept ≡ areas_of g held → IsUnbegun g a (record { areas = b; why = why }) → RunsScript s when script old new (Err (run.Begin why))
-ran_err s g when script old new held kept a b why back same un = λ left rest reads now before behind has.
-    (has, cant_begin g script (s.areas old) (s.areas new) a b why (held_keep script (s.areas old) (s.areas new) (areas_of g held) (areas_of g kept) back.were back.after same) back.was back.is un)
+pub ran_err : {S V : Type 0} (s : Sites S V) (g : Vaults V) (when : ℕ) (script : List Task) (old new : S) (held kept : List (Held V)) (before sums : V) (a b : StoreAreas V) (why : BeginWhy) → RunBack s g script old new held kept before sums a b
+    → areas_of g kept ≡ areas_of g held → sums ≡ before → HasNotBegun g a b why → RunsScript s when script old new (Err (run.Begin why))
+ran_err s g when script old new held kept before sums a b why back same still un = λ left rest reads now moment behind has. (
+  has,
+  cant_begin g script (s.areas old) (s.areas new) a b why
+      (others_keep g script (s.areas old) (s.areas new) before sums (held_keep script (s.areas old) (s.areas new) (areas_of g held) (areas_of g kept) back.were back.after same) back.before back.behind still) back.was back.is un.wal un.cause,
+)
 
 -- ---- no script
 

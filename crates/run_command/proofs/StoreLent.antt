@@ -20,16 +20,16 @@ use Rattle.vault.specs.Lending.{Names, IsOneOf, IsNoneOf, names_of, AreAreasOf, 
 use Rattle.vault.proofs.SetAreas.{set_at-same, set_at-other, same_or_not}
 use Rattle.vault.proofs.LentAreas.{one_or_none, lent, areas_named, later_named, out_front, out_later, gives_more}
 use Rattle.shared_store.specs.declared.areas.StoreAreas.{StoreAreas}
-use Rattle.shared_store.specs.Begin.{data_area, faults_of}
-use Rattle.shared_store.specs.Close.{AreDurable}
-use Rattle.shared_store.specs.Opened.{Faults, NoneFell, StoreCause, count_of, data_count}
+use Rattle.shared_store.specs.Begin.{faults_of}
+use Rattle.shared_store.specs.Close.{AreDurable, data_area}
+use Rattle.shared_store.specs.Opened.{Faults, NoneFell, count_of, data_count}
 use Rattle.run_command.specs.declared.lending.StoreNames.{StoreNames}
-use Rattle.command_base.specs.Areas.{wal_name, data_name, AreaIsDurable}
+use Rattle.command_base.specs.Areas.{wal_name, data_name, sums_name, AreaIsDurable}
 use Rattle.crew.specs.declared.script.Line.{Line}
 use Rattle.crew.specs.declared.script.Task.{Task}
 use Rattle.crew.specs.Backups.{areas_asked, areas_of, AreHeld}
-use Rattle.run_command.specs.Run.{store_asks, backups_asked, run_asks, AreTold, AreAsAt, StoreFails}
-use Rattle.run_command.specs.Inner.{held_of, all_tell, AreEachOnce, AreAsked}
+use Rattle.run_command.specs.Run.{store_asks, backups_asked, others_asked, run_asks, AreTold, AreAsAt, StoreFails}
+use Rattle.run_command.specs.Inner.{held_of, tell, AreEachOnce, AreAsked}
 use Rattle.run_command.proofs.ToldLess.{one_front, one_back}
 
 -- ---- the areas of a store at a site
@@ -79,34 +79,19 @@ all_durable g areas are at durable name (inr (inr (inr (inr (inr never))))) = ab
 some_here : (a b : Option Files) → a ≡ b → IsSome a → is_some b ≡ true
 some_here a b is some = subst (λ (o : Option Files). is_some o ≡ true) is some
 
-pub all_told : {V : Type 0} (g : Vaults V) (areas : Areas) (are : StoreAreas V) → AreAt g areas are → AreTold areas → all_tell g are ≡ true
-all_told g areas are at told =
-    let wal : is_some (g.files are.wal) ≡ true = some_here (areas wal_name).files (g.files are.wal) (files_at g (areas wal_name) are.wal at.wal) (told wal_name (inl refl)) in
-    let d0 : is_some (g.files are.data0) ≡ true = some_here (areas (data_name 0)).files (g.files are.data0) (files_at g (areas (data_name 0)) are.data0 at.data0) (told (data_name 0) (inr (inl refl))) in
-    let d1 : is_some (g.files are.data1) ≡ true = some_here (areas (data_name 1)).files (g.files are.data1) (files_at g (areas (data_name 1)) are.data1 at.data1) (told (data_name 1) (inr (inr (inl refl)))) in
-    let d2 : is_some (g.files are.data2) ≡ true = some_here (areas (data_name 2)).files (g.files are.data2) (files_at g (areas (data_name 2)) are.data2 at.data2) (told (data_name 2) (inr (inr (inr (inl refl))))) in
-    let d3 : is_some (g.files are.data3) ≡ true = some_here (areas (data_name 3)).files (g.files are.data3) (files_at g (areas (data_name 3)) are.data3 at.data3) (told (data_name 3) (inr (inr (inr (inr (inl refl)))))) in
-    rw (wal, d0, d1, d2, d3) refl
+pub tell_told : {V : Type 0} (g : Vaults V) (areas : Areas) (are : StoreAreas V) → AreAt g areas are → AreTold areas → tell g are ≡ true
+tell_told g areas are at told = some_here (areas wal_name).files (g.files are.wal) (files_at g (areas wal_name) are.wal at.wal) (told wal_name (inl refl))
 
 -- ---- counts of faults
-
--- a count that rose between two moments rose between earlier and later ones
-pub rose_between : (a b c d : ℕ) → a ≤ b → c ≤ d → Rose b c → Rose a d
-rose_between a b c d early late rose = omega (arith, rose)
-
-pub cause_between : (old mid then new : Faults) (why : StoreFault) → NoneFell old mid → NoneFell then new → StoreCause mid then why → StoreCause old new why
-cause_between old mid then new (store.Failed area) early late cause =
-    rose_between (count_of area old) (count_of area mid) (count_of area then) (count_of area new) (early area) (late area) cause
-cause_between old mid then new store.NoMemory early late cause = tt
 
 pub none_fell : (old mid new : Faults) → NoneFell old mid → NoneFell mid new → NoneFell old new
 none_fell old mid new first second = λ area. omega (arith, first area, second area)
 
 -- there is no data area of number 4 or more
-other : (a b : ℕ) → b < a → a == b ≡ false
+pub other : (a b : ℕ) → b < a → a == b ≡ false
 other a b less = ⊎_elim (λ x. absurd (omega (arith, x.1, less))) (λ x. x.0) (eqb_tells a b)
 
-none_counted : (q : ℕ) (f : Faults) → 4 ≤ q → data_count q f ≡ 0
+pub none_counted : (q : ℕ) (f : Faults) → 4 ≤ q → data_count q f ≡ 0
 none_counted q f le =
     let zero : q == 0 ≡ false = other q 0 (omega arith) in
     let one : q == 1 ≡ false = other q 1 (omega arith) in
@@ -128,10 +113,6 @@ rose_at g old new are now was at (Data (suc (suc zero))) rose =
 rose_at g old new are now was at (Data (suc (suc (suc zero)))) rose =
     omega (arith, rose, faults_at g (old (data_name 3)) are.data3 was.data3, faults_at g (new (data_name 3)) now.data3 at.data3)
 rose_at g old new are now was at (Data (suc (suc (suc (suc q))))) rose = absurd (omega (arith, rose, none_counted (suc (suc (suc (suc q)))) (faults_of g are) (omega arith), none_counted (suc (suc (suc (suc q)))) (faults_of g now) (omega arith)))
-
-pub fails_at : {V : Type 0} (g : Vaults V) (old new : Areas) (are now : StoreAreas V) (why : StoreFault) → AreAt g old are → AreAt g new now → StoreCause (faults_of g are) (faults_of g now) why → StoreFails old new why
-fails_at g old new are now (store.Failed area) was at cause = rose_at g old new are now was at area cause
-fails_at g old new are now store.NoMemory was at cause = tt
 
 -- ---- taken, and given back
 
@@ -269,12 +250,14 @@ one_both n front rest more only one =
     ]
 
 -- what a site comes to whose areas were all at home, once they were given back
-pub record RunBack {S A : Type 0} (s : Sites S A) (g : Vaults A) (asked : Names) (old new : S) (held kept : List (Held A)) (are now : StoreAreas A) : Type 0 where
-  pub site : WritesAmong (asked ++ store_asks) (s.areas old) (s.areas new)
+pub record RunBack {S A : Type 0} (s : Sites S A) (g : Vaults A) (script : List Task) (old new : S) (held kept : List (Held A)) (sums sums_now : A) (are now : StoreAreas A) : Type 0 where
+  pub site : WritesAmong (run_asks script) (s.areas old) (s.areas new)
   pub was : AreAt g (s.areas old) are
   pub is : AreAt g (s.areas new) now
-  pub were : AreAsAt asked (areas_of g held) (s.areas old)
-  pub after : AreAsAt asked (areas_of g kept) (s.areas new)
+  pub were : AreAsAt (backups_asked script) (areas_of g held) (s.areas old)
+  pub after : AreAsAt (backups_asked script) (areas_of g kept) (s.areas new)
+  pub before : s.areas old sums_name ≡ state_in g sums
+  pub behind : s.areas new sums_name ≡ state_in g sums_now
   pub later : s.take_faults old ≤ s.take_faults new
 
 are_at : {A : Type 0} (g : Vaults A) (areas : Areas) (names : StoreNames) (are : StoreAreas A) → AreAreasOf g areas store_asks (held_of names are) → AreAt g areas are
@@ -304,55 +287,93 @@ pub held_are : {A : Type 0} (g : Vaults A) (site : Areas) (backups : Names) (hel
 held_are g site backups held names are is =
     fronts_same (names_of held) backups (names_of (held_of names are)) store_asks refl (sym (names_of_both held (held_of names are)) ∙ areas_named g site (backups ++ store_asks) (held ++ held_of names are) is)
 
-pub run_back : {S A : Type 0} (s : Sites S A) (g : Vaults A) (asked backups : Names) (old mid new : S) (names : StoreNames) (held kept : List (Held A)) (are now : StoreAreas A) → AreEachOnce asked backups → AllHome (s.areas old)
-    → AreTaken s g (backups ++ store_asks) old mid (held ++ held_of names are) → AreLater g held kept → GivesBack s g (kept ++ held_of names now) mid new → RunBack s g asked old new held kept are now
-run_back s g asked backups old mid new names held kept are now each home taken later gives =
-    let kept_named : names_of kept ≡ names_of held = later_named g held kept later in
-    let named : names_of (kept ++ held_of names now) ≡ names_of (held ++ held_of names are) =
-    names_of_both kept (held_of names now) ∙ (ap (λ (ns : Names). ns ++ names_of (held_of names now)) kept_named ∙ sym (names_of_both held (held_of names are))) in
-    let back = lent s g (backups ++ store_asks) old mid new (held ++ held_of names are) (kept ++ held_of names now) home taken named gives in
-    let held_named : names_of held ≡ backups = held_are g (s.areas old) backups held names are back.was in
+-- the areas that are held, in three parts
+record AreParts {A : Type 0} (g : Vaults A) (site : Areas) (backups : Names) (held : List (Held A)) (sums : A) (are : StoreAreas A) : Type 0 where
+  named : names_of held ≡ backups
+  backups_are : AreAreasOf g site backups held
+  sums_is : site sums_name ≡ state_in g sums
+  store_are : AreAt g site are
+
+in_parts : {A : Type 0} (g : Vaults A) (site : Areas) (backups : Names) (held : List (Held A)) (one : Held A) (names : StoreNames) (are : StoreAreas A) → AreAreasOf g site ((backups ++ (sums_name ∷ [])) ++ store_asks) ((held ++ (one ∷ [])) ++ held_of names are) → AreParts g site backups held one.area are
+in_parts g site backups held one names are is =
+    let both : names_of (held ++ (one ∷ [])) ≡ backups ++ (sums_name ∷ []) = held_are g site (backups ++ (sums_name ∷ [])) (held ++ (one ∷ [])) names are is in
+    let others : AreAreasOf g site (backups ++ (sums_name ∷ [])) (held ++ (one ∷ [])) = areas_front g site (backups ++ (sums_name ∷ [])) store_asks (held ++ (one ∷ [])) (held_of names are) both is in
+    let named : names_of held ≡ backups = fronts_same (names_of held) backups (one.name ∷ []) (sums_name ∷ []) refl (sym (names_of_both held (one ∷ [])) ∙ both) in
+    record {
+      named = named;
+      backups_are = areas_front g site backups (sums_name ∷ []) held (one ∷ []) named others;
+      sums_is = (areas_back g site backups (sums_name ∷ []) held (one ∷ []) named others).1;
+      store_are = are_at g site names are (areas_back g site (backups ++ (sums_name ∷ [])) store_asks (held ++ (one ∷ [])) (held_of names are) both is);
+    }
+
+-- names of which each is asked for
+wider : (n : List ℕ) (backups asked : Names) → ((m : List ℕ) → IsOneOf m backups → IsOneOf m asked) → IsOneOf n ((backups ++ (sums_name ∷ [])) ++ store_asks) → IsOneOf n ((asked ++ (sums_name ∷ [])) ++ store_asks)
+wider n backups asked only one = one_both n (backups ++ (sums_name ∷ [])) store_asks (asked ++ (sums_name ∷ [])) (λ m first. one_both m backups (sums_name ∷ []) asked only first) one
+
+run_back : {S A : Type 0} (s : Sites S A) (g : Vaults A) (script : List Task) (backups : Names) (old mid new : S) (names : StoreNames) (held kept : List (Held A)) (one two : Held A) (are now : StoreAreas A) → AreEachOnce (backups_asked script) backups → AllHome (s.areas old)
+    → AreTaken s g ((backups ++ (sums_name ∷ [])) ++ store_asks) old mid ((held ++ (one ∷ [])) ++ held_of names are) → AreLater g (held ++ (one ∷ [])) (kept ++ (two ∷ [])) → GivesBack s g ((kept ++ (two ∷ [])) ++ held_of names now) mid new
+    → RunBack s g script old new held kept one.area two.area are now
+run_back s g script backups old mid new names held kept one two are now each home taken later gives =
+    let asked : Names = backups_asked script in
+    let all : Names = (backups ++ (sums_name ∷ [])) ++ store_asks in
+    let named : names_of ((kept ++ (two ∷ [])) ++ held_of names now) ≡ names_of ((held ++ (one ∷ [])) ++ held_of names are) =
+    names_of_both (kept ++ (two ∷ [])) (held_of names now) ∙ (ap (λ (ns : Names). ns ++ names_of (held_of names now)) (later_named g (held ++ (one ∷ [])) (kept ++ (two ∷ [])) later) ∙ sym (names_of_both (held ++ (one ∷ [])) (held_of names are))) in
+    let back = lent s g all old mid new ((held ++ (one ∷ [])) ++ held_of names are) ((kept ++ (two ∷ [])) ++ held_of names now) home taken named gives in
+    let was : AreParts g (s.areas old) backups held one.area are = in_parts g (s.areas old) backups held one names are back.was in
+    let is : AreParts g (s.areas new) backups kept two.area now = in_parts g (s.areas new) backups kept two names now back.is in
     record {
       site = record {
         home = back.site.home;
         later = back.site.later;
-        others = λ n none. back.site.others n (none_fewer n (asked ++ store_asks) (backups ++ store_asks) (λ m one. one_both m backups store_asks asked each.only one) none);
-        quiet = λ n none. back.site.quiet n (none_fewer n (asked ++ store_asks) (backups ++ store_asks) (λ m one. one_both m backups store_asks asked each.only one) none);
+        others = λ n none. back.site.others n (none_fewer n (run_asks script) all (λ m some. wider m backups asked each.only some) none);
+        quiet = λ n none. back.site.quiet n (none_fewer n (run_asks script) all (λ m some. wider m backups asked each.only some) none);
       };
-      was = are_at g (s.areas old) names are (areas_back g (s.areas old) backups store_asks held (held_of names are) held_named back.was);
-      is = are_at g (s.areas new) names now (areas_back g (s.areas new) backups store_asks kept (held_of names now) (kept_named ∙ held_named) back.is);
-      were = λ n one. as_there g (s.areas old) backups held n (areas_front g (s.areas old) backups store_asks held (held_of names are) held_named back.was) (each.all n one);
-      after = λ n one. as_there g (s.areas new) backups kept n (areas_front g (s.areas new) backups store_asks kept (held_of names now) (kept_named ∙ held_named) back.is) (each.all n one);
+      was = was.store_are;
+      is = is.store_are;
+      were = λ n some. as_there g (s.areas old) backups held n was.backups_are (each.all n some);
+      after = λ n some. as_there g (s.areas new) backups kept n is.backups_are (each.all n some);
+      before = was.sums_is;
+      behind = is.sums_is;
       later = back.later;
     }
 
 -- what was asked for is held under its names
-pub asked_held : {S A : Type 0} (s : Sites S A) (g : Vaults A) (lines : List Line) (ns : Names) (old mid : S) (held : List (Held A)) (names : StoreNames) (are : StoreAreas A) → AreAsked lines ns → AreTaken s g ns old mid (held ++ held_of names are) → AreHeld (areas_asked lines) held
-asked_held s g lines ns old mid held names are asked taken =
-    let areas : AreAreasOf g (s.areas old) (asked.backups ++ store_asks) (held ++ held_of names are) = subst (λ (xs : Names). AreAreasOf g (s.areas old) xs (held ++ held_of names are)) asked.names_are taken.areas in
-    let named : names_of held ≡ asked.backups = held_are g (s.areas old) asked.backups held names are areas in
-    λ n one. subst (λ (xs : Names). IsOneOf n xs) (sym named) (asked.each.all n one)
+pub asked_held : {S A : Type 0} (s : Sites S A) (g : Vaults A) (lines : List Line) (ns : Names) (old mid : S) (held : List (Held A)) (one : Held A) (names : StoreNames) (are : StoreAreas A) → AreAsked lines ns → AreTaken s g ns old mid ((held ++ (one ∷ [])) ++ held_of names are) → AreHeld (areas_asked lines) held
+asked_held s g lines ns old mid held one names are asked taken =
+    let areas : AreAreasOf g (s.areas old) ((asked.backups ++ (sums_name ∷ [])) ++ store_asks) ((held ++ (one ∷ [])) ++ held_of names are) =
+    subst (λ (xs : Names). AreAreasOf g (s.areas old) xs ((held ++ (one ∷ [])) ++ held_of names are)) asked.names_are taken.areas in
+    let parts : AreParts g (s.areas old) asked.backups held one.area are = in_parts g (s.areas old) asked.backups held one names are areas in
+    λ n some. subst (λ (xs : Names). IsOneOf n xs) (sym parts.named) (asked.each.all n some)
+
+-- the areas of the backups and of summaries later
+pub others_later : {A : Type 0} (g : Vaults A) (held kept : List (Held A)) (one two : Held A) → AreLater g held kept → two.name ≡ one.name → g.faults one.area ≤ g.faults two.area → AreLater g (held ++ (one ∷ [])) (kept ++ (two ∷ []))
+others_later g held kept one two later named fell = both_later g held kept (one ∷ []) (two ∷ []) later (named, fell, tt)
 
 -- all of it, from the site's side
-pub run_ends : {S A : Type 0} (s : Sites S A) (g : Vaults A) (lines : List Line) (script : List Task) (ns : Names) (old mid then new : S) (names : StoreNames) (held kept : List (Held A)) (are now : StoreAreas A) → AreAsked lines ns → areas_asked lines ≡ backups_asked script
-    → AllHome (s.areas old) → AreTaken s g ns old mid (held ++ held_of names are) → AreLater g held kept → NoneFell (faults_of g are) (faults_of g now) → GivesBack s g (held_of names now) mid then → GivesBack s g kept then new
-    → RunBack s g (backups_asked script) old new held kept are now
-run_ends s g lines script ns old mid then new names held kept are now asked same home taken later fell first second =
-    let there : AreTaken s g (asked.backups ++ store_asks) old mid (held ++ held_of names are) = subst (λ (xs : Names). AreTaken s g xs old mid (held ++ held_of names are)) asked.names_are taken in
-    let out : AreOut g (s.areas mid) (kept ++ held_of names now) = run_out g (s.areas mid) held kept names are now there.out later fell in
-    let gives : GivesBack s g (kept ++ held_of names now) mid new = gives_more s g kept (held_of names now) mid then new out first second in
-    subst (λ (xs : Names). RunBack s g xs old new held kept are now) same (run_back s g (areas_asked lines) asked.backups old mid new names held kept are now asked.each home there later gives)
+pub run_ends : {S A : Type 0} (s : Sites S A) (g : Vaults A) (lines : List Line) (script : List Task) (ns : Names) (old mid then new : S) (names : StoreNames) (held kept : List (Held A)) (one two : Held A) (are now : StoreAreas A) → AreAsked lines ns → areas_asked lines ≡ backups_asked script
+    → AllHome (s.areas old) → AreTaken s g ns old mid ((held ++ (one ∷ [])) ++ held_of names are) → AreLater g (held ++ (one ∷ [])) (kept ++ (two ∷ [])) → NoneFell (faults_of g are) (faults_of g now) → GivesBack s g (held_of names now) mid then → GivesBack s g (kept ++ (two ∷ [])) then new
+    → RunBack s g script old new held kept one.area two.area are now
+run_ends s g lines script ns old mid then new names held kept one two are now asked same home taken later fell first second =
+    let there : AreTaken s g ((asked.backups ++ (sums_name ∷ [])) ++ store_asks) old mid ((held ++ (one ∷ [])) ++ held_of names are) = subst (λ (xs : Names). AreTaken s g xs old mid ((held ++ (one ∷ [])) ++ held_of names are)) asked.names_are taken in
+    let out : AreOut g (s.areas mid) ((kept ++ (two ∷ [])) ++ held_of names now) = run_out g (s.areas mid) (held ++ (one ∷ [])) (kept ++ (two ∷ [])) names are now there.out later fell in
+    let gives : GivesBack s g ((kept ++ (two ∷ [])) ++ held_of names now) mid new = gives_more s g (kept ++ (two ∷ [])) (held_of names now) mid then new out first second in
+    let each : AreEachOnce (backups_asked script) asked.backups = subst (λ (xs : Names). AreEachOnce xs asked.backups) same asked.each in
+    run_back s g script asked.backups old mid new names held kept one two are now each home there later gives
+
+-- the area of summaries goes back before those of the backups
+pub others_give : {S A : Type 0} (s : Sites S A) (g : Vaults A) (old mid new : S) (held : List (Held A)) (one : Held A) → AreOut g (s.areas old) (held ++ (one ∷ [])) → GivesBack s g (one ∷ []) old mid → GivesBack s g held mid new → GivesBack s g (held ++ (one ∷ [])) old new
+others_give s g old mid new held one out first second = gives_more s g held (one ∷ []) old mid new out first second
 
 -- one of the areas wasn't handed out
 pub untaken : {S A : Type 0} (s : Sites S A) (g : Vaults A) (lines : List Line) (script : List Task) (ns : Names) (old new : S) (fault : TakeFault) → AreAsked lines ns → areas_asked lines ≡ backups_asked script → NoneTaken s ns old new fault
     → (s.areas new ≡ s.areas old) × TakeCause (run_asks script) (s.take_faults old) (s.take_faults new) fault
 untaken s g lines script ns old new fault asked same none =
-    let among : IsOneOf fault.area (asked.backups ++ store_asks) = subst (λ (xs : Names). IsOneOf fault.area xs) asked.names_are none.cause.among in
-    let wider : IsOneOf fault.area (areas_asked lines ++ store_asks) = one_both fault.area asked.backups store_asks (areas_asked lines) asked.each.only among in (
+    let among : IsOneOf fault.area ((asked.backups ++ (sums_name ∷ [])) ++ store_asks) = subst (λ (xs : Names). IsOneOf fault.area xs) asked.names_are none.cause.among in
+    let more : IsOneOf fault.area ((areas_asked lines ++ (sums_name ∷ [])) ++ store_asks) = wider fault.area asked.backups (areas_asked lines) asked.each.only among in (
       none.areas,
       record {
         later = none.cause.later;
-        among = subst (λ (xs : Names). IsOneOf fault.area (xs ++ store_asks)) same wider;
+        among = subst (λ (xs : Names). IsOneOf fault.area ((xs ++ (sums_name ∷ [])) ++ store_asks)) same more;
         failed = none.cause.failed;
       },
     )

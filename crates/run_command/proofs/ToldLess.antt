@@ -15,7 +15,7 @@ use Rattle.wal_summary.specs.declared.summary.Summary.{Summary}
 use Rattle.summary_publish.specs.Published.{Advances, AdvancesTo, AdvanceAnswers}
 use Rattle.summary_publish.specs.declared.advancing.AdvanceFault.{AdvanceFault}
 use Rattle.summary_publish.specs.declared.advancing.AdvanceFault.TheVariants as advance
-use Rattle.command_base.specs.Areas.{backup_name, sums_name}
+use Rattle.command_base.specs.Areas.{backup_name}
 use Rattle.history.specs.declared.op.Op.{Op}
 use Rattle.history.specs.Entry.{Entry}
 use Rattle.shared_store.specs.Seen.{accepted_by}
@@ -26,7 +26,9 @@ use Rattle.crew.specs.declared.answer.Answer.{Answer}
 use Rattle.crew.specs.declared.answer.Answer.TheVariants.{Accepted, Refused, Grown, Stopped, Redo, CheckpointRefused, Wrote, Published, CallFailed, Backup, BackupRefused, IncrRefused, NotRun}
 use Rattle.crew.specs.Orders.{op_asked, grow_ops}
 use Rattle.crew.specs.Backups.{area_asked, areas_asked, backup_taken, prior_taken}
-use Rattle.crew.specs.Run.{Basis, HoldsBackup, IsBackupRefused, IncrAreas, incr_areas, states, HoldsIncr, SumsUp, IsIncrRefused, IncrStandsFor, IncrsStand, KeepsTo, IsHonestFor, Made, LineAnswer, Answered, IsAnswered, StandsFor, BackupsStand, RoseFor, FailsFor, BackupFaultsRose}
+use Rattle.shared_summaries.specs.Shelf.{AreShelved, HasPublished, states}
+use Rattle.base_backup.specs.Entries.{SumsUp}
+use Rattle.crew.specs.Run.{Basis, HoldsBackup, IsBackupRefused, IncrAreas, incr_areas, HoldsIncr, IsIncrRefused, IncrStandsFor, IncrsStand, KeepsTo, Made, LineAnswer, Answered, IsAnswered, StandsFor, BackupsStand, RoseFor, FailsFor, BackupFaultsRose}
 
 made_less : (S T : Type 0) (mib worker : ℕ) (history : List Entry) (from : ℕ) (ops : List Op) (made : List Entry) → (T → S) → Made S mib worker history from ops made → Made T mib worker history from ops made
 made_less S T mib worker history from [] [] leads is = is
@@ -72,12 +74,27 @@ covers_less S T history when from to old new (Ok sum) leads a = advances_to_less
 covers_less S T history when from to old new (Err (advance.Gap place)) leads a = advances_to_less S T history when old new _ leads a
 covers_less S T history when from to old new (Err (advance.Store fault)) leads a = tt
 
-sums_up_less : (S T : Type 0) (when worker before : ℕ) (now : List Entry) (redo from : ℕ) (old new : AreaState) (answer : Result Summary AdvanceFault) → (T → S) → SumsUp S when worker before now redo from old new answer → SumsUp T when worker before now redo from old new answer
-sums_up_less S T when worker before now redo from old new answer leads s = record {
+shelved_less : (S T : Type 0) (found : List Entry) (begun : Option Files) (now : List Entry) (files : Option Files) → (T → S) → AreShelved S found begun now files → AreShelved T found begun now files
+shelved_less S T found begun now files leads s = record { told = s.told; true_for = λ t. s.true_for (leads t); grown = λ t. s.grown (leads t) }
+
+sums_up_less : (S T : Type 0) (found : List Entry) (begun : Option Files) (when worker before : ℕ) (now : List Entry) (redo from : ℕ) (answer : Result Summary AdvanceFault) → (T → S) → SumsUp S found begun when worker before now redo from answer → SumsUp T found begun when worker before now redo from answer
+sums_up_less S T found begun when worker before now redo from answer leads s = record {
   seen = s.seen;
   within = s.within;
   checkpoint = s.checkpoint;
-  covers = covers_less S T (take s.seen now) when from redo old new answer leads s.covers;
+  old = s.old;
+  new = s.new;
+  shelved = shelved_less S T found begun (take s.seen now) s.old.files leads s.shelved;
+  covers = covers_less S T (take s.seen now) when from redo s.old s.new answer leads s.covers;
+}
+
+published_less : (S T : Type 0) (found : List Entry) (begun : Option Files) (now : List Entry) (when count : ℕ) → (T → S) → HasPublished S found begun now when count → HasPublished T found begun now when count
+published_less S T found begun now when count leads p = record {
+  old = p.old;
+  new = p.new;
+  shelved = shelved_less S T found begun now p.old.files leads p.shelved;
+  advances = advances_less S T now when p.old p.new count leads p.advances;
+  stays = shelved_less S T found begun now p.new.files leads p.stays;
 }
 
 are_for_less : (P Q : ℕ → List ℕ → Type 0) (blocks : List ℕ) (pages : ForkPages) → ((block : ℕ) (page : List ℕ) → P block page → Q block page) → AreFor P blocks pages → AreFor Q blocks pages
@@ -101,7 +118,7 @@ incr_less S T b worker before now name start end old new leads h = record {
   plan = h.plan;
   relseg = h.relseg;
   prior = h.prior;
-  summed = sums_up_less S T b.when worker before now start.0 h.plan.prior.start old.sums new.sums (Ok h.plan.summary) leads h.summed;
+  summed = sums_up_less S T b.found b.sums b.when worker before now start.0 h.plan.prior.start (Ok h.plan.summary) leads h.summed;
   list = h.list;
   listed = record { order = h.listed.order; named = h.listed.named; listed = λ t. h.listed.listed (leads t) };
   files = h.files;
@@ -121,13 +138,11 @@ incr_refused_less S T b worker before now name old new (incr.Gap place) leads is
     manifest = is.1.manifest;
     start = is.1.start;
     prior = is.1.prior;
-    summed = sums_up_less S T b.when worker before now is.1.start is.1.manifest.start old.sums new.sums (Err (advance.Gap place)) leads is.1.summed;
+    summed = sums_up_less S T b.found b.sums b.when worker before now is.1.start is.1.manifest.start (Err (advance.Gap place)) leads is.1.summed;
   },
   is.2,
 )
-incr_refused_less S T b worker before now name old new (incr.WalFull n) leads (judged, counted, full, inl same, left) = (judged, counted, full, inl same, left)
-incr_refused_less S T b worker before now name old new (incr.WalFull n) leads (judged, counted, full, inr more, left) =
-    (judged, counted, full, inr (more.0, more.1, more.2, more.3, advances_less S T (take more.0 now) b.when old.sums new.sums more.3 leads more.4), left)
+incr_refused_less S T b worker before now name old new (incr.WalFull n) leads is = is
 incr_refused_less S T b worker before now name old new (incr.StoreFailed area) leads is = is
 incr_refused_less S T b worker before now name old new incr.SumsFailed leads is = is
 incr_refused_less S T b worker before now name old new incr.PriorFailed leads is = is
@@ -148,7 +163,7 @@ line_less S T b worker before now line (Redo redo) made held mid leads is = is
 line_less S T b worker before now line (CheckpointRefused why) made held mid leads is = is
 line_less S T b worker before now line (Wrote k) made held mid leads is = is
 line_less S T b worker before now line (Published k) made held mid leads is =
-    (is.0, is.1, is.2, record { sums = is.3.sums; published = λ t. is.3.published (leads t); counted = is.3.counted; files = is.3.files; durable = is.3.durable })
+    (is.0, is.1, published_less S T b.found b.sums now b.when k leads is.2, is.3)
 line_less S T b worker before now line (CallFailed why) made held mid leads is = is
 line_less S T b worker before now line (Backup start end) made held mid leads (made_is, inl t) =
     (made_is, inl (t.0, t.1, t.2, t.3, holds_less S T b worker before now t.0 start end (mid (backup_name t.0)).files leads t.4, t.5))
@@ -237,20 +252,19 @@ stand_less S T b worker history (line ∷ lines) (answer ∷ answers) kept new l
 incr_asked : (line : Line) (lines : List Line) (name prior n : List ℕ) → line.command ≡ command.Incr name prior → IsOneOf n (area_asked (command.Incr name prior)) → IsOneOf n (areas_asked (line ∷ lines))
 incr_asked line lines name prior n is one = one_front n (area_asked line.command) (areas_asked lines) (subst (λ (c : Command). IsOneOf n (area_asked c)) (sym is) one)
 
-incr_stands_less : (S T : Type 0) (b : Basis) (worker : ℕ) (history : List Entry) (found : ℕ) (line : Line) (lines : List Line) (answer : Answer) (held old kept new : Areas) → (T → S) → SameAsked (line ∷ lines) held old → SameAsked (line ∷ lines) kept new
-    → IncrStandsFor S b worker history found (held sums_name) line lines answer kept → IncrStandsFor T b worker history found (old sums_name) line lines answer new
-incr_stands_less S T b worker history found line lines (Accepted place) held old kept new leads was same is = tt
-incr_stands_less S T b worker history found line lines (Refused why) held old kept new leads was same is = tt
-incr_stands_less S T b worker history found line lines (Grown k place) held old kept new leads was same is = tt
-incr_stands_less S T b worker history found line lines (Stopped k why) held old kept new leads was same is = tt
-incr_stands_less S T b worker history found line lines (Redo redo) held old kept new leads was same is = tt
-incr_stands_less S T b worker history found line lines (CheckpointRefused why) held old kept new leads was same is = tt
-incr_stands_less S T b worker history found line lines (Wrote k) held old kept new leads was same is = tt
-incr_stands_less S T b worker history found line lines (Published k) held old kept new leads was same is = tt
-incr_stands_less S T b worker history found line lines (CallFailed why) held old kept new leads was same is = tt
-incr_stands_less S T b worker history found line lines (Backup start end) held old kept new leads was same is = λ name prior named.
+incr_stands_less : (S T : Type 0) (b : Basis) (worker : ℕ) (history : List Entry) (line : Line) (lines : List Line) (answer : Answer) (kept new : Areas) → (T → S) → SameAsked (line ∷ lines) kept new
+    → IncrStandsFor S b worker history line lines answer kept → IncrStandsFor T b worker history line lines answer new
+incr_stands_less S T b worker history line lines (Accepted place) kept new leads same is = tt
+incr_stands_less S T b worker history line lines (Refused why) kept new leads same is = tt
+incr_stands_less S T b worker history line lines (Grown k place) kept new leads same is = tt
+incr_stands_less S T b worker history line lines (Stopped k why) kept new leads same is = tt
+incr_stands_less S T b worker history line lines (Redo redo) kept new leads same is = tt
+incr_stands_less S T b worker history line lines (CheckpointRefused why) kept new leads same is = tt
+incr_stands_less S T b worker history line lines (Wrote k) kept new leads same is = tt
+incr_stands_less S T b worker history line lines (Published k) kept new leads same is = tt
+incr_stands_less S T b worker history line lines (CallFailed why) kept new leads same is = tt
+incr_stands_less S T b worker history line lines (Backup start end) kept new leads same is = λ name prior named.
     let there = is name prior named in
-    let sums : held sums_name ≡ old sums_name = was sums_name (incr_asked line lines name prior sums_name named (inr (inr (inl refl)))) in
     let out : kept (backup_name name) ≡ new (backup_name name) = same (backup_name name) (incr_asked line lines name prior (backup_name name) named (inl refl)) in
     let before : kept (backup_name prior) ≡ new (backup_name prior) = same (backup_name prior) (incr_asked line lines name prior (backup_name prior) named (inr (inl refl))) in (
       there.0,
@@ -263,19 +277,17 @@ incr_stands_less S T b worker history found line lines (Backup start end) held o
       there.7,
       keeps_at (backup_name name) lines there.3.out kept new out there.8,
       keeps_at (backup_name prior) lines there.2.prior kept new before there.9,
-      λ t order honest. there.10 (leads t) order (subst (IsHonestFor (take found history)) (sym sums) honest),
     )
-incr_stands_less S T b worker history found line lines (BackupRefused why) held old kept new leads was same is = tt
-incr_stands_less S T b worker history found line lines (IncrRefused why) held old kept new leads was same is = tt
-incr_stands_less S T b worker history found line lines NotRun held old kept new leads was same is = tt
+incr_stands_less S T b worker history line lines (BackupRefused why) kept new leads same is = tt
+incr_stands_less S T b worker history line lines (IncrRefused why) kept new leads same is = tt
+incr_stands_less S T b worker history line lines NotRun kept new leads same is = tt
 
-pub incrs_less : (S T : Type 0) (b : Basis) (worker : ℕ) (history : List Entry) (found : ℕ) (lines : List Line) (answers : List Answer) (held old kept new : Areas) → (T → S) → SameAsked lines held old → SameAsked lines kept new
-    → IncrsStand S b worker history found (held sums_name) lines answers kept → IncrsStand T b worker history found (old sums_name) lines answers new
-incrs_less S T b worker history found [] answers held old kept new leads was same is = tt
-incrs_less S T b worker history found (line ∷ lines) [] held old kept new leads was same is = tt
-incrs_less S T b worker history found (line ∷ lines) (answer ∷ answers) held old kept new leads was same is = (
-  incr_stands_less S T b worker history found line lines answer held old kept new leads was same is.0,
-  incrs_less S T b worker history found lines answers held old kept new leads (same_behind line lines held old was) (same_behind line lines kept new same) is.1,
+pub incrs_less : (S T : Type 0) (b : Basis) (worker : ℕ) (history : List Entry) (lines : List Line) (answers : List Answer) (kept new : Areas) → (T → S) → SameAsked lines kept new → IncrsStand S b worker history lines answers kept → IncrsStand T b worker history lines answers new
+incrs_less S T b worker history [] answers kept new leads same is = tt
+incrs_less S T b worker history (line ∷ lines) [] kept new leads same is = tt
+incrs_less S T b worker history (line ∷ lines) (answer ∷ answers) kept new leads same is = (
+  incr_stands_less S T b worker history line lines answer kept new leads same is.0,
+  incrs_less S T b worker history lines answers kept new leads (same_behind line lines kept new same) is.1,
 )
 
 -- ---- areas that failed

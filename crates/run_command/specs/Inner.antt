@@ -1,11 +1,13 @@
 -- What private functions answer to those that call them. None of it stands in the contract of a
 -- public call.
-use Rattle.std.specs.Prelude.{◌≡◌, ℕ, ◌+◌, ◌-◌, ◌<◌, ◌≤◌, ◌&&◌, ◌⊎◌, Bool, true, false, List, [], ◌∷◌, ◌++◌, length, take, drop, Option, Some, None, Result, Ok, Err, IfSome}
+use Rattle.std.specs.Prelude.{◌≡◌, ℕ, ◌+◌, ◌-◌, ◌<◌, ◌≤◌, ◌==◌, ◌⊎◌, if◌then◌else◌, Bool, true, false, List, [], ◌∷◌, ◌++◌, length, take, drop, Option, Some, None, Result, Ok, Err, IfSome}
 use Rattle.std.specs.List.{AllByRecursion}
 use Rattle.std.specs.Option.{option_map, is_some}
 use Rattle.std.specs.Vec.{vec_len, vec_capacity}
 use Rattle.std.specs.Global.{Vec}
-use Rattle.lsn_core.specs.Tip.{Tip}
+use Rattle.lsn_core.specs.declared.lsn.Lsn.{Lsn}
+use Rattle.lsn_core.specs.declared.fault.StoreFault.{StoreFault}
+use Rattle.lsn_core.specs.declared.fault.StoreFault.TheVariants as store
 use Rattle.vault.specs.declared.area.Vault.{Ghosts as Vaults}
 use Rattle.vault.specs.declared.site.Site.{Ghosts as Sites}
 use Rattle.vault.specs.declared.stream.Source.{Ghosts as Sources}
@@ -13,21 +15,27 @@ use Rattle.vault.specs.declared.lending.Held.{Held}
 use Rattle.vault.specs.declared.lending.TakeFault.{TakeFault}
 use Rattle.vault.specs.Site.{Areas}
 use Rattle.vault.specs.Lending.{Names, IsOneOf, AreDistinct, AreTaken, NoneTaken}
+use Rattle.store_ledgers.specs.declared.blanks.Blanks.{Blanks}
+use Rattle.shared_store.specs.declared.areas.StoreAreas.{StoreAreas}
+use Rattle.shared_store.specs.declared.found.Found.{Found}
+use Rattle.shared_store.specs.declared.found.BeginWhy.{BeginWhy}
+use Rattle.shared_store.specs.declared.found.BeginWhy.TheVariants as begin
+use Rattle.shared_store.specs.Seen.{Seen, StaysBy}
+use Rattle.shared_store.specs.Opened.{NoneFell}
+use Rattle.shared_store.specs.Locked.{WalStart, HasRisen}
+use Rattle.shared_store.specs.Begin.{AreBack, BeginsNot, IsBegun, faults_of, fresh_pass, shown_of}
+use Rattle.shared_store.specs.Close.{IsClosed}
+use Rattle.shared_summaries.specs.Shelf.{AreShelved}
 use Rattle.crew.specs.declared.script.Task.{Task}
 use Rattle.crew.specs.declared.script.Line.{Line}
 use Rattle.crew.specs.Backups.{areas_asked, HaveOtherPriors}
-use Rattle.crew.specs.Run.{RunsLines}
-use Rattle.shared_store.specs.declared.areas.StoreAreas.{StoreAreas}
-use Rattle.shared_store.specs.declared.begin.BeginWhy.{BeginWhy}
-use Rattle.shared_store.specs.Seen.{Seen}
-use Rattle.shared_store.specs.Opened.{Opened, IsLawfulOf}
-use Rattle.shared_store.specs.Begin.{IsBegun, IsUnbegun}
-use Rattle.shared_store.specs.Close.{IsClosed}
+use Rattle.crew.specs.Run.{Basis, RunsLines, basis_of}
 use Rattle.run_command.specs.declared.lending.StoreNames.{StoreNames}
 use Rattle.run_command.specs.declared.running.Work.{Work}
 use Rattle.run_command.specs.declared.told.Told.{Told}
 use Rattle.run_command.specs.declared.command.RunReport.{RunReport}
 use Rattle.run_command.specs.declared.command.RunFault.{RunFault}
+use Rattle.command_base.specs.Areas.{sums_name}
 use Rattle.command_base.specs.Outside.{Outside, of_site, with_input, with_moment}
 use Rattle.run_command.specs.Input.{IsInput}
 use Rattle.run_command.specs.Run.{RunResult, HasScript, store_asks, RunAnswer}
@@ -78,25 +86,29 @@ pub record AddsAsked (asked old new : Names) : Type 0 where
   pub added : (n : List ℕ) → IsOneOf n asked → IsOneOf n new
   pub only : (n : List ℕ) → IsOneOf n new → IsOneOf n old ⊎ IsOneOf n asked
 
--- the areas that lines and their store ask for
+-- the areas that lines ask for, that of summaries, and those of their store
 pub record AreAsked (lines : List Line) (names : Names) : Type 0 where
   pub backups : Names
   pub each : AreEachOnce (areas_asked lines) backups
-  pub names_are : names ≡ backups ++ store_asks
+  pub names_are : names ≡ (backups ++ (sums_name ∷ [])) ++ store_asks
 
--- the areas of backups, of summaries and of a store were taken, or none of them
+-- the areas of backups, of summaries and of a store, in this order
+abbrev pub Taken : Type 0 → Type 0
+Taken V = Vec (Held V) × Held V × StoreNames × StoreAreas V
+
+abbrev pub all_taken : {V : Type 0} → Taken V → List (Held V)
+all_taken taken = (taken.0.items ++ (taken.1 ∷ [])) ++ held_of taken.2 taken.3
+
+-- they were taken, or none of them
 abbrev pub TakesRun : {S V : Type 0} → Sites S V → Vaults V → Names → S → S
-    → Result (Vec (Held V) × StoreNames × StoreAreas V) TakeFault → Type 0
+    → Result (Taken V) TakeFault → Type 0
 TakesRun sites vaults names old new (Ok taken) =
-    AreTaken sites vaults names old new (taken.0.items ++ held_of taken.1 taken.2)
+    AreTaken sites vaults names old new (all_taken taken)
 TakesRun sites vaults names old new (Err fault) = NoneTaken sites names old new fault
 
--- whether each area of a store tells its files
-abbrev pub all_tell : {V : Type 0} → Vaults V → StoreAreas V → Bool
-all_tell vaults areas =
-    is_some (vaults.files areas.wal) && (is_some (vaults.files areas.data0)
-    && (is_some (vaults.files areas.data1) && (is_some (vaults.files areas.data2)
-    && is_some (vaults.files areas.data3))))
+-- whether the area of a store's WAL tells its files
+abbrev pub tell : {V : Type 0} → Vaults V → StoreAreas V → Bool
+tell vaults areas = is_some (vaults.files areas.wal)
 
 -- the workers of a script, which has one at most, and its lines
 abbrev pub task_list : Option Task → List Task
@@ -122,33 +134,121 @@ pub record IsReady (work : Work) : Type 0 where
 
 -- the worker of a script, if it has one, ran its lines, and made of the areas that it holds those
 abbrev pub RunsTasks :
-    Type 0 → ℕ → List Told → Seen → Seen → Opened → Opened → Areas → Areas → Type 0
-RunsTasks tells when [] old new before behind held kept = (behind ≡ before) × (kept ≡ held)
-RunsTasks tells when (t ∷ []) old new before behind held kept =
-    RunsLines tells when t.task.lines old new before behind held kept t.answers
-RunsTasks tells when (t ∷ (u ∷ told)) old new before behind held kept = ⊥
+    Type 0 → Basis → List Told → Seen → Seen → Areas → Areas → Type 0
+RunsTasks tells b [] old new held kept = (new ≡ old) × (kept ≡ held)
+RunsTasks tells b (t ∷ []) old new held kept =
+    RunsLines tells b t.task.lines old new held kept t.answers
+RunsTasks tells b (t ∷ (u ∷ told)) old new held kept = ⊥
 
--- a store was begun on areas for one worker, the script was run on it, and it was closed
-pub record IsRunOn {V : Type 0} (vaults : Vaults V) (tells : Bool) (when : ℕ)
-    (old new : StoreAreas V) (held kept : Areas) (report : RunReport) : Type 0 where
-  pub begun : Opened
-  pub pass : Seen
-  pub tip : Tip
-  pub begins : IsBegun vaults old 1 begun (pass ∷ []) tip
-  pub opened : report.opened.0 ≡ tip.end
-  pub left : Opened
+-- how often the areas of a store that was found had failed then, and that of summaries: by number, 0 to
+-- 3 the data areas, 4 the WAL's, 5 that of summaries
+abbrev pub starts_of : {V : Type 0} → Vaults V → Found V → V → ℕ → ℕ
+starts_of vaults found sums a =
+    if a == 0 then found.parts.part0.faults
+    else (if a == 1 then found.parts.part1.faults
+    else (if a == 2 then found.parts.part2.faults
+    else (if a == 3 then found.parts.part3.faults
+    else (if a == 4 then vaults.faults found.wal else vaults.faults sums))))
+
+-- how its WAL was then
+abbrev pub wal_start : {V : Type 0} → Vaults V → Found V → WalStart
+wal_start vaults found =
+    record { files = vaults.files found.wal; flushed = found.tip.end }
+
+-- whether its WAL's area tells its files
+abbrev pub tell_found : {V : Type 0} → Vaults V → Found V → Bool
+tell_found vaults found = is_some (vaults.files found.wal)
+
+-- ledgers have their parts: those of entries one each, the others as many as there are passes
+pub record HaveParts (passes : ℕ) (blanks : Blanks) : Type 0 where
+  pub entries : (blanks.entries0.parts ≡ 1) × (blanks.entries1.parts ≡ 1)
+      × (blanks.entries2.parts ≡ 1) × (blanks.entries3.parts ≡ 1)
+  pub commands : blanks.commands.parts ≡ passes
+  pub faults : (blanks.data0.parts ≡ passes) × (blanks.data1.parts ≡ passes)
+      × (blanks.data2.parts ≡ passes) × (blanks.data3.parts ≡ passes)
+      × (blanks.wal.parts ≡ passes) × (blanks.sums.parts ≡ passes)
+
+-- the ledgers that are handed over, by their numbers
+abbrev pub entries_named : Blanks → ℕ → ℕ
+entries_named blanks q =
+    if q == 0 then blanks.entries0.name
+    else (if q == 1 then blanks.entries1.name
+    else (if q == 2 then blanks.entries2.name else blanks.entries3.name))
+
+abbrev pub faults_named : Blanks → ℕ → ℕ
+faults_named blanks a =
+    if a == 0 then blanks.data0.name
+    else (if a == 1 then blanks.data1.name
+    else (if a == 2 then blanks.data2.name
+    else (if a == 3 then blanks.data3.name
+    else (if a == 4 then blanks.wal.name else blanks.sums.name))))
+
+-- what lines run on, where a store was found
+abbrev pub basis_found : {V : Type 0} → Vaults V → Found V → V → ℕ → Basis
+basis_found vaults found sums when =
+    basis_of found.settings when found.opened.list (vaults.files sums)
+
+-- a script was run by one worker that had seen what was found; then it learned what was known of the
+-- summaries, whose area is true for all that it has seen now, and of whose faults so many are booked
+pub record HasRunTo {V : Type 0} (vaults : Vaults V) (tells : Type 0) (b : Basis) (start : ℕ)
+    (last : Seen) (sums : V) (booked : ℕ) (held kept : Areas) (told : List Told)
+    : Type 0 where
   pub seen : Seen
-  pub runs : RunsTasks (tells ≡ true) when report.told pass seen begun left held kept
-  pub lawful : IsLawfulOf (tells ≡ true) left
-  pub closes : IsClosed vaults (tells ≡ true) left new report.closed
+  pub runs : RunsTasks tells b told (fresh_pass 0 b.found) seen held kept
+  pub stays : StaysBy seen last
+  pub accepted : last.accepted ≡ seen.accepted
+  pub faults : last.faults ≡ seen.faults
+  pub shelved : AreShelved tells b.found b.sums last.list (vaults.files sums)
+  pub risen : HasRisen start booked (vaults.faults sums)
+
+-- so it was, and the store was closed
+pub record HasRunOn {V : Type 0} (vaults : Vaults V) (tells : Type 0) (b : Basis)
+    (from : WalStart) (starts : ℕ → ℕ) (new : StoreAreas V) (sums : V) (held kept : Areas)
+    (told : List Told) (closed : Result Lsn StoreFault)
+    : Type 0 where
+  pub last : Seen
+  pub ran : HasRunTo vaults tells b (starts 5) last sums last.faults.sums held kept told
+  pub closes : IsClosed vaults tells b.settings b.found from starts (last ∷ []) new closed
+
+-- so it was, or there was no memory to begin it: then all areas are as they were found
+abbrev pub EndsRun : {V : Type 0} → Vaults V → Type 0 → Basis → WalStart → (ℕ → ℕ)
+    → Found V → V → StoreAreas V → V → Areas → Areas → Result RunReport BeginWhy → Type 0
+EndsRun vaults tells b from starts found before new sums held kept (Ok report) =
+    (report.opened.0 ≡ found.tip.end)
+    × HasRunOn vaults tells b from starts new sums held kept report.told report.closed
+EndsRun vaults tells b from starts found before new sums held kept (Err why) =
+    (why ≡ begin.Data store.NoMemory) × AreBack vaults found new × (sums ≡ before)
+    × (kept ≡ held)
+
+-- a store was found on areas, the script was run on it, and it was closed
+pub record IsRunOn {V : Type 0} (vaults : Vaults V) (when : ℕ) (old new : StoreAreas V)
+    (before sums : V) (held kept : Areas) (report : RunReport) : Type 0 where
+  pub found : Found V
+  pub begins : IsBegun vaults old (shown_of vaults found) found.tip
+  pub opened : report.opened.0 ≡ found.tip.end
+  pub runs : HasRunOn vaults (tell vaults old ≡ true) (basis_found vaults found before when)
+      (wal_start vaults found) (starts_of vaults found before) new sums held kept report.told
+      report.closed
+
+-- why none was begun: as it was found, or memory ran out behind that
+abbrev pub MayNotBegin : {V : Type 0} → Vaults V → StoreAreas V → StoreAreas V → BeginWhy → Type 0
+MayNotBegin vaults old new why =
+    BeginsNot vaults old new why ⊎ (why ≡ begin.Data store.NoMemory)
+
+-- none was begun on these areas, which are handed back; the WAL has the files that it had
+pub record HasNotBegun {V : Type 0} (vaults : Vaults V) (old new : StoreAreas V) (why : BeginWhy)
+    : Type 0 where
+  pub wal : vaults.files new.wal ≡ vaults.files old.wal
+  pub later : NoneFell (faults_of vaults old) (faults_of vaults new)
+  pub cause : MayNotBegin vaults old new why
 
 -- so it was, or no store was begun
-abbrev pub RunsOn : {V : Type 0} → Vaults V → Bool → ℕ → StoreAreas V → StoreAreas V
+abbrev pub RunsOn : {V : Type 0} → Vaults V → ℕ → StoreAreas V → StoreAreas V → V → V
     → Areas → Areas → Result RunReport BeginWhy → Type 0
-RunsOn vaults tells when old new held kept (Ok report) =
-    IsRunOn vaults tells when old new held kept report
-RunsOn vaults tells when old new held kept (Err why) =
-    IsUnbegun vaults old (record { areas = new; why = why }) × (kept ≡ held)
+RunsOn vaults when old new before sums held kept (Ok report) =
+    IsRunOn vaults when old new before sums held kept report
+RunsOn vaults when old new before sums held kept (Err why) =
+    HasNotBegun vaults old new why × (sums ≡ before) × (kept ≡ held)
 
 -- a site and an input, as `run` sees them, where a clock tells this
 abbrev pub seen_at : Outside → Option (List ℕ) → ℕ → Option ℕ → Outside

@@ -1,5 +1,5 @@
 -- `run`: what running a script does, prints and ends with.
-use Rattle.std.specs.Prelude.{◌≡◌, ℕ, ◌+◌, ◌<◌, ◌≤◌, List, [], ◌∷◌, ◌++◌, map, length, slice_get, Option, Some, None, Result, Ok, Err, IsSome, IfSome, codes}
+use Rattle.std.specs.Prelude.{◌≡◌, ℕ, ◌+◌, ◌<◌, ◌≤◌, max, List, [], ◌∷◌, ◌++◌, map, length, slice_get, Option, Some, None, Result, Ok, Err, IsSome, IfSome, codes}
 use Rattle.std.specs.List.{All, flat_map}
 use Rattle.std.specs.FinMap.{empty}
 use Rattle.std.specs.Fmt.{decimal}
@@ -24,11 +24,11 @@ use Rattle.history.specs.Whole.{entry_of}
 use Rattle.history.specs.Written.{wal_of, tip_of}
 use Rattle.journal.specs.Lawful.{IsLawful}
 use Rattle.recovery.specs.Causes.{HasSettings}
-use Rattle.shared_store.specs.Calls.{MayWriteWal}
+use Rattle.shared_store.specs.Calls.{MayWriteWal, IsOfRun}
 use Rattle.shared_store.specs.Begin.{BeginCause, MayComeFirst, MayComeLate}
 use Rattle.shared_store.specs.Close.{HoldsRecords, HoldsPart}
-use Rattle.shared_store.specs.declared.begin.BeginWhy.{BeginWhy}
-use Rattle.shared_store.specs.declared.begin.BeginWhy.TheVariants as begin
+use Rattle.shared_store.specs.declared.found.BeginWhy.{BeginWhy}
+use Rattle.shared_store.specs.declared.found.BeginWhy.TheVariants as begin
 use Rattle.crew.specs.declared.script.Task.{Task}
 use Rattle.crew.specs.declared.why.Why.{Why}
 use Rattle.crew.specs.Reasons.{script_limit, why_bytes}
@@ -37,7 +37,7 @@ use Rattle.crew.specs.declared.script.Line.{Line}
 use Rattle.crew.specs.declared.answer.Stop.{Stop}
 use Rattle.crew.specs.declared.answer.Stop.TheVariants as stop
 use Rattle.crew.specs.Backups.{areas_asked}
-use Rattle.crew.specs.Run.{IsOfWorker, IsAnswered, BackupsStand, BackupFaultsRose, IncrsStand, TellsFault, IsHonestFor, basis_of}
+use Rattle.crew.specs.Run.{Basis, basis_of, IsAnswered, BackupsStand, BackupFaultsRose, IncrsStand, TellsFault, IsHonestFor}
 use Rattle.command_base.specs.declared.status.Status.{Status}
 use Rattle.command_base.specs.declared.status.Status.TheVariants as status
 use Rattle.run_command.specs.declared.told.Told.{Told}
@@ -73,13 +73,17 @@ pub record HasRefusedLine (left now : Option (List ℕ)) (line : ℕ) (why : Why
 abbrev pub store_asks : Names
 store_asks = wal_name ∷ data_name 0 ∷ data_name 1 ∷ data_name 2 ∷ data_name 3 ∷ []
 
--- those of the backups that a script takes, and that of summaries where it publishes some
+-- those of the backups that a script takes, and of their prior ones
 abbrev pub backups_asked : List Task → Names
 backups_asked script = flat_map (λ task. areas_asked task.lines) script
 
+-- those that it doesn't take for its store: of its backups, and of summaries
+abbrev pub others_asked : List Task → Names
+others_asked script = backups_asked script ++ (sums_name ∷ [])
+
 -- the areas that it asks for, which it may change
 abbrev pub run_asks : List Task → Names
-run_asks script = backups_asked script ++ store_asks
+run_asks script = others_asked script ++ store_asks
 
 -- each of a store tells its files
 abbrev pub AreTold : Areas → Type 0
@@ -92,6 +96,12 @@ KeepAll names old new = (name : List ℕ) → IsOneOf name names → Keeps (old 
 -- these are the areas of a site, by these names
 abbrev pub AreAsAt : Names → Areas → Areas → Type 0
 AreAsAt names areas site = (name : List ℕ) → IsOneOf name names → areas name ≡ site name
+
+-- each worker's areas are those of a site, by the names that its lines ask for
+abbrev pub AreEachAsAt : List Told → (ℕ → Areas) → Areas → Type 0
+AreEachAsAt told areas site =
+    (worker : ℕ) (t : Told) → slice_get told worker ≡ Some t
+    → AreAsAt (areas_asked t.task.lines) (areas worker) site
 
 -- an area of the store failed only where its count of faults rose; want of memory may come at any
 -- time
@@ -118,26 +128,25 @@ found_tip s found = tip_behind (first_tip s.segment) found
 abbrev pub HasFound : StoreSettings → List Record → Files → Type 0
 HasFound s found files = IsWal s files found (found_tip s found)
 
--- one of so many workers made the entry: by a command, or as the start or the end of a checkpoint or
--- the end of a backup
-abbrev pub IsOfRun : ℕ → Entry → Type 0
-IsOfRun workers entry = (worker : ℕ) × (worker < workers) × IsOfWorker worker entry
+-- what a run's lines run on: the settings of its store, its moment, the entries that were found, and
+-- the files that the area of summaries had then
+abbrev pub run_basis : StoreSettings → ℕ → List Record → Areas → Basis
+run_basis s when found old = basis_of s when (map entry_of found) (old sums_name).files
 
--- a history goes on behind the records that were found by entries of the workers alone, and, where
+-- a history goes on behind the entries that were found by entries of the workers alone, and, where
 -- areas tell, lawfully, each entry in the place where it is written; over it
 -- each worker's lines were answered so, at this moment, and its commands there are those that its
--- answers name; and its backups made of these areas those
+-- answers name; and its backups made of its areas those
 pub record HasHistory
-    (tells : Type 0) (s : StoreSettings) (when : ℕ) (found : List Record) (told : List Told)
-    (held kept : Areas) (history : List Entry)
+    (tells : Type 0) (b : Basis) (told : List Told) (held kept : ℕ → Areas) (history : List Entry)
     : Type 0 where
   pub own : List Entry
-  pub grown : history ≡ map entry_of found ++ own
-  pub of_run : All (IsOfRun (length told)) own
-  pub lawful : tells → IsLawful s.segment history
+  pub grown : history ≡ b.found ++ own
+  pub of_run : All (IsOfRun (max 1 (length told))) own
+  pub lawful : tells → IsLawful b.settings.segment history
   pub answered : (worker : ℕ) (t : Told) → slice_get told worker ≡ Some t
-      → IsAnswered tells (basis_of s when) worker history (length found) t.task.lines t.answers
-      held kept
+      → IsAnswered tells b worker history (length b.found) t.task.lines t.answers
+      (held worker) (kept worker)
 
 -- the records that were found, and behind them those that a history is written as
 abbrev pub all_records : StoreSettings → List Record → List Entry → List Record
@@ -181,21 +190,17 @@ ToldFaultsRose old new told =
 -- the directory of each backup that was answered stands at the site, durably, where its area told it
 -- then, or where no later line names the backup too: its pages were copied while a beginning of the
 -- history was written
-abbrev pub BackupsDone :
-    Type 0 → StoreSettings → ℕ → List Entry → Areas → List Told → Type 0
-BackupsDone tells s when history new told =
+abbrev pub BackupsDone : Type 0 → Basis → List Entry → Areas → List Told → Type 0
+BackupsDone tells b history new told =
     (worker : ℕ) (t : Told) → slice_get told worker ≡ Some t
-    → BackupsStand tells (basis_of s when) worker history t.task.lines t.answers new
+    → BackupsStand tells b worker history t.task.lines t.answers new
 
 -- so does that of each incremental backup, taken on what the prior backup's area held then, which
--- stands there too. Where the area of summaries was honest for the entries that were found, it was so
--- for the history as it was when the backup was begun
-abbrev pub IncrsDone :
-    Type 0 → StoreSettings → ℕ → ℕ → List Entry → Areas → Areas → List Told → Type 0
-IncrsDone tells s when found history old new told =
+-- stands there too
+abbrev pub IncrsDone : Type 0 → Basis → List Entry → Areas → List Told → Type 0
+IncrsDone tells b history new told =
     (worker : ℕ) (t : Told) → slice_get told worker ≡ Some t
-    → IncrsStand tells (basis_of s when) worker history found (old sums_name)
-    t.task.lines t.answers new
+    → IncrsStand tells b worker history t.task.lines t.answers new
 
 -- the area of each backup, or of a prior one, that was told to have failed has a count of faults that
 -- rose
@@ -204,12 +209,11 @@ ToldBackupsFailed old new told =
     (worker : ℕ) (t : Told) → slice_get told worker ≡ Some t
     → BackupFaultsRose t.task.lines t.answers old new
 
--- where areas tell their files and no worker was stopped, an area of summaries that was honest for the
--- entries that were found is honest for the whole history
-abbrev pub KeepsHonest : List Entry → List Entry → Areas → Areas → List Told → Type 0
-KeepsHonest found history old new told =
-    AreTold old → first_told told ≡ None
-    → IsHonestFor found (old sums_name) → IsHonestFor history (new sums_name)
+-- where areas tell their files, an area of summaries that was honest for the entries that were found
+-- is honest for the whole history, however the run ended
+abbrev pub KeepsHonest : List Entry → List Entry → Areas → Areas → Type 0
+KeepsHonest found history old new =
+    AreTold old → IsHonestFor found (old sums_name) → IsHonestFor history (new sums_name)
 
 -- a script was run on a store whose WAL has an entry, and whose entries make a store where its area
 -- tells its files, at a moment, and came to a history. Whatever else came, the answers are true of
@@ -224,20 +228,22 @@ pub record RunDone (when : ℕ) (old new : Areas) (report : RunReport) : Type 0 
   pub archive : IfSome (old wal_name).files (HasFound settings found)
   pub opened : report.opened.0 ≡ (found_tip settings found).end
   pub history : List Entry
-  -- the areas of the backups and of summaries, as they were and as they are
-  pub held : Areas
-  pub were : AreAsAt (backups_asked (tasks_told report.told)) held old
-  pub kept : Areas
-  pub are : AreAsAt (backups_asked (tasks_told report.told)) kept new
-  pub happened : HasHistory (AreTold old) settings when found report.told held kept history
-  pub completed : BackupsDone (AreTold old) settings when history new report.told
+  -- each worker's areas of backups, as they were and as they are
+  pub held : ℕ → Areas
+  pub were : AreEachAsAt report.told held old
+  pub kept : ℕ → Areas
+  pub are : AreEachAsAt report.told kept new
+  pub happened :
+      HasHistory (AreTold old) (run_basis settings when found old) report.told held kept history
+  pub completed :
+      BackupsDone (AreTold old) (run_basis settings when found old) history new report.told
   pub incremented :
-      IncrsDone (AreTold old) settings when (length found) history old new report.told
+      IncrsDone (AreTold old) (run_basis settings when found old) history new report.told
   pub left : LeavesWal settings found history (old wal_name) (new wal_name)
   pub closing : IsClosing settings found history old new report.closed
   pub risen : ToldFaultsRose old new report.told
   pub backups_failed : ToldBackupsFailed old new report.told
-  pub honest : KeepsHonest (map entry_of found) history old new report.told
+  pub honest : KeepsHonest (map entry_of found) history old new
 
 -- ---- what `run` comes to
 
@@ -250,12 +256,12 @@ CantBegin script old new (begin.Wal why) =
     × (MayComeFirst why
     × BeginCause (old wal_name).files (old wal_name).faults (new wal_name).faults why)
 CantBegin script old new (begin.Replay why) =
-    KeepAll (backups_asked script) old new
+    KeepAll (others_asked script) old new
     × (Keeps (old wal_name) (new wal_name)
     × (IfSome (old wal_name).files (λ m. MayComeLate why)
     × BeginCause (old wal_name).files (old wal_name).faults (new wal_name).faults why))
 CantBegin script old new (begin.Data why) =
-    KeepAll (backups_asked script) old new
+    KeepAll (others_asked script) old new
     × Keeps (old wal_name) (new wal_name) × DataAreaFails old new why
 
 -- why `run` of a script at a moment comes to its answer: it was run; or the input failed, a line is

@@ -12,9 +12,9 @@ ghost use Rattle.run_command.specs.Run.{stop_status, ending_status, run_status};
 ghost use Rattle.run_command.specs.Inner.{NamePriors, RefusesScript, RunsScript};
 
 use crate::input::read_input;
-use crate::lending::{give_store, run_names, take_run};
+use crate::lending::{give_others, give_store, run_names, take_run};
 use crate::report::report_text;
-use crate::running::{lines_in, new_line, run_areas, work_of};
+use crate::running::{lines_in, run_areas, work_of};
 use crate::told::ToldTasks;
 use command_base::{
     Status, area_status, area_text, begin_status, begin_text, joined, refused_line, store_status,
@@ -24,7 +24,8 @@ use crew::{Script, ScriptFault, Stop, Why, read_script, why_text};
 use lsn_core::{AreaFault, Lsn, NoMemory, StoreFault, Text};
 use shared_store::BeginWhy;
 use std::alloc::Global;
-use vault::{Clock, Site, Source, TakeFault, give_all};
+use std::sync::Wait;
+use vault::{Clock, Held, Site, Source, TakeFault};
 
 /// What the run of a script came to: where the WAL ended before, the script with the answers to its
 /// lines, and what closing the store came to: where the WAL ends now, or why not all is known to be
@@ -71,6 +72,7 @@ impl From<NoMemory> for RunFault {
 /// memory that a refusal would need is taken before the areas are, and these are given back in any
 /// case.
 fn run_in<S: Site>(
+    rt: &impl Wait,
     alloc: Global,
     frames: u32,
     script: Script,
@@ -86,11 +88,11 @@ fn run_in<S: Site>(
 {
     let work = work_of(alloc, script)?;
     let names = run_names(alloc, lines_in(&work.task))?;
-    let line = new_line(alloc)?;
-    let (held, names, areas) = take_run(alloc, site, names)?;
-    let (held, areas, answer) = run_areas(alloc, line, areas, frames, held, when, work);
+    let (held, sums, names, areas) = take_run(alloc, site, names)?;
+    let Held { name, area: sums } = sums;
+    let (held, sums, areas, answer) = run_areas(rt, alloc, areas, sums, frames, held, when, work);
     give_store(site, names, areas);
-    give_all(site, held);
+    give_others(site, held, Held { name, area: sums });
     match answer {
         Ok(report) => Ok(report),
         Err(why) => Err(RunFault::Begin(why)),
@@ -119,6 +121,7 @@ fn script_of<I: Source>(alloc: Global, input: &mut I) -> Result<Script, RunFault
 /// `run`: reads the clock and the script of the input, and runs it on the store of a site with so many
 /// frames of each partition.
 pub fn run<S: Site, I: Source, C: Clock>(
+    rt: &impl Wait,
     alloc: Global,
     frames: u32,
     site: &mut S,
@@ -132,7 +135,7 @@ pub fn run<S: Site, I: Source, C: Clock>(
 {
     let when = clock.now();
     let script = script_of(alloc, input)?;
-    run_in(alloc, frames, script, when, site)
+    run_in(rt, alloc, frames, script, when, site)
 }
 
 fn script_text(alloc: Global, line: u32, why: Why) -> Result<Text, NoMemory>

@@ -1,10 +1,10 @@
-//! The areas of a run, taken from a site, and those of its store given back.
+//! The areas of a run, taken from a site and given back.
 
 ghost use Rattle.std.specs.Prelude.{◌≡◌, ◌≤◌, ◌∷◌, ◌++◌, [], map, length, IfOk, OnOk, bytes_eq};
 ghost use Rattle.std.specs.List.{list_any};
 ghost use Rattle.vault.specs.Site.{AllHome};
 ghost use Rattle.vault.specs.Lending.{AreDistinct, AreOut, GivesBack};
-ghost use Rattle.command_base.specs.Areas.{backup_name, sums_name};
+ghost use Rattle.command_base.specs.Areas.{backup_name};
 ghost use Rattle.crew.specs.Backups.{area_asked, areas_asked};
 ghost use Rattle.run_command.specs.Inner.{held_of, AreEachOnce, AddsAsked, AreAsked, TakesRun};
 
@@ -13,7 +13,7 @@ use crew::{Command, Line};
 use lsn_core::{NoMemory, Text};
 use shared_store::StoreAreas;
 use std::alloc::Global;
-use vault::{Held, Site, TakeFault, Vault, give_one, give_two, take_all};
+use vault::{Held, Site, TakeFault, Vault, give_all, give_one, give_two, take_all};
 
 /// The names under which the areas of a store go back.
 #[derive(Drop)]
@@ -43,40 +43,33 @@ fn note_backup(alloc: Global, names: &mut Vec<Text>, name: &Text) -> Result<(), 
     note_name(names, backup_name(alloc, name.as_bytes())?)
 }
 
-/// Notes the area of the summaries.
-fn note_sums(alloc: Global, names: &mut Vec<Text>) -> Result<(), NoMemory>
-    ensures { OnOk result (AddsAsked (sums_name ∷ []) names.old.items names.new.items) }
-{
-    note_name(names, joined(alloc, &[b"sums"])?)
-}
-
-/// Notes the areas of an incremental backup: its own, that of its prior backup, and the summaries'.
+/// Notes the areas of an incremental backup: its own, and that of its prior backup.
 fn note_incr(
     alloc: Global,
     names: &mut Vec<Text>,
     name: &Text,
     prior: &Text,
 ) -> Result<(), NoMemory>
-    ensures { OnOk result (AddsAsked (backup_name name.now ∷ backup_name prior.now ∷ sums_name ∷ [])
+    ensures { OnOk result (AddsAsked (backup_name name.now ∷ backup_name prior.now ∷ [])
         names.old.items names.new.items) }
 {
     note_backup(alloc, names, name)?;
     note_backup(alloc, names, prior)?;
-    note_sums(alloc, names)?;
     Ok(())
 }
 
-/// Notes the areas that a command asks for, beside those of its store.
+/// Notes the areas that a command asks for, beside those of every run.
 fn note_areas(alloc: Global, names: &mut Vec<Text>, command: &Command) -> Result<(), NoMemory>
     ensures { OnOk result (AddsAsked (area_asked command.now) names.old.items names.new.items) }
 {
     match command {
         Command::Full(name) => note_backup(alloc, names, name),
         Command::Incr(name, prior) => note_incr(alloc, names, name, prior),
-        Command::Summarise => note_sums(alloc, names),
-        Command::Insert(_) | Command::Grow(_, _, _) | Command::Checkpoint | Command::Flush(_) => Ok(
-            (),
-        ),
+        Command::Insert(_)
+        | Command::Grow(_, _, _)
+        | Command::Checkpoint
+        | Command::Flush(_)
+        | Command::Summarise => Ok(()),
     }
 }
 
@@ -87,7 +80,7 @@ fn is_among(names: &[Text], name: &[u8]) -> bool
     names.iter().any(|other| name == other.as_bytes())
 }
 
-/// The areas that lines ask for beside those of their store, each once.
+/// The areas that lines ask for beside those of every run, each once.
 fn asked_areas(alloc: Global, lines: &[Line]) -> Result<Vec<Text>, NoMemory>
     ensures { IfOk result (λ names. AreEachOnce (areas_asked lines.now) names.items) }
 {
@@ -109,8 +102,8 @@ fn push_names(alloc: Global, names: &mut Vec<Text>, more: &[&[u8]]) -> Result<()
     Ok(())
 }
 
-/// The areas that a run of these lines asks for: those of its backups and of summaries, and those of the
-/// store.
+/// The areas that a run of these lines asks for: those of its backups, that of summaries, and those of
+/// the store.
 pub fn run_names(alloc: Global, lines: &[Line]) -> Result<Vec<Text>, NoMemory>
     ensures { IfOk result (λ names. AreAsked lines.now names.items) }
 {
@@ -118,7 +111,7 @@ pub fn run_names(alloc: Global, lines: &[Line]) -> Result<Vec<Text>, NoMemory>
     push_names(
         alloc,
         &mut names,
-        &[b"wal", b"data0", b"data1", b"data2", b"data3"],
+        &[b"sums", b"wal", b"data0", b"data1", b"data2", b"data3"],
     )?;
     Ok(names)
 }
@@ -149,20 +142,50 @@ fn five_of<V: Vault>(held: &mut Vec<Held<V>>) -> (StoreNames, StoreAreas<V>)
     }
 }
 
-/// Takes the areas of a run, or none of them.
+/// The last area of a list.
+fn last_of<V: Vault>(held: &mut Vec<Held<V>>) -> Held<V>
+    requires { 1 ≤ length held.old.items }
+    ensures { held.old.items ≡ held.new.items ++ (result ∷ []) }
+{
+    match held.pop() {
+        Some(one) => one,
+        None => unreachable!(),
+    }
+}
+
+/// Takes the areas of a run, or none of them: those of its backups, that of summaries, and those of its
+/// store.
 pub fn take_run<S: Site>(
     alloc: Global,
     site: &mut S,
     names: Vec<Text>,
-) -> Result<(Vec<Held<S::Area>>, StoreNames, StoreAreas<S::Area>), TakeFault>
+) -> Result<
+    (
+        Vec<Held<S::Area>>,
+        Held<S::Area>,
+        StoreNames,
+        StoreAreas<S::Area>,
+    ),
+    TakeFault,
+>
     requires distinct { AreDistinct names.items }
-    requires many { 5 ≤ length names.items }
+    requires many { 6 ≤ length names.items }
     requires home { AllHome (S.areas site.old) }
     ensures takes { TakesRun S.Site S.Area.Vault names.items site.old site.new result }
 {
     let mut held = take_all(alloc, site, names)?;
     let (names, areas) = five_of(&mut held);
-    Ok((held, names, areas))
+    let sums = last_of(&mut held);
+    Ok((held, sums, names, areas))
+}
+
+/// Gives the areas of backups and that of summaries back. It can't fail.
+pub fn give_others<S: Site>(site: &mut S, held: Vec<Held<S::Area>>, sums: Held<S::Area>)
+    requires { AreOut S.Area.Vault (S.areas site.old) (held.items ++ (sums ∷ [])) }
+    ensures gives { GivesBack S.Site S.Area.Vault (held.items ++ (sums ∷ [])) site.old site.new }
+{
+    give_one(site, sums);
+    give_all(site, held);
 }
 
 /// Gives the areas of a store back. It can't fail.

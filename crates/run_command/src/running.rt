@@ -1,37 +1,38 @@
 //! A script, run on the areas of a store.
 
-ghost use Rattle.std.specs.Prelude.{◌≡◌, ◌<◌, ◌≤◌, ◌∷◌, ◌++◌, [], true, length, IfOk};
+ghost use Rattle.std.specs.Prelude.{◌≡◌, ◌<◌, ◌≤◌, ◌∷◌, ◌++◌, [], true, length, IfOk, IsSome, box_value};
 ghost use Rattle.std.specs.Vec.{vec_len, vec_capacity};
-ghost use Rattle.shared_store.specs.Begin.{AllTell, faults_of};
-ghost use Rattle.shared_store.specs.Opened.{NoneFell};
+ghost use Rattle.shared_store.specs.Begin.{AreNamed, AreStarts, IsStanding, fresh_pass, fresh_passes};
 ghost use Rattle.vault.specs.Lending.{AreLater};
 ghost use Rattle.crew.specs.Backups.{areas_asked, areas_of, AreHeld};
+ghost use Rattle.crew.specs.Run.{basis_of};
 ghost use Rattle.run_command.specs.Run.{tasks_told};
-ghost use Rattle.run_command.specs.Inner.{task_list, NamePriors, IsReady, RunsTasks, all_tell, RunsOn, lines_in};
+ghost use Rattle.run_command.specs.Inner.{task_list, NamePriors, IsReady, RunsTasks, HasRunTo, HasRunOn, EndsRun, RunsOn};
+ghost use Rattle.run_command.specs.Inner.{HaveParts, lines_in, tell_found, basis_found, wal_start, starts_of};
 
 use crate::command::RunReport;
 use crate::told::{Told, ToldTasks};
-use crew::{Answer, Answers, Line, Script, Task, run_lines};
-use journal::HistoryEntry;
-use lsn_core::NoMemory;
-use shared_store::{Began, BeginWhy, OfCrew, Pass, Store, StoreAreas};
+use base_backup::OpenGate;
+use crew::{Answer, Answers, Line, Script, Task, run_worker};
+use lsn_core::{Lsn, NoMemory, StoreFault};
+use recovery::RecoveryFault;
+use shared_store::{Began, BeginWhy, Found, OfCrew, Pass, Store, StoreAreas, begin, find};
+use shared_summaries::Summaries;
 use std::alloc::Global;
+use std::boxed::Box;
 use std::marker::Brand;
-use timeline::Opened;
+use std::sync::Wait;
+use std::sync::ledger::Book;
+use store_ledgers::{AreaFaults, Blanks};
 use vault::{Held, Vault};
 
-/// What a run needs before it asks for areas: the task of its script, if that has one, room for the
-/// answers, and the timeline of its store.
+/// What a run needs before it asks for areas: the task of its script, if that has one, and room for
+/// the answers.
 #[derive(Drop)]
 pub struct Work {
     pub task: Option<Task>,
     pub answers: Vec<Answer>,
     pub list: Vec<Told>,
-}
-
-/// The memory of a timeline.
-pub fn new_line(alloc: Global) -> Result<Opened<HistoryEntry>, NoMemory> {
-    Ok(Opened::new(alloc)?)
 }
 
 /// The lines of a task, if there is one.
@@ -74,8 +75,10 @@ fn put(list: &mut Vec<Told>, told: Told)
 
 /// Runs the task of a script, if it has one, with the areas of its backups, at this moment.
 fn run_work<J: OfCrew, V: Vault>(
+    rt: &impl Wait,
     alloc: Global,
-    store: &mut Store<J, V>,
+    store: &Store<J, V>,
+    sums: &Summaries<J, V>,
     pass: &mut Pass<J>,
     held: &mut [Held<V>],
     when: u64,
@@ -84,9 +87,8 @@ fn run_work<J: OfCrew, V: Vault>(
     requires room { IsReady work }
     requires when { when ≤ 253402207199 }
     requires held { AreHeld (areas_asked (lines_in work.task)) held.old }
-    requires seen { pass.old.list ≡ store.old.history }
-    ensures run { RunsTasks (J.tells ≡ true) when result pass.old pass.new store.old store.new
-        (areas_of V.Vault held.old) (areas_of V.Vault held.new) }
+    ensures run { RunsTasks (J.tells ≡ true) (basis_of J.settings when J.found J.sums) result
+        pass.old pass.new (areas_of V.Vault held.old) (areas_of V.Vault held.new) }
     ensures script { tasks_told result ≡ task_list work.task }
     ensures later { AreLater V.Vault held.old held.new }
 {
@@ -99,11 +101,14 @@ fn run_work<J: OfCrew, V: Vault>(
     let Some(task) = task else {
         return ToldTasks::from_vec(list);
     };
-    run_lines(
+    run_worker(
+        rt,
         alloc,
         store,
+        sums,
         pass,
         held,
+        &OpenGate,
         when,
         task.lines.as_slice(),
         &mut answers,
@@ -113,101 +118,203 @@ fn run_work<J: OfCrew, V: Vault>(
     ToldTasks::from_vec(list)
 }
 
-/// The pass of the only worker.
-fn only_pass<J: OfCrew>(crew: Vec<Pass<J>>) -> Pass<J>
-    requires { length crew.items ≡ 1 }
-    ensures { crew.items ≡ result ∷ [] }
-{
-    let mut crew = crew;
-    match crew.pop() {
-        Some(pass) => pass,
-        None => unreachable!(),
-    }
-}
-
-/// Runs a script on the areas of a store, with so many frames of each partition: begins it, runs the
-/// lines, and closes it.
-fn run_named<J: OfCrew, V: Vault>(
+/// Shares the area of the summaries on an open store, runs a script there with its only worker's pass, and
+/// takes the area back. The pass learns what was known of the summaries.
+fn run_shared<J: OfCrew, V: Vault>(
+    rt: &impl Wait,
     alloc: Global,
-    line: Opened<HistoryEntry>,
-    areas: StoreAreas<V>,
-    frames: u32,
+    store: &Store<J, V>,
+    sums: Box<V>,
+    book: Book<AreaFaults<J, 5>>,
+    pass: &mut Pass<J>,
     held: &mut [Held<V>],
     when: u64,
     work: Work,
-) -> (StoreAreas<V>, Result<RunReport, BeginWhy>)
+) -> (V, Book<AreaFaults<J, 5>>, ToldTasks)
     requires room { IsReady work }
     requires when { when ≤ 253402207199 }
     requires held { AreHeld (areas_asked (lines_in work.task)) held.old }
-    requires name { line ≡ J.table }
-    requires crew { J.workers ≡ 1 }
-    requires told { J.tells ≡ true → AllTell V.Vault areas }
-    ensures runs { RunsOn V.Vault J.tells when areas result.0
-        (areas_of V.Vault held.old) (areas_of V.Vault held.new) result.1 }
-    ensures script { IfOk result.1 (λ report. tasks_told report.told ≡ task_list work.task) }
-    ensures later { NoneFell (faults_of V.Vault areas) (faults_of V.Vault result.0) }
+    requires sums { (J.sums ≡ V.files (box_value sums))
+        × (J.starts 5 ≡ V.faults (box_value sums)) }
+    requires book { book.total ≡ 0 }
+    requires fresh { pass.old ≡ fresh_pass 0 J.found }
+    ensures ran { HasRunTo V.Vault (J.tells ≡ true) (basis_of J.settings when J.found J.sums)
+        (J.starts 5) pass.new result.0 result.1.total (areas_of V.Vault held.old)
+        (areas_of V.Vault held.new) result.2 }
+    ensures script { tasks_told result.2 ≡ task_list work.task }
     ensures held_later { AreLater V.Vault held.old held.new }
 {
-    let began = match Store::<J, V>::begin(alloc, line, areas, 1, frames) {
+    let sums = Summaries::begin(sums, store, pass, book);
+    let told = run_work(rt, alloc, store, &sums, pass, held, when, work);
+    let (sums, book) = sums.close(store, pass);
+    (sums, book, told)
+}
+
+/// Runs a script on a store that was begun for one worker, and closes it.
+fn run_begun<J: OfCrew, V: Vault>(
+    rt: &impl Wait,
+    alloc: Global,
+    began: Began<J, V>,
+    sums: Box<V>,
+    held: &mut [Held<V>],
+    when: u64,
+    work: Work,
+) -> (StoreAreas<V>, V, ToldTasks, Result<Lsn, StoreFault>)
+    requires room { IsReady work }
+    requires when { when ≤ 253402207199 }
+    requires held { AreHeld (areas_asked (lines_in work.task)) held.old }
+    requires workers { (J.workers ≡ 1) × (J.passes ≡ J.workers) }
+    requires sums { (J.sums ≡ V.files (box_value sums))
+        × (J.starts 5 ≡ V.faults (box_value sums)) }
+    requires book { began.sums.total ≡ 0 }
+    requires fresh { began.crew.items ≡ fresh_passes 1 J.found }
+    ensures ran { HasRunOn V.Vault (J.tells ≡ true) (basis_of J.settings when J.found J.sums)
+        J.wal J.starts result.0 result.1 (areas_of V.Vault held.old)
+        (areas_of V.Vault held.new) result.2 result.3 }
+    ensures script { tasks_told result.2 ≡ task_list work.task }
+    ensures held_later { AreLater V.Vault held.old held.new }
+{
+    let Began {
+        store,
+        crew,
+        sums: book,
+    } = began;
+    let mut crew = crew;
+    let pass = &mut crew[0];
+    let (sums, book, told) = run_shared(rt, alloc, &store, sums, book, pass, held, when, work);
+    let mut book = book;
+    let (areas, closed) = store.close(alloc, crew, &mut book);
+    (areas, sums, told, closed)
+}
+
+/// Begins a store that was found, at the name that the call's proof picks, for one worker, runs a script
+/// on it, and closes it.
+fn run_found<J: OfCrew, V: Vault>(
+    rt: &impl Wait,
+    alloc: Global,
+    found: Found<V>,
+    blanks: Blanks,
+    sums: Box<V>,
+    held: &mut [Held<V>],
+    when: u64,
+    work: Work,
+) -> (StoreAreas<V>, V, Result<RunReport, BeginWhy>)
+    requires room { IsReady work }
+    requires when { when ≤ 253402207199 }
+    requires held { AreHeld (areas_asked (lines_in work.task)) held.old }
+    requires names { (found.opened.table ≡ J.table) × (found.opened.list ≡ J.found)
+        × (found.settings ≡ J.settings) }
+    requires ledgers { AreNamed J.entries_named J.faults_named J.commands_named J.passes blanks }
+    requires crew { (J.workers ≡ 1) × (J.passes ≡ J.workers) }
+    requires starts { AreStarts V.Vault J.starts J.wal found }
+    requires sums { (J.sums ≡ V.files (box_value sums))
+        × (J.starts 5 ≡ V.faults (box_value sums)) }
+    requires stands { IsStanding V.Vault found }
+    requires told { J.tells ≡ true → IsSome (V.files found.wal) }
+    ensures runs { EndsRun V.Vault (J.tells ≡ true) (basis_of J.settings when J.found J.sums)
+        J.wal J.starts found (box_value sums) result.0 result.1
+        (areas_of V.Vault held.old) (areas_of V.Vault held.new) result.2 }
+    ensures script { IfOk result.2 (λ report. tasks_told report.told ≡ task_list work.task) }
+    ensures held_later { AreLater V.Vault held.old held.new }
+{
+    let opened = found.tip.end;
+    let began = match begin::<J, V>(alloc, found, blanks, 1) {
         Ok(began) => began,
-        Err(fault) => return (fault.areas, Err(fault.why)),
+        Err(areas) => {
+            let why = BeginWhy::Data(StoreFault::NoMemory);
+            return (areas, Box::into_inner(sums), Err(why));
+        }
     };
-    let Began { store, crew, tip } = began;
-    let mut store = store;
-    let mut pass = only_pass(crew);
-    let told = run_work(alloc, &mut store, &mut pass, held, when, work);
-    store.know();
-    let (areas, closed) = store.close(alloc);
+    let (areas, sums, told, closed) = run_begun(rt, alloc, began, sums, held, when, work);
     let report = RunReport {
-        opened: tip.end,
+        opened,
         told,
         closed,
     };
-    (areas, Ok(report))
+    (areas, sums, Ok(report))
 }
 
-/// The same, by the name of the timeline that is handed over.
-fn run_branded<V: Vault>(
+/// The same, by the names of what was found and of the ledgers that are handed over.
+fn run_named<V: Vault>(
+    rt: &impl Wait,
     alloc: Global,
-    line: Opened<HistoryEntry>,
+    found: Found<V>,
+    blanks: Blanks,
+    sums: Box<V>,
+    held: &mut [Held<V>],
+    when: u64,
+    work: Work,
+) -> (StoreAreas<V>, V, Result<RunReport, BeginWhy>)
+    requires room { IsReady work }
+    requires when { when ≤ 253402207199 }
+    requires held { AreHeld (areas_asked (lines_in work.task)) held.old }
+    requires ledgers { HaveParts 1 blanks }
+    requires stands { IsStanding V.Vault found }
+    ensures runs { EndsRun V.Vault (tell_found V.Vault found ≡ true)
+        (basis_found V.Vault found (box_value sums) when) (wal_start V.Vault found)
+        (starts_of V.Vault found (box_value sums)) found (box_value sums) result.0 result.1
+        (areas_of V.Vault held.old) (areas_of V.Vault held.new) result.2 }
+    ensures script { IfOk result.2 (λ report. tasks_told report.told ≡ task_list work.task) }
+    ensures held_later { AreLater V.Vault held.old held.new }
+{
+    run_found::<Brand, V>(rt, alloc, found, blanks, sums, held, when, work)
+}
+
+/// Finds a store on areas, with so many frames of each partition, begins it, runs a script on it, and
+/// closes it.
+fn run_store<V: Vault>(
+    rt: &impl Wait,
+    alloc: Global,
     areas: StoreAreas<V>,
+    sums: Box<V>,
     frames: u32,
     held: &mut [Held<V>],
     when: u64,
     work: Work,
-) -> (StoreAreas<V>, Result<RunReport, BeginWhy>)
+) -> (StoreAreas<V>, V, Result<RunReport, BeginWhy>)
     requires room { IsReady work }
     requires when { when ≤ 253402207199 }
     requires held { AreHeld (areas_asked (lines_in work.task)) held.old }
-    ensures runs { RunsOn V.Vault (all_tell V.Vault areas) when areas result.0
-        (areas_of V.Vault held.old) (areas_of V.Vault held.new) result.1 }
-    ensures script { IfOk result.1 (λ report. tasks_told report.told ≡ task_list work.task) }
-    ensures later { NoneFell (faults_of V.Vault areas) (faults_of V.Vault result.0) }
+    ensures runs { RunsOn V.Vault when areas result.0 (box_value sums) result.1
+        (areas_of V.Vault held.old) (areas_of V.Vault held.new) result.2 }
+    ensures script { IfOk result.2 (λ report. tasks_told report.told ≡ task_list work.task) }
     ensures held_later { AreLater V.Vault held.old held.new }
 {
-    run_named::<Brand, V>(alloc, line, areas, frames, held, when, work)
+    let blanks = Blanks::new(1);
+    match find(alloc, areas, frames) {
+        Ok(found) => run_named(rt, alloc, found, blanks, sums, held, when, work),
+        Err(fault) => (fault.areas, Box::into_inner(sums), Err(fault.why)),
+    }
 }
 
-/// The same, with the areas of the backups as they are handed on.
+/// The same, with the area of summaries on the heap, and with those of the backups as they are handed
+/// on.
 pub fn run_areas<V: Vault>(
+    rt: &impl Wait,
     alloc: Global,
-    line: Opened<HistoryEntry>,
     areas: StoreAreas<V>,
+    sums: V,
     frames: u32,
     held: Vec<Held<V>>,
     when: u64,
     work: Work,
-) -> (Vec<Held<V>>, StoreAreas<V>, Result<RunReport, BeginWhy>)
+) -> (Vec<Held<V>>, V, StoreAreas<V>, Result<RunReport, BeginWhy>)
     requires room { IsReady work }
     requires when { when ≤ 253402207199 }
     requires held { AreHeld (areas_asked (lines_in work.task)) held.items }
-    ensures runs { RunsOn V.Vault (all_tell V.Vault areas) when areas result.1
-        (areas_of V.Vault held.items) (areas_of V.Vault result.0.items) result.2 }
-    ensures script { IfOk result.2 (λ report. tasks_told report.told ≡ task_list work.task) }
-    ensures later { NoneFell (faults_of V.Vault areas) (faults_of V.Vault result.1) }
+    ensures runs { RunsOn V.Vault when areas result.2 sums result.1
+        (areas_of V.Vault held.items) (areas_of V.Vault result.0.items) result.3 }
+    ensures script { IfOk result.3 (λ report. tasks_told report.told ≡ task_list work.task) }
     ensures held_later { AreLater V.Vault held.items result.0.items }
 {
     let mut held = held;
-    let (areas, answer) = run_branded(alloc, line, areas, frames, &mut held, when, work);
-    (held, areas, answer)
+    let sums = match Box::new(alloc, sums) {
+        Ok(sums) => sums,
+        Err(refused) => {
+            let why = BeginWhy::Wal(RecoveryFault::NoMemory);
+            return (held, refused.value, areas, Err(why));
+        }
+    };
+    let (areas, sums, answer) = run_store(rt, alloc, areas, sums, frames, &mut held, when, work);
+    (held, sums, areas, answer)
 }
