@@ -1,12 +1,12 @@
 -- The backups of chains that a run answered make sound chains.
-use Rattle.std.proofs.Common.{◌≡◌, ◌≢◌, ℕ, zero, suc, ◌<◌, ◌≤◌, Bool, true, false, List, [], ◌∷◌, ◌++◌, map, append_assoc, length, take, drop, Option, Some, None, Ok, refl, sym, ap, subst, ◌∙◌, arith, ◌⊎◌, inl, inr}
+use Rattle.std.proofs.Common.{◌≡◌, ◌≢◌, ℕ, zero, suc, ◌<◌, ◌≤◌, Bool, true, List, [], ◌∷◌, ◌++◌, map, append_assoc, length, take, drop, Option, Some, None, Ok, refl, sym, ap, subst, ◌∙◌, arith, ◌⊎◌, inl, inr}
 use Rattle.std.specs.Prelude.{IsSome, slice_get, ◌==◌}
 use Rattle.std.specs.List.{list_any}
 use Rattle.std.specs.FinMap.{get, insert, empty, get-empty}
 use Rattle.std.specs.Ordering.{nat_cmp}
 use Rattle.std.specs.Cmp.Lexicographic.{slice_cmp}
 use Rattle.std.proofs.lemmas.Bool.{and_from, eq-eqb, or_left, or_right}
-use Rattle.std.proofs.lemmas.List.{take-take, take-append-drop, length-take, length-map}
+use Rattle.std.proofs.lemmas.List.{take-take, take-append-drop, length-take}
 use Rattle.std.proofs.lemmas.Option.{slice_get_within}
 use Rattle.std.proofs.Math.Seq.{take-append_seam, drop-append_seam}
 use mathlib.Core.List.{IsPrefix}
@@ -30,8 +30,9 @@ use Rattle.fuzzy_copies.specs.Sound.{IsSoundCopy}
 use Rattle.fuzzy_copies.specs.Taken.{IsRunning}
 use Rattle.journal.specs.Lawful.{IsLawful}
 use Rattle.journal.proofs.Stands.{lawful_orderly}
-use Rattle.summary_store.specs.Honest.{IsHonest, is_redo_start}
-use Rattle.summary_publish.specs.Laws.{AdvancesSumUp}
+use Rattle.summary_store.specs.Honest.{is_redo_start}
+use Rattle.shared_summaries.specs.Laws.{AnswersSumUp}
+use Rattle.shared_summaries.specs.Shelf.{IsTrueFor, states}
 use Rattle.summary_publish.specs.Published.{AdvanceAnswers}
 use Rattle.manifest.specs.Listing.{Listing}
 use Rattle.manifest.specs.Text.{manifest_text}
@@ -46,7 +47,7 @@ use Rattle.chain_laws.specs.Chain.{IsSoundChain}
 use Rattle.chain_laws.specs.Increment.{IsIncrementOf}
 use Rattle.chain_laws.specs.Laws.{IncrementsExtendSoundChains, FullBackupsAreSoundChains, SoundChainsStaySound}
 use Rattle.chain_laws.proofs.Taken.{IsSumOf, sum_of, increment_of}
-use Rattle.command_base.specs.Areas.{backup_name, sums_name, AreaIsDurable}
+use Rattle.command_base.specs.Areas.{backup_name, AreaIsDurable}
 use Rattle.command_base.proofs.Told.{some_told, at_told}
 use Rattle.crew.specs.declared.script.Command.{Command}
 use Rattle.crew.specs.declared.script.Command.TheVariants as command
@@ -54,17 +55,17 @@ use Rattle.crew.specs.declared.script.Line.{Line}
 use Rattle.crew.specs.declared.answer.Answer.{Answer}
 use Rattle.crew.specs.declared.answer.Answer.TheVariants.{Backup}
 use Rattle.crew.specs.Backups.{area_asked, areas_asked}
-use Rattle.crew.specs.Run.{Basis, HoldsBackup, HoldsIncr, IsAnswered, IsHonestFor, TakesFull, TakesIncr, basis_of, incr_areas, states}
-use Rattle.crew.proofs.Kept.{never_empty, never_sums}
+use Rattle.crew.specs.Run.{Basis, HoldsBackup, HoldsIncr, IsAnswered, TakesFull, TakesIncr, incr_areas}
+use Rattle.crew.proofs.Kept.{never_empty}
 use Rattle.run_command.specs.declared.told.Told.{Told}
 use Rattle.run_command.specs.declared.command.RunReport.{RunReport}
-use Rattle.run_command.specs.Run.{RunDone, AreTold, backups_asked, tasks_told}
+use Rattle.run_command.specs.Run.{RunDone, AreTold, backups_asked, run_basis, tasks_told}
 use Rattle.run_command.proofs.OwnEntries.{AreOwn, written_own}
 use Rattle.run_command.proofs.ToldLess.{one_front, one_back}
 use Rattle.backup_laws.specs.Finished.{IsIncrBackup}
 use Rattle.backup_laws.specs.Runs.{IsBackedUp}
 use Rattle.backup_laws.specs.Chains.{IsIncremented, TellsThroughout, FindsOwn, IsSoundFull, IsSoundIncrement, FullBackupsOfRunsAreSound, IncrementsOfRunsExtendChains, RunsKeepChainsSound}
-use Rattle.backup_laws.proofs.Moments.{IsMoment, moment_of, asked_of_line}
+use Rattle.backup_laws.proofs.Moments.{IsMoment, IsToldMoment, told_moment, asked_of_line}
 use Rattle.backup_laws.proofs.SoundRuns.{begins_at, taken_in, own_entries, found_alike, sound_logged}
 
 -- ---- histories
@@ -103,7 +104,7 @@ pub record KnownOfChains : Type 0 where
   pub extend : IncrementsExtendSoundChains
   pub full : FullBackupsAreSoundChains
   pub later : SoundChainsStaySound
-  pub sums : AdvancesSumUp
+  pub sums : AnswersSumUp
 
 -- a directory with a manifest holds a file
 listed_some : (files : Files) (m : Listing) → HasListing files m → files ≢ empty
@@ -160,7 +161,7 @@ module _ (when : ℕ) (old new : Areas) (report : RunReport) (run : RunDone when
   h = run.history
 
   abbrev basis : Basis
-  basis = basis_of run.settings when
+  basis = run_basis run.settings when run.found old
 
   law : IsLawful s.segment h
   law = run.happened.lawful tell.store
@@ -168,13 +169,14 @@ module _ (when : ℕ) (old new : Areas) (report : RunReport) (run : RunDone when
   orderly : IsOrderly 0 h
   orderly = lawful_orderly s.segment h law
 
-  abbrev found : ℕ
-  found = length run.found
+  abbrev entries : List Entry
+  entries = map entry_of run.found
 
-  found_front : take found h ≡ map entry_of run.found
-  found_front =
-      ap (take found) run.happened.grown
-      ∙ (ap (λ (n : ℕ). take n (map entry_of run.found ++ run.happened.own)) (sym (length-map run.found entry_of)) ∙ take-append_seam (map entry_of run.found) run.happened.own)
+  abbrev found : ℕ
+  found = length entries
+
+  found_front : take found h ≡ entries
+  found_front = ap (take found) run.happened.grown ∙ take-append_seam entries run.happened.own
 
   -- ---- one line of a worker
 
@@ -185,24 +187,24 @@ module _ (when : ℕ) (old new : Areas) (report : RunReport) (run : RunDone when
     asked : (n : List ℕ) → IsOneOf n (area_asked line.command) → IsOneOf n names
     asked n one = asked_of_line n by.task.lines number line behind lines one
 
-    among : (n : List ℕ) → IsOneOf n names → IsOneOf n (backups_asked (tasks_told report.told))
-    among n one = asked_among report.told worker by n there one
-
-    abbrev given : IsAnswered (AreTold old) basis worker h found by.task.lines by.answers run.held run.kept
+    abbrev given : IsAnswered (AreTold old) basis worker h found by.task.lines by.answers (run.held worker) (run.kept worker)
     given = run.happened.answered worker by there
 
-    moment : IsMoment names (AreTold old) basis worker h found (run.held sums_name) line (Backup start end) run.kept
-    moment =
-        moment_of names (AreTold old) basis worker h found (run.held sums_name) found by.task.lines by.answers (accepted_by worker h) given.to run.held run.kept false given.answered (tell.behind worker by there)
-        (λ n one. subst (λ (a : AreaState). IsSome a.files) (sym (run.were n (among n one))) (tell.before n (among n one)))
-        (omega arith) given.order (λ e t order honest. honest) number line behind (Backup start end) later lines answers refl
+    told_then : IsToldMoment names (AreTold old) basis worker h found line (Backup start end) (run.kept worker)
+    told_then =
+        told_moment names (AreTold old) basis worker h found found by.task.lines by.answers (accepted_by worker h) given.to (run.held worker) (run.kept worker) given.answered (tell.behind worker by there)
+        (λ n one. subst (λ (a : AreaState). IsSome a.files) (sym (run.were worker by there n one)) (tell.before n (asked_among report.told worker by n there one)))
+        (omega arith) number line behind (Backup start end) later lines answers
+
+    abbrev moment : IsMoment (AreTold old) basis worker h found line (Backup start end) (run.kept worker)
+    moment = told_then.moment
 
     -- the area of a backup that held a file then is as it was when the run ends
-    still : (n : List ℕ) (m : Files) → IsOneOf n (area_asked line.command) → n ≢ sums_name → (moment.after n).files ≡ Some m → m ≢ empty → IsStill (moment.after n) (new n)
-    still n m one apart is some = subst (IsStill (moment.after n)) (run.are n (among n (asked n one))) (moment.keeps n m apart is some)
+    still : (n : List ℕ) (m : Files) → IsOneOf n (area_asked line.command) → (moment.after n).files ≡ Some m → m ≢ empty → IsStill (moment.after n) (new n)
+    still n m one is some = subst (IsStill (moment.after n)) (run.are worker by there n (asked n one)) (moment.keeps n m is some)
 
-    stays : (n : List ℕ) (m : Files) → IsOneOf n (area_asked line.command) → n ≢ sums_name → (moment.after n).files ≡ Some m → m ≢ empty → (new n).files ≡ Some m
-    stays n m one apart is some = (still n m one apart is some).files ∙ is
+    stays : (n : List ℕ) (m : Files) → IsOneOf n (area_asked line.command) → (moment.after n).files ≡ Some m → m ≢ empty → (new n).files ≡ Some m
+    stays n m one is some = (still n m one is some).files ∙ is
 
     front : IsPrefix (take moment.next h) h
     front = (drop moment.next h, take-append-drop moment.next h)
@@ -245,7 +247,7 @@ module _ (when : ℕ) (old new : Areas) (report : RunReport) (run : RunDone when
           begins_at worker moment.from (take moment.next h) h start.0 holds.checkpoint end.0 front holds.entries
 
       full_told : (files : Files) × ((moment.after (backup_name name)).files ≡ Some files)
-      full_told = some_told (moment.after (backup_name name)).files (moment.told_after (backup_name name) (asked (backup_name name) one_full))
+      full_told = some_told (moment.after (backup_name name)).files (told_then.told_after (backup_name name) (asked (backup_name name) one_full))
 
       full_directory : IsFullBackup s name when full_there.copy start (record { 0 = full_there.checkpoint }) end full_there.count (Some full_told.0)
       full_directory = subst (λ (o : Option Files). IsFullBackup s name when full_there.copy start (record { 0 = full_there.checkpoint }) end full_there.count o) full_told.1 full_there.directory
@@ -254,7 +256,7 @@ module _ (when : ℕ) (old new : Areas) (report : RunReport) (run : RunDone when
       full_some = put_some _ (manifest_text (listing_with s.system full_directory.rows start end)) full_told.0 full_directory.files_are
 
       full_stays : (new (backup_name name)).files ≡ Some full_told.0
-      full_stays = stays (backup_name name) full_told.0 one_full (never_sums name) full_told.1 full_some
+      full_stays = stays (backup_name name) full_told.0 one_full full_told.1 full_some
 
       -- what is left of it when the run ends
       pub full_left : FullLeft s when name start end (new (backup_name name))
@@ -264,7 +266,7 @@ module _ (when : ℕ) (old new : Areas) (report : RunReport) (run : RunDone when
         checkpoint = record { 0 = full_there.checkpoint };
         count = full_there.count;
         told = full_stays;
-        durable = durable_still (moment.after (backup_name name)) (new (backup_name name)) (still (backup_name name) full_told.0 one_full (never_sums name) full_told.1 full_some) full_taken.1;
+        durable = durable_still (moment.after (backup_name name)) (new (backup_name name)) (still (backup_name name) full_told.0 one_full full_told.1 full_some) full_taken.1;
         backup = full_directory;
       }
 
@@ -321,9 +323,6 @@ module _ (when : ℕ) (old new : Areas) (report : RunReport) (run : RunDone when
       one_prior : IsOneOf (backup_name prior) (area_asked line.command)
       one_prior = one_asked (backup_name prior) (inr (inl refl))
 
-      one_sums : IsOneOf sums_name (area_asked line.command)
-      one_sums = one_asked sums_name (inr (inr (inl refl)))
-
       -- the history up to the end of the backup
       abbrev now : List Entry
       now = take moment.next h
@@ -335,7 +334,7 @@ module _ (when : ℕ) (old new : Areas) (report : RunReport) (run : RunDone when
       from_prior = holds.plan.prior.start
 
       abbrev out_told : (files : Files) × ((moment.after (backup_name name)).files ≡ Some files)
-      out_told = some_told (moment.after (backup_name name)).files (moment.told_after (backup_name name) (asked (backup_name name) one_out))
+      out_told = some_told (moment.after (backup_name name)).files (told_then.told_after (backup_name name) (asked (backup_name name) one_out))
 
       abbrev Directory : Option Files → Type 0
       Directory o = IsDirectory s (λ begun. incr_label start (record { 0 = holds.checkpoint }) (record { 0 = from_prior }) begun name) when (map file_of holds.files) start end holds.count o
@@ -347,7 +346,7 @@ module _ (when : ℕ) (old new : Areas) (report : RunReport) (run : RunDone when
       out_some = put_some _ (manifest_text (listing_with s.system directory.rows start end)) out_told.0 directory.files_are
 
       incr_stays : (new (backup_name name)).files ≡ Some out_told.0
-      incr_stays = stays (backup_name name) out_told.0 one_out (never_sums name) out_told.1 out_some
+      incr_stays = stays (backup_name name) out_told.0 one_out out_told.1 out_some
 
       -- what is left of it when the run ends
       pub incr_left : IncrLeft (AreTold old) s when name start end (new (backup_name name))
@@ -358,7 +357,7 @@ module _ (when : ℕ) (old new : Areas) (report : RunReport) (run : RunDone when
         prior = record { 0 = from_prior };
         count = holds.count;
         told = incr_stays;
-        durable = durable_still (moment.after (backup_name name)) (new (backup_name name)) (still (backup_name name) out_told.0 one_out (never_sums name) out_told.1 out_some) incr_there.2;
+        durable = durable_still (moment.after (backup_name name)) (new (backup_name name)) (still (backup_name name) out_told.0 one_out out_told.1 out_some) incr_there.2;
         backup = record {
           basis = holds.plan;
           relseg = holds.relseg;
@@ -371,63 +370,70 @@ module _ (when : ℕ) (old new : Areas) (report : RunReport) (run : RunDone when
         };
       }
 
+      -- this line took the backup
+      taken : IsIncremented report.told name start end
+      taken = record {
+        worker = worker;
+        by = by;
+        there = there;
+        number = number;
+        line = line;
+        prior = prior;
+        behind = behind;
+        lines = lines;
+        takes = takes;
+        later = later;
+        answers = answers;
+      }
+
       module _ (known : KnownOfChains) (finds : FindsOwn when old new report run) where
         -- what was seen of the history when it was summed up
         abbrev seen : List Entry
         seen = take holds.summed.seen now
 
-        abbrev older : List Entry
-        older = take moment.from h
+        abbrev own : List Entry
+        own = drop found seen
 
-        abbrev more : List Entry
-        more = drop moment.from seen
-
-        seen_past : moment.from ≤ holds.summed.seen
+        seen_past : found ≤ holds.summed.seen
         seen_past =
             let c = holds.summed.checkpoint in
-            omega (arith, c.later, slice_get_within seen c.number c.first c.there, length-take holds.summed.seen now)
+            omega (arith, moment.late, c.later, slice_get_within seen c.number c.first c.there, length-take holds.summed.seen now)
 
         next_past : holds.summed.seen ≤ moment.next
         next_past = omega (arith, holds.summed.within, length-take moment.next h)
 
-        older_front : take moment.from seen ≡ older
-        older_front = take-take moment.from holds.summed.seen now seen_past ∙ take-take moment.from moment.next h (omega (arith, seen_past, next_past))
+        seen_front : take found seen ≡ entries
+        seen_front = take-take found holds.summed.seen now seen_past ∙ (take-take found moment.next h (omega (arith, seen_past, next_past)) ∙ found_front)
 
-        parts : older ++ more ≡ seen
-        parts = ap (λ (es : List Entry). es ++ more) (sym older_front) ∙ take-append-drop moment.from seen
+        parts : entries ++ own ≡ seen
+        parts = ap (λ (es : List Entry). es ++ own) (sym seen_front) ∙ take-append-drop found seen
 
         abbrev rest : List Entry
         rest = drop holds.summed.seen now ++ drop moment.next h
 
-        whole : (older ++ more) ++ rest ≡ h
+        whole : (entries ++ own) ++ rest ≡ h
         whole =
             ap (λ (es : List Entry). es ++ rest) parts
             ∙ (sym (append_assoc seen (drop holds.summed.seen now) (drop moment.next h))
             ∙ (ap (λ (es : List Entry). es ++ drop moment.next h) (take-append-drop holds.summed.seen now) ∙ take-append-drop moment.next h))
 
-        redo_in : list_any (is_redo_start start.0) more ≡ true
+        redo_in : list_any (is_redo_start start.0) own ≡ true
         redo_in =
             let c = holds.summed.checkpoint in
-            any_behind (is_redo_start start.0) seen moment.from c.number c.first c.later c.there
+            any_behind (is_redo_start start.0) seen found c.number c.first (omega (arith, moment.late, c.later)) c.there
             (and_from (is_redo c.first.act) (c.first.start == start.0) (ap is_redo c.starts.0) (eq-eqb c.first.start start.0 c.redo_is))
 
-        -- the area of summaries was honest then
-        sums_told : (m : Files) × ((moment.before sums_name).files ≡ Some m)
-        sums_told = some_told (moment.before sums_name).files (moment.told_before sums_name (asked sums_name one_sums))
-
-        sums_honest : IsHonest older sums_told.0
-        sums_honest =
-            let base : IsHonestFor (take found h) (run.held sums_name) =
-            subst (λ (a : AreaState). IsHonestFor (take found h) a) (sym (run.were sums_name (among sums_name (asked sums_name one_sums))))
-            (subst (λ (es : List Entry). IsHonestFor es (old sums_name)) (sym found_front) finds.honest) in
-            at_told (moment.before sums_name).files sums_told.0 (IsHonest older) sums_told.1 (moment.honest tell.store orderly base)
+        -- the area of summaries told its files then, and the truth
+        sums_told : (m : Files) × (holds.summed.old.files ≡ Some m)
+        sums_told = some_told holds.summed.old.files (holds.summed.shelved.told (tell.sums name start end taken))
 
         summed_up : from_prior < start.0 → IsSumOf h from_prior start.0 holds.plan.summary
         summed_up less =
             subst (λ (es : List Entry). IsSumOf es from_prior start.0 holds.plan.summary) whole
-            (sum_of known.sums states (AreTold old) tell.store older more rest when from_prior start.0 (moment.before sums_name) (moment.after sums_name) sums_told.0 holds.plan.summary
-            (subst (IsOrderly 0) (sym whole) orderly) redo_in sums_told.1 sums_honest
-            (subst (λ (es : List Entry). AdvanceAnswers states (AreTold old) es when from_prior start.0 (moment.before sums_name) (moment.after sums_name) (Ok holds.plan.summary)) (sym parts) holds.summed.covers) less)
+            (sum_of known.sums states (AreTold old) tell.store entries own rest basis.sums when from_prior start.0 holds.summed.old holds.summed.new sums_told.0 holds.plan.summary
+            (subst (IsOrderly 0) (sym whole) orderly) redo_in finds.honest
+            (subst (λ (es : List Entry). IsTrueFor entries basis.sums es holds.summed.old.files) (sym parts) (holds.summed.shelved.true_for tell.store)) sums_told.1
+            (subst (λ (es : List Entry). AdvanceAnswers states (AreTold old) es when from_prior start.0 holds.summed.old holds.summed.new (Ok holds.plan.summary)) (sym parts) holds.summed.covers) less)
 
         tidy : AreTidy empty h
         tidy = tidy_history s.segment run.found run.happened.own h law run.happened.grown (own_entries _ run.happened.own run.happened.of_run) finds.tidy
@@ -448,7 +454,7 @@ module _ (when : ℕ) (old new : Areas) (report : RunReport) (run : RunDone when
             (subst (λ (es : List Entry). IsSumOf es from_prior start.0 holds.plan.summary) (sym ahead) sum) holds.listed holds.sent directory.files_are)))
 
         prior_told : (files : Files) × ((moment.before (backup_name prior)).files ≡ Some files)
-        prior_told = some_told (moment.before (backup_name prior)).files (moment.told_before (backup_name prior) (asked (backup_name prior) one_prior))
+        prior_told = some_told (moment.before (backup_name prior)).files (told_then.told_before (backup_name prior) (asked (backup_name prior) one_prior))
 
         prior_listed : HasListing prior_told.0 holds.plan.prior
         prior_listed = at_told (moment.before (backup_name prior)).files prior_told.0 (λ m. HasListing m holds.plan.prior) prior_told.1 holds.prior.told
@@ -456,7 +462,7 @@ module _ (when : ℕ) (old new : Areas) (report : RunReport) (run : RunDone when
         pub incr_stands : (before : Files) × ((new (backup_name prior)).files ≡ Some before) × (files : Files) × ((new (backup_name name)).files ≡ Some files) × IsSoundIncrement s when h name start end before files
         incr_stands = (
           prior_told.0,
-          stays (backup_name prior) prior_told.0 one_prior (never_sums prior) (incr_there.1.files ∙ prior_told.1) (listed_some prior_told.0 holds.plan.prior prior_listed),
+          stays (backup_name prior) prior_told.0 one_prior (incr_there.1.files ∙ prior_told.1) (listed_some prior_told.0 holds.plan.prior prior_listed),
           out_told.0,
           incr_stays,
           record {

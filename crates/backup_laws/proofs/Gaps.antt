@@ -1,67 +1,45 @@
 -- Where a gap lies in what was kept and published.
-use Rattle.std.proofs.Common.{◌≡◌, ℕ, ◌-◌, ◌<◌, ◌≤◌, ◌==◌, Bool, true, false, cond, ◌&&◌, ◌||◌, inl, inr, List, [], ◌∷◌, ◌++◌, Option, Some, None, IfSome, option_map, refl, sym, ap, subst, ◌∙◌, ◌⊎◌, arith, append_assoc, true≢false}
-use Rattle.std.specs.Prelude.{nat_le, nat_lt}
-use Rattle.std.specs.List.{list_any, AllByRecursion}
+use Rattle.std.proofs.Common.{◌≡◌, ℕ, zero, suc, ◌-◌, ◌<◌, ◌≤◌, ◌==◌, Bool, true, false, cond, ◌&&◌, ◌||◌, inl, inr, List, [], ◌∷◌, ◌++◌, length, take, drop, Option, Some, None, option_map, Err, refl, sym, ap, subst, ◌∙◌, arith, true≢false}
+use Rattle.std.specs.Prelude.{nat_lt, IsSome}
+use Rattle.std.specs.List.{list_any}
 use Rattle.std.specs.FinMap.{keys}
-use Rattle.std.proofs.lemmas.Bool.{and_parts, and_from, cases_lt, lt-ltb, le-leb, eqb-true, eq-eqb}
-use Rattle.std.proofs.lemmas.List.{append-nil}
-use Rattle.std.proofs.lemmas.List.Folds.{list_any-append}
+use Rattle.std.proofs.lemmas.Bool.{and_parts, and_from, cases_lt, lt-ltb, eqb-true, eq-eqb}
+use Rattle.std.proofs.lemmas.List.{take-append-drop}
+use Rattle.std.proofs.lemmas.Map.Keys.{any_passes_from_place}
+use Rattle.std.proofs.lemmas.Option.{slice_get_within}
 use Rattle.lsn_core.specs.Files.{Files}
+use Rattle.lsn_core.specs.declared.lsn.Lsn.{Lsn}
 use Rattle.vault.specs.declared.area.Vault.{Ghosts}
 use Rattle.history.specs.Entry.{Entry}
 use Rattle.history.specs.Written.{is_redo}
 use Rattle.wal_summary.specs.declared.summary.Summary.{Summary}
-use Rattle.wal_summary.specs.Kept.{covers, is_covered, IsGap, IsCovering}
+use Rattle.wal_summary.specs.Kept.{IsGap}
 use Rattle.summary_store.specs.Kept.{AreKept, end_behind}
 use Rattle.summary_store.specs.Honest.{is_redo_start}
-use Rattle.summary_store.proofs.Keeping.{end_push}
 use Rattle.summary_publish.specs.Entries.{first_start, next_redo}
-use Rattle.summary_publish.specs.Published.{AreNext, IsWhole, ArePublished, AdvancesTo, with_file, with_files}
-use Rattle.summary_publish.proofs.Ranges.{any_behind, or_left}
+use Rattle.summary_publish.specs.Partly.{MayAdvance}
+use Rattle.summary_publish.specs.Published.{ArePublished, AdvanceAnswers, with_files}
+use Rattle.summary_publish.specs.declared.advancing.AdvanceFault.TheVariants as advance
+use Rattle.summary_publish.proofs.Adding.{end_append}
 use Rattle.summary_publish.proofs.Fitting.{one_of}
-use Rattle.base_backup.specs.Incr.{IsBegunAt}
-use Rattle.backup_laws.specs.Gaps.{FilesKeepOneList, PublishedAreKept, KeptBefore, IsOldGap, GapsAreOld, AnswersAreCovered, RefusedGapsAreOld}
-use Rattle.backup_laws.proofs.KeptFiles.{covered_below, kept_once, kept_one}
+use Rattle.summary_publish.proofs.KeptFiles.{covered_below, kept_once, next_kept, end_from}
+use Rattle.shared_summaries.specs.Grown.{HasGrown, IsOldGap}
+use Rattle.shared_summaries.specs.Shelf.{states}
+use Rattle.shared_summaries.proofs.Grown.{runs_begin_grown, publishing_grows, gaps_are_old}
+use Rattle.base_backup.specs.Entries.{HasCheckpointAt, SumsUp}
+use Rattle.base_backup.proofs.Marks.{checkpoint_on}
+use Rattle.command_base.proofs.Told.{some_told, at_told}
+use Rattle.backup_laws.specs.Gaps.{FilesKeepOneList, PublishedAreKept, GapsAreOld, AnswersAreCovered, RefusedGapsAreOld}
 
 -- ---- what is kept
 
 pub one_list : FilesKeepOneList
 one_list files one other a b = kept_once 0 files (keys files) one other a b
 
-next_kept : (h : List Entry) (made place : ℕ) (sums kept : List Summary) (files : Files) → AreKept files kept → end_behind 0 kept ≤ place → AreNext h made place sums → AllByRecursion IsWhole sums → AreKept (with_files sums files) (kept ++ sums)
-next_kept h made place [] kept files held le next whole = subst (AreKept files) (sym (append-nil kept)) held
-next_kept h made place (s ∷ ss) kept files held le next whole =
-    let same = next.0.starts in
-    let end = end_push 0 kept s in
-    subst (AreKept (with_files ss (with_file s files))) (append_assoc kept (s ∷ []) ss)
-    (next_kept h made s.end.0 ss (kept ++ (s ∷ [])) (with_file s files) (kept_one files s kept held whole.0 (omega (arith, le, same))) (omega (arith, end)) next.1 whole.1)
-
-end_from : (a : ℕ) (kept : List Summary) → end_behind 0 kept ≤ end_behind a kept
-end_from a [] = omega arith
-end_from a (s ∷ ss) = omega arith
-
 pub published_kept : PublishedAreKept
 published_kept h made files sums p = next_kept h made (end_behind (first_start h) p.kept) sums p.kept files p.held (end_from (first_start h) p.kept) p.next p.whole
 
--- ---- what is covered
-
-no_some : (a b : Bool) → (a || b) ≡ false → (a ≡ false) × (b ≡ false)
-no_some true b e = absurd (true≢false e)
-no_some false b e = (refl, e)
-
-or_right : (a b : Bool) → b ≡ true → (a || b) ≡ true
-or_right true b e = refl
-or_right false b e = e
-
--- what was published is covered, from its start to its end
-published_covers : (h : List Entry) (made place p : ℕ) (sums : List Summary) → AreNext h made place sums → place ≤ p → p < end_behind place sums → is_covered sums p ≡ true
-published_covers h made place p [] next low high = absurd (omega (arith, low, high))
-published_covers h made place p (s ∷ ss) next low high =
-    let same = next.0.starts in
-    elim (cases_lt p s.end.0) [
-      | inl here ↦ or_left (covers p s) (is_covered ss p) (and_from (nat_le s.start.0 p) (nat_lt p s.end.0) (le-leb s.start.0 p (omega (arith, same, low))) (lt-ltb p s.end.0 here))
-      | inr later ↦ or_right (covers p s) (is_covered ss p) (published_covers h made s.end.0 p ss next.1 later high)
-    ]
+-- ---- redo points
 
 no_next : (t : Bool) (n : ℕ) (rest : Option ℕ) → cond t (Some n) rest ≡ None → (t ≡ false) × (rest ≡ None)
 no_next true n rest e = absurd cc
@@ -82,131 +60,128 @@ last_redo place to (e ∷ es) none is =
     ])
     (λ behind. last_redo place to es parts.1 behind) is
 
--- ---- what an area has grown to
-
-end_append : (low : ℕ) (xs ys : List Summary) → end_behind low (xs ++ ys) ≡ end_behind (end_behind low xs) ys
-end_append low [] ys = refl
-end_append low (x ∷ xs) ys = end_append x.end.0 xs ys
-
-told_as : (o : Option Files) (m : Files) (P : Files → Type 0) → o ≡ Some m → IfSome o P → P m
-told_as o m P e held = subst (λ (x : Option Files). IfSome x P) e held
-
--- what is kept of an area begins with these, and behind them all is covered up to its end
-pub record IsGrown {V : Type 0} (g : Ghosts V) (first : ℕ) (kept : List Summary) (area : V) : Type 0 where
-  pub files : Files
-  pub told : g.files area ≡ Some files
-  pub more : List Summary
-  pub held : AreKept files (kept ++ more)
-  pub covered : (p : ℕ) → end_behind first kept ≤ p → p < end_behind (end_behind first kept) more → is_covered more p ≡ true
-
--- and that is past all redo points of a history
-pub record IsGrownTo {V : Type 0} (g : Ghosts V) (h : List Entry) (kept : List Summary) (area : V) : Type 0 where
-  pub grown : IsGrown g (first_start h) kept area
-  pub last : next_redo (end_behind (end_behind (first_start h) kept) grown.more) h ≡ None
-
-pub grown_first : {V : Type 0} (g : Ghosts V) (first : ℕ) (kept : List Summary) (area : V) → KeptBefore g area kept → IsGrown g first kept area
-grown_first g first kept area k = record {
-  files = k.files;
-  told = k.told;
-  more = [];
-  held = subst (AreKept k.files) (sym (append-nil kept)) k.held;
-  covered = λ p low high. absurd (omega (arith, low, high));
-}
-
--- so it is when more was published
-pub grown_more : {V : Type 0} (g : Ghosts V) (h : List Entry) (made : ℕ) (sums kept : List Summary) (old new : V) → IsGrown g (first_start h) kept old → IfSome (g.files old) (λ m. ArePublished h made m sums) → g.files new ≡ option_map (with_files sums) (g.files old) → IsGrownTo g h kept new
-grown_more g h made sums kept old new was published files =
-    let first = first_start h in
-    let end = end_behind first kept in
-    let p : ArePublished h made was.files sums = told_as (g.files old) was.files (λ m. ArePublished h made m sums) was.told published in
-    let same : p.kept ≡ kept ++ was.more = one_list was.files p.kept (kept ++ was.more) p.held was.held in
-    let start : end_behind first p.kept ≡ end_behind end was.more = ap (end_behind first) same ∙ end_append first kept was.more in
-    let next : AreNext h made (end_behind end was.more) sums = subst (λ (n : ℕ). AreNext h made n sums) start p.next in
-    let high = end_append end was.more sums in
-    record {
-      grown = record {
-        files = with_files sums was.files;
-        told = files ∙ ap (option_map (with_files sums)) was.told;
-        more = was.more ++ sums;
-        held = subst (AreKept (with_files sums was.files)) (append_assoc kept was.more sums)
-            (subst (λ (l : List Summary). AreKept (with_files sums was.files) (l ++ sums)) same (published_kept h made was.files sums p));
-        covered = λ q low lt.
-            list_any-append (covers q) was.more sums
-            ∙ elim (cases_lt q (end_behind end was.more)) [
-              | inl less ↦ or_left (is_covered was.more q) (is_covered sums q) (was.covered q low less)
-              | inr more ↦ or_right (is_covered was.more q) (is_covered sums q) (published_covers h made (end_behind end was.more) q sums next more (omega (arith, lt, high)))
-            ];
-      };
-      last = subst (λ (n : ℕ). next_redo n h ≡ None) (ap (λ (n : ℕ). end_behind n sums) start ∙ sym high) p.last;
-    }
-
 -- ---- where a gap lies
 
-end_with : (a b : ℕ) (kept : List Summary) → a < end_behind b kept → (a < end_behind 0 kept) ⊎ (a < b)
-end_with a b [] lt = inr lt
-end_with a b (s ∷ ss) lt = inl lt
+-- what was published behind what has grown has grown
+published_grows : (h : List Entry) (made : ℕ) (sums kept : List Summary) (was : Files) → HasGrown (first_start h) kept was → ArePublished h made was sums → HasGrown (first_start h) kept (with_files sums was)
+published_grows h made sums kept was grown p =
+    let may : MayAdvance (Unit {0}) h made was (with_files sums was) = inr (λ t. record {
+      kept = p.kept;
+      held = p.held;
+      some = record { sums = sums; next = λ told. p.next; whole = p.whole; left = inl refl };
+    }) in
+    publishing_grows (first_start h) h made kept was (with_files sums was) refl grown may
 
-pub grown_gap : {V : Type 0} (g : Ghosts V) (h : List Entry) (from to place : ℕ) (kept now : List Summary) (area : V) → list_any (is_redo_start to) h ≡ true → IsGrownTo g h kept area → IfSome (g.files area) (λ m. AreKept m now) → IsGap now from to place → IsOldGap (first_start h) kept from to place
-grown_gap g h from to place kept now area redo t held gap =
-    let first = first_start h in
-    let more = t.grown.more in
-    let is : now ≡ kept ++ more = one_list t.grown.files now (kept ++ more) (told_as (g.files area) t.grown.files (λ m. AreKept m now) t.grown.told held) t.grown.held in
-    let none = no_some (is_covered kept place) (is_covered more place) (sym (ap (λ (l : List Summary). is_covered l place) is ∙ list_any-append (covers place) kept more) ∙ gap.uncovered) in
-    let up = last_redo (end_behind (end_behind first kept) more) to h t.last redo in
-    let below = gap.below in
-    record {
-      later = gap.later;
-      below = gap.below;
-      uncovered = none.0;
-      old = elim (cases_lt place (end_behind first kept)) [
-        | inl lt ↦ end_with place first kept lt
-        | inr le ↦ absurd (true≢false (sym (t.grown.covered place le (omega (arith, below, up))) ∙ none.1))
-      ];
-    }
+-- and reaches up to each redo point
+reaches : (h : List Entry) (made : ℕ) (sums now : List Summary) (was : Files) (to : ℕ) → list_any (is_redo_start to) h ≡ true → ArePublished h made was sums → AreKept (with_files sums was) now → to ≤ end_behind (first_start h) now
+reaches h made sums now was to redo p held =
+    let first : ℕ = first_start h in
+    let is : now ≡ p.kept ++ sums = one_list (with_files sums was) now (p.kept ++ sums) held (published_kept h made was sums p) in
+    let ends : end_behind first now ≡ end_behind (end_behind first p.kept) sums = ap (end_behind first) is ∙ end_append first p.kept sums in
+    let up = last_redo (end_behind (end_behind first p.kept) sums) to h p.last redo in
+    omega (arith, ends, up)
 
--- what it has grown to behind what was published
-pub advanced_to : {V : Type 0} (g : Ghosts V) (told : Type 0) (h : List Entry) (made : ℕ) (old new : V) (kept : List Summary) (P : List Summary → Type 0) → told → IsGrown g (first_start h) kept old → AdvancesTo g told h made old new P → IsGrownTo g h kept new
-advanced_to g told h made old new kept P t was a = grown_more g h made a.advances.sums kept old new was (a.advances.published t) a.advances.files
+gap_old : (h : List Entry) (made : ℕ) (sums kept now : List Summary) (was : Files) (from to place : ℕ) → list_any (is_redo_start to) h ≡ true → HasGrown (first_start h) kept was → ArePublished h made was sums → AreKept (with_files sums was) now → IsGap now from to place → IsOldGap (first_start h) kept from to place
+gap_old h made sums kept now was from to place redo grown p held gap =
+    gaps_are_old (first_start h) kept now (with_files sums was) from to place (published_grows h made sums kept was grown p) held (reaches h made sums now was to redo p held) gap
+
+-- of an area
+gap_of : {V : Type 0} (g : Ghosts V) (told : Type 0) (h : List Entry) (made from to : ℕ) (old new : V) (place : Lsn) (was : Files) (kept : List Summary) → told → list_any (is_redo_start to) h ≡ true → g.files old ≡ Some was → HasGrown (first_start h) kept was → AdvanceAnswers g told h made from to old new (Err (advance.Gap place)) → IsOldGap (first_start h) kept from to place.0
+gap_of g told h made from to old new place was kept t redo is grown a =
+    let sums : List Summary = a.advances.sums in
+    let p : ArePublished h made was sums = at_told (g.files old) was (λ m. ArePublished h made m sums) is (a.advances.published t) in
+    let now : g.files new ≡ Some (with_files sums was) = a.advances.files ∙ ap (option_map (with_files sums)) is in
+    let held : AreKept (with_files sums was) a.kept = at_told (g.files new) (with_files sums was) (λ m. AreKept m a.kept) now a.held in
+    gap_old h made sums kept a.kept was from to place.0 redo grown p held a.so
 
 pub gaps_old : {V : Type 0} (g : Ghosts V) → GapsAreOld g
 gaps_old g tells h made from to old new place kept t redo before a =
-    grown_gap g h from to place.0 kept a.kept new redo
-    (advanced_to g (tells ≡ true) h made old new kept (λ l. IsGap l from to place.0) t (grown_first g (first_start h) kept old before) a) a.held a.so
+    gap_of g (tells ≡ true) h made from to old new place before.files kept t redo before.told (runs_begin_grown (first_start h) kept before.files before.held) a
 
 -- ---- what covers a range
 
 pub answers_covered : {V : Type 0} (g : Ghosts V) → AnswersAreCovered g
 answers_covered g tells h made from to old new sum kept t lt before a =
-    let k = advanced_to g (tells ≡ true) h made old new kept (λ l. IsCovering l from to sum) t (grown_first g (first_start h) kept old before) a in
-    let files = k.grown.files in
-    let held : AreKept files a.kept = told_as (g.files new) files (λ m. AreKept m a.kept) k.grown.told a.held in
+    let sums : List Summary = a.advances.sums in
+    let was : Files = before.files in
+    let p : ArePublished h made was sums = at_told (g.files old) was (λ m. ArePublished h made m sums) before.told (a.advances.published t) in
+    let files : Files = with_files sums was in
+    let now : g.files new ≡ Some files = a.advances.files ∙ ap (option_map (with_files sums)) before.told in
+    let held : AreKept files a.kept = at_told (g.files new) files (λ m. AreKept m a.kept) now a.held in
+    let same : p.kept ≡ kept = one_list was p.kept kept p.held before.held in
+    let whole : AreKept files (kept ++ sums) = subst (λ (l : List Summary). AreKept files (l ++ sums)) same (published_kept h made was sums p) in
     let last = covered_below (to - 1) 0 files (keys files) a.kept held (a.so.covered (to - 1) (omega (arith, lt)) (omega (arith, lt))) in
     record {
       kept = a.kept;
       held = a.held;
-      begins = (k.grown.more, sym (one_list files a.kept (kept ++ k.grown.more) held k.grown.held));
+      begins = (sums, sym (one_list files a.kept (kept ++ sums) held whole));
       covers = a.so;
       reaches = omega (arith, last);
     }
 
--- ---- incremental backups
+-- ---- what a worker was answered
 
-redo_there : (worker start : ℕ) (before : List Entry) (first last : Entry) → IsBegunAt worker first last start → list_any (is_redo_start start) (before ++ (first ∷ last ∷ [])) ≡ true
-redo_there worker start before first last begun =
-    any_behind (is_redo_start start) before (first ∷ last ∷ [])
-    (or_left (is_redo_start start first) (is_redo_start start last || false)
-    (and_from (is_redo first.act) (first.start == start) (ap is_redo begun.starts.0) (eq-eqb first.start start (sym begun.start_is))))
+-- the first entry of a beginning is that of the history
+pub first_of_front : (n : ℕ) (h : List Entry) → 0 < n → first_start (take n h) ≡ first_start h
+first_of_front zero h some = absurd (omega (arith, some))
+first_of_front (suc n) [] some = refl
+first_of_front (suc n) (e ∷ es) some = refl
+
+pub first_found : (found more : List Entry) → 0 < length found → first_start found ≡ first_start (found ++ more)
+first_found [] more some = absurd (omega (arith, some))
+first_found (e ∷ es) more some = refl
+
+pub any_of_front : (p : Entry → Bool) (n : ℕ) (h : List Entry) → list_any p (take n h) ≡ true → list_any p h ≡ true
+any_of_front p zero h is = absurd (true≢false (sym is))
+any_of_front p (suc n) [] is = is
+any_of_front p (suc n) (e ∷ es) is = or_on (p e) (list_any p (take n es)) (list_any p es) (any_of_front p n es) is
+  where
+    or_on : (a b c : Bool) → (b ≡ true → c ≡ true) → (a || b) ≡ true → (a || c) ≡ true
+    or_on true b c f h = refl
+    or_on false b c f h = f h
+
+checkpoint_redo : (worker before : ℕ) (now : List Entry) (redo : ℕ) → HasCheckpointAt worker before now redo → list_any (is_redo_start redo) now ≡ true
+checkpoint_redo worker before now redo c =
+    any_passes_from_place (is_redo_start redo) now c.number c.first c.there
+    (and_from (is_redo c.first.act) (c.first.start == redo) (ap is_redo c.starts.0) (eq-eqb c.first.start redo c.redo_is))
+
+-- what was seen then isn't nothing
+pub some_seen : (worker before : ℕ) (seen : ℕ) (now : List Entry) (redo : ℕ) → HasCheckpointAt worker before (take seen now) redo → 0 < seen
+some_seen worker before zero now redo c = absurd (let within = slice_get_within (take zero now) c.number c.first c.there in omega (arith, within))
+some_seen worker before (suc seen) now redo c = omega arith
+
+-- a gap that a worker's checkpoint leaves, and its redo point
+pub record IsGapFound (now : List Entry) (kept : List Summary) (from redo place : ℕ) : Type 0 where
+  pub marked : list_any (is_redo_start redo) now ≡ true
+  pub gap : IsOldGap (first_start now) kept from redo place
+
+-- in what was seen behind what a run found, over an area that told these files when it began
+pub gap_found : (tells : Type 0) (found : List Entry) (begun : Option Files) (when worker before : ℕ) (now : List Entry) (redo from : ℕ) (place : Lsn) (files : Files) (kept : List Summary) → tells → 0 < length found → first_start found ≡ first_start now → begun ≡ Some files → AreKept files kept → SumsUp tells found begun when worker before now redo from (Err (advance.Gap place))
+    → IsGapFound now kept from redo place.0
+gap_found tells found begun when worker before now redo from place files kept t some first told held s =
+    let seen : List Entry = take s.seen now in
+    let front : first_start seen ≡ first_start now = first_of_front s.seen now (some_seen worker before s.seen now redo s.checkpoint) in
+    let there : list_any (is_redo_start redo) seen ≡ true = checkpoint_redo worker before seen redo s.checkpoint in
+    let begun_told : IsSome begun = subst IsSome (sym told) refl in
+    let was = some_told s.old.files (s.shelved.told begun_told) in
+    let grown : HasGrown (first_start found) kept was.0 = at_told s.old.files was.0 (HasGrown (first_start found) kept) was.1 (s.shelved.grown t some files kept told held) in
+    record {
+      marked = any_of_front (is_redo_start redo) s.seen now there;
+      gap = subst (λ (n : ℕ). IsOldGap n kept from redo place.0) front
+          (gap_of states tells seen when from redo s.old s.new place was.0 kept t there was.1 (subst (λ (n : ℕ). HasGrown n kept was.0) (first ∙ sym front) grown) s.covers);
+    }
 
 pub refused_gaps_old : {V : Type 0} (g : Ghosts V) → RefusedGapsAreOld g
-refused_gaps_old g tells name when old new place kept t before r =
+refused_gaps_old g tells o name when old new place kept t first r =
     let gap = r.cause in
-    let begins = gap.3 in
-    let redo : list_any (is_redo_start gap.1) new.store.history ≡ true =
-    subst (λ (l : List Entry). list_any (is_redo_start gap.1) l ≡ true) (sym begins.grown) (redo_there old.seen.worker gap.1 old.store.history begins.first begins.last begins.begun) in
+    let s = gap.3 in
+    let now : List Entry = new.seen.list in
+    let same : first_start o.found ≡ first_start now = first_found o.found first.found.0 first.some ∙ ap first_start first.found.1 in
+    let is = gap_found (tells ≡ true) o.found o.sums when old.seen.worker (length old.seen.list) now gap.1 gap.0.start place first.files kept t first.some same first.told first.held s in
     record {
       prior = gap.0;
       start = gap.1;
       taken = gap.2;
-      begins = begins;
-      gap = gaps_old g tells new.store.history when gap.0.start gap.1 old.sums new.sums place kept t redo before gap.4;
+      begins = checkpoint_on old.seen.worker (length old.seen.list) (take s.seen now) now gap.1 (drop s.seen now, take-append-drop s.seen now) s.checkpoint;
+      gap = is.gap;
     }

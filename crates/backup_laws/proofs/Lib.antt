@@ -23,8 +23,6 @@ pub mod CombinedChains
 pub mod SoundSoFar
 pub mod CompletedChains
 pub mod ChainRestored
-pub mod SummaryNames
-pub mod KeptFiles
 pub mod Gaps
 pub mod GapsOfRuns
 pub mod AnsweredBackups

@@ -1,6 +1,6 @@
 -- What a run leaves is what the next one finds of this program's own: tidy entries, and summaries that
 -- are honest for them.
-use Rattle.std.proofs.Common.{◌≡◌, ℕ, ◌<◌, Bool, true, false, cond, ◌&&◌, ◌||◌, List, [], ◌∷◌, ◌++◌, map, length, get_or, Option, Some, None, Result, IfSome, refl, sym, ap, subst, ◌∙◌, arith, inl, Ok}
+use Rattle.std.proofs.Common.{◌≡◌, ℕ, ◌<◌, Bool, true, false, cond, ◌&&◌, ◌||◌, List, [], ◌∷◌, ◌++◌, map, length, get_or, Option, Some, None, IfSome, refl, sym, ap, subst, ◌∙◌, arith, inl, Ok}
 use Rattle.std.specs.Prelude.{◌==◌, ◌*◌, ◌/◌}
 use Rattle.std.specs.List.{list_any}
 use Rattle.std.specs.FinMap.{empty, get, get-empty}
@@ -11,8 +11,6 @@ use Rattle.byte_words.specs.Told.{when_told}
 use Rattle.lsn_core.specs.Files.{Files}
 use Rattle.lsn_core.specs.Segment.{StoreSettings}
 use Rattle.lsn_core.specs.Store.{Store}
-use Rattle.lsn_core.specs.declared.fault.StoreFault.{StoreFault}
-use Rattle.lsn_core.specs.declared.fault.StoreFault.TheVariants as store
 use Rattle.lsn_core.specs.declared.lsn.Lsn.{Lsn}
 use Rattle.wal_record.specs.Tips.{first_tip}
 use Rattle.wal_record.specs.declared.record.Record.{Record}
@@ -34,16 +32,10 @@ use Rattle.wal_summary.proofs.Tables.{same_table}
 use Rattle.summary_store.specs.Honest.{is_redo_start, is_redo_point, IsHonest}
 use Rattle.journal.specs.Lawful.{IsLawful}
 use Rattle.command_base.specs.Areas.{wal_name, sums_name}
-use Rattle.command_base.specs.declared.status.Status.TheVariants as status
-use Rattle.command_base.specs.Faults.{store_status}
 use Rattle.command_base.proofs.Told.{at_told, some_told}
 use Rattle.command_base.specs.Outside.{Outside}
-use Rattle.crew.specs.declared.answer.Stop.{Stop}
-use Rattle.crew.specs.declared.answer.Stop.TheVariants as stop
-use Rattle.crew.specs.declared.script.Line.{Line}
 use Rattle.crew.specs.Run.{IsHonestFor}
-use Rattle.run_command.specs.Report.{first_told}
-use Rattle.run_command.specs.Run.{RunDone, HasFound, all_records, found_tip, stop_status, ending_status}
+use Rattle.run_command.specs.Run.{RunDone, HasFound, all_records, found_tip}
 use Rattle.run_command.proofs.OwnEntries.{AreOwn}
 use Rattle.command_line.specs.declared.options.InitOptions.{InitOptions}
 use Rattle.pgbackup_cli.specs.Init.{InitDoes, InitDone, HasFirstAlone, new_settings, init_areas, first_entry, new_tip}
@@ -115,25 +107,10 @@ honest_read mib found own files some logged honest = λ name bytes sum there nam
       };
     }
 
--- ---- a run that ended with status 0
-
-store_fails : (why : StoreFault) → store_status why ≡ status.Done → ⊥
-store_fails (store.Failed area) e = absurd cc
-store_fails store.NoMemory e = absurd cc
-
-stop_fails : (what : Stop) → stop_status what ≡ status.Done → ⊥
-stop_fails (stop.Store why) e = store_fails why e
-stop_fails stop.Backup e = absurd cc
-stop_fails stop.Prior e = absurd cc
-
-none_stopped : (first : Option (Line × Stop)) (closed : Result Lsn StoreFault) → ending_status first closed ≡ status.Done → first ≡ None
-none_stopped None closed e = refl
-none_stopped (Some what) closed e = absurd (stop_fails what.1 e)
-
 -- ---- the law
 
 pub own_left : RunsLeaveTheirOwn
-own_left run next ran on ended wal sums finds =
+own_left run next ran on wal sums finds =
     let d : RunDone ran.does.0 run.before.areas run.left.areas run.report = ran.does.6.2 in
     let n : RunDone on.does.0 next.before.areas next.left.areas next.report = on.does.6.2 in
     let s : StoreSettings = d.settings in
@@ -149,7 +126,7 @@ own_left run next ran on ended wal sums finds =
     let log : List Entry = map entry_of (log_of s.segment law.found law.own) in
     let entries : map entry_of n.found ≡ log = ap (map entry_of) is ∙ sym (log_alike s.segment d.found d.happened.own d.history law d.happened.grown owns) in
     let tidy : AreTidy empty d.history = tidy_history s.segment d.found d.happened.own d.history law d.happened.grown owns finds.tidy in
-    let honest : IsHonestFor d.history (run.left.areas sums_name) = d.honest ran.told (none_stopped (first_told run.report.told) run.report.closed ended) finds.honest in
+    let honest : IsHonestFor d.history (run.left.areas sums_name) = d.honest ran.told finds.honest in
     record {
       tidy = subst (AreTidy empty) (sym entries)
           (logs_tidy s.segment law.found law.own law.store law.logged (subst (λ (es : List Entry). apply_all empty es ≡ Some law.store) law.grown law.made) (subst (AreTidy empty) law.grown tidy));
@@ -201,7 +178,7 @@ module _ (options : InitOptions) (old made : Outside) (end : Lsn) (did : InitDoe
   own_since run [] since = new_own options old made end run since.0.ran did since.1.wal since.1.sums
   own_since run (prior ∷ earlier) since =
       let was : EndedWell prior = ended_of prior earlier since.2 in
-      own_left prior run was.ran since.0.ran was.ended since.1.wal since.1.sums (own_since prior earlier since.2)
+      own_left prior run was.ran since.0.ran since.1.wal since.1.sums (own_since prior earlier since.2)
 
   ran_on : (run : PastRun) (earlier : List PastRun) → RanSince made run earlier → RanOn run
   ran_on run earlier since =

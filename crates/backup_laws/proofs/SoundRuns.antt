@@ -1,9 +1,7 @@
 -- The backups that a run answered are sound for the records of its WAL.
-use Rattle.std.proofs.Common.{◌≡◌, ℕ, zero, suc, ◌&&◌, true, List, [], ◌∷◌, ◌++◌, map, length, take, drop, Option, Some, is_some, sym, ap, subst, ◌∙◌, arith, inr}
-use Rattle.std.specs.Prelude.{◌==◌}
-use Rattle.std.specs.List.{All, list_any, slice_get}
+use Rattle.std.proofs.Common.{◌≡◌, ℕ, suc, List, [], ◌∷◌, ◌++◌, map, length, take, drop, Some, sym, ap, subst, ◌∙◌, arith, inr}
+use Rattle.std.specs.List.{All}
 use Rattle.std.specs.FinMap.{empty}
-use Rattle.std.proofs.lemmas.Bool.{and_from, or_left, or_right, eq-eqb}
 use Rattle.std.proofs.lemmas.List.{map-append, length-map, take-append-drop}
 use Rattle.std.proofs.Math.Seq.{take-append_seam}
 use mathlib.Core.List.{IsPrefix}
@@ -11,9 +9,9 @@ use Rattle.lsn_core.specs.Segment.{StoreSettings}
 use Rattle.lsn_core.specs.Store.{Store}
 use Rattle.wal_record.specs.declared.record.Record.{Record}
 use Rattle.history.specs.Apply.{apply_all}
-use Rattle.history.specs.Entry.{Entry, is_of_run}
+use Rattle.history.specs.Entry.{Entry}
 use Rattle.history.specs.Whole.{entry_of}
-use Rattle.history.specs.Written.{is_redo, wal_of}
+use Rattle.history.specs.Written.{wal_of}
 use Rattle.fuzzy_copies.specs.Logged.{history_of, log_of}
 use Rattle.fuzzy_copies.specs.Orderly.{IsOrderly}
 use Rattle.fuzzy_copies.specs.Sound.{IsSoundCopy}
@@ -22,46 +20,27 @@ use Rattle.fuzzy_copies.proofs.Restored.{logged_sound}
 use Rattle.fuzzy_copies.proofs.Taken.{taken_sound}
 use Rattle.journal.specs.Lawful.{IsLawful}
 use Rattle.journal.proofs.Stands.{lawful_orderly}
-use Rattle.shared_store.specs.Copied.{is_redo_at, HasRedoPoint}
+use Rattle.shared_store.specs.Calls.{IsOfRun}
+use Rattle.shared_store.specs.Copied.{HasRedoPoint}
 use Rattle.shared_store.proofs.RedoPoints.{redo_runs}
-use Rattle.chain_laws.proofs.Taken.{seen_on}
 use Rattle.crew.specs.declared.answer.Answer.TheVariants.{Backup}
-use Rattle.crew.specs.Run.{HasBackupAt, HoldsBackup, basis_of}
-use Rattle.crew.proofs.Lists.{prefix_get}
-use Rattle.run_command.specs.Run.{AreTold, IsOfRun}
+use Rattle.base_backup.specs.Entries.{HasBackupAt}
+use Rattle.base_backup.proofs.Marks.{checkpoint_on, checkpoints_have_redo_points}
+use Rattle.base_backup.proofs.Sound.{backup_checkpoint, taken_on}
+use Rattle.crew.specs.Run.{Basis, HoldsBackup}
+use Rattle.run_command.specs.Run.{AreTold, run_basis}
 use Rattle.run_command.proofs.OwnEntries.{AreOwn, of_worker, written_own, parted}
 use Rattle.backup_laws.specs.Runs.{BackupsOfRunsAreSound}
 use Rattle.backup_laws.proofs.Lines.{line_stands}
 
 -- ---- where it begins
 
-redo_there : (place : ℕ) (es : List Entry) (number : ℕ) (e : Entry) → slice_get es number ≡ Some e → is_redo_at place e ≡ true → HasRedoPoint es place
-redo_there place [] number e there is = absurd cc
-redo_there place (x ∷ es) zero e there is =
-    let same : x ≡ e = cc in
-    or_left (is_redo_at place x) (list_any (is_redo_at place) es) (ap (is_redo_at place) same ∙ is)
-redo_there place (x ∷ es) (suc n) e there is = or_right (is_redo_at place x) (list_any (is_redo_at place) es) (redo_there place es n e there is)
-
 -- the start of a backup's checkpoint is a redo point
 pub begins_at : (worker before : ℕ) (now history : List Entry) (start checkpoint end : ℕ) → IsPrefix now history → HasBackupAt worker before now start checkpoint end → HasRedoPoint history start
 begins_at worker before now history start checkpoint end p h =
-    let at : (h.first.start == start) ≡ true = eq-eqb h.first.start start (sym h.start_is) in
-    let marks : is_redo h.first.act ≡ true = ap is_redo h.entries.starts.0 in
-    let own : is_of_run h.first ≡ true = ap (λ (o : Option ℕ). is_some o) h.entries.starts.1 in
-    redo_there start history h.number h.first (prefix_get now history h.number h.first p h.there)
-    (and_from ((h.first.start == start) && is_redo h.first.act) (is_of_run h.first) (and_from (h.first.start == start) (is_redo h.first.act) at marks) own)
+    checkpoints_have_redo_points worker before history start (checkpoint_on worker before now history start p (backup_checkpoint worker before now start checkpoint end h))
 
 -- ---- a history that goes on
-
-taken_on : (copy : Store) (history more : List Entry) (from to : ℕ) → IsTaken copy history from to → IsTaken copy (history ++ more) from to
-taken_on copy history more from to t = record {
-  forks = λ fork.
-      let l = t.forks fork in
-      record { seen = l.seen; prefix = seen_on l.seen history more from to l.prefix; listed = l.listed };
-  blocks = λ fork block page there.
-      let c = t.blocks fork block page there in
-      record { seen = c.seen; prefix = seen_on c.seen history more from to c.prefix; answer = c.answer; copied = c.copied; written = c.written };
-}
 
 -- a copy that was taken while a beginning of a history was written is sound for all of it
 pub taken_in : (mib : ℕ) (copy : Store) (now history : List Entry) (from to : ℕ) → IsLawful mib history → HasRedoPoint history from → IsPrefix now history → IsTaken copy now from to → IsSoundCopy copy history from to
@@ -107,10 +86,11 @@ sound_logged mib copy found own history from to law grown owns sound =
 pub runs_sound : BackupsOfRunsAreSound
 runs_sound when old new report run name start end taken told =
     let s : StoreSettings = run.settings in
+    let b : Basis = run_basis s when run.found old in
     let law : IsLawful s.segment run.history = run.happened.lawful told in
-    let stands = line_stands (AreTold old) (basis_of s when) taken.worker run.history new taken.by.task.lines taken.by.answers taken.number taken.line taken.behind (Backup start end) taken.later (run.completed taken.worker taken.by taken.there) taken.lines taken.answers name taken.takes in
+    let stands = line_stands (AreTold old) b taken.worker run.history new taken.by.task.lines taken.by.answers taken.number taken.line taken.behind (Backup start end) taken.later (run.completed taken.worker taken.by taken.there) taken.lines taken.answers name taken.takes in
     let now : List Entry = take stands.0 run.history in
-    let holds : HoldsBackup (AreTold old) (basis_of s when) taken.worker 0 now name start end stands.1.files = stands.3 in
+    let holds : HoldsBackup (AreTold old) b taken.worker 0 now name start end stands.1.files = stands.3 in
     let front : IsPrefix now run.history = (drop stands.0 run.history, take-append-drop stands.0 run.history) in
     let redo : HasRedoPoint run.history start.0 = begins_at taken.worker 0 now run.history start.0 holds.checkpoint end.0 front holds.entries in
     let sound : IsSoundCopy holds.copy run.history start.0 end.0 = taken_in s.segment holds.copy now run.history start.0 end.0 law redo front (holds.taken told) in (

@@ -9,20 +9,18 @@ use Rattle.vault.proofs.SetAreas.{same_or_not}
 use Rattle.history.specs.Entry.{Entry}
 use Rattle.shared_store.proofs.Kept.{some_back, some_on}
 use Rattle.backup_files.specs.Area.{TellAlike}
-use Rattle.backup_files.proofs.Manifests.{alike_by, alike_same}
+use Rattle.backup_files.proofs.Manifests.{alike_same}
 use Rattle.base_backup.specs.declared.fault.BackupFault.TheVariants as backup
 use Rattle.base_backup.specs.declared.incr_fault.IncrFault.TheVariants as incr
-use Rattle.summary_publish.specs.Published.{with_files}
-use Rattle.command_base.specs.Areas.{backup_name, sums_name}
+use Rattle.command_base.specs.Areas.{backup_name}
 use Rattle.crew.specs.declared.script.Command.{Command}
 use Rattle.crew.specs.declared.script.Command.TheVariants as command
 use Rattle.crew.specs.declared.script.Line.{Line}
 use Rattle.crew.specs.declared.answer.Answer.{Answer}
 use Rattle.crew.specs.declared.answer.Answer.TheVariants.{Accepted, Refused, Grown, Stopped, Redo, CheckpointRefused, Wrote, Published, CallFailed, Backup, BackupRefused, IncrRefused, NotRun}
 use Rattle.crew.specs.Backups.{area_asked, areas_asked, backup_taken}
-use Rattle.crew.specs.Run.{Basis, OnlyAt, OnlyAmong, MayAdvance, LineAnswer, Answered, InOrder, is_not_run, stop_of, stops_with}
-use Rattle.crew.proofs.Kept.{never_sums}
-use Rattle.crew.proofs.Three.{same_backup}
+use Rattle.crew.specs.Run.{Basis, OnlyAt, OnlyAmong, LineAnswer, Answered, InOrder, is_not_run, stop_of, stops_with}
+use Rattle.crew.proofs.Two.{same_backup}
 use Rattle.run_command.specs.Run.{backups_asked, tasks_told}
 use Rattle.backup_laws.specs.Chains.{AllTell, TellBehindLines}
 use Rattle.backup_laws.specs.Telling.{TakesOther, NoneTakes, TakesLast, AreTakenOnce, RunsTellThroughout}
@@ -55,31 +53,23 @@ only_alike held mid n name only here = elim (same_or_not n name) [
   | inr other ↦ alike_at held mid n (only.others n other)
 ]
 
-among_alike : (held mid : Areas) (n name prior : List ℕ) (line : Command) → line ≡ command.Incr name prior → OnlyAmong (area_asked line) held mid → IsStill (held (backup_name prior)) (mid (backup_name prior)) → AlikeAt held mid sums_name
+among_alike : (held mid : Areas) (n name prior : List ℕ) (line : Command) → line ≡ command.Incr name prior → OnlyAmong (area_asked line) held mid → IsStill (held (backup_name prior)) (mid (backup_name prior))
     → (n ≡ backup_name name) ⊎ AlikeAt held mid n
-among_alike held mid n name prior line is only kept sums =
-    let those : OnlyAmong (backup_name name ∷ backup_name prior ∷ sums_name ∷ []) held mid = subst (λ (c : Command). OnlyAmong (area_asked c) held mid) is only in
+among_alike held mid n name prior line is only kept =
+    let those : OnlyAmong (backup_name name ∷ backup_name prior ∷ []) held mid = subst (λ (c : Command). OnlyAmong (area_asked c) held mid) is only in
     elim (same_or_not n (backup_name name)) [
       | inl out ↦ inl out
       | inr not_out ↦ elim (same_or_not n (backup_name prior)) [
         | inl before ↦ inr (subst (AlikeAt held mid) (sym before) (alike_same (held (backup_name prior)).files (mid (backup_name prior)).files kept.files))
-        | inr not_before ↦ elim (same_or_not n sums_name) [
-          | inl summed ↦ inr (subst (AlikeAt held mid) (sym summed) sums)
-          | inr not_summed ↦ inr (alike_at held mid n (those.others n (not_out, (not_before, (not_summed, tt)))))
-        ]
+        | inr not_before ↦ inr (alike_at held mid n (those.others n (not_out, (not_before, tt))))
       ]
     ]
 
-three_alike : (held mid : Areas) (n name prior : List ℕ) (line : Command) → line ≡ command.Incr name prior → OnlyAmong (area_asked line) held mid → IsStill (held (backup_name prior)) (mid (backup_name prior)) → AlikeAt held mid sums_name
-    → AlikeAt held mid (backup_name name) → AlikeAt held mid n
-three_alike held mid n name prior line is only kept sums out = elim (among_alike held mid n name prior line is only kept sums) [
+both_alike : (held mid : Areas) (n name prior : List ℕ) (line : Command) → line ≡ command.Incr name prior → OnlyAmong (area_asked line) held mid → IsStill (held (backup_name prior)) (mid (backup_name prior)) → AlikeAt held mid (backup_name name) → AlikeAt held mid n
+both_alike held mid n name prior line is only kept out = elim (among_alike held mid n name prior line is only kept) [
   | inl same ↦ subst (AlikeAt held mid) (sym same) out
   | inr alike ↦ alike
 ]
-
-advanced_alike : (tells : Type 0) (when before : ℕ) (now : List Entry) (old new : AreaState) → MayAdvance tells when before now old new → TellAlike old.files new.files
-advanced_alike tells when before now old new (inl same) = alike_same old.files new.files (ap (λ (a : AreaState). a.files) same)
-advanced_alike tells when before now old new (inr more) = alike_by (with_files more.4.sums) old.files new.files more.4.files
 
 -- a line was answered that it took a backup into the area of this name
 record IsTakenInto (n : List ℕ) (line : Command) (answer : Answer) : Type 0 where
@@ -101,16 +91,14 @@ line_alike tells b w from now line (Stopped k why) made held mid n a on = inr (a
 line_alike tells b w from now line (Redo redo) made held mid n a on = inr (all_alike held mid n a.3)
 line_alike tells b w from now line (CheckpointRefused why) made held mid n a on = inr (all_alike held mid n a.3)
 line_alike tells b w from now line (Wrote k) made held mid n a on = inr (all_alike held mid n a.4)
-line_alike tells b w from now line (Published k) made held mid n a on =
-    inr (only_alike held mid n sums_name a.2 (alike_by (with_files a.3.sums) (held sums_name).files (mid sums_name).files a.3.files))
+line_alike tells b w from now line (Published k) made held mid n a on = inr (all_alike held mid n a.3)
 line_alike tells b w from now line (CallFailed why) made held mid n a on = absurd cc
 line_alike tells b w from now line (Backup start end) made held mid n (made_is, inl t) on = elim (same_or_not n (backup_name t.0)) [
   | inl is ↦ inl (taken_into n t.0 line start end (ap backup_taken t.1) is)
   | inr other ↦ inr (alike_at held mid n (t.3.others n other))
 ]
 line_alike tells b w from now line (Backup start end) made held mid n (made_is, inr t) on =
-    let sums : AlikeAt held mid sums_name = alike_by (with_files t.6.summed.covers.advances.sums) (held sums_name).files (mid sums_name).files t.6.summed.covers.advances.files in
-    elim (among_alike held mid n t.0 t.1 line t.2 t.4 t.5 sums) [
+    elim (among_alike held mid n t.0 t.1 line t.2 t.4 t.5) [
       | inl is ↦ inl (taken_into n t.0 line start end (ap backup_taken t.2) is)
       | inr alike ↦ inr alike
     ]
@@ -119,15 +107,14 @@ line_alike tells b w from now line (BackupRefused (backup.WalFull k)) made held 
 line_alike tells b w from now line (BackupRefused (backup.StoreFailed area)) made held mid n a on = absurd cc
 line_alike tells b w from now line (BackupRefused backup.OutFailed) made held mid n a on = absurd cc
 line_alike tells b w from now line (BackupRefused backup.NoMemory) made held mid n a on = absurd cc
-line_alike tells b w from now line (IncrRefused incr.NotEmpty) made held mid n a on = inr (three_alike held mid n a.0 a.1 line a.2 a.4 a.5 (alike_at held mid sums_name a.7.1.sums) (alike_same _ _ a.7.1.out.files))
-line_alike tells b w from now line (IncrRefused incr.NoManifest) made held mid n a on = inr (three_alike held mid n a.0 a.1 line a.2 a.4 a.5 (alike_at held mid sums_name a.7.1.sums) (alike_same _ _ a.7.1.out.files))
-line_alike tells b w from now line (IncrRefused (incr.ManifestRefused why)) made held mid n a on = inr (three_alike held mid n a.0 a.1 line a.2 a.4 a.5 (alike_at held mid sums_name a.7.1.sums) (alike_same _ _ a.7.1.out.files))
-line_alike tells b w from now line (IncrRefused (incr.SystemDiffers have expected)) made held mid n a on = inr (three_alike held mid n a.0 a.1 line a.2 a.4 a.5 (alike_at held mid sums_name a.7.1.sums) (alike_same _ _ a.7.1.out.files))
-line_alike tells b w from now line (IncrRefused (incr.Overlap begun end)) made held mid n a on = inr (three_alike held mid n a.0 a.1 line a.2 a.4 a.5 (alike_at held mid sums_name a.7.2) (alike_same _ _ a.7.3.files))
-line_alike tells b w from now line (IncrRefused (incr.Gap place)) made held mid n a on =
-    inr (three_alike held mid n a.0 a.1 line a.2 a.4 a.5 (alike_by (with_files a.7.1.summed.covers.advances.sums) (held sums_name).files (mid sums_name).files a.7.1.summed.covers.advances.files) (alike_same _ _ a.7.2.files))
+line_alike tells b w from now line (IncrRefused incr.NotEmpty) made held mid n a on = inr (both_alike held mid n a.0 a.1 line a.2 a.4 a.5 (alike_same _ _ a.7.1.out.files))
+line_alike tells b w from now line (IncrRefused incr.NoManifest) made held mid n a on = inr (both_alike held mid n a.0 a.1 line a.2 a.4 a.5 (alike_same _ _ a.7.1.out.files))
+line_alike tells b w from now line (IncrRefused (incr.ManifestRefused why)) made held mid n a on = inr (both_alike held mid n a.0 a.1 line a.2 a.4 a.5 (alike_same _ _ a.7.1.out.files))
+line_alike tells b w from now line (IncrRefused (incr.SystemDiffers have expected)) made held mid n a on = inr (both_alike held mid n a.0 a.1 line a.2 a.4 a.5 (alike_same _ _ a.7.1.out.files))
+line_alike tells b w from now line (IncrRefused (incr.Overlap begun end)) made held mid n a on = inr (both_alike held mid n a.0 a.1 line a.2 a.4 a.5 (alike_same _ _ a.7.2.files))
+line_alike tells b w from now line (IncrRefused (incr.Gap place)) made held mid n a on = inr (both_alike held mid n a.0 a.1 line a.2 a.4 a.5 (alike_same _ _ a.7.2.files))
 line_alike tells b w from now line (IncrRefused (incr.WalFull k)) made held mid n a on =
-    inr (three_alike held mid n a.0 a.1 line a.2 a.4 a.5 (advanced_alike tells b.when from now (held sums_name) (mid sums_name) a.7.3) (related_alike _ (held (backup_name a.0)).files (mid (backup_name a.0)).files a.7.4))
+    inr (both_alike held mid n a.0 a.1 line a.2 a.4 a.5 (related_alike _ (held (backup_name a.0)).files (mid (backup_name a.0)).files a.7.3))
 line_alike tells b w from now line (IncrRefused (incr.StoreFailed area)) made held mid n a on = absurd cc
 line_alike tells b w from now line (IncrRefused incr.SumsFailed) made held mid n a on = absurd cc
 line_alike tells b w from now line (IncrRefused incr.PriorFailed) made held mid n a on = absurd cc
@@ -147,20 +134,16 @@ stopped_alike tells b w from now line (Redo redo) made held mid name a stops oth
 stopped_alike tells b w from now line (CheckpointRefused why) made held mid name a stops other = all_alike held mid (backup_name name) a.3
 stopped_alike tells b w from now line (Wrote k) made held mid name a stops other = all_alike held mid (backup_name name) a.4
 stopped_alike tells b w from now line (Published k) made held mid name a stops other = absurd cc
-stopped_alike tells b w from now line (CallFailed why) made held mid name a stops other =
-    elim a.1 [
-      | inl flush ↦ all_alike held mid (backup_name name) flush.2
-      | inr summed ↦ alike_at held mid (backup_name name) (summed.1.others (backup_name name) (never_sums name))
-    ]
+stopped_alike tells b w from now line (CallFailed why) made held mid name a stops other = all_alike held mid (backup_name name) a.2
 stopped_alike tells b w from now line (Backup start end) made held mid name a stops other = absurd cc
 stopped_alike tells b w from now line (BackupRefused why) made held mid name a stops other =
     alike_at held mid (backup_name name) (a.3.others (backup_name name) (λ same. other stops (ap backup_taken a.1 ∙ sym (same_backup name a.0 same))))
 stopped_alike tells b w from now line (IncrRefused why) made held mid name a stops other =
-    let those : OnlyAmong (backup_name a.0 ∷ backup_name a.1 ∷ sums_name ∷ []) held mid = subst (λ (c : Command). OnlyAmong (area_asked c) held mid) a.2 a.4 in
+    let those : OnlyAmong (backup_name a.0 ∷ backup_name a.1 ∷ []) held mid = subst (λ (c : Command). OnlyAmong (area_asked c) held mid) a.2 a.4 in
     let apart : backup_name name ≢ backup_name a.0 = λ same. other stops (ap backup_taken a.2 ∙ sym (same_backup name a.0 same)) in
     elim (same_or_not (backup_name name) (backup_name a.1)) [
       | inl before ↦ subst (AlikeAt held mid) (sym before) (alike_same (held (backup_name a.1)).files (mid (backup_name a.1)).files a.5.files)
-      | inr not_before ↦ alike_at held mid (backup_name name) (those.others (backup_name name) (apart, (not_before, (never_sums name, tt))))
+      | inr not_before ↦ alike_at held mid (backup_name name) (those.others (backup_name name) (apart, (not_before, tt)))
     ]
 stopped_alike tells b w from now line NotRun made held mid name a stops other = all_alike held mid (backup_name name) a.1
 
@@ -249,10 +232,11 @@ pub runs_tell : RunsTellThroughout
 runs_tell when old new report run told around = record {
   store = told;
   before = around.before;
+  sums = around.sums;
   behind = λ worker t there.
       let among : (n : List ℕ) → IsOneOf n (areas_asked t.task.lines) → IsOneOf n (backups_asked (tasks_told report.told)) = λ n one. asked_among report.told worker t n there one in
       let given = run.happened.answered worker t there in
-      told_behind (areas_asked t.task.lines) _ _ worker _ _ t.task.lines t.answers _ given.to run.held run.kept false given.answered given.order (around.once worker t there)
-      (λ n one. subst (λ (a : AreaState). IsSome a.files) (sym (run.were n (among n one))) (around.before n (among n one)))
-      (λ n one. subst (λ (a : AreaState). IsSome a.files) (sym (run.are n (among n one))) (around.behind n (among n one)));
+      told_behind (areas_asked t.task.lines) _ _ worker _ _ t.task.lines t.answers _ given.to (run.held worker) (run.kept worker) false given.answered given.order (around.once worker t there)
+      (λ n one. subst (λ (a : AreaState). IsSome a.files) (sym (run.were worker t there n one)) (around.before n (among n one)))
+      (λ n one. subst (λ (a : AreaState). IsSome a.files) (sym (run.are worker t there n one)) (around.behind n (among n one)));
 }

@@ -26,14 +26,14 @@ use Rattle.fuzzy_copies.proofs.Repeats.{entries_rise}
 use Rattle.journal.specs.Lawful.{StandInPlace}
 use Rattle.journal.proofs.Stands.{stand_front}
 use Rattle.shared_store.specs.Close.{HoldsRecords}
-use Rattle.shared_store.specs.declared.begin.BeginWhy.TheVariants as begin
+use Rattle.shared_store.specs.declared.found.BeginWhy.TheVariants as begin
 use Rattle.command_base.specs.Areas.{wal_name}
 use Rattle.command_base.specs.Outside.{Outside}
 use Rattle.command_base.proofs.Told.{some_told, at_told}
 use Rattle.crew.specs.declared.script.Task.{Task}
 use Rattle.run_command.specs.declared.command.RunFault.TheVariants as run
 use Rattle.run_command.specs.declared.command.RunReport.{RunReport}
-use Rattle.run_command.specs.Run.{RunResult, AreTold, RunAnswer, backups_asked, store_asks, RunDone, HasFound, all_records, found_tip}
+use Rattle.run_command.specs.Run.{RunResult, AreTold, RunAnswer, others_asked, store_asks, RunDone, HasFound, all_records, found_tip}
 use Rattle.run_command.proofs.ToldLess.{one_back}
 use Rattle.run_command.proofs.OwnEntries.{held_read}
 use Rattle.backup_laws.specs.Restores.{GoesOnFrom, IsWholeTo, HasRun}
@@ -199,7 +199,7 @@ answer_on when script before left (Err (run.Input why)) told answer = stayed _ _
 answer_on when script before left (Err (run.Script line why)) told answer = stayed _ _ (wal_of_areas before.areas left.areas answer.0.0)
 answer_on when script before left (Err run.NoMemory) told answer = stayed _ _ (wal_of_areas before.areas left.areas answer.0)
 answer_on when script before left (Err (run.Site fault)) told answer = stayed _ _ (wal_of_areas before.areas left.areas answer.1.0)
-answer_on when script before left (Err (run.Begin (begin.Wal why))) told answer = stayed _ _ (answer.1.0 wal_name (one_back wal_name (backups_asked script) store_asks (inl refl)))
+answer_on when script before left (Err (run.Begin (begin.Wal why))) told answer = stayed _ _ (answer.1.0 wal_name (one_back wal_name (others_asked script) store_asks (inl refl)))
 answer_on when script before left (Err (run.Begin (begin.Replay why))) told answer = stayed _ _ answer.1.1.0
 answer_on when script before left (Err (run.Begin (begin.Data why))) told answer = stayed _ _ answer.1.1
 

@@ -8,8 +8,7 @@ use Rattle.vault.specs.Area.{Related}
 use Rattle.vault.specs.Lending.{Names}
 use Rattle.command_base.specs.Areas.{wal_name, sums_name, output_name, backup_name}
 use Rattle.command_base.specs.Outside.{Outside}
-use Rattle.command_base.specs.declared.status.Status.TheVariants.{Done}
-use Rattle.run_command.specs.Run.{RunResult, AreTold, RunDoes, run_status}
+use Rattle.run_command.specs.Run.{RunResult, AreTold, RunDoes}
 use Rattle.command_line.specs.declared.options.InitOptions.{InitOptions}
 use Rattle.pgbackup_cli.specs.Init.{InitDoes}
 use Rattle.pgbackup_cli.specs.declared.combining.CombineReport.{CombineReport}
@@ -115,13 +114,12 @@ RunsGoOn =
     → AreTold before.areas → RunDoes before left came
     → Related GoesOnFrom (before.areas wal_name).files (left.areas wal_name).files
 
--- what a run finds is this program's own, where the one before it found so and ended with status 0,
--- and where the WAL and the summaries are as it left them
+-- what a run finds is this program's own, where the one before it found so and closed its store, and
+-- where the WAL and the summaries are as it left them: whether one of its workers was stopped or not
 abbrev pub RunsLeaveTheirOwn : Type 0
 RunsLeaveTheirOwn =
     (run next : PastRun) (ran : HasRun run.before run.left run.report run.end)
     (on : HasRun next.before next.left next.report next.end)
-    → run_status (Ok run.report) ≡ Done
     → (next.before.areas wal_name).files ≡ (run.left.areas wal_name).files
     → (next.before.areas sums_name).files ≡ (run.left.areas sums_name).files
     → FoundOwn run ran → FoundOwn next on
@@ -137,11 +135,10 @@ NewStoresAreOwn =
     → FoundOwn next on
 
 -- a run was done over areas that tell their files before it and behind it, took no backup's name
--- twice, and ended with status 0
+-- twice, and closed its store
 pub record EndedWell (run : PastRun) : Type 0 where
   pub ran : HasRun run.before run.left run.report run.end
   pub tells : TellsAround run.before.areas run.left.areas run.report
-  pub ended : run_status (Ok run.report) ≡ Done
 
 -- the WAL and the summaries are as they were left
 pub record AreAsLeft (left now : Outside) : Type 0 where
@@ -155,8 +152,8 @@ RanSince made run [] = EndedWell run × AreAsLeft made run.before
 RanSince made run (prior ∷ earlier) =
     EndedWell run × AreAsLeft prior.left run.before × RanSince made prior earlier
 
--- so the runs since `init` made the store are in turn, where each of them ended with status 0 and
--- nothing else wrote the WAL and the summaries
+-- so the runs since `init` made the store are in turn, where each of them closed its store and nothing
+-- else wrote the WAL and the summaries
 abbrev pub RunsSinceInitAreInTurn : Type 0
 RunsSinceInitAreInTurn =
     (options : InitOptions) (old made : Outside) (end : Lsn)

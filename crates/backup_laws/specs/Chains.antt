@@ -21,10 +21,10 @@ use Rattle.crew.specs.declared.script.Line.{Line}
 use Rattle.crew.specs.declared.answer.Answer.{Answer}
 use Rattle.crew.specs.declared.answer.Answer.TheVariants.{Backup}
 use Rattle.crew.specs.Backups.{areas_asked}
-use Rattle.crew.specs.Run.{Basis, Answered, IsHonestFor, basis_of}
+use Rattle.crew.specs.Run.{Basis, Answered, IsHonestFor}
 use Rattle.run_command.specs.declared.told.Told.{Told}
 use Rattle.run_command.specs.declared.command.RunReport.{RunReport}
-use Rattle.run_command.specs.Run.{RunDone, AreTold, all_records, backups_asked, tasks_told}
+use Rattle.run_command.specs.Run.{RunDone, AreTold, all_records, backups_asked, run_basis, tasks_told}
 use Rattle.backup_laws.specs.Runs.{IsBackedUp}
 
 -- a worker's line took an incremental backup of this name, and was answered `backup START END`
@@ -59,16 +59,25 @@ TellBehindLines names tells b worker history from (line ∷ lines) (x ∷ answer
     AllTell names a.3
     × TellBehindLines names tells b worker history a.0 lines answers a.2 to a.3 new a.8
 
--- all areas that a run's lines ask for tell their files when it begins, and behind each line
+-- where a run took an incremental backup, the area of summaries told its files when it began
+abbrev pub SumsTold : List Told → Areas → Type 0
+SumsTold told old =
+    (name : List ℕ) (start end : Lsn) → IsIncremented told name start end
+    → IsSome (old sums_name).files
+
+-- all areas that a run's lines ask for tell their files when it begins, and those of its backups
+-- behind each line
 pub record TellsThroughout
     (when : ℕ) (old new : Areas) (report : RunReport) (run : RunDone when old new report)
     : Type 0 where
   pub store : AreTold old
   pub before : AllTell (backups_asked (tasks_told report.told)) old
+  pub sums : SumsTold report.told old
   pub behind : (worker : ℕ) (t : Told) (there : slice_get report.told worker ≡ Some t)
-      → TellBehindLines (areas_asked t.task.lines) (AreTold old) (basis_of run.settings when) worker
-      run.history (length run.found) t.task.lines t.answers (accepted_by worker run.history)
-      (run.happened.answered worker t there).to run.held run.kept
+      → TellBehindLines (areas_asked t.task.lines) (AreTold old)
+      (run_basis run.settings when run.found old) worker run.history
+      (length (map entry_of run.found)) t.task.lines t.answers (accepted_by worker run.history)
+      (run.happened.answered worker t there).to (run.held worker) (run.kept worker)
       (run.happened.answered worker t there).answered
 
 -- ---- what stands of a run's backups

@@ -1,6 +1,6 @@
 -- What is kept of an area of summaries when more are published there, and where what nothing covers of
 -- the WAL since a prior backup lies.
-use Rattle.std.specs.Prelude.{◌≡◌, ◌⊎◌, ◌<◌, ◌≤◌, ℕ, Bool, true, false, List, ◌∷◌, ◌++◌, drop, slice_get, Some, IfSome, Ok, Err}
+use Rattle.std.specs.Prelude.{◌≡◌, ◌<◌, ◌≤◌, ℕ, Bool, true, List, ◌∷◌, ◌++◌, drop, length, slice_get, Some, IfSome, Ok, Err}
 use Rattle.std.specs.List.{list_any}
 use mathlib.Core.List.{IsPrefix}
 use Rattle.lsn_core.specs.Files.{Files}
@@ -9,21 +9,24 @@ use Rattle.vault.specs.Site.{Areas}
 use Rattle.vault.specs.declared.area.Vault.{Ghosts}
 use Rattle.history.specs.Entry.{Entry}
 use Rattle.wal_summary.specs.declared.summary.Summary.{Summary}
-use Rattle.wal_summary.specs.Kept.{is_covered, IsCovering}
+use Rattle.wal_summary.specs.Kept.{IsCovering}
 use Rattle.manifest.specs.Listing.{Listing}
 use Rattle.summary_store.specs.Kept.{AreKept, end_behind}
 use Rattle.summary_store.specs.Honest.{is_redo_start}
 use Rattle.summary_publish.specs.Entries.{first_start}
 use Rattle.summary_publish.specs.Published.{ArePublished, AdvanceAnswers, with_files}
 use Rattle.summary_publish.specs.declared.advancing.AdvanceFault.TheVariants as advance
-use Rattle.base_backup.specs.Incr.{IncrSite, IsPrior, BeginsAt, IncrAnswers}
+use Rattle.shared_summaries.specs.Grown.{IsOldGap}
+use Rattle.shared_summaries.specs.Shelf.{states}
+use Rattle.base_backup.specs.Entries.{HasCheckpointAt}
+use Rattle.base_backup.specs.Incr.{IncrSite, Origin, IsPrior, IncrAnswers}
 use Rattle.base_backup.specs.declared.incr_fault.IncrFault.TheVariants.{Gap}
 use Rattle.command_base.specs.Areas.{backup_name, sums_name}
 use Rattle.crew.specs.declared.script.Command.TheVariants.{Incr}
 use Rattle.crew.specs.declared.script.Line.{Line}
 use Rattle.crew.specs.declared.answer.Answer.{Answer}
 use Rattle.crew.specs.declared.answer.Answer.TheVariants.{IncrRefused}
-use Rattle.crew.specs.Run.{IsPriorOf, states}
+use Rattle.crew.specs.Run.{IsPriorOf}
 use Rattle.run_command.specs.declared.told.Told.{Told}
 use Rattle.run_command.specs.declared.command.RunReport.{RunReport}
 use Rattle.run_command.specs.Run.{RunDone, AreTold}
@@ -50,14 +53,6 @@ pub record KeptBefore {V : Type 0} (g : Ghosts V) (area : V) (kept : List Summar
   pub files : Files
   pub told : g.files area ≡ Some files
   pub held : AreKept files kept
-
--- a place of a range that no summary kept before covers; and it is below the greatest end of these,
--- or below the place where a history's first entry starts
-pub record IsOldGap (first : ℕ) (kept : List Summary) (from to place : ℕ) : Type 0 where
-  pub later : from ≤ place
-  pub below : place < to
-  pub uncovered : is_covered kept place ≡ false
-  pub old : (place < end_behind 0 kept) ⊎ (place < first)
 
 -- what is kept then begins with what was kept before, covers a range, and goes up to its end at least
 pub record IsCoveredThen {V : Type 0} (g : Ghosts V) (area : V) (before : List Summary)
@@ -91,22 +86,32 @@ AnswersAreCovered {V} g =
 
 -- a prior backup and the start of a checkpoint, between which there is such a gap: at its start or past
 -- it, and below the new backup's start
-pub record HasOldGap {V : Type 0} (g : Ghosts V) (old new : IncrSite V) (kept : List Summary)
-    (place : ℕ) : Type 0 where
+pub record HasOldGap {V : Type 0} (g : Ghosts V) (o : Origin) (old new : IncrSite V)
+    (kept : List Summary) (place : ℕ) : Type 0 where
   pub prior : Listing
   pub start : ℕ
-  pub taken : IsPrior g old prior start
-  pub begins : BeginsAt old.seen.worker old.store.history new.store.history start
-  pub gap : IsOldGap (first_start new.store.history) kept prior.start start place
+  pub taken : IsPrior g o old prior start
+  pub begins : HasCheckpointAt old.seen.worker (length old.seen.list) new.seen.list start
+  pub gap : IsOldGap (first_start new.seen.list) kept prior.start start place
 
--- a place that an incremental backup is refused for, since nothing covers it, is one
+-- summaries that the area kept when the run began, which found an entry and of which a worker has seen
+-- what it found
+pub record KeptAtFirst (o : Origin) (seen : List Entry) (kept : List Summary) : Type 0 where
+  pub some : 0 < length o.found
+  pub found : IsPrefix o.found seen
+  pub files : Files
+  pub told : o.sums ≡ Some files
+  pub held : AreKept files kept
+
+-- a place that an incremental backup is refused for, since nothing covers it, is one, whatever other
+-- workers published since
 abbrev pub RefusedGapsAreOld : {V : Type 0} → Ghosts V → Type 0
 RefusedGapsAreOld {V} g =
-    (tells : Bool) (name : List ℕ) (when : ℕ) (old new : IncrSite V) (place : Lsn)
+    (tells : Bool) (o : Origin) (name : List ℕ) (when : ℕ) (old new : IncrSite V) (place : Lsn)
     (kept : List Summary)
-    → tells ≡ true → KeptBefore g old.sums kept
-    → IncrAnswers g (tells ≡ true) name when old new (Err (Gap place))
-    → HasOldGap g old new kept place.0
+    → tells ≡ true → KeptAtFirst o new.seen.list kept
+    → IncrAnswers g (tells ≡ true) o name when old new (Err (Gap place))
+    → HasOldGap g o old new kept place.0
 
 -- ---- runs
 

@@ -9,7 +9,7 @@ use Rattle.crew.specs.Run.{backup_stop, incr_stop}
 use Rattle.run_command.specs.declared.told.Told.{Told}
 use Rattle.run_command.specs.declared.command.RunReport.{RunReport}
 use Rattle.run_command.specs.Run.{RunDone, AreTold, backups_asked, tasks_told}
-use Rattle.backup_laws.specs.Chains.{AllTell, TellsThroughout}
+use Rattle.backup_laws.specs.Chains.{AllTell, SumsTold, TellsThroughout}
 
 -- ---- backups that are taken once
 
@@ -44,10 +44,11 @@ AreTakenOnce (line ∷ lines) (answer ∷ answers) =
 
 -- ---- the law
 
--- all areas that a run's lines ask for tell their files when it begins and when it ends, and each
--- worker took its backups once
+-- all areas that a run's lines ask for tell their files when it begins, those of its backups when it
+-- ends, and each worker took its backups once
 pub record TellsAround (old new : Areas) (report : RunReport) : Type 0 where
   pub before : AllTell (backups_asked (tasks_told report.told)) old
+  pub sums : SumsTold report.told old
   pub behind : AllTell (backups_asked (tasks_told report.told)) new
   pub once : (worker : ℕ) (t : Told) → slice_get report.told worker ≡ Some t
       → AreTakenOnce t.task.lines t.answers

@@ -25,7 +25,7 @@ use chain_laws::{
 use combine::{combined_directories_are_chains, combined_directories_hold_the_same};
 use incr_file::{heads_are_read_as_written, plans_may_be_written};
 use manifest::manifests_are_read_again;
-use summary_publish::honest_areas_stay_honest;
+use shared_summaries::answers_sum_up;
 use vault::Vault;
 
 /// What a finished backup left, full or incremental, is a directory as its manifest lists it:
@@ -65,7 +65,7 @@ pub fn backups_of_runs_make_sound_chains()
     increments_extend_sound_chains();
     full_backups_are_sound_chains();
     sound_chains_stay_sound();
-    honest_areas_stay_honest();
+    answers_sum_up();
 }
 
 /// What `combine` made of a sound chain of backups is a sound chain of one, which is accepted: the
@@ -118,7 +118,7 @@ pub fn completed_chains_are_replays()
     increments_extend_sound_chains();
     full_backups_are_sound_chains();
     sound_chains_stay_sound();
-    honest_areas_stay_honest();
+    answers_sum_up();
     combined_directories_hold_the_same();
     combined_directories_are_chains();
     chains_are_sound_alike();
@@ -127,10 +127,10 @@ pub fn completed_chains_are_replays()
 /// What such chains ask of a run, earlier ones leave to it, where nothing else wrote `wal` and
 /// `sums`. The WAL is whole as a run left it that closed its store. Whatever a run came to, stopped
 /// or failed, the WAL goes on from what it found. And what a run finds is this program's own where
-/// the WAL and `sums` are as `init` left them, or as a run did that found so itself and ended with
-/// status 0. So of all runs since `init`, where each ended with status 0, nothing more is asked
-/// than what an operator sees: that their areas tell before each and behind it, and that none of
-/// them took a backup's name twice.
+/// the WAL and `sums` are as `init` left them, or as a run did that found so itself and closed its
+/// store, whether a worker of it was stopped or not. So of all runs since `init`, where each closed
+/// its store, nothing more is asked than what an operator sees: that their areas tell before each
+/// and behind it, and that none of them took a backup's name twice.
 pub fn runs_leave_their_own()
     ensures whole { RunsLeaveWholeWals }
     ensures on { RunsGoOn }

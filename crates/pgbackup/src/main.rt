@@ -6,6 +6,7 @@ use lsn_core::{NoMemory, Text};
 use operator_notes::note_of;
 use pgbackup_cli::{Answer, Status, answered};
 use std::process::ExitCode;
+use std::sync::Wait;
 use std::{env, str};
 use vault_os::{OsClock, OsSink, OsSite, OsSource};
 
@@ -21,13 +22,15 @@ fn words_of(rt: &HostRuntime) -> Result<Vec<Text>, NoMemory> {
     Ok(words)
 }
 
-fn run_words(rt: &HostRuntime) -> Result<Status, NoMemory> {
+/// Does what the words of the command line ask. What waits for a lock does so by the handle `waits`.
+fn run_words(rt: &HostRuntime, waits: &impl Wait) -> Result<Status, NoMemory> {
     let words = words_of(rt)?;
     let mut site = OsSite::new(rt.clone()?);
     let mut input = OsSource::new(rt.clone()?);
     let mut out = OsSink::new(rt.clone()?);
     let mut clock = OsClock::new(rt.clone()?);
     let (answer, status) = answered(
+        waits,
         rt.alloc(),
         &words,
         &mut site,
@@ -60,7 +63,7 @@ fn advise(rt: &HostRuntime, words: &[Text], answer: &Answer) {
 }
 
 fn main(rt: HostRuntime) -> ExitCode {
-    let Ok(status) = run_words(&rt) else {
+    let Ok(status) = run_words(&rt, &rt) else {
         return ExitCode::from(Status::Memory.code());
     };
     ExitCode::from(status.code())

@@ -29,7 +29,7 @@ use Rattle.recovery.specs.Replay.{last_end, Reads, IsRead, IsReadWal}
 use Rattle.recovery.proofs.SoFar.{all_kept}
 use Rattle.recovery.proofs.OneWal.{same_lsn, one_wal}
 use Rattle.shared_store.specs.Begin.{BeginCause, MayComeFirst, MayComeLate, HasNoEntry}
-use Rattle.shared_store.specs.declared.begin.BeginWhy.TheVariants as begin
+use Rattle.shared_store.specs.declared.found.BeginWhy.TheVariants as begin
 use Rattle.crew.specs.declared.script.Task.{Task}
 use Rattle.crew.specs.declared.why.Why.{Why}
 use Rattle.crew.specs.declared.why.ScriptFault.{ScriptFault}

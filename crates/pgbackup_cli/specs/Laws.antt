@@ -7,7 +7,7 @@ use Rattle.command_base.specs.declared.status.Status.TheVariants as status
 use Rattle.command_base.specs.Outside.{Outside, AllTold}
 use Rattle.pgbackup_cli.specs.Init.{InitDoes, init_status}
 use Rattle.recovery.specs.Causes.{IsOfFiles}
-use Rattle.shared_store.specs.declared.begin.BeginWhy.TheVariants as begin
+use Rattle.shared_store.specs.declared.found.BeginWhy.TheVariants as begin
 use Rattle.run_command.specs.declared.command.RunFault.{RunFault}
 use Rattle.run_command.specs.declared.command.RunFault.TheVariants as run
 use Rattle.run_command.specs.Run.{RunResult, RunDoes, tasks_told}

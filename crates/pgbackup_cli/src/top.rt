@@ -21,10 +21,12 @@ use command_line::{Command, MemberNames, command_of};
 use lsn_core::{AreaFault, Text};
 use run_command::run;
 use std::alloc::Global;
+use std::sync::Wait;
 use vault::{Clock, Sink, Site, Source, print};
 
 /// Does what a command asks.
 fn done<S: Site, I: Source, C: Clock>(
+    rt: &impl Wait,
     alloc: Global,
     command: &Command,
     site: &mut S,
@@ -43,7 +45,7 @@ fn done<S: Site, I: Source, C: Clock>(
 {
     match command {
         Command::Init(options) => Answer::Init(init(alloc, *options, site, clock)),
-        Command::Run(frames) => Answer::Run(run(alloc, *frames, site, input, clock)),
+        Command::Run(frames) => Answer::Run(run(rt, alloc, *frames, site, input, clock)),
         Command::Replay(upto, name) => Answer::Replay(replay(alloc, *upto, name.as_bytes(), site)),
         Command::Verify(name) => Answer::Verify(verify(alloc, name.as_bytes(), site)),
         Command::Restore(upto, out, names) => {
@@ -63,6 +65,7 @@ fn done<S: Site, I: Source, C: Clock>(
 
 /// Does what a command asks. Where there is none, the words aren't taken.
 fn work<S: Site, I: Source, C: Clock>(
+    rt: &impl Wait,
     alloc: Global,
     command: &Option<Command>,
     site: &mut S,
@@ -81,7 +84,7 @@ fn work<S: Site, I: Source, C: Clock>(
 {
     match command {
         None => Answer::Usage,
-        Some(command) => done(alloc, command, site, input, clock),
+        Some(command) => done(rt, alloc, command, site, input, clock),
     }
 }
 
@@ -101,6 +104,7 @@ fn tell<O: Sink>(
 
 /// Does what a command asks, prints its lines, and answers what it came to, and the exit status.
 fn carried_out<S: Site, I: Source, O: Sink, C: Clock>(
+    rt: &impl Wait,
     alloc: Global,
     command: &Option<Command>,
     site: &mut S,
@@ -118,7 +122,7 @@ fn carried_out<S: Site, I: Source, O: Sink, C: Clock>(
     ensures input { ReadsInput (option_map asks command.now) ⊎ (input.new ≡ input.old) }
     ensures clock { ReadsClock (option_map asks command.now) ⊎ (clock.new ≡ clock.old) }
 {
-    let answer = work(alloc, command, site, input, clock);
+    let answer = work(rt, alloc, command, site, input, clock);
     let telling = tell(alloc, command, &answer, out);
     let status = exit_status(&answer, telling);
     (answer, status)
@@ -127,6 +131,7 @@ fn carried_out<S: Site, I: Source, O: Sink, C: Clock>(
 /// Does what the words ask, prints its lines, and answers what it came to, and the exit status: for
 /// who has more to tell of it than these lines. All else is as `pgbackup` has it.
 pub fn answered<S: Site, I: Source, O: Sink, C: Clock>(
+    rt: &impl Wait,
     alloc: Global,
     words: &[Text],
     site: &mut S,
@@ -144,7 +149,7 @@ pub fn answered<S: Site, I: Source, O: Sink, C: Clock>(
     ensures clock { ReadsClock (asked words.now) ⊎ (clock.new ≡ clock.old) }
 {
     match command_of(alloc, words) {
-        Ok(command) => carried_out(alloc, &command, site, input, out, clock),
+        Ok(command) => carried_out(rt, alloc, &command, site, input, out, clock),
         Err(_) => {
             let answer = Answer::NoMemory;
             let telling = tell(alloc, &None, &answer, out);
@@ -159,6 +164,7 @@ pub fn answered<S: Site, I: Source, O: Sink, C: Clock>(
 /// `run` and `follow` read the input, and only `run`, `combine` and `init` the clock, the last where
 /// no system identifier is given.
 pub fn pgbackup<S: Site, I: Source, O: Sink, C: Clock>(
+    rt: &impl Wait,
     alloc: Global,
     words: &[Text],
     site: &mut S,
@@ -175,6 +181,6 @@ pub fn pgbackup<S: Site, I: Source, O: Sink, C: Clock>(
     ensures input { ReadsInput (asked words.now) ⊎ (input.new ≡ input.old) }
     ensures clock { ReadsClock (asked words.now) ⊎ (clock.new ≡ clock.old) }
 {
-    let (_, status) = answered(alloc, words, site, input, out, clock);
+    let (_, status) = answered(rt, alloc, words, site, input, out, clock);
     status
 }
