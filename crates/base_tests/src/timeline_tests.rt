@@ -4,7 +4,7 @@ ghost use Rattle.std.specs.Prelude.{◌≡◌, ◌<◌, ◌^◌, ◌++◌, [], �
 
 use std::marker::Brand;
 use std::test::Fail;
-use timeline::{Beginning, Names, Note, OfTimeline, Opened, Pen, Timeline};
+use timeline::{Names, Note, OfTimeline, Opened, Pen, Timeline};
 
 /// Appends a number. The call names it.
 fn append_number<J: OfTimeline, N: Names<u64>>(
@@ -38,9 +38,10 @@ fn two_notes<J: OfTimeline>(
 
 /// The lengths that a note reads before and behind the join of the other one.
 fn lengths_read<J: OfTimeline>(opened: Opened<u64>) -> (u64, u64)
-    requires { opened ≡ J.table }
+    requires table { opened.table ≡ J.table }
+    requires none { opened.list ≡ [] }
 {
-    let (line, mut pen) = Timeline::<u64, J>::new::<Brand>(opened, 0);
+    let (line, mut pen) = Timeline::<u64, J>::new(opened);
     let (mut note, other) = two_notes(&line, &mut pen);
     let before = line.look(&mut note);
     line.join(&mut note, other);
@@ -54,13 +55,23 @@ fn notes_read_the_length_of_the_history(rt: HostRuntime) -> Result<(), Fail> {
     Ok(())
 }
 
+/// Appends a number to a history that has no name yet. The call names it.
+fn find_number<N: Names<u64>>(opened: &mut Opened<u64>, _number: u64)
+    requires named { N.next ≡ _number ∷ [] }
+    requires room { length opened.old.list < 2 ^ 50 }
+    ensures list { opened.new.list ≡ opened.old.list ++ _number ∷ [] }
+    ensures table { opened.new.table ≡ opened.old.table }
+{
+    opened.append::<N>();
+}
+
 /// The length that a note reads that has met the pen of a history of two found numbers and one
 /// that was appended behind them.
-fn length_met<J: OfTimeline, F: Beginning<u64>>(opened: Opened<u64>) -> u64
-    requires name { opened ≡ J.table }
-    requires found { F.list ≡ 5 ∷ 6 ∷ [] }
+fn length_met<J: OfTimeline>(opened: Opened<u64>) -> u64
+    requires name { opened.table ≡ J.table }
+    requires found { opened.list ≡ 5 ∷ 6 ∷ [] }
 {
-    let (line, mut pen) = Timeline::<u64, J>::new::<F>(opened, 2);
+    let (line, mut pen) = Timeline::<u64, J>::new(opened);
     let mut note = line.note(&mut pen);
     append_number::<J, Brand>(&line, &mut pen, 7);
     line.meet(&mut pen, &mut note);
@@ -76,7 +87,9 @@ fn look_at_three<J: OfTimeline>(line: &Timeline<u64, J>, note: &mut Note<u64, J>
 
 #[test]
 fn a_found_history_goes_on(rt: HostRuntime) -> Result<(), Fail> {
-    let opened = Opened::<u64>::new(rt.alloc())?;
-    assert_eq!(rt; length_met::<Brand, Brand>(opened), 3);
+    let mut opened = Opened::<u64>::new(rt.alloc())?;
+    find_number::<Brand>(&mut opened, 5);
+    find_number::<Brand>(&mut opened, 6);
+    assert_eq!(rt; length_met::<Brand>(opened), 3);
     Ok(())
 }

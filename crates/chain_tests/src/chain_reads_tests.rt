@@ -7,6 +7,7 @@ use chain_check::{Member, check_dir};
 use combine::{CombineFault, combine};
 use lsn_core::{NoMemory, Text};
 use std::alloc::Global;
+use std::sync::Wait;
 use test_areas::Wrong;
 use test_calls::take_behind;
 use vault::{Held, MemVault};
@@ -19,10 +20,10 @@ const INCREMENTAL: &[u8] = b"base/5/INCREMENTAL.16384";
 const MOMENT: u64 = 1_700_000_000;
 
 /// A member of the chain, with its area.
-fn held(alloc: Global, name: &[u8], area: &[u8]) -> Result<Held<MemVault>, Wrong> {
+fn held(rt: &impl Wait, alloc: Global, name: &[u8], area: &[u8]) -> Result<Held<MemVault>, Wrong> {
     Ok(Held {
         name: Text::copied(alloc, name)?,
-        area: take_behind(alloc, &CHAIN, area)?,
+        area: take_behind(rt, alloc, &CHAIN, area)?,
     })
 }
 
@@ -61,9 +62,9 @@ fn pair(
 }
 
 /// How many bytes combining the chain's first two members reads of the file of the fork in each.
-fn reads(alloc: Global) -> Result<(u64, u64), Wrong> {
-    let full = held(alloc, b"f1", b"b/f1")?;
-    let mut incremental = held(alloc, b"i1", b"b/i1")?;
+fn reads(rt: &impl Wait, alloc: Global) -> Result<(u64, u64), Wrong> {
+    let full = held(rt, alloc, b"f1", b"b/f1")?;
+    let mut incremental = held(rt, alloc, b"i1", b"b/i1")?;
     let Ok(newest) = check_dir(alloc, &mut incremental.area, &incremental.name) else {
         return Err(Wrong::Step(0));
     };
@@ -88,7 +89,7 @@ fn reads(alloc: Global) -> Result<(u64, u64), Wrong> {
 /// Of the full backup's ten blocks two are read, and the incremental file once.
 #[test]
 fn blocks_alone_are_read(rt: HostRuntime) -> Result<(), Wrong> {
-    let (full, incremental) = reads(rt.alloc())?;
+    let (full, incremental) = reads(&rt, rt.alloc())?;
     assert_eq!(rt; full, 16_384);
     assert!(rt;
         4 * 8192 <= incremental && incremental <= 40_960,

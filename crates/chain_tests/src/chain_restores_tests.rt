@@ -9,6 +9,7 @@ use crate::incr_tests::{ALL, NINE, SEGMENTS};
 use crate::restore_tests::{are_same, have_same};
 use pgbackup_cli::Status;
 use std::alloc::Global;
+use std::sync::Wait;
 use test_areas::{Change, SEGMENT, Wrong};
 use test_calls::{Call, make_calls};
 use vault::{MemSite, Site};
@@ -117,12 +118,17 @@ static UNPADDED: [Call; 3] = [
 ];
 
 /// Whether the restores over a damaged WAL give what its replay gave.
-fn is_restored(alloc: Global, damage: Change, calls: &[Call]) -> Result<bool, Wrong> {
+fn is_restored(
+    rt: &impl Wait,
+    alloc: Global,
+    damage: Change,
+    calls: &[Call],
+) -> Result<bool, Wrong> {
     let mut site = MemSite::new(alloc, &[])?;
-    make_calls(alloc, &mut site, &CHAIN)?;
-    make_calls(alloc, &mut site, &[REPLAY])?;
+    make_calls(rt, alloc, &mut site, &CHAIN)?;
+    make_calls(rt, alloc, &mut site, &[REPLAY])?;
     change_in(&mut site, b"wal", damage)?;
-    make_calls(alloc, &mut site, calls)?;
+    make_calls(rt, alloc, &mut site, calls)?;
     let same = are_same(alloc, &mut site, b"o/p", b"o/r")?;
     Ok(same && are_same(alloc, &mut site, b"o/p", b"o/s")?)
 }
@@ -130,9 +136,9 @@ fn is_restored(alloc: Global, damage: Change, calls: &[Call]) -> Result<bool, Wr
 #[test]
 fn a_restore_reads_the_wal_from_the_last_backup_on(rt: HostRuntime) -> Result<(), Wrong> {
     let changed = Change::Write(SEGMENT, 0x44a, b"\x03");
-    assert!(rt; is_restored(rt.alloc(), changed, &CHANGED)?);
-    assert!(rt; is_restored(rt.alloc(), Change::Cut(SEGMENT, 0x698), &CUT)?);
-    assert!(rt; is_restored(rt.alloc(), Change::Cut(SEGMENT, 0x69f), &UNPADDED)?);
+    assert!(rt; is_restored(&rt, rt.alloc(), changed, &CHANGED)?);
+    assert!(rt; is_restored(&rt, rt.alloc(), Change::Cut(SEGMENT, 0x698), &CUT)?);
+    assert!(rt; is_restored(&rt, rt.alloc(), Change::Cut(SEGMENT, 0x69f), &UNPADDED)?);
     Ok(())
 }
 
@@ -223,18 +229,32 @@ fn is_as_replayed<S: Site>(
 
 /// Whether a chain that these calls make and restore, and what it is combined to, has the files
 /// that replay gives: that of the fork, and another one.
-fn is_replayed(alloc: Global, store: &[Call], calls: &[Call], other: &[u8]) -> Result<bool, Wrong> {
+fn is_replayed(
+    rt: &impl Wait,
+    alloc: Global,
+    store: &[Call],
+    calls: &[Call],
+    other: &[u8],
+) -> Result<bool, Wrong> {
     let mut site = MemSite::new(alloc, &[])?;
-    make_calls(alloc, &mut site, store)?;
-    make_calls(alloc, &mut site, calls)?;
+    make_calls(rt, alloc, &mut site, store)?;
+    make_calls(rt, alloc, &mut site, calls)?;
     let same = is_as_replayed(alloc, &mut site, b"o/r", other)?;
     Ok(is_as_replayed(alloc, &mut site, b"o/s", other)? && same)
 }
 
 #[test]
 fn files_sent_in_part_and_whole_are_restored(rt: HostRuntime) -> Result<(), Wrong> {
-    assert!(rt; is_replayed(rt.alloc(), &NINE, &NINE_CALLS, b"base/5/16384")?);
-    assert!(rt; is_replayed(rt.alloc(), &ALL, &ALL_CALLS, b"base/5/16388")?);
-    assert!(rt; is_replayed(rt.alloc(), &SEGMENTS, &SEGMENT_CALLS, b"base/5/16384.1")?);
+    assert!(rt; is_replayed(&rt, rt.alloc(), &NINE, &NINE_CALLS, b"base/5/16384")?);
+    assert!(rt; is_replayed(&rt, rt.alloc(), &ALL, &ALL_CALLS, b"base/5/16388")?);
+    assert!(rt;
+        is_replayed(
+            &rt,
+            rt.alloc(),
+            &SEGMENTS,
+            &SEGMENT_CALLS,
+            b"base/5/16384.1"
+        )?
+    );
     Ok(())
 }

@@ -11,6 +11,7 @@ use crate::combine_tests::CHAIN;
 use crate::restore_tests::are_same;
 use pgbackup_cli::Status;
 use std::alloc::Global;
+use std::sync::Wait;
 use test_areas::{Change, Wrong};
 use test_calls::{Call, INIT, make_calls, take_behind};
 use vault::{MemSite, MemVault};
@@ -105,26 +106,36 @@ static BARE_CALLS: [Call; 4] = [
 ];
 
 /// Makes the chain, changes its full backup, and makes calls over it.
-fn take_changed(alloc: Global, changes: &[Change], calls: &[Call]) -> Result<(), Wrong> {
+fn take_changed(
+    rt: &impl Wait,
+    alloc: Global,
+    changes: &[Change],
+    calls: &[Call],
+) -> Result<(), Wrong> {
     let mut site = MemSite::new(alloc, &[])?;
-    make_calls(alloc, &mut site, &CHAIN)?;
+    make_calls(rt, alloc, &mut site, &CHAIN)?;
     change_all(&mut site, b"b/f1", changes)?;
-    make_calls(alloc, &mut site, calls)
+    make_calls(rt, alloc, &mut site, calls)
 }
 
 #[test]
 fn links_are_judged_behind_sums(rt: HostRuntime) -> Result<(), Wrong> {
-    take_changed(rt.alloc(), &LATE, &LATE_CALLS)?;
-    take_changed(rt.alloc(), &BARE, &BARE_CALLS)
+    take_changed(&rt, rt.alloc(), &LATE, &LATE_CALLS)?;
+    take_changed(&rt, rt.alloc(), &BARE, &BARE_CALLS)
 }
 
 /// The site of the chain, and in it an area that the chain doesn't use.
-fn chain_beside(alloc: Global, name: &[u8], area: MemVault) -> Result<MemSite, Wrong>
+fn chain_beside(
+    rt: &impl Wait,
+    alloc: Global,
+    name: &[u8],
+    area: MemVault,
+) -> Result<MemSite, Wrong>
     ensures { IfOk result (λ site. AllHome (areas_of site)) }
 {
     let mut site = MemSite::new(alloc, &[])?;
     site.set(name, area)?;
-    make_calls(alloc, &mut site, &CHAIN)?;
+    make_calls(rt, alloc, &mut site, &CHAIN)?;
     Ok(site)
 }
 
@@ -195,9 +206,9 @@ static OTHER_SYSTEM_CALLS: [Call; 5] = [
 
 #[test]
 fn a_member_of_another_system_is_refused(rt: HostRuntime) -> Result<(), Wrong> {
-    let member = take_behind(rt.alloc(), &OTHER_SYSTEM, b"b/j1")?;
-    let mut site = chain_beside(rt.alloc(), b"b/j1", member)?;
-    make_calls(rt.alloc(), &mut site, &OTHER_SYSTEM_CALLS)
+    let member = take_behind(&rt, rt.alloc(), &OTHER_SYSTEM, b"b/j1")?;
+    let mut site = chain_beside(&rt, rt.alloc(), b"b/j1", member)?;
+    make_calls(&rt, rt.alloc(), &mut site, &OTHER_SYSTEM_CALLS)
 }
 
 /// A store with the chain's system identifier, in which one more entry stands before the
@@ -323,12 +334,12 @@ static ALIKE_CALLS: [Call; 6] = [
 /// A backup of another store with the same system identifier is told only where its places differ.
 #[test]
 fn a_member_of_another_store_is_told_by_its_places(rt: HostRuntime) -> Result<(), Wrong> {
-    let longer = take_behind(rt.alloc(), &LONGER, b"b/i1")?;
-    let mut site = chain_beside(rt.alloc(), b"b/x1", longer)?;
-    make_calls(rt.alloc(), &mut site, &LONGER_CALLS)?;
-    let alike = take_behind(rt.alloc(), &ALIKE, b"b/i1")?;
-    let mut site = chain_beside(rt.alloc(), b"b/x1", alike)?;
-    make_calls(rt.alloc(), &mut site, &ALIKE_CALLS)?;
+    let longer = take_behind(&rt, rt.alloc(), &LONGER, b"b/i1")?;
+    let mut site = chain_beside(&rt, rt.alloc(), b"b/x1", longer)?;
+    make_calls(&rt, rt.alloc(), &mut site, &LONGER_CALLS)?;
+    let alike = take_behind(&rt, rt.alloc(), &ALIKE, b"b/i1")?;
+    let mut site = chain_beside(&rt, rt.alloc(), b"b/x1", alike)?;
+    make_calls(&rt, rt.alloc(), &mut site, &ALIKE_CALLS)?;
     assert!(rt; are_same(rt.alloc(), &mut site, b"o/p", b"o/q")?);
     assert!(rt; !are_same(rt.alloc(), &mut site, b"o/p", b"o/r")?);
     assert!(rt; are_same(rt.alloc(), &mut site, b"o/r", b"o/s")?);

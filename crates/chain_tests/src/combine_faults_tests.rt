@@ -7,6 +7,7 @@ use crate::faulty_sites::{
 };
 use pgbackup_cli::Status;
 use std::alloc::Global;
+use std::sync::Wait;
 use test_areas::Wrong;
 use test_calls::{Call, NONE, make_calls, run};
 
@@ -21,13 +22,18 @@ static MEMBERS: [Call; 2] = [FULL_IS_WHOLE, INCR_IS_WHOLE];
 
 /// How a check of the output ends behind combining that a fault ended, where the members have kept
 /// their files. None where none of the calls that are to fail was made, and the chain is combined.
-fn checked(alloc: Global, areas: &[Area], fails: Fails) -> Result<Option<Status>, Wrong> {
+fn checked(
+    rt: &impl Wait,
+    alloc: Global,
+    areas: &[Area],
+    fails: Fails,
+) -> Result<Option<Status>, Wrong> {
     let mut site = site_with(alloc, areas, fails)?;
-    if is_done_or_told(alloc, &mut site, &COMBINE, fails)? {
+    if is_done_or_told(rt, alloc, &mut site, &COMBINE, fails)? {
         return Ok(None);
     }
-    make_calls(alloc, &mut site, &MEMBERS)?;
-    let (status, _) = run(alloc, &mut site, "verify c", "", NONE)?;
+    make_calls(rt, alloc, &mut site, &MEMBERS)?;
+    let (status, _) = run(rt, alloc, &mut site, "verify c", "", NONE)?;
     Ok(Some(status))
 }
 
@@ -37,8 +43,8 @@ struct Combining<'a> {
 }
 
 impl Command for Combining<'_> {
-    fn is_done(&self, alloc: Global, fails: Fails) -> Result<bool, Wrong> {
-        match checked(alloc, self.areas, fails)? {
+    fn is_done(&self, rt: &impl Wait, alloc: Global, fails: Fails) -> Result<bool, Wrong> {
+        match checked(rt, alloc, self.areas, fails)? {
             None => Ok(true),
             Some(Status::Refused) => Ok(false),
             Some(_) => Err(Wrong::Step(fails.call as usize)),
@@ -52,10 +58,10 @@ static AREAS: [Called; 3] = [("b/f1", 5), ("b/i1", 5), ("b/c", 6)];
 
 #[test]
 fn each_device_call_of_combining_fails_in_turn(rt: HostRuntime) -> Result<(), Wrong> {
-    let areas = areas_behind(rt.alloc(), &CHAIN, &AREAS)?;
+    let areas = areas_behind(&rt, rt.alloc(), &CHAIN, &AREAS)?;
     let combining = Combining { areas: &areas };
     for (area, least) in &AREAS {
-        let calls = failing_calls(rt.alloc(), &combining, area)?;
+        let calls = failing_calls(&rt, rt.alloc(), &combining, area)?;
         assert!(rt; *least <= calls, "{area}");
     }
     Ok(())
@@ -64,16 +70,16 @@ fn each_device_call_of_combining_fails_in_turn(rt: HostRuntime) -> Result<(), Wr
 /// The manifest stays only where the sync behind it fails, and then its removal.
 #[test]
 fn the_removal_of_the_manifest_fails_too(rt: HostRuntime) -> Result<(), Wrong> {
-    let areas = areas_behind(rt.alloc(), &CHAIN, &AREAS)?;
+    let areas = areas_behind(&rt, rt.alloc(), &CHAIN, &AREAS)?;
     let combining = Combining { areas: &areas };
-    let sync = failing_calls(rt.alloc(), &combining, "b/c")?;
+    let sync = failing_calls(&rt, rt.alloc(), &combining, "b/c")?;
     let mut fails = Fails {
         area: "b/c",
         call: sync,
         again: true,
     };
-    assert!(rt; checked(rt.alloc(), &areas, fails)? == Some(Status::Done));
+    assert!(rt; checked(&rt, rt.alloc(), &areas, fails)? == Some(Status::Done));
     fails.call = sync.saturating_sub(1);
-    assert!(rt; checked(rt.alloc(), &areas, fails)? == Some(Status::Refused));
+    assert!(rt; checked(&rt, rt.alloc(), &areas, fails)? == Some(Status::Refused));
     Ok(())
 }

@@ -186,8 +186,8 @@ START TIMELINE: 1
 #[test]
 fn a_chain_is_combined_and_restored(rt: HostRuntime) -> Result<(), Wrong> {
     let mut site = MemSite::new(rt.alloc(), &[])?;
-    make_calls(rt.alloc(), &mut site, &CHAIN)?;
-    make_calls(rt.alloc(), &mut site, &CALLS)?;
+    make_calls(&rt, rt.alloc(), &mut site, &CHAIN)?;
+    make_calls(&rt, rt.alloc(), &mut site, &CALLS)?;
     assert!(rt; are_same(rt.alloc(), &mut site, b"o/p", b"o/r")?);
     assert!(rt; are_same(rt.alloc(), &mut site, b"o/p", b"o/r3")?);
     assert!(rt; are_same(rt.alloc(), &mut site, b"o/p", b"o/s2")?);
@@ -249,6 +249,6 @@ static REFUSED: [Call; 11] = [
 #[test]
 fn chains_out_of_order_are_refused(rt: HostRuntime) -> Result<(), Wrong> {
     let mut site = MemSite::new(rt.alloc(), &[])?;
-    make_calls(rt.alloc(), &mut site, &CHAIN)?;
-    make_calls(rt.alloc(), &mut site, &REFUSED)
+    make_calls(&rt, rt.alloc(), &mut site, &CHAIN)?;
+    make_calls(&rt, rt.alloc(), &mut site, &REFUSED)
 }

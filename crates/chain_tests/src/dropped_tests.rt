@@ -99,7 +99,7 @@ static WHOLE: [SiteStep; 2] = [
 #[test]
 fn a_fork_made_anew_is_sent_whole(rt: HostRuntime) -> Result<(), Wrong> {
     let mut site = MemSite::new(rt.alloc(), &[])?;
-    make_calls(rt.alloc(), &mut site, &ANEW)?;
+    make_calls(&rt, rt.alloc(), &mut site, &ANEW)?;
     take_site_steps(rt.alloc(), &mut site, &WHOLE)?;
     assert!(rt; are_same(rt.alloc(), &mut site, b"o/p", b"o/r")?);
     assert!(rt; are_same(rt.alloc(), &mut site, b"o/p", b"o/s")?);
@@ -207,7 +207,7 @@ static LONGER_FILES: [SiteStep; 4] = [
 #[test]
 fn a_chain_passes_over_a_drop(rt: HostRuntime) -> Result<(), Wrong> {
     let mut site = MemSite::new(rt.alloc(), &[])?;
-    make_calls(rt.alloc(), &mut site, &LONGER)?;
+    make_calls(&rt, rt.alloc(), &mut site, &LONGER)?;
     take_site_steps(rt.alloc(), &mut site, &LONGER_FILES)?;
     assert!(rt; are_same(rt.alloc(), &mut site, b"o/p", b"o/r")?);
     assert!(rt; have_same(rt.alloc(), &mut site, b"o/p", b"o/r", SECOND)?);
@@ -290,7 +290,7 @@ static RESTORED: [Call; 5] = [
 #[test]
 fn no_fork_is_made_of_zeros(rt: HostRuntime) -> Result<(), Wrong> {
     let mut site = MemSite::new(rt.alloc(), &[])?;
-    make_calls(rt.alloc(), &mut site, &DROPPED)?;
+    make_calls(&rt, rt.alloc(), &mut site, &DROPPED)?;
     change_all(&mut site, b"b/f1", &ZEROS)?;
-    make_calls(rt.alloc(), &mut site, &RESTORED)
+    make_calls(&rt, rt.alloc(), &mut site, &RESTORED)
 }

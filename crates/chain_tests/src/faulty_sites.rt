@@ -7,6 +7,7 @@ ghost use Rattle.vault.specs.MemorySite.{areas_of};
 use lsn_core::{AreaFault, NoMemory, Text};
 use pgbackup_cli::Status;
 use std::alloc::Global;
+use std::sync::Wait;
 use test_areas::{Change, Wrong, make};
 use test_calls::{Call, INIT, NONE, run, take_behind};
 use vault::{MemSite, MemVault, Site, Vault, read_whole};
@@ -99,8 +100,8 @@ fn files_of(alloc: Global, area: &mut MemVault) -> Result<Vec<File>, AreaFault> 
 }
 
 /// An area behind calls of the program over a new site.
-fn area_behind(alloc: Global, calls: &[Call], name: &str) -> Result<Area, Wrong> {
-    let mut area = take_behind(alloc, calls, name.as_bytes())?;
+fn area_behind(rt: &impl Wait, alloc: Global, calls: &[Call], name: &str) -> Result<Area, Wrong> {
+    let mut area = take_behind(rt, alloc, calls, name.as_bytes())?;
     Ok(Area {
         name: Text::copied(alloc, name.as_bytes())?,
         files: files_of(alloc, &mut area)?,
@@ -117,13 +118,14 @@ pub(crate) type Called<'a> = (&'a str, u32);
 
 /// These areas behind calls of the program over a new site.
 pub(crate) fn areas_behind(
+    rt: &impl Wait,
     alloc: Global,
     calls: &[Call],
     called: &[Called],
 ) -> Result<Vec<Area>, Wrong> {
     let mut areas = Vec::new(alloc);
     for (name, _) in called {
-        let area = area_behind(alloc, calls, name)?;
+        let area = area_behind(rt, alloc, calls, name)?;
         keep(&mut areas, area)?;
     }
     Ok(areas)
@@ -191,6 +193,7 @@ pub(crate) fn fault_line(alloc: Global, area: &str) -> Result<String, NoMemory> 
 /// Whether a command of one line is done as where no call fails. Else the fault of the area is all
 /// that is told.
 pub(crate) fn is_done_or_told<S: Site>(
+    rt: &impl Wait,
     alloc: Global,
     site: &mut S,
     call: &Call,
@@ -200,7 +203,7 @@ pub(crate) fn is_done_or_told<S: Site>(
     ensures { AllHome (S.areas site.new) }
 {
     let (line, script, done, printed) = *call;
-    let (status, out) = run(alloc, site, line, script, NONE)?;
+    let (status, out) = run(rt, alloc, site, line, script, NONE)?;
     if status == done && out.as_slice() == printed.as_bytes() {
         return Ok(true);
     }
@@ -216,7 +219,7 @@ pub(crate) fn is_done_or_told<S: Site>(
 pub(crate) trait Command {
     /// Whether it is done as where no call fails. Else the fault is told, and no more is left than
     /// may be.
-    fn is_done(&self, alloc: Global, fails: Fails) -> Result<bool, Wrong>;
+    fn is_done(&self, rt: &impl Wait, alloc: Global, fails: Fails) -> Result<bool, Wrong>;
 }
 
 /// A command makes fewer calls of each area.
@@ -228,6 +231,7 @@ const BEHIND: u32 = 3;
 /// How many calls a command makes of an area: each of them fails in turn, and the command is done
 /// where a later one were to.
 pub(crate) fn failing_calls<C: Command>(
+    rt: &impl Wait,
     alloc: Global,
     command: &C,
     area: &str,
@@ -235,7 +239,7 @@ pub(crate) fn failing_calls<C: Command>(
     let mut failed = 0u32;
     for call in 1..TRIED {
         let again = false;
-        if command.is_done(alloc, Fails { area, call, again })? {
+        if command.is_done(rt, alloc, Fails { area, call, again })? {
             if failed.saturating_add(BEHIND) <= call {
                 return Ok(failed);
             }

@@ -9,6 +9,7 @@ use crate::verify_tests::{F1_LABEL, F1_MANIFEST};
 use lsn_core::AreaFault;
 use pgbackup_cli::Status;
 use std::alloc::Global;
+use std::sync::Wait;
 use test_areas::{Change, NEW_WAL, SEGMENT, SETTINGS, SiteStep, Wrong, make_all, take_site_steps};
 use test_calls::{Call, NONE, make_calls, run};
 use vault::{MemSite, MemVault, Site};
@@ -64,7 +65,7 @@ static HELD: [SiteStep; 2] = [
 #[test]
 fn a_backup_is_taken(rt: HostRuntime) -> Result<(), Wrong> {
     let mut site = MemSite::new(rt.alloc(), &[])?;
-    make_calls(rt.alloc(), &mut site, &CALLS)?;
+    make_calls(&rt, rt.alloc(), &mut site, &CALLS)?;
     take_site_steps(rt.alloc(), &mut site, &HELD)
 }
 
@@ -101,7 +102,7 @@ wal 0/1000E0
 fn an_area_with_a_file_is_refused(rt: HostRuntime) -> Result<(), Wrong> {
     let mut site = MemSite::new(rt.alloc(), &[])?;
     take_site_steps(rt.alloc(), &mut site, &STRAY)?;
-    make_calls(rt.alloc(), &mut site, &REFUSED)
+    make_calls(&rt, rt.alloc(), &mut site, &REFUSED)
 }
 
 /// An area with the new WAL, of whose calls behind the two that put its files there one fails; 0 is
@@ -137,6 +138,7 @@ fn new_site(alloc: Global, area: &str, fails: u64) -> Result<MemSite, AreaFault>
 /// What a run of the script comes to in which a call of an area fails: its status, whether its last
 /// line names the area, and whether the backup was answered.
 fn failing_run<S: Site>(
+    rt: &impl Wait,
     alloc: Global,
     site: &mut S,
     area: &str,
@@ -144,7 +146,7 @@ fn failing_run<S: Site>(
     requires { AllHome (S.areas site.old) }
     ensures { AllHome (S.areas site.new) }
 {
-    let (status, printed) = run(alloc, site, "run", SCRIPT, NONE)?;
+    let (status, printed) = run(rt, alloc, site, "run", SCRIPT, NONE)?;
     let line = format!(in alloc; "refused 60 DeviceFault {area}\n")?;
     let named = printed.ends_with(line.as_bytes());
     let answer = b"w 4 backup ".as_slice();
@@ -154,13 +156,18 @@ fn failing_run<S: Site>(
 
 /// Whether a run in which a call of an area fails says so, and leaves no directory that passes a check
 /// unless its line was answered. None where the run is done, as it makes fewer calls.
-fn is_told(alloc: Global, area: &str, fails: u64) -> Result<Option<bool>, AreaFault> {
+fn is_told(
+    rt: &impl Wait,
+    alloc: Global,
+    area: &str,
+    fails: u64,
+) -> Result<Option<bool>, AreaFault> {
     let mut site = new_site(alloc, area, fails)?;
-    let (status, named, answered) = failing_run(alloc, &mut site, area)?;
+    let (status, named, answered) = failing_run(rt, alloc, &mut site, area)?;
     if status == Status::Done {
         return Ok(None);
     }
-    let (checked, _) = run(alloc, &mut site, "verify f1", "", NONE)?;
+    let (checked, _) = run(rt, alloc, &mut site, "verify f1", "", NONE)?;
     let told = status == Status::Device && named && (answered || checked != Status::Done);
     Ok(Some(told))
 }
@@ -173,9 +180,9 @@ static AREAS: [(&str, u64); 4] = [("wal", 15), ("data0", 12), ("data1", 4), ("b/
 const MOST_CALLS: u64 = 100;
 
 /// Whether each of the calls of an area fails in turn, at least so many, up to where the run is done.
-fn fails_in_turn(alloc: Global, area: &str, least: u64) -> Result<bool, AreaFault> {
+fn fails_in_turn(rt: &impl Wait, alloc: Global, area: &str, least: u64) -> Result<bool, AreaFault> {
     for fails in 1..=MOST_CALLS {
-        match is_told(alloc, area, fails)? {
+        match is_told(rt, alloc, area, fails)? {
             Some(true) => {}
             Some(false) => return Ok(false),
             None => return Ok(fails > least),
@@ -187,7 +194,7 @@ fn fails_in_turn(alloc: Global, area: &str, least: u64) -> Result<bool, AreaFaul
 #[test]
 fn each_device_call_of_a_backup_fails_in_turn(rt: HostRuntime) -> Result<(), AreaFault> {
     for (area, least) in &AREAS {
-        assert!(rt; fails_in_turn(rt.alloc(), area, *least)?, "{area}");
+        assert!(rt; fails_in_turn(&rt, rt.alloc(), area, *least)?, "{area}");
     }
     Ok(())
 }

@@ -9,6 +9,7 @@ use crate::faulty_sites::{
 };
 use pgbackup_cli::Status;
 use std::alloc::Global;
+use std::sync::Wait;
 use test_areas::Wrong;
 use test_calls::{Call, NONE, make_calls, run};
 use vault::Site;
@@ -35,12 +36,17 @@ fn check_behind(printed: &[u8], fault: &[u8]) -> Option<Status> {
 static PRIOR: [Call; 1] = [FULL_IS_WHOLE];
 
 /// Whether a check of the backup ends so, and the prior keeps its files.
-fn is_left<S: Site>(alloc: Global, site: &mut S, check: Option<Status>) -> Result<bool, Wrong>
+fn is_left<S: Site>(
+    rt: &impl Wait,
+    alloc: Global,
+    site: &mut S,
+    check: Option<Status>,
+) -> Result<bool, Wrong>
     requires { AllHome (S.areas site.old) }
     ensures { AllHome (S.areas site.new) }
 {
-    make_calls(alloc, site, &PRIOR)?;
-    let (status, _) = run(alloc, site, "verify i1", "", NONE)?;
+    make_calls(rt, alloc, site, &PRIOR)?;
+    let (status, _) = run(rt, alloc, site, "verify i1", "", NONE)?;
     Ok(check == Some(status))
 }
 
@@ -51,16 +57,16 @@ struct Increment<'a> {
 }
 
 impl Command for Increment<'_> {
-    fn is_done(&self, alloc: Global, fails: Fails) -> Result<bool, Wrong> {
+    fn is_done(&self, rt: &impl Wait, alloc: Global, fails: Fails) -> Result<bool, Wrong> {
         let mut site = site_with(alloc, self.areas, fails)?;
         let (line, script, done, text) = INCR;
-        let (status, printed) = run(alloc, &mut site, line, script, NONE)?;
+        let (status, printed) = run(rt, alloc, &mut site, line, script, NONE)?;
         if status == done && printed.as_slice() == text.as_bytes() {
             return Ok(true);
         }
         let fault = fault_line(alloc, fails.area)?;
         let check = check_behind(&printed, fault.as_bytes());
-        if status == Status::Device && is_left(alloc, &mut site, check)? {
+        if status == Status::Device && is_left(rt, alloc, &mut site, check)? {
             Ok(false)
         } else {
             Err(Wrong::Step(fails.call as usize))
@@ -86,10 +92,10 @@ static AREAS: [Called; 8] = [
 
 #[test]
 fn each_device_call_of_an_increment_fails_in_turn(rt: HostRuntime) -> Result<(), Wrong> {
-    let areas = areas_behind(rt.alloc(), &MADE, &AREAS)?;
+    let areas = areas_behind(&rt, rt.alloc(), &MADE, &AREAS)?;
     let increment = Increment { areas: &areas };
     for (area, least) in &AREAS {
-        let calls = failing_calls(rt.alloc(), &increment, area)?;
+        let calls = failing_calls(&rt, rt.alloc(), &increment, area)?;
         assert!(rt; *least <= calls, "{area}");
     }
     Ok(())

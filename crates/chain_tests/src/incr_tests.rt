@@ -78,14 +78,14 @@ static CHAIN_FILES: [SiteStep; 4] = [
 #[test]
 fn blocks_that_changed_are_sent(rt: HostRuntime) -> Result<(), Wrong> {
     let mut site = MemSite::new(rt.alloc(), &[])?;
-    make_calls(rt.alloc(), &mut site, &CHAIN)?;
+    make_calls(&rt, rt.alloc(), &mut site, &CHAIN)?;
     take_site_steps(rt.alloc(), &mut site, &CHAIN_FILES)
 }
 
 #[test]
 fn they_are_sent_with_few_frames(rt: HostRuntime) -> Result<(), Wrong> {
     let mut site = MemSite::new(rt.alloc(), &[])?;
-    make_calls_in_few_frames(rt.alloc(), &mut site, &CHAIN)?;
+    make_calls_in_few_frames(&rt, rt.alloc(), &mut site, &CHAIN)?;
     take_site_steps(rt.alloc(), &mut site, &CHAIN_FILES)
 }
 
@@ -126,9 +126,9 @@ static NOT_WRITTEN: [SiteStep; 3] = [
 #[test]
 fn backups_are_refused(rt: HostRuntime) -> Result<(), Wrong> {
     let mut site = MemSite::new(rt.alloc(), &[])?;
-    make_calls(rt.alloc(), &mut site, &CHAIN)?;
+    make_calls(&rt, rt.alloc(), &mut site, &CHAIN)?;
     take_site_steps(rt.alloc(), &mut site, &SPOILT)?;
-    make_calls(rt.alloc(), &mut site, &CHAIN_AGAIN)?;
+    make_calls(&rt, rt.alloc(), &mut site, &CHAIN_AGAIN)?;
     take_site_steps(rt.alloc(), &mut site, &NOT_WRITTEN)
 }
 
@@ -204,9 +204,9 @@ incr i1 i1
 #[test]
 fn priors_are_refused(rt: HostRuntime) -> Result<(), Wrong> {
     let mut site = MemSite::new(rt.alloc(), &[])?;
-    make_calls(rt.alloc(), &mut site, &[INIT])?;
+    make_calls(&rt, rt.alloc(), &mut site, &[INIT])?;
     take_site_steps(rt.alloc(), &mut site, &PRIORS)?;
-    make_calls(rt.alloc(), &mut site, &PRIOR_CALLS)
+    make_calls(&rt, rt.alloc(), &mut site, &PRIOR_CALLS)
 }
 
 /// 9 of 10 blocks are patched.
@@ -265,7 +265,7 @@ static NINE_FILES: [SiteStep; 2] = [
 #[test]
 fn nine_blocks_of_ten_are_sent(rt: HostRuntime) -> Result<(), Wrong> {
     let mut site = MemSite::new(rt.alloc(), &[])?;
-    make_calls(rt.alloc(), &mut site, &NINE)?;
+    make_calls(&rt, rt.alloc(), &mut site, &NINE)?;
     take_site_steps(rt.alloc(), &mut site, &NINE_FILES)
 }
 
@@ -325,7 +325,7 @@ static ALL_FILES: [SiteStep; 3] = [
 #[test]
 fn whole_files_are_sent(rt: HostRuntime) -> Result<(), Wrong> {
     let mut site = MemSite::new(rt.alloc(), &[])?;
-    make_calls(rt.alloc(), &mut site, &ALL)?;
+    make_calls(&rt, rt.alloc(), &mut site, &ALL)?;
     take_site_steps(rt.alloc(), &mut site, &ALL_FILES)
 }
 
@@ -371,6 +371,6 @@ static SEGMENT_FILES: [SiteStep; 2] = [
 #[test]
 fn segments_are_planned_apart(rt: HostRuntime) -> Result<(), Wrong> {
     let mut site = MemSite::new(rt.alloc(), &[])?;
-    make_calls(rt.alloc(), &mut site, &SEGMENTS)?;
+    make_calls(&rt, rt.alloc(), &mut site, &SEGMENTS)?;
     take_site_steps(rt.alloc(), &mut site, &SEGMENT_FILES)
 }

@@ -7,6 +7,7 @@ use crate::restore_tests::are_same;
 use lsn_core::NoMemory;
 use pgbackup_cli::Status;
 use std::alloc::Global;
+use std::sync::Wait;
 use test_areas::Wrong;
 use test_calls::{Call, INIT, NONE, make_calls, run};
 use vault::{MemSite, Site};
@@ -59,13 +60,13 @@ static RESTORED: [Call; 3] = [
 ];
 
 /// Makes a store with these backups.
-fn make_backups<S: Site>(alloc: Global, site: &mut S) -> Result<(), Wrong>
+fn make_backups<S: Site>(rt: &impl Wait, alloc: Global, site: &mut S) -> Result<(), Wrong>
     requires { AllHome (S.areas site.old) }
     ensures { AllHome (S.areas site.new) }
 {
-    make_calls(alloc, site, &[INIT])?;
+    make_calls(rt, alloc, site, &[INIT])?;
     let script = script(alloc)?;
-    let (status, printed) = run(alloc, site, "run", &script, NONE)?;
+    let (status, printed) = run(rt, alloc, site, "run", &script, NONE)?;
     if status == Status::Done && printed.ends_with(b"\nwal 0/103548\n") {
         Ok(())
     } else {
@@ -74,7 +75,7 @@ fn make_backups<S: Site>(alloc: Global, site: &mut S) -> Result<(), Wrong>
 }
 
 /// Combines and restores all of them, and all of them and one more.
-fn take_all<S: Site>(alloc: Global, site: &mut S) -> Result<(), Wrong>
+fn take_all<S: Site>(rt: &impl Wait, alloc: Global, site: &mut S) -> Result<(), Wrong>
     requires { AllHome (S.areas site.old) }
     ensures { AllHome (S.areas site.new) }
 {
@@ -95,15 +96,15 @@ fn take_all<S: Site>(alloc: Global, site: &mut S) -> Result<(), Wrong>
         ),
         (&restored, "", Status::Done, "restored 0/103548 1 3\n"),
     ];
-    make_calls(alloc, site, &calls)
+    make_calls(rt, alloc, site, &calls)
 }
 
 #[test]
 fn the_longest_chain_is_restored(rt: HostRuntime) -> Result<(), Wrong> {
     let mut site = MemSite::new(rt.alloc(), &[])?;
-    make_backups(rt.alloc(), &mut site)?;
-    take_all(rt.alloc(), &mut site)?;
-    make_calls(rt.alloc(), &mut site, &RESTORED)?;
+    make_backups(&rt, rt.alloc(), &mut site)?;
+    take_all(&rt, rt.alloc(), &mut site)?;
+    make_calls(&rt, rt.alloc(), &mut site, &RESTORED)?;
     assert!(rt; are_same(rt.alloc(), &mut site, b"o/p", b"o/r")?);
     assert!(rt; are_same(rt.alloc(), &mut site, b"o/p", b"o/s")?);
     Ok(())

@@ -11,6 +11,7 @@ use crate::faulty_sites::{
 use lsn_core::AreaFault;
 use pgbackup_cli::Status;
 use std::alloc::Global;
+use std::sync::Wait;
 use test_areas::{Step, Wrong, take_steps};
 use test_calls::Call;
 use vault::{MemSite, Site};
@@ -38,9 +39,9 @@ struct Restoring<'a> {
 }
 
 impl Command for Restoring<'_> {
-    fn is_done(&self, alloc: Global, fails: Fails) -> Result<bool, Wrong> {
+    fn is_done(&self, rt: &impl Wait, alloc: Global, fails: Fails) -> Result<bool, Wrong> {
         let mut site = site_with(alloc, self.areas, fails)?;
-        if is_done_or_told(alloc, &mut site, self.call, fails)? {
+        if is_done_or_told(rt, alloc, &mut site, self.call, fails)? {
             return Ok(true);
         }
         if has_at_most_the_fork(alloc, site)? {
@@ -60,13 +61,13 @@ static AREAS: [Called; 3] = [("wal", 4), ("b/f1", 4), ("o/r", 3)];
 
 #[test]
 fn each_device_call_of_a_restore_fails_in_turn(rt: HostRuntime) -> Result<(), Wrong> {
-    let areas = areas_behind(rt.alloc(), &MADE, &AREAS)?;
+    let areas = areas_behind(&rt, rt.alloc(), &MADE, &AREAS)?;
     let restoring = Restoring {
         areas: &areas,
         call: &RESTORE,
     };
     for (area, least) in &AREAS {
-        let calls = failing_calls(rt.alloc(), &restoring, area)?;
+        let calls = failing_calls(&rt, rt.alloc(), &restoring, area)?;
         assert!(rt; *least <= calls, "{area}");
     }
     Ok(())
@@ -84,13 +85,13 @@ static CHAIN_AREAS: [Called; 4] = [("wal", 4), ("b/f1", 4), ("b/i1", 4), ("o/r",
 
 #[test]
 fn each_device_call_of_a_chains_restore_fails_in_turn(rt: HostRuntime) -> Result<(), Wrong> {
-    let areas = areas_behind(rt.alloc(), &CHAIN, &CHAIN_AREAS)?;
+    let areas = areas_behind(&rt, rt.alloc(), &CHAIN, &CHAIN_AREAS)?;
     let restoring = Restoring {
         areas: &areas,
         call: &RESTORE_CHAIN,
     };
     for (area, least) in &CHAIN_AREAS {
-        let calls = failing_calls(rt.alloc(), &restoring, area)?;
+        let calls = failing_calls(&rt, rt.alloc(), &restoring, area)?;
         assert!(rt; *least <= calls, "{area}");
     }
     Ok(())

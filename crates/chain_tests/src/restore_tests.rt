@@ -96,7 +96,7 @@ static LEFT: [SiteStep; 1] = [SiteStep::Holds(b"o/t", FORK, b"")];
 #[test]
 fn a_backup_is_restored(rt: HostRuntime) -> Result<(), Wrong> {
     let mut site = MemSite::new(rt.alloc(), &[])?;
-    make_calls(rt.alloc(), &mut site, &CALLS)?;
+    make_calls(&rt, rt.alloc(), &mut site, &CALLS)?;
     assert!(rt; are_same(rt.alloc(), &mut site, b"o/p", b"o/r")?);
     assert!(rt; are_same(rt.alloc(), &mut site, b"o/p", b"o/q")?);
     take_site_steps(rt.alloc(), &mut site, &LEFT)
@@ -144,7 +144,7 @@ static REFUSED: [Call; 9] = [
 #[test]
 fn words_and_a_missing_backup_are_refused(rt: HostRuntime) -> Result<(), Wrong> {
     let mut site = MemSite::new(rt.alloc(), &[])?;
-    make_calls(rt.alloc(), &mut site, &REFUSED)
+    make_calls(&rt, rt.alloc(), &mut site, &REFUSED)
 }
 
 /// A change of block 0 behind the backup, whose entry is an image.
@@ -204,9 +204,9 @@ static AGAIN: [Call; 4] = [
 #[test]
 fn an_image_passes_over_a_newer_page(rt: HostRuntime) -> Result<(), Wrong> {
     let mut site = MemSite::new(rt.alloc(), &[])?;
-    make_calls(rt.alloc(), &mut site, &CHANGED)?;
+    make_calls(&rt, rt.alloc(), &mut site, &CHANGED)?;
     take_site_steps(rt.alloc(), &mut site, &NEWER)?;
-    make_calls(rt.alloc(), &mut site, &AGAIN)?;
+    make_calls(&rt, rt.alloc(), &mut site, &AGAIN)?;
     assert!(rt; are_same(rt.alloc(), &mut site, b"o/p", b"o/r")?);
     assert!(rt; !are_same(rt.alloc(), &mut site, b"o/p", b"o/q")?);
     Ok(())

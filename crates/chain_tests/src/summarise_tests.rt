@@ -82,7 +82,7 @@ static FILES: [SiteStep; 2] = [
 #[test]
 fn finished_ranges_are_published(rt: HostRuntime) -> Result<(), Wrong> {
     let mut site = MemSite::new(rt.alloc(), &[])?;
-    make_calls(rt.alloc(), &mut site, &SUMMARISED)?;
+    make_calls(&rt, rt.alloc(), &mut site, &SUMMARISED)?;
     take_site_steps(rt.alloc(), &mut site, &FILES)
 }
 
@@ -107,5 +107,5 @@ static LATER: [Call; 4] = [
 #[test]
 fn later_runs_go_on_behind_what_is_kept(rt: HostRuntime) -> Result<(), Wrong> {
     let mut site = MemSite::new(rt.alloc(), &[])?;
-    make_calls(rt.alloc(), &mut site, &LATER)
+    make_calls(&rt, rt.alloc(), &mut site, &LATER)
 }

@@ -9,6 +9,7 @@ ghost use Rattle.vault.specs.MemorySite.{areas_of};
 use lsn_core::NoMemory;
 use pgbackup_cli::Status;
 use std::alloc::Global;
+use std::sync::Wait;
 use test_areas::{Change, Wrong, make_all};
 use test_calls::{Call, is_answered, make_calls};
 use vault::{MemSite, MemVault};
@@ -123,6 +124,7 @@ fn site_of(alloc: Global, area: MemVault) -> Result<MemSite, NoMemory>
 
 /// `verify f1` of the files so changed ends and prints so.
 fn is_verified(
+    rt: &impl Wait,
     alloc: Global,
     changes: &[Change],
     wanted: Status,
@@ -130,15 +132,15 @@ fn is_verified(
 ) -> Result<bool, Wrong> {
     let mut site = site_of(alloc, directory_of(alloc, changes)?)?;
     let call: Call = ("verify f1", "", wanted, line);
-    Ok(is_answered(alloc, &mut site, &call)?)
+    Ok(is_answered(rt, alloc, &mut site, &call)?)
 }
 
 /// What is changed, and the line and the status that come of it.
 type Case<'a> = (&'a [Change<'a>], Status, &'a str);
 
-fn check(rt: &HostRuntime, cases: &[Case]) -> Result<(), Wrong> {
+fn check(rt: &impl Wait, alloc: Global, cases: &[Case]) -> Result<(), Wrong> {
     for (number, (changes, wanted, line)) in cases.iter().enumerate() {
-        if !is_verified(rt.alloc(), changes, *wanted, line)? {
+        if !is_verified(rt, alloc, changes, *wanted, line)? {
             return Err(Wrong::Step(number));
         }
     }
@@ -299,17 +301,17 @@ static LISTED: [Case<'static>; 3] = [
 
 #[test]
 fn a_backup_is_as_listed(rt: HostRuntime) -> Result<(), Wrong> {
-    check(&rt, &LISTED)
+    check(&rt, rt.alloc(), &LISTED)
 }
 
 #[test]
 fn damage_of_a_backup_is_told(rt: HostRuntime) -> Result<(), Wrong> {
-    check(&rt, &DAMAGED)
+    check(&rt, rt.alloc(), &DAMAGED)
 }
 
 #[test]
 fn contents_are_judged_behind_sums(rt: HostRuntime) -> Result<(), Wrong> {
-    check(&rt, &REMADE)
+    check(&rt, rt.alloc(), &REMADE)
 }
 
 /// A site in which the first call of the area of `f1` fails.
@@ -341,5 +343,5 @@ static REFUSED: [Call<'static>; 5] = [
 #[test]
 fn verify_is_refused(rt: HostRuntime) -> Result<(), Wrong> {
     let mut site = failing_site(rt.alloc())?;
-    make_calls(rt.alloc(), &mut site, &REFUSED)
+    make_calls(&rt, rt.alloc(), &mut site, &REFUSED)
 }

@@ -101,7 +101,7 @@ TS 1663, DB 5, REL 16384, FORK main: blocks 0..9
 fn two_summaries_are_merged(rt: HostRuntime) -> Result<(), Wrong> {
     let mut site = MemSite::new(rt.alloc(), &[])?;
     take_site_steps(rt.alloc(), &mut site, &TWO)?;
-    make_calls(rt.alloc(), &mut site, &MERGED)
+    make_calls(&rt, rt.alloc(), &mut site, &MERGED)
 }
 
 static RUNS: [Call; 1] = [(
@@ -120,7 +120,7 @@ TS 1663, DB 6, REL 16385, FORK main: block 9
 fn runs_of_blocks_are_printed(rt: HostRuntime) -> Result<(), Wrong> {
     let mut site = MemSite::new(rt.alloc(), &[])?;
     take_site_steps(rt.alloc(), &mut site, &[MANY])?;
-    make_calls(rt.alloc(), &mut site, &RUNS)
+    make_calls(&rt, rt.alloc(), &mut site, &RUNS)
 }
 
 /// Words that aren't taken, and an area without a summary.
@@ -147,7 +147,7 @@ static REFUSED: [Call; 7] = [
 #[test]
 fn words_and_an_empty_area_are_refused(rt: HostRuntime) -> Result<(), Wrong> {
     let mut site = MemSite::new(rt.alloc(), &[])?;
-    make_calls(rt.alloc(), &mut site, &REFUSED)
+    make_calls(&rt, rt.alloc(), &mut site, &REFUSED)
 }
 
 /// The summary of a damaged file isn't kept.
@@ -172,5 +172,5 @@ TS 1663, DB 5, REL 16384, FORK main: blocks 0..9
 fn a_damaged_file_leaves_a_gap(rt: HostRuntime) -> Result<(), Wrong> {
     let mut site = MemSite::new(rt.alloc(), &[])?;
     take_site_steps(rt.alloc(), &mut site, &[GROWN, DAMAGED])?;
-    make_calls(rt.alloc(), &mut site, &DAMAGE)
+    make_calls(&rt, rt.alloc(), &mut site, &DAMAGE)
 }

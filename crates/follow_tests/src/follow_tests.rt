@@ -6,6 +6,7 @@ ghost use Rattle.vault.specs.Site.{AllHome};
 use lsn_core::{AreaFault, NoMemory};
 use pgbackup_cli::{Status, pgbackup};
 use std::alloc::Global;
+use std::sync::Wait;
 use test_areas::{SEGMENT, SiteStep, Wrong, holds_in, take_site_steps};
 use test_calls::{Call, INIT, make_calls, words_in};
 use vault::{MemSink, MemSite, MemSource, MemVault, SetClock, Site, read_in};
@@ -72,6 +73,7 @@ fn bytes_of(alloc: Global, segment: &[u8], stream: Stream) -> Result<Vec<u8>, No
 
 /// Follows a stream, and says whether the program ends and prints so.
 fn is_followed<S: Site>(
+    rt: &impl Wait,
     alloc: Global,
     site: &mut S,
     segment: &[u8],
@@ -86,13 +88,14 @@ fn is_followed<S: Site>(
     let mut input = MemSource::new(alloc, &bytes, &[fails])?;
     let mut out = MemSink::new(alloc, &[])?;
     let mut clock = SetClock::new(0);
-    let ended = pgbackup(alloc, &words, site, &mut input, &mut out, &mut clock);
+    let ended = pgbackup(rt, alloc, &words, site, &mut input, &mut out, &mut clock);
     Ok(ended == status && out.bytes() == printed.as_bytes())
 }
 
 /// Follows streams in turn, each made of a segment file. The first one that isn't followed so is
 /// the error.
 fn follow_all<S: Site>(
+    rt: &impl Wait,
     alloc: Global,
     site: &mut S,
     segment: &[u8],
@@ -102,7 +105,7 @@ fn follow_all<S: Site>(
     ensures { AllHome (S.areas site.new) }
 {
     for (number, case) in cases.iter().enumerate() {
-        if !is_followed(alloc, site, segment, case)? {
+        if !is_followed(rt, alloc, site, segment, case)? {
             return Err(Wrong::Step(number));
         }
     }
@@ -254,10 +257,10 @@ fn are_same<S: Site>(
 #[test]
 fn streams_are_followed(rt: HostRuntime) -> Result<(), Wrong> {
     let mut site = MemSite::new(rt.alloc(), &[])?;
-    make_calls(rt.alloc(), &mut site, &CHAIN)?;
+    make_calls(&rt, rt.alloc(), &mut site, &CHAIN)?;
     let segment = read_in(rt.alloc(), &mut site, b"wal", SEGMENT)?;
-    follow_all(rt.alloc(), &mut site, &segment, &CASES)?;
-    make_calls(rt.alloc(), &mut site, &REPLAYED)?;
+    follow_all(&rt, rt.alloc(), &mut site, &segment, &CASES)?;
+    make_calls(&rt, rt.alloc(), &mut site, &REPLAYED)?;
     if !are_same(rt.alloc(), &mut site, b"o/q", b"o/p")? {
         return Err(Wrong::Step(100));
     }
@@ -271,7 +274,7 @@ fn streams_are_followed(rt: HostRuntime) -> Result<(), Wrong> {
 static OUT_FAILS: [u64; 6] = [1, 2, 3, 4, 8, 9];
 
 /// Follows a stream to an output of which a call fails.
-fn fails_at(alloc: Global, segment: &[u8], call: u64) -> Result<bool, Wrong> {
+fn fails_at(rt: &impl Wait, alloc: Global, segment: &[u8], call: u64) -> Result<bool, Wrong> {
     let mut site = MemSite::new(alloc, &[])?;
     site.set(b"o/p", MemVault::new(alloc, &[call])?)?;
     let case = (
@@ -281,16 +284,16 @@ fn fails_at(alloc: Global, segment: &[u8], call: u64) -> Result<bool, Wrong> {
         Status::Device,
         "refused 60 DeviceFault o/p\n",
     );
-    Ok(is_followed(alloc, &mut site, segment, &case)?)
+    Ok(is_followed(rt, alloc, &mut site, segment, &case)?)
 }
 
 #[test]
 fn outputs_fail(rt: HostRuntime) -> Result<(), Wrong> {
     let mut site = MemSite::new(rt.alloc(), &[])?;
-    make_calls(rt.alloc(), &mut site, &CHAIN)?;
+    make_calls(&rt, rt.alloc(), &mut site, &CHAIN)?;
     let segment = read_in(rt.alloc(), &mut site, b"wal", SEGMENT)?;
     for call in &OUT_FAILS {
-        if !fails_at(rt.alloc(), &segment, *call)? {
+        if !fails_at(&rt, rt.alloc(), &segment, *call)? {
             return Err(Wrong::Step(*call as usize));
         }
     }

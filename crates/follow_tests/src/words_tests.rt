@@ -25,7 +25,7 @@ static UNTAKEN: [Call; 8] = [
 #[test]
 fn words_are_not_taken(rt: HostRuntime) -> Result<(), Wrong> {
     let mut site = MemSite::new(rt.alloc(), &[])?;
-    make_calls(rt.alloc(), &mut site, &UNTAKEN)
+    make_calls(&rt, rt.alloc(), &mut site, &UNTAKEN)
 }
 
 /// Whether an operator is told so of a refusal.

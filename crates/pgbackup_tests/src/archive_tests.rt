@@ -9,6 +9,7 @@ ghost use Rattle.vault.specs.MemorySite.{areas_of};
 use lsn_core::{AreaFault, NoMemory};
 use pgbackup_cli::Status;
 use std::alloc::Global;
+use std::sync::Wait;
 use test_areas::{Change, SETTINGS, Wrong, make};
 use test_calls::{Call, NONE, make_calls, run};
 use vault::{MemSite, MemVault, Site, read_in};
@@ -35,11 +36,11 @@ static NEW_STORE: [Call; 1] = [(
 )];
 
 /// A new store.
-fn new_site(alloc: Global) -> Result<MemSite, Wrong>
+fn new_site(rt: &impl Wait, alloc: Global) -> Result<MemSite, Wrong>
     ensures { IfOk result (λ site. AllHome (areas_of site)) }
 {
     let mut site = MemSite::new(alloc, &[])?;
-    make_calls(alloc, &mut site, &NEW_STORE)?;
+    make_calls(rt, alloc, &mut site, &NEW_STORE)?;
     Ok(site)
 }
 
@@ -57,9 +58,9 @@ fn segments_in<S: Site>(alloc: Global, site: &mut S, all: bool) -> Result<Vec<Ve
 }
 
 /// The first segment that the run of a script leaves, or the first three.
-fn segments(alloc: Global, script: &str, all: bool) -> Result<Vec<Vec<u8>>, Wrong> {
-    let mut site = new_site(alloc)?;
-    let (status, _) = run(alloc, &mut site, "run", script, NONE)?;
+fn segments(rt: &impl Wait, alloc: Global, script: &str, all: bool) -> Result<Vec<Vec<u8>>, Wrong> {
+    let mut site = new_site(rt, alloc)?;
+    let (status, _) = run(rt, alloc, &mut site, "run", script, NONE)?;
     if status != Status::Done {
         return Err(Wrong::Step(0));
     }
@@ -85,15 +86,22 @@ fn area_of(alloc: Global, segments: &[Vec<u8>]) -> Result<MemVault, Wrong> {
 }
 
 /// A call of the program over this area of the WAL prints this line.
-fn prints(alloc: Global, wal: MemVault, words: &str, line: &str) -> Result<bool, Wrong> {
+fn prints(
+    rt: &impl Wait,
+    alloc: Global,
+    wal: MemVault,
+    words: &str,
+    line: &str,
+) -> Result<bool, Wrong> {
     let mut site = MemSite::new(alloc, &[])?;
     site.set(b"wal", wal)?;
-    let (_, printed) = run(alloc, &mut site, words, "", NONE)?;
+    let (_, printed) = run(rt, alloc, &mut site, words, "", NONE)?;
     Ok(printed.as_slice() == line.as_bytes())
 }
 
 /// A call of the program over a WAL with these segments and a change prints this line.
 fn prints_changed(
+    rt: &impl Wait,
     alloc: Global,
     segments: &[Vec<u8>],
     change: Change,
@@ -102,7 +110,7 @@ fn prints_changed(
 ) -> Result<bool, Wrong> {
     let mut area = area_of(alloc, segments)?;
     make(&mut area, change)?;
-    prints(alloc, area, words, line)
+    prints(rt, alloc, area, words, line)
 }
 
 const FIRST: &[u8] = b"000000010000000000000001";
@@ -207,10 +215,10 @@ static CHANGED: [(Change<'static>, &str); 24] = [
 
 #[test]
 fn files_of_a_long_archive_are_damaged_in_turn(rt: HostRuntime) -> Result<(), Wrong> {
-    let segments = segments(rt.alloc(), &script(rt.alloc())?, true)?;
+    let segments = segments(&rt, rt.alloc(), &script(rt.alloc())?, true)?;
     for (change, line) in &CHANGED {
         assert!(rt;
-            prints_changed(rt.alloc(), &segments, *change, "replay p", line)?,
+            prints_changed(&rt, rt.alloc(), &segments, *change, "replay p", line)?,
             "{line}"
         );
     }
@@ -233,10 +241,10 @@ static TARGETS: [(&str, &str); 7] = [
 
 #[test]
 fn a_long_archive_is_replayed_up_to_targets(rt: HostRuntime) -> Result<(), Wrong> {
-    let segments = segments(rt.alloc(), &script(rt.alloc())?, true)?;
+    let segments = segments(&rt, rt.alloc(), &script(rt.alloc())?, true)?;
     for (words, line) in &TARGETS {
         assert!(rt;
-            prints_changed(rt.alloc(), &segments, NOTHING, words, line)?,
+            prints_changed(&rt, rt.alloc(), &segments, NOTHING, words, line)?,
             "{words}"
         );
     }
@@ -354,20 +362,28 @@ static READ: [(&str, Change<'static>, &str, &str); 16] = [
 
 /// A call of the program over the WAL that a script leaves and a change prints this line.
 fn prints_after(
+    rt: &impl Wait,
     alloc: Global,
     script: &str,
     change: Change,
     words: &str,
     line: &str,
 ) -> Result<bool, Wrong> {
-    prints_changed(alloc, &segments(alloc, script, false)?, change, words, line)
+    prints_changed(
+        rt,
+        alloc,
+        &segments(rt, alloc, script, false)?,
+        change,
+        words,
+        line,
+    )
 }
 
 #[test]
 fn damage_on_a_page_is_told_at_its_place(rt: HostRuntime) -> Result<(), Wrong> {
     for (script, change, words, line) in &READ {
         assert!(rt;
-            prints_after(rt.alloc(), script, *change, words, line)?,
+            prints_after(&rt, rt.alloc(), script, *change, words, line)?,
             "{words} {line}"
         );
     }

@@ -5,6 +5,7 @@ ghost use Rattle.vault.specs.Site.{AllHome};
 
 use pgbackup_cli::Status;
 use std::alloc::Global;
+use std::sync::Wait;
 use test_areas::Wrong;
 use test_calls::{Call, make_calls, make_calls_in_few_frames};
 use vault::{MemSite, Site, read_in};
@@ -19,11 +20,17 @@ fn calls_of<'a>(script: &'a str, printed: &'a str) -> [Call<'a>; 2] {
 }
 
 /// Makes a store of one entry, and runs a script on it.
-fn run_anew<S: Site>(alloc: Global, site: &mut S, script: &str, printed: &str) -> Result<(), Wrong>
+fn run_anew<S: Site>(
+    rt: &impl Wait,
+    alloc: Global,
+    site: &mut S,
+    script: &str,
+    printed: &str,
+) -> Result<(), Wrong>
     requires { AllHome (S.areas site.old) }
     ensures { AllHome (S.areas site.new) }
 {
-    make_calls(alloc, site, &calls_of(script, printed))
+    make_calls(rt, alloc, site, &calls_of(script, printed))
 }
 
 /// Scripts on a store of one entry, and what each prints.
@@ -157,17 +164,17 @@ wal 0/1022E0
 ];
 
 /// Runs a script on a store of its own, and on another one with few frames.
-fn runs(alloc: Global, script: &str, printed: &str) -> Result<(), Wrong> {
+fn runs(rt: &impl Wait, alloc: Global, script: &str, printed: &str) -> Result<(), Wrong> {
     let mut site = MemSite::new(alloc, &[])?;
-    run_anew(alloc, &mut site, script, printed)?;
+    run_anew(rt, alloc, &mut site, script, printed)?;
     let mut few = MemSite::new(alloc, &[])?;
-    make_calls_in_few_frames(alloc, &mut few, &calls_of(script, printed))
+    make_calls_in_few_frames(rt, alloc, &mut few, &calls_of(script, printed))
 }
 
 #[test]
 fn each_line_is_answered_as_its_items_ask(rt: HostRuntime) -> Result<(), Wrong> {
     for (script, printed) in &ROWS {
-        runs(rt.alloc(), script, printed)?;
+        runs(&rt, rt.alloc(), script, printed)?;
     }
     Ok(())
 }
@@ -182,10 +189,10 @@ const PATCHED: (&[u8], &[u8]) = (
 static REPLAY: [Call; 1] = [("replay p", "", Status::Done, "replayed 0/1022E0 2 6\n")];
 
 /// The bytes of the init fork's file in the output.
-fn replayed<S: Site>(alloc: Global, site: &mut S) -> Result<Vec<u8>, Wrong>
+fn replayed<S: Site>(rt: &impl Wait, alloc: Global, site: &mut S) -> Result<Vec<u8>, Wrong>
     requires { AllHome (S.areas site.old) }
 {
-    make_calls(alloc, site, &REPLAY)?;
+    make_calls(rt, alloc, site, &REPLAY)?;
     Ok(read_in(alloc, site, b"o/p", b"base/5/16384_init")?)
 }
 
@@ -193,8 +200,8 @@ fn replayed<S: Site>(alloc: Global, site: &mut S) -> Result<Vec<u8>, Wrong>
 fn patched_pages_are_replayed(rt: HostRuntime) -> Result<(), Wrong> {
     let mut site = MemSite::new(rt.alloc(), &[])?;
     let [_, _, _, _, (script, printed)] = ROWS;
-    run_anew(rt.alloc(), &mut site, script, printed)?;
-    let page = replayed(rt.alloc(), &mut site)?;
+    run_anew(&rt, rt.alloc(), &mut site, script, printed)?;
+    let page = replayed(&rt, rt.alloc(), &mut site)?;
     assert!(rt; page.len() == 8192 && page.starts_with(PATCHED.0) && page.ends_with(PATCHED.1));
     Ok(())
 }

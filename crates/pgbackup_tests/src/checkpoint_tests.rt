@@ -7,6 +7,7 @@ ghost use Rattle.vault.specs.Site.{AllHome};
 use lsn_core::AreaFault;
 use pgbackup_cli::Status;
 use std::alloc::Global;
+use std::sync::Wait;
 use test_areas::{SiteStep, Wrong, take_site_steps};
 use test_calls::{Call, make_calls, make_calls_in_few_frames};
 use vault::{MemSite, Site, read_in};
@@ -149,38 +150,48 @@ fn calls_of<'a>(row: &Row<'a>) -> [Call<'a>; 3] {
 }
 
 /// Makes a store of one entry, runs a script on it, and replays its WAL.
-pub(crate) fn run_anew<S: Site>(alloc: Global, site: &mut S, row: &Row) -> Result<(), Wrong>
+pub(crate) fn run_anew<S: Site>(
+    rt: &impl Wait,
+    alloc: Global,
+    site: &mut S,
+    row: &Row,
+) -> Result<(), Wrong>
     requires { AllHome (S.areas site.old) }
     ensures { AllHome (S.areas site.new) }
 {
-    make_calls(alloc, site, &calls_of(row))
+    make_calls(rt, alloc, site, &calls_of(row))
 }
 
 /// The same with few frames.
-fn run_in_few_frames<S: Site>(alloc: Global, site: &mut S, row: &Row) -> Result<(), Wrong>
+fn run_in_few_frames<S: Site>(
+    rt: &impl Wait,
+    alloc: Global,
+    site: &mut S,
+    row: &Row,
+) -> Result<(), Wrong>
     requires { AllHome (S.areas site.old) }
     ensures { AllHome (S.areas site.new) }
 {
-    make_calls_in_few_frames(alloc, site, &calls_of(row))
+    make_calls_in_few_frames(rt, alloc, site, &calls_of(row))
 }
 
 /// The first over a site of its own.
-pub(crate) fn is_run(alloc: Global, row: &Row) -> Result<(), Wrong> {
+pub(crate) fn is_run(rt: &impl Wait, alloc: Global, row: &Row) -> Result<(), Wrong> {
     let mut site = MemSite::new(alloc, &[])?;
-    run_anew(alloc, &mut site, row)
+    run_anew(rt, alloc, &mut site, row)
 }
 
 /// The second over a site of its own.
-fn is_run_in_few_frames(alloc: Global, row: &Row) -> Result<(), Wrong> {
+fn is_run_in_few_frames(rt: &impl Wait, alloc: Global, row: &Row) -> Result<(), Wrong> {
     let mut site = MemSite::new(alloc, &[])?;
-    run_in_few_frames(alloc, &mut site, row)
+    run_in_few_frames(rt, alloc, &mut site, row)
 }
 
 #[test]
 fn lines_are_answered_as_elsewhere(rt: HostRuntime) -> Result<(), Wrong> {
     for row in &ROWS {
-        is_run(rt.alloc(), row)?;
-        is_run_in_few_frames(rt.alloc(), row)?;
+        is_run(&rt, rt.alloc(), row)?;
+        is_run_in_few_frames(&rt, rt.alloc(), row)?;
     }
     Ok(())
 }
@@ -231,11 +242,11 @@ fn are_held<S: Site>(alloc: Global, site: &mut S) -> Result<bool, Wrong>
 fn data_areas_hold_what_replay_gives(rt: HostRuntime) -> Result<(), Wrong> {
     let mut site = MemSite::new(rt.alloc(), &[])?;
     take_site_steps(rt.alloc(), &mut site, &STRAY)?;
-    run_anew(rt.alloc(), &mut site, &ROWS[3])?;
+    run_anew(&rt, rt.alloc(), &mut site, &ROWS[3])?;
     assert!(rt; are_held(rt.alloc(), &mut site)?);
     let mut few = MemSite::new(rt.alloc(), &[])?;
     take_site_steps(rt.alloc(), &mut few, &STRAY)?;
-    run_in_few_frames(rt.alloc(), &mut few, &ROWS[3])?;
+    run_in_few_frames(&rt, rt.alloc(), &mut few, &ROWS[3])?;
     assert!(rt; are_held(rt.alloc(), &mut few)?);
     Ok(())
 }

@@ -117,7 +117,7 @@ wal 0/100530
 #[test]
 fn relations_are_dropped(rt: HostRuntime) -> Result<(), Wrong> {
     for row in &ROWS {
-        is_run(rt.alloc(), row)?;
+        is_run(&rt, rt.alloc(), row)?;
     }
     Ok(())
 }
@@ -152,7 +152,7 @@ static WAL: [u8; 368] = [
 #[test]
 fn a_drop_is_a_commit(rt: HostRuntime) -> Result<(), Wrong> {
     let mut site = MemSite::new(rt.alloc(), &[])?;
-    run_anew(rt.alloc(), &mut site, &ROWS[0])?;
+    run_anew(&rt, rt.alloc(), &mut site, &ROWS[0])?;
     let held = [
         SiteStep::Holds(b"wal", SEGMENT, &WAL),
         SiteStep::Begins(b"data0", b"base/5/16384", b"", 0),
@@ -183,6 +183,6 @@ static REMADE: [SiteStep; 4] = [
 #[test]
 fn what_is_made_behind_a_drop_stays(rt: HostRuntime) -> Result<(), Wrong> {
     let mut site = MemSite::new(rt.alloc(), &[])?;
-    run_anew(rt.alloc(), &mut site, &ROWS[2])?;
+    run_anew(&rt, rt.alloc(), &mut site, &ROWS[2])?;
     take_site_steps(rt.alloc(), &mut site, &REMADE)
 }

@@ -111,7 +111,7 @@ fn each_kind_is_replayed(rt: HostRuntime) -> Result<(), Wrong> {
         SiteStep::Puts(b"wal", SEGMENT, &KINDS),
     ];
     take_site_steps(alloc, &mut site, &wal)?;
-    make_calls(alloc, &mut site, &REPLAY)?;
+    make_calls(&rt, alloc, &mut site, &REPLAY)?;
     let (main, init) = (file_of(alloc, &MAIN)?, file_of(alloc, &INIT)?);
     let files = [
         SiteStep::Holds(b"o/p", b"base/5/16384", &main),

@@ -4,14 +4,21 @@
 use lsn_core::NoMemory;
 use pgbackup_cli::Status;
 use std::alloc::Global;
+use std::sync::Wait;
 use test_calls::{FEW_FRAMES, NONE, run};
 use vault::MemSite;
 
 /// Whether a script on a new store is answered by a line of these words.
-fn is_answered(alloc: Global, words: &str, script: &str, line: &str) -> Result<bool, NoMemory> {
+fn is_answered(
+    rt: &impl Wait,
+    alloc: Global,
+    words: &str,
+    script: &str,
+    line: &str,
+) -> Result<bool, NoMemory> {
     let mut site = MemSite::new(alloc, &[])?;
-    let (_, _) = run(alloc, &mut site, "init --system-id 7", "", NONE)?;
-    let (status, printed) = run(alloc, &mut site, words, script, NONE)?;
+    let (_, _) = run(rt, alloc, &mut site, "init --system-id 7", "", NONE)?;
+    let (status, printed) = run(rt, alloc, &mut site, words, script, NONE)?;
     let mut lines = printed.split(|byte| *byte == b'\n');
     Ok(status == Status::Done && lines.any(|one| one == line.as_bytes()))
 }
@@ -41,9 +48,12 @@ grow 5/1@0 32769 24,8192,0
 #[test]
 fn forks_and_stores_have_limits(rt: HostRuntime) -> Result<(), NoMemory> {
     for (script, line) in &LIMITS {
-        assert!(rt; is_answered(rt.alloc(), "run", script, line)?, "{line}");
         assert!(rt;
-            is_answered(rt.alloc(), FEW_FRAMES, script, line)?,
+            is_answered(&rt, rt.alloc(), "run", script, line)?,
+            "{line}"
+        );
+        assert!(rt;
+            is_answered(&rt, rt.alloc(), FEW_FRAMES, script, line)?,
             "{line}"
         );
     }

@@ -9,6 +9,7 @@ ghost use Rattle.vault.specs.MemorySite.{areas_of};
 use lsn_core::NoMemory;
 use pgbackup_cli::Status;
 use std::alloc::Global;
+use std::sync::Wait;
 use test_areas::{Change, NEW_WAL, SEGMENT, Step, Wrong, archive_with, make_all, take_steps};
 use test_calls::{Call, is_answered, make_calls};
 use vault::{MemSite, MemVault, Site};
@@ -147,16 +148,22 @@ static LAID_OUT: [(&[u8], Call<'static>, &[Step]); 6] = [
 ];
 
 /// A replay of that WAL with these settings is answered so and leaves these files.
-fn take_files(alloc: Global, settings: &[u8], call: &Call, files: &[Step]) -> Result<(), Wrong> {
+fn take_files(
+    rt: &impl Wait,
+    alloc: Global,
+    settings: &[u8],
+    call: &Call,
+    files: &[Step],
+) -> Result<(), Wrong> {
     let mut site = site_of(alloc, grown_wal(alloc, settings)?)?;
-    make_calls(alloc, &mut site, &[*call])?;
+    make_calls(rt, alloc, &mut site, &[*call])?;
     take_in_output(alloc, site, files)
 }
 
 #[test]
 fn pages_are_laid_out_in_files(rt: HostRuntime) -> Result<(), Wrong> {
     for (settings, call, files) in &LAID_OUT {
-        take_files(rt.alloc(), settings, call, files)?;
+        take_files(&rt, rt.alloc(), settings, call, files)?;
     }
     Ok(())
 }
@@ -221,17 +228,22 @@ static REFUSED: [(u64, u64, &[u8], Call<'static>); 4] = [
 ];
 
 /// A replay of the archive so changed is answered so, twice, and leaves no file.
-fn leave_nothing(alloc: Global, archive: (u64, u64, &[u8]), call: &Call) -> Result<(), Wrong> {
+fn leave_nothing(
+    rt: &impl Wait,
+    alloc: Global,
+    archive: (u64, u64, &[u8]),
+    call: &Call,
+) -> Result<(), Wrong> {
     let (size, at, bytes) = archive;
     let mut site = site_of(alloc, archive_with(alloc, size, at, bytes, 0)?)?;
-    make_calls(alloc, &mut site, &[*call, *call])?;
+    make_calls(rt, alloc, &mut site, &[*call, *call])?;
     take_in_output(alloc, site, &[Step::Names(b"")])
 }
 
 #[test]
 fn a_refused_replay_leaves_no_file(rt: HostRuntime) -> Result<(), Wrong> {
     for (size, at, bytes, call) in &REFUSED {
-        leave_nothing(rt.alloc(), (*size, *at, *bytes), call)?;
+        leave_nothing(&rt, rt.alloc(), (*size, *at, *bytes), call)?;
     }
     Ok(())
 }
@@ -241,19 +253,19 @@ static DONE: [Call; 1] = [("replay p", "", Status::Done, "replayed 0/1000108 1 1
 
 /// Whether a replay of the archive is done, of whose area a call fails, counted from 1. If it
 /// isn't, a second one into the same output is.
-fn is_done_at_once(alloc: Global, call: u64) -> Result<bool, Wrong> {
+fn is_done_at_once(rt: &impl Wait, alloc: Global, call: u64) -> Result<bool, Wrong> {
     let mut site = site_of(alloc, archive_with(alloc, 264, 0, b"", call)?)?;
-    if is_answered(alloc, &mut site, &DONE[0])? {
+    if is_answered(rt, alloc, &mut site, &DONE[0])? {
         return Ok(true);
     }
-    make_calls(alloc, &mut site, &DONE)?;
+    make_calls(rt, alloc, &mut site, &DONE)?;
     Ok(false)
 }
 
 /// The first call of the WAL's area without which a replay is done.
-fn wal_calls(alloc: Global) -> Result<u64, Wrong> {
+fn wal_calls(rt: &impl Wait, alloc: Global) -> Result<u64, Wrong> {
     for call in 1..100 {
-        if is_done_at_once(alloc, call)? {
+        if is_done_at_once(rt, alloc, call)? {
             return Ok(call);
         }
     }
@@ -262,7 +274,7 @@ fn wal_calls(alloc: Global) -> Result<u64, Wrong> {
 
 #[test]
 fn a_replay_is_done_after_the_wal_failed(rt: HostRuntime) -> Result<(), Wrong> {
-    assert!(rt; wal_calls(rt.alloc())? > 4);
+    assert!(rt; wal_calls(&rt, rt.alloc())? > 4);
     Ok(())
 }
 
@@ -277,16 +289,16 @@ fn torn_site(alloc: Global, fails: u64) -> Result<MemSite, Wrong>
 }
 
 /// Damage is told, whichever further call of the output is to fail: nothing is written before.
-fn damage_comes_first(alloc: Global, fails: u64) -> Result<(), Wrong> {
+fn damage_comes_first(rt: &impl Wait, alloc: Global, fails: u64) -> Result<(), Wrong> {
     let mut site = torn_site(alloc, fails)?;
     let (_, _, _, torn) = REFUSED[1];
-    make_calls(alloc, &mut site, &[torn])
+    make_calls(rt, alloc, &mut site, &[torn])
 }
 
 #[test]
 fn damage_is_told_before_anything_is_written(rt: HostRuntime) -> Result<(), Wrong> {
     for fails in 2..8 {
-        damage_comes_first(rt.alloc(), fails)?;
+        damage_comes_first(&rt, rt.alloc(), fails)?;
     }
     Ok(())
 }

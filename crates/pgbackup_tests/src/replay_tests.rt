@@ -8,6 +8,7 @@ ghost use Rattle.vault.specs.MemorySite.{areas_of};
 use lsn_core::{AreaFault, NoMemory};
 use pgbackup_cli::Status;
 use std::alloc::Global;
+use std::sync::Wait;
 use test_areas::{ARCHIVE, Change, SEGMENT, Wrong, archive_with, holds_in, make};
 use test_calls::{Call, Failing, NONE, make_calls, run};
 use vault::{MemSite, MemVault};
@@ -37,10 +38,22 @@ fn site_of(alloc: Global, wal: MemVault, fails: Fails) -> Result<MemSite, NoMemo
 }
 
 /// The status of a replay to `p` over this area of the WAL, and all that it prints.
-fn replay(alloc: Global, wal: MemVault, fails: Fails) -> Result<(Status, Vec<u8>), NoMemory> {
+fn replay(
+    rt: &impl Wait,
+    alloc: Global,
+    wal: MemVault,
+    fails: Fails,
+) -> Result<(Status, Vec<u8>), NoMemory> {
     let mut site = site_of(alloc, wal, fails)?;
     let sink = fails.sink;
-    run(alloc, &mut site, "replay p", "", Failing { sink, ..NONE })
+    run(
+        rt,
+        alloc,
+        &mut site,
+        "replay p",
+        "",
+        Failing { sink, ..NONE },
+    )
 }
 
 /// What is printed over so many bytes of the archive and others written at a place.
@@ -57,6 +70,7 @@ static REPLAYED: [(u64, u64, &[u8], &str); 8] = [
 
 /// A replay of so many bytes of the archive and others written at a place prints this line.
 fn prints(
+    rt: &impl Wait,
     alloc: Global,
     archive: (u64, u64, &[u8]),
     wanted: Status,
@@ -64,7 +78,7 @@ fn prints(
 ) -> Result<bool, AreaFault> {
     let (size, at, bytes) = archive;
     let wal = archive_with(alloc, size, at, bytes, 0)?;
-    let (status, printed) = replay(alloc, wal, NO_FAILS)?;
+    let (status, printed) = replay(rt, alloc, wal, NO_FAILS)?;
     Ok(status == wanted && printed.as_slice() == line.as_bytes())
 }
 
@@ -73,7 +87,7 @@ fn entries_are_replayed(rt: HostRuntime) -> Result<(), AreaFault> {
     for (size, at, bytes, line) in &REPLAYED {
         let archive = (*size, *at, *bytes);
         assert!(rt;
-            prints(rt.alloc(), archive, Status::Done, line)?,
+            prints(&rt, rt.alloc(), archive, Status::Done, line)?,
             "{size} {at}"
         );
     }
@@ -81,9 +95,14 @@ fn entries_are_replayed(rt: HostRuntime) -> Result<(), AreaFault> {
 }
 
 /// A replay of the archive so changed tells damage at this place, with this why.
-fn is_damaged(alloc: Global, archive: (u64, u64, &[u8]), place: &str) -> Result<bool, AreaFault> {
+fn is_damaged(
+    rt: &impl Wait,
+    alloc: Global,
+    archive: (u64, u64, &[u8]),
+    place: &str,
+) -> Result<bool, AreaFault> {
     let line = format!(in alloc; "refused 11 WalDamaged {place}\n")?;
-    prints(alloc, archive, Status::Refused, &line)
+    prints(rt, alloc, archive, Status::Refused, &line)
 }
 
 /// The same of damage, with the place and the why that are printed.
@@ -106,7 +125,7 @@ static DAMAGED: [(&str, u64, u64, &[u8], &str); 6] = [
 fn damage_is_told_at_its_place(rt: HostRuntime) -> Result<(), AreaFault> {
     for (case, size, at, bytes, place) in &DAMAGED {
         let archive = (*size, *at, *bytes);
-        assert!(rt; is_damaged(rt.alloc(), archive, place)?, "{case}");
+        assert!(rt; is_damaged(&rt, rt.alloc(), archive, place)?, "{case}");
     }
     Ok(())
 }
@@ -114,22 +133,22 @@ fn damage_is_told_at_its_place(rt: HostRuntime) -> Result<(), AreaFault> {
 #[test]
 fn entries_out_of_place_are_damage(rt: HostRuntime) -> Result<(), AreaFault> {
     let no_head = (0, 0, &ARCHIVE[40..96]);
-    assert!(rt; is_damaged(rt.alloc(), no_head, "0/1000000 PageMagic")?);
+    assert!(rt; is_damaged(&rt, rt.alloc(), no_head, "0/1000000 PageMagic")?);
     let no_checkpoint = (40, 40, &ARCHIVE[96..144]);
-    assert!(rt; is_damaged(rt.alloc(), no_checkpoint, "0/1000028 Prev")?);
+    assert!(rt; is_damaged(&rt, rt.alloc(), no_checkpoint, "0/1000028 Prev")?);
     Ok(())
 }
 
 /// The answer to an entry that goes on to a page without a head.
-fn replay_on_page(alloc: Global) -> Result<(Status, Vec<u8>), AreaFault> {
+fn replay_on_page(rt: &impl Wait, alloc: Global) -> Result<(Status, Vec<u8>), AreaFault> {
     let mut wal = archive_with(alloc, 144, 9147, b"\0", 0)?;
     make(&mut wal, Change::Write(SEGMENT, 144, b"\x31\x20\0\0"))?;
-    Ok(replay(alloc, wal, NO_FAILS)?)
+    Ok(replay(rt, alloc, wal, NO_FAILS)?)
 }
 
 #[test]
 fn a_page_without_a_head_is_damage(rt: HostRuntime) -> Result<(), AreaFault> {
-    let (status, printed) = replay_on_page(rt.alloc())?;
+    let (status, printed) = replay_on_page(&rt, rt.alloc())?;
     let line = b"refused 11 WalDamaged 0/1002000 PageMagic\n";
     assert!(rt; status == Status::Refused && printed.as_slice() == line.as_slice());
     Ok(())
@@ -138,7 +157,7 @@ fn a_page_without_a_head_is_damage(rt: HostRuntime) -> Result<(), AreaFault> {
 #[test]
 fn there_is_no_wal(rt: HostRuntime) -> Result<(), NoMemory> {
     let wal = MemVault::new(rt.alloc(), &[])?;
-    let (status, printed) = replay(rt.alloc(), wal, NO_FAILS)?;
+    let (status, printed) = replay(&rt, rt.alloc(), wal, NO_FAILS)?;
     let line = b"refused 43 NotInit\n";
     assert!(rt; status == Status::Refused && printed.as_slice() == line.as_slice());
     Ok(())
@@ -170,7 +189,7 @@ fn pages_are_written_and_a_second_replay_is_refused(rt: HostRuntime) -> Result<(
     let alloc = rt.alloc();
     let wal = archive_with(alloc, 264, 0, b"", 0)?;
     let mut site = site_of(alloc, wal, NO_FAILS)?;
-    make_calls(alloc, &mut site, &TWICE)?;
+    make_calls(&rt, alloc, &mut site, &TWICE)?;
     let page = page_of_rows(alloc)?;
     assert!(rt; holds_in(alloc, &mut site, b"o/p", b"base/5/16384", &page)?);
     Ok(())
@@ -179,9 +198,15 @@ fn pages_are_written_and_a_second_replay_is_refused(rt: HostRuntime) -> Result<(
 /// A replay of the archive in which one call fails, of the WAL's area or one of the others, ends as
 /// without a failure. Where it doesn't, it prints this line and ends with the device's status, which
 /// is else the error.
-fn is_done(alloc: Global, wal: u64, others: Fails, line: &str) -> Result<bool, AreaFault> {
+fn is_done(
+    rt: &impl Wait,
+    alloc: Global,
+    wal: u64,
+    others: Fails,
+    line: &str,
+) -> Result<bool, AreaFault> {
     let area = archive_with(alloc, 264, 0, b"", wal)?;
-    let (status, printed) = replay(alloc, area, others)?;
+    let (status, printed) = replay(rt, alloc, area, others)?;
     match status {
         Status::Done => Ok(true),
         Status::Device if printed.as_slice() == line.as_bytes() => Ok(false),
@@ -190,9 +215,9 @@ fn is_done(alloc: Global, wal: u64, others: Fails, line: &str) -> Result<bool, A
 }
 
 /// The first call of the WAL's area without which a replay is done.
-fn wal_calls(alloc: Global) -> Result<u64, AreaFault> {
+fn wal_calls(rt: &impl Wait, alloc: Global) -> Result<u64, AreaFault> {
     for call in 1..100 {
-        if is_done(alloc, call, NO_FAILS, "refused 60 DeviceFault wal\n")? {
+        if is_done(rt, alloc, call, NO_FAILS, "refused 60 DeviceFault wal\n")? {
             return Ok(call);
         }
     }
@@ -201,15 +226,15 @@ fn wal_calls(alloc: Global) -> Result<u64, AreaFault> {
 
 #[test]
 fn each_call_of_the_wal_fails_in_turn(rt: HostRuntime) -> Result<(), AreaFault> {
-    assert!(rt; wal_calls(rt.alloc())? > 4);
+    assert!(rt; wal_calls(&rt, rt.alloc())? > 4);
     Ok(())
 }
 
 /// The first call of the output's area without which a replay is done.
-fn output_calls(alloc: Global) -> Result<u64, AreaFault> {
+fn output_calls(rt: &impl Wait, alloc: Global) -> Result<u64, AreaFault> {
     for output in 1..100 {
         let fails = Fails { output, ..NO_FAILS };
-        if is_done(alloc, 0, fails, "refused 60 DeviceFault o/p\n")? {
+        if is_done(rt, alloc, 0, fails, "refused 60 DeviceFault o/p\n")? {
             return Ok(output);
         }
     }
@@ -218,14 +243,14 @@ fn output_calls(alloc: Global) -> Result<u64, AreaFault> {
 
 #[test]
 fn each_call_of_the_output_fails_in_turn(rt: HostRuntime) -> Result<(), AreaFault> {
-    assert!(rt; output_calls(rt.alloc())? > 4);
+    assert!(rt; output_calls(&rt, rt.alloc())? > 4);
     Ok(())
 }
 
 /// The first call of the sink without which a replay is done.
-fn sink_calls(alloc: Global) -> Result<u64, AreaFault> {
+fn sink_calls(rt: &impl Wait, alloc: Global) -> Result<u64, AreaFault> {
     for sink in 1..100 {
-        if is_done(alloc, 0, Fails { sink, ..NO_FAILS }, "")? {
+        if is_done(rt, alloc, 0, Fails { sink, ..NO_FAILS }, "")? {
             return Ok(sink);
         }
     }
@@ -234,7 +259,7 @@ fn sink_calls(alloc: Global) -> Result<u64, AreaFault> {
 
 #[test]
 fn each_call_of_the_sink_fails_in_turn(rt: HostRuntime) -> Result<(), AreaFault> {
-    assert!(rt; sink_calls(rt.alloc())? > 1);
+    assert!(rt; sink_calls(&rt, rt.alloc())? > 1);
     Ok(())
 }
 
@@ -245,16 +270,16 @@ static NOT_TAKEN: [(u64, &str); 2] = [
 ];
 
 /// A replay of an empty archive in which an area isn't handed out prints this line.
-fn is_not_taken(alloc: Global, site: u64, line: &str) -> Result<bool, AreaFault> {
+fn is_not_taken(rt: &impl Wait, alloc: Global, site: u64, line: &str) -> Result<bool, AreaFault> {
     let area = archive_with(alloc, 40, 0, b"", 0)?;
-    let (status, printed) = replay(alloc, area, Fails { site, ..NO_FAILS })?;
+    let (status, printed) = replay(rt, alloc, area, Fails { site, ..NO_FAILS })?;
     Ok(status == Status::Device && printed.as_slice() == line.as_bytes())
 }
 
 #[test]
 fn an_area_cant_be_taken(rt: HostRuntime) -> Result<(), AreaFault> {
     for (site, line) in &NOT_TAKEN {
-        assert!(rt; is_not_taken(rt.alloc(), *site, line)?, "{line}");
+        assert!(rt; is_not_taken(&rt, rt.alloc(), *site, line)?, "{line}");
     }
     Ok(())
 }

@@ -8,6 +8,7 @@ ghost use Rattle.vault.specs.MemorySite.{areas_of};
 use lsn_core::AreaFault;
 use pgbackup_cli::Status;
 use std::alloc::Global;
+use std::sync::Wait;
 use test_areas::{Change, NEW_WAL, SEGMENT, SETTINGS, make_all};
 use test_calls::{FEW_FRAMES, Failing, NONE, run};
 use vault::{MemSite, MemVault, Site};
@@ -73,6 +74,7 @@ fn new_site(alloc: Global, area: &[u8], fails: u64) -> Result<MemSite, AreaFault
 /// The status of a run in which a call of an area, or of the input, fails, and whether what it prints
 /// last tells the fault.
 fn failing_run(
+    rt: &impl Wait,
     alloc: Global,
     area: &str,
     fails: u64,
@@ -80,7 +82,7 @@ fn failing_run(
 ) -> Result<(Status, bool), AreaFault> {
     let mut site = new_site(alloc, area.as_bytes(), fails)?;
     let failing = Failing { input, sink: 0 };
-    let (status, printed) = run(alloc, &mut site, "run", SCRIPT, failing)?;
+    let (status, printed) = run(rt, alloc, &mut site, "run", SCRIPT, failing)?;
     let name = if input == 0 { area } else { "input" };
     let line = format!(in alloc; "refused 60 DeviceFault {name}\n")?;
     Ok((status, printed.ends_with(line.as_bytes())))
@@ -88,7 +90,7 @@ fn failing_run(
 
 #[test]
 fn a_call_of_the_input_fails(rt: HostRuntime) -> Result<(), AreaFault> {
-    let ended = failing_run(rt.alloc(), "sums", 0, 1)?;
+    let ended = failing_run(&rt, rt.alloc(), "sums", 0, 1)?;
     assert!(rt; ended == (Status::Device, true));
     Ok(())
 }
@@ -104,20 +106,20 @@ static CALLS: [(&str, u64); 5] = [
 
 /// Whether each of the calls of an area fails in turn, so many, and the run is done where the next
 /// one were to.
-fn fails_in_turn(alloc: Global, area: &str, calls: u64) -> Result<bool, AreaFault> {
+fn fails_in_turn(rt: &impl Wait, alloc: Global, area: &str, calls: u64) -> Result<bool, AreaFault> {
     for fails in 1..=calls {
-        if failing_run(alloc, area, fails, 0)? != (Status::Device, true) {
+        if failing_run(rt, alloc, area, fails, 0)? != (Status::Device, true) {
             return Ok(false);
         }
     }
-    let (status, _) = failing_run(alloc, area, calls.saturating_add(1), 0)?;
+    let (status, _) = failing_run(rt, alloc, area, calls.saturating_add(1), 0)?;
     Ok(status == Status::Done)
 }
 
 #[test]
 fn each_device_call_of_a_run_fails_in_turn(rt: HostRuntime) -> Result<(), AreaFault> {
     for (area, calls) in &CALLS {
-        assert!(rt; fails_in_turn(rt.alloc(), area, *calls)?, "{area}");
+        assert!(rt; fails_in_turn(&rt, rt.alloc(), area, *calls)?, "{area}");
     }
     Ok(())
 }
@@ -141,11 +143,16 @@ checkpoint
 
 /// Whether a run of that is done in which a call of an area fails. Else the fault of the area is what
 /// is told last.
-fn swept_is_done<S: Site>(alloc: Global, site: &mut S, area: &str) -> Result<bool, AreaFault>
+fn swept_is_done<S: Site>(
+    rt: &impl Wait,
+    alloc: Global,
+    site: &mut S,
+    area: &str,
+) -> Result<bool, AreaFault>
     requires { AllHome (S.areas site.old) }
     ensures { AllHome (S.areas site.new) }
 {
-    let (status, printed) = run(alloc, site, FEW_FRAMES, SWEPT, NONE)?;
+    let (status, printed) = run(rt, alloc, site, FEW_FRAMES, SWEPT, NONE)?;
     if status == Status::Done {
         return Ok(true);
     }
@@ -162,10 +169,10 @@ const TRIED: u64 = 100;
 
 /// How many calls that run makes of an area: each of them fails in turn, and the run is done where the
 /// next one were to.
-fn swept_calls(alloc: Global, area: &str) -> Result<u64, AreaFault> {
+fn swept_calls(rt: &impl Wait, alloc: Global, area: &str) -> Result<u64, AreaFault> {
     for fails in 1..TRIED {
         let mut site = new_site(alloc, area.as_bytes(), fails)?;
-        if swept_is_done(alloc, &mut site, area)? {
+        if swept_is_done(rt, alloc, &mut site, area)? {
             return Ok(fails - 1);
         }
     }
@@ -180,7 +187,7 @@ static SWEPT_CALLS: [(&str, u64); 2] = [("wal", 21), ("data0", 18)];
 #[test]
 fn each_device_call_fails_in_turn_with_few_frames(rt: HostRuntime) -> Result<(), AreaFault> {
     for (area, least) in &SWEPT_CALLS {
-        let calls = swept_calls(rt.alloc(), area)?;
+        let calls = swept_calls(&rt, rt.alloc(), area)?;
         assert!(rt; *least <= calls && calls < TRIED, "{area} {calls}");
     }
     Ok(())

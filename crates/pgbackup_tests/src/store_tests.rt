@@ -6,6 +6,7 @@ ghost use Rattle.vault.specs.Site.{AllHome};
 use lsn_core::{AreaFault, NoMemory, Text};
 use pgbackup_cli::{Status, pgbackup};
 use std::alloc::Global;
+use std::sync::Wait;
 use test_areas::{
     ADDED, NEW_WAL, SEGMENT, SETTINGS, SiteStep, Wrong, holds_in, put_in, take_site_steps,
 };
@@ -42,13 +43,13 @@ static ONE_ENTRY: [Call; 5] = [
 #[test]
 fn a_store_is_made_once(rt: HostRuntime) -> Result<(), Wrong> {
     let mut site = MemSite::new(rt.alloc(), &[])?;
-    make_calls(rt.alloc(), &mut site, &NEW_STORE)?;
+    make_calls(&rt, rt.alloc(), &mut site, &NEW_STORE)?;
     let files = [
         SiteStep::Holds(b"wal", b"settings", SETTINGS),
         SiteStep::Holds(b"wal", SEGMENT, &NEW_WAL),
     ];
     take_site_steps(rt.alloc(), &mut site, &files)?;
-    make_calls(rt.alloc(), &mut site, &ONE_ENTRY)
+    make_calls(&rt, rt.alloc(), &mut site, &ONE_ENTRY)
 }
 
 /// A script that creates a fork.
@@ -130,9 +131,9 @@ fn holds_changes<S: Site>(alloc: Global, site: &mut S) -> Result<bool, AreaFault
 #[test]
 fn a_run_appends_what_it_accepts(rt: HostRuntime) -> Result<(), Wrong> {
     let mut site = MemSite::new(rt.alloc(), &[])?;
-    make_calls(rt.alloc(), &mut site, &CREATION)?;
+    make_calls(&rt, rt.alloc(), &mut site, &CREATION)?;
     assert!(rt; fill_segment(rt.alloc(), &mut site)?);
-    make_calls(rt.alloc(), &mut site, &CHANGE)?;
+    make_calls(&rt, rt.alloc(), &mut site, &CHANGE)?;
     assert!(rt; holds_changes(rt.alloc(), &mut site)?);
     Ok(())
 }
@@ -178,35 +179,37 @@ static OTHER_WORDS: [&str; 36] = [
 ];
 
 /// Words are refused over an empty site.
-fn are_refused(alloc: Global, words: &str) -> Result<bool, NoMemory> {
+fn are_refused(rt: &impl Wait, alloc: Global, words: &str) -> Result<bool, NoMemory> {
     let mut site = MemSite::new(alloc, &[])?;
     let refused = (words, "", Status::Usage, "refused 1 Usage\n");
-    is_answered(alloc, &mut site, &refused)
+    is_answered(rt, alloc, &mut site, &refused)
 }
 
 #[test]
 fn words_are_refused(rt: HostRuntime) -> Result<(), NoMemory> {
     for words in &OTHER_WORDS {
-        assert!(rt; are_refused(rt.alloc(), words)?, "{words}");
+        assert!(rt; are_refused(&rt, rt.alloc(), words)?, "{words}");
     }
     Ok(())
 }
 
 /// Words of which the last one isn't UTF-8 are refused over an empty site.
-fn is_no_text(alloc: Global, line: &str) -> Result<bool, NoMemory> {
+fn is_no_text(rt: &impl Wait, alloc: Global, line: &str) -> Result<bool, NoMemory> {
     let mut words = words_in(alloc, line)?;
     words.push(Text::copied(alloc, b"\xff")?)?;
     let mut site = MemSite::new(alloc, &[])?;
     let mut input = MemSource::new(alloc, b"", &[])?;
     let mut out = MemSink::new(alloc, &[])?;
     let mut clock = SetClock::new(0);
-    let status = pgbackup(alloc, &words, &mut site, &mut input, &mut out, &mut clock);
+    let status = pgbackup(
+        rt, alloc, &words, &mut site, &mut input, &mut out, &mut clock,
+    );
     Ok(status == Status::Usage && out.bytes() == b"refused 1 Usage\n".as_slice())
 }
 
 #[test]
 fn words_that_are_no_text_are_refused(rt: HostRuntime) -> Result<(), NoMemory> {
-    assert!(rt; is_no_text(rt.alloc(), "replay")?);
+    assert!(rt; is_no_text(&rt, rt.alloc(), "replay")?);
     Ok(())
 }
 
@@ -241,7 +244,7 @@ static OTHER_FORMS: [Call; 4] = [
 #[test]
 fn words_have_other_forms(rt: HostRuntime) -> Result<(), Wrong> {
     let mut site = MemSite::new(rt.alloc(), &[])?;
-    make_calls(rt.alloc(), &mut site, &OTHER_FORMS)
+    make_calls(&rt, rt.alloc(), &mut site, &OTHER_FORMS)
 }
 
 /// A file of an area, its bytes, and a call behind it.
@@ -292,24 +295,29 @@ static NO_STORE: [Call; 2] = [
 ];
 
 /// Writes a file, and says whether the call is answered so then.
-fn is_refused<S: Site>(alloc: Global, site: &mut S, row: &Refusal) -> Result<bool, AreaFault>
+fn is_refused<S: Site>(
+    rt: &impl Wait,
+    alloc: Global,
+    site: &mut S,
+    row: &Refusal,
+) -> Result<bool, AreaFault>
     requires { AllHome (S.areas site.old) }
     ensures { AllHome (S.areas site.new) }
 {
     let (area, file, bytes, refused) = *row;
     put_in(site, area, file, bytes)?;
-    Ok(is_answered(alloc, site, &refused)?)
+    Ok(is_answered(rt, alloc, site, &refused)?)
 }
 
 #[test]
 fn refusals_come_in_their_order(rt: HostRuntime) -> Result<(), Wrong> {
     let mut site = MemSite::new(rt.alloc(), &[])?;
-    make_calls(rt.alloc(), &mut site, &NO_STORE)?;
+    make_calls(&rt, rt.alloc(), &mut site, &NO_STORE)?;
     let [no_wal, no_sums, replayed, ran] = &REFUSALS;
-    assert!(rt; is_refused(rt.alloc(), &mut site, no_wal)?);
-    assert!(rt; is_refused(rt.alloc(), &mut site, no_sums)?);
-    assert!(rt; is_refused(rt.alloc(), &mut site, replayed)?);
-    assert!(rt; is_refused(rt.alloc(), &mut site, ran)?);
+    assert!(rt; is_refused(&rt, rt.alloc(), &mut site, no_wal)?);
+    assert!(rt; is_refused(&rt, rt.alloc(), &mut site, no_sums)?);
+    assert!(rt; is_refused(&rt, rt.alloc(), &mut site, replayed)?);
+    assert!(rt; is_refused(&rt, rt.alloc(), &mut site, ran)?);
     Ok(())
 }
 
@@ -329,7 +337,7 @@ static NOT_EMPTY: Refusal = (
 #[test]
 fn an_area_that_is_not_empty_is_refused(rt: HostRuntime) -> Result<(), AreaFault> {
     let mut site = MemSite::new(rt.alloc(), &[])?;
-    assert!(rt; is_refused(rt.alloc(), &mut site, &NOT_EMPTY)?);
+    assert!(rt; is_refused(&rt, rt.alloc(), &mut site, &NOT_EMPTY)?);
     Ok(())
 }
 
@@ -353,6 +361,7 @@ static BOUNDS: [(&str, &str, &[u8], usize, &[u8]); 2] = [
 
 /// A new store by these words leaves these bytes in a file of the WAL from a place on.
 fn is_made(
+    rt: &impl Wait,
     alloc: Global,
     words: &str,
     printed: &str,
@@ -360,7 +369,7 @@ fn is_made(
     bytes: &[u8],
 ) -> Result<bool, AreaFault> {
     let mut site = MemSite::new(alloc, &[])?;
-    let done = is_answered(alloc, &mut site, &(words, "", Status::Done, printed))?;
+    let done = is_answered(rt, alloc, &mut site, &(words, "", Status::Done, printed))?;
     let (file, at) = place;
     Ok(done && holds_part(alloc, &mut site, (b"wal", file, at), bytes)?)
 }
@@ -369,7 +378,7 @@ fn is_made(
 fn options_are_taken_at_their_bounds(rt: HostRuntime) -> Result<(), AreaFault> {
     for (words, printed, file, at, bytes) in &BOUNDS {
         assert!(rt;
-            is_made(rt.alloc(), words, printed, (file, *at), bytes)?,
+            is_made(&rt, rt.alloc(), words, printed, (file, *at), bytes)?,
             "{words}"
         );
     }
@@ -425,6 +434,7 @@ static FAILING_INITS: [(&str, u64, &str, Status, &str); 6] = [
 /// A call of an area fails in a call of `init`, which tells the fault, and a second one is answered
 /// so.
 fn init_fails(
+    rt: &impl Wait,
     alloc: Global,
     area: &str,
     fails: u64,
@@ -433,9 +443,9 @@ fn init_fails(
 ) -> Result<bool, NoMemory> {
     let mut site = MemSite::new(alloc, &[])?;
     site.set(area.as_bytes(), MemVault::new(alloc, &[fails])?)?;
-    let failed = is_answered(alloc, &mut site, &(INIT, "", Status::Device, fault))?;
+    let failed = is_answered(rt, alloc, &mut site, &(INIT, "", Status::Device, fault))?;
     let (status, printed) = again;
-    Ok(failed && is_answered(alloc, &mut site, &(INIT, "", status, printed))?)
+    Ok(failed && is_answered(rt, alloc, &mut site, &(INIT, "", status, printed))?)
 }
 
 #[test]
@@ -443,7 +453,7 @@ fn each_device_call_of_a_new_store_fails_in_turn(rt: HostRuntime) -> Result<(), 
     for (area, fails, fault, status, again) in &FAILING_INITS {
         let again = (*status, *again);
         assert!(rt;
-            init_fails(rt.alloc(), area, *fails, fault, again)?,
+            init_fails(&rt, rt.alloc(), area, *fails, fault, again)?,
             "{area} {fails}"
         );
     }

@@ -1,4 +1,4 @@
-//! The tests of the partitions of a store, of its data areas and of its machine of steps, through
+//! The tests of an open store, of its partitions, of its data areas and of its machine of steps, through
 //! their public calls alone. A crate with tests is proved twice, so they stand in a crate of their
 //! own, apart from those of the base and of the program, which are proved beside it.
 //!
@@ -22,6 +22,8 @@ mod lengths_tests;
 mod machine_tests;
 #[cfg(test)]
 mod partition_tests;
+#[cfg(test)]
+mod passes_tests;
 #[cfg(test)]
 mod rebuild_tests;
 #[cfg(test)]

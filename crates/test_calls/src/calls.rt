@@ -5,6 +5,7 @@ ghost use Rattle.vault.specs.Site.{AllHome};
 use lsn_core::{NoMemory, Text};
 use pgbackup_cli::{Status, pgbackup};
 use std::alloc::Global;
+use std::sync::Wait;
 use test_areas::Wrong;
 use vault::{MemSink, MemSite, MemSource, MemVault, SetClock, Site};
 
@@ -34,6 +35,7 @@ pub const NONE: Failing = Failing { input: 0, sink: 0 };
 
 /// The status of a call of the program, and all that it prints.
 pub fn run<S: Site>(
+    rt: &impl Wait,
     alloc: Global,
     site: &mut S,
     line: &str,
@@ -47,7 +49,7 @@ pub fn run<S: Site>(
     let mut input = MemSource::new(alloc, script.as_bytes(), &[failing.input])?;
     let mut out = MemSink::new(alloc, &[failing.sink])?;
     let mut clock = SetClock::new(MOMENT);
-    let status = pgbackup(alloc, &words, site, &mut input, &mut out, &mut clock);
+    let status = pgbackup(rt, alloc, &words, site, &mut input, &mut out, &mut clock);
     Ok((status, Vec::from_slice(alloc, out.bytes())?))
 }
 
@@ -63,23 +65,33 @@ pub const INIT: Call<'static> = (
 );
 
 /// Makes a call of the program, and says whether it ends and prints so.
-pub fn is_answered<S: Site>(alloc: Global, site: &mut S, call: &Call) -> Result<bool, NoMemory>
+pub fn is_answered<S: Site>(
+    rt: &impl Wait,
+    alloc: Global,
+    site: &mut S,
+    call: &Call,
+) -> Result<bool, NoMemory>
     requires { AllHome (S.areas site.old) }
     ensures { AllHome (S.areas site.new) }
 {
     let (line, script, status, printed) = *call;
-    let (ended, out) = run(alloc, site, line, script, NONE)?;
+    let (ended, out) = run(rt, alloc, site, line, script, NONE)?;
     Ok(ended == status && out.as_slice() == printed.as_bytes())
 }
 
 /// Makes calls of the program in turn, over one site. The first one that isn't answered so is the
 /// error.
-pub fn make_calls<S: Site>(alloc: Global, site: &mut S, calls: &[Call]) -> Result<(), Wrong>
+pub fn make_calls<S: Site>(
+    rt: &impl Wait,
+    alloc: Global,
+    site: &mut S,
+    calls: &[Call],
+) -> Result<(), Wrong>
     requires { AllHome (S.areas site.old) }
     ensures { AllHome (S.areas site.new) }
 {
     for (number, call) in calls.iter().enumerate() {
-        if !is_answered(alloc, site, call)? {
+        if !is_answered(rt, alloc, site, call)? {
             return Err(Wrong::Step(number));
         }
     }
@@ -102,6 +114,7 @@ fn in_few_frames<'a>(call: &Call<'a>) -> Call<'a> {
 /// Makes calls of the program in turn, over one site, of which a run has as few frames as there may
 /// be. The first one that isn't answered so is the error.
 pub fn make_calls_in_few_frames<S: Site>(
+    rt: &impl Wait,
     alloc: Global,
     site: &mut S,
     calls: &[Call],
@@ -110,7 +123,7 @@ pub fn make_calls_in_few_frames<S: Site>(
     ensures { AllHome (S.areas site.new) }
 {
     for (number, call) in calls.iter().enumerate() {
-        if !is_answered(alloc, site, &in_few_frames(call))? {
+        if !is_answered(rt, alloc, site, &in_few_frames(call))? {
             return Err(Wrong::Step(number));
         }
     }
@@ -118,8 +131,13 @@ pub fn make_calls_in_few_frames<S: Site>(
 }
 
 /// Makes calls of the program in turn, over a new site, and takes an area from it.
-pub fn take_behind(alloc: Global, calls: &[Call], area: &[u8]) -> Result<MemVault, Wrong> {
+pub fn take_behind(
+    rt: &impl Wait,
+    alloc: Global,
+    calls: &[Call],
+    area: &[u8],
+) -> Result<MemVault, Wrong> {
     let mut site = MemSite::new(alloc, &[])?;
-    make_calls(alloc, &mut site, calls)?;
+    make_calls(rt, alloc, &mut site, calls)?;
     Ok(site.take(area)?)
 }
