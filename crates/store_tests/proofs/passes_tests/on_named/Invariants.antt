@@ -1,5 +1,5 @@
--- The store is begun at what was found of it, its ledgers are those that are handed over, and it has two
--- workers.
+-- The store is begun at what was found of it, its ledgers are those that are handed over, and it has so many
+-- workers as it is to have.
 use Rattle.std.proofs.Common.{None}
 use Rattle.std.specs.Option.{is_some}
 use Rattle.std.specs.Prelude.{if◌then◌else◌, ◌==◌}
@@ -16,7 +16,7 @@ ghosts-on_found-J-OfLedgers g a = record {
   entries_named = λ q. if q == 0 then a.blanks.entries0.name else (if q == 1 then a.blanks.entries1.name else (if q == 2 then a.blanks.entries2.name else a.blanks.entries3.name));
   faults_named = λ q. if q == 0 then a.blanks.data0.name else (if q == 1 then a.blanks.data1.name else (if q == 2 then a.blanks.data2.name else (if q == 3 then a.blanks.data3.name else (if q == 4 then a.blanks.wal.name else a.blanks.sums.name))));
   commands_named = a.blanks.commands.name;
-  passes = 2;
+  passes = a.passes;
 }
 
 abbrev pub ghosts-on_found-J-OfCrew : goal.ghosts-on_found-J-OfCrew
@@ -25,6 +25,6 @@ ghosts-on_found-J-OfCrew g a = record {
   found = a.found.opened.list;
   wal = record { files = g.V.Vault.files a.found.wal; flushed = a.found.tip.end };
   starts = λ q. if q == 0 then a.found.parts.part0.faults else (if q == 1 then a.found.parts.part1.faults else (if q == 2 then a.found.parts.part2.faults else (if q == 3 then a.found.parts.part3.faults else g.V.Vault.faults a.found.wal)));
-  workers = 2;
+  workers = a.passes;
   sums = None;
 }
