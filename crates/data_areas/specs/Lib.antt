@@ -1,5 +1,4 @@
 pub mod Areas
-pub mod Boxed
 pub mod Clearing
 pub mod Inside
 pub mod Kept

@@ -1,8 +1,7 @@
 //! The four data areas of a store.
 
-use crate::boxed::BoxedArea;
 use lsn_core::StoreFault;
-use vault::Vault;
+use vault::{BoxedArea, Vault};
 
 /// The four data areas of a store, by partition.
 #[derive(Drop)]

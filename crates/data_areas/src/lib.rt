@@ -18,7 +18,6 @@
 #![tactic(auto)]
 
 mod areas;
-mod boxed;
 mod clearing;
 mod fault;
 mod marking;
@@ -26,7 +25,6 @@ mod settling;
 mod store_forks;
 
 pub use areas::{DataAreas, RebuildFault};
-pub use boxed::BoxedArea;
 pub use clearing::clear;
 pub use marking::{clear_area, clear_marked, mark_rebuilding, rebuilding_stays, unmark_rebuilding};
 pub use settling::{Partitions, settle};

@@ -4,7 +4,7 @@ ghost use Rattle.std.specs.Prelude.{◌≡◌, ℕ, IfOk, IfErr, OnOk, OnErr};
 ghost use Rattle.lsn_core.specs.Segment.{IsRelseg};
 ghost use Rattle.vault.specs.Frame.{Adds, IsAmong};
 ghost use Rattle.data_areas.specs.Areas.{area_of, data_fault, DataCause, FaultsGrow};
-ghost use Rattle.data_areas.specs.Boxed.{on_heap};
+ghost use Rattle.vault.specs.Boxed.{on_heap};
 ghost use Rattle.data_areas.specs.Marking.{IsOther};
 ghost use Rattle.data_areas.specs.Moments.{AllGoOn, pasts_of, pasts_in};
 ghost use Rattle.data_areas.specs.Phases.{first_past};
@@ -14,14 +14,13 @@ ghost use Rattle.data_areas.specs.Settling.{SettledSoFar, IsOpened, IsLeft, AreL
 ghost use Rattle.data_areas.specs.Settling.{AreOpened};
 
 use crate::areas::{DataAreas, RebuildFault};
-use crate::boxed::BoxedArea;
 use crate::fault::data_fault;
 use crate::marking::unmark_rebuilding;
 use lsn_core::{AreaFault, Lsn, StoreFault};
 use page_pool::{Partition, Unopened};
 use rel_files::Forks;
 use std::alloc::Global;
-use vault::Vault;
+use vault::{BoxedArea, Vault};
 
 /// The four partitions of a store.
 #[derive(Drop)]

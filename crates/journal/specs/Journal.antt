@@ -1,8 +1,10 @@
 -- The WAL of a store, and the history that it tells.
-use Rattle.std.specs.Prelude.{◌≡◌, ℕ, ◌<◌, ◌≤◌, ◌^◌, ◌==◌, true, List, ◌++◌, length, Option, Some, IfSome}
+use Rattle.std.specs.Prelude.{◌≡◌, ℕ, ◌<◌, ◌≤◌, ◌^◌, ◌==◌, true, List, ◌++◌, length, Option, Some, IfSome, Result}
 use Rattle.std.specs.List.{list_any}
 use Rattle.std.specs.FinMap.{empty}
+use Rattle.std.specs.Global.{Vec}
 use Rattle.lsn_core.specs.Files.{Files}
+use Rattle.lsn_core.specs.Segment.{StoreSettings}
 use Rattle.lsn_core.specs.Store.{Store}
 use Rattle.lsn_core.specs.Tip.{Tip}
 use Rattle.vault.specs.Frame.{IsDurable}
@@ -11,8 +13,10 @@ use Rattle.wal_record.specs.declared.record.Record.{Record}
 use Rattle.wal_record.specs.declared.record.Kind.{Kind}
 use Rattle.wal_record.specs.Decoding.{record_at}
 use Rattle.wal_archive.specs.Archive.{archive_of}
-use Rattle.wal_archive.specs.Rules.{IsWal}
+use Rattle.wal_archive.specs.Rules.{IsWal, lsn}
 use Rattle.wal_archive.specs.Laws.{HasNoGap}
+use Rattle.wal_reader.specs.declared.fault.WalFault.{WalFault}
+use Rattle.wal_pieces.specs.Piece.{ReadsPiece}
 use Rattle.wal_writer.specs.declared.state.WalState.{WalState}
 use Rattle.wal_writer.specs.Log.{Log}
 use Rattle.wal_writer.specs.Laws.{IsKnown, Waits}
@@ -98,3 +102,9 @@ entry_at r act worker seq = record {
   worker = Some worker;
   seq = seq;
 }
+
+-- a piece of what is flushed is read
+abbrev pub ReadsFlushed : {V : Type 0} → Ghosts V → StoreSettings → ℕ → ℕ → WalState V → WalState V
+    → Result (Vec Record) WalFault → Type 0
+ReadsFlushed g s from most old new result =
+    ReadsPiece g s from (Some (lsn old.tail.flushed)) most old.area new.area result

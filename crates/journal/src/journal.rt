@@ -7,11 +7,10 @@ ghost use Rattle.wal_record.specs.Spelling.{IsWritable};
 ghost use Rattle.wal_writer.specs.Log.{IsLog, flush_end, touched_to};
 ghost use Rattle.vault.specs.Frame.{OnlyReads};
 ghost use Rattle.wal_writer.specs.Answers.{AppendAnswer, Flushes, Tears, Keeps, FlushWrites};
-ghost use Rattle.wal_writer.specs.Answers.{ReadsFlushed};
 ghost use Rattle.history.specs.Entry.{Mark, RedoMark, Online, BackupEnd};
 ghost use Rattle.history.specs.Op.{act_of_op};
 ghost use Rattle.history.specs.Written.{mark_kind};
-ghost use Rattle.journal.specs.Journal.{EndsWith, IsJournal, IsAtRest, IsEndOf, MayFollow, entry_at};
+ghost use Rattle.journal.specs.Journal.{EndsWith, IsJournal, IsAtRest, IsEndOf, MayFollow, ReadsFlushed, entry_at};
 ghost use Rattle.journal.specs.Marks.{marking_of};
 
 use crate::entry::HistoryEntry;
@@ -23,6 +22,7 @@ use std::alloc::Global;
 use std::marker::{Brand, Model};
 use timeline::{Names, Note, Pen, Timeline};
 use vault::Vault;
+use wal_pieces::read_piece;
 use wal_reader::WalFault;
 use wal_record::{Kind, Record};
 use wal_writer::{AppendFault, Flushed, WalState};
@@ -219,7 +219,8 @@ impl<J: OfStore, V: Vault> Journal<J, V> {
     }
 
     /// The first entries of the WAL of these settings from a place on, so many of them, as far as it
-    /// is flushed, as `WalState::read_flushed` reads them. Nothing changes.
+    /// is flushed: what `read_piece` answers of the area. Nothing is looked at from the flushed
+    /// place on, and nothing changes.
     pub fn read_flushed(
         &mut self,
         alloc: Global,
@@ -234,7 +235,9 @@ impl<J: OfStore, V: Vault> Journal<J, V> {
         ensures pen { self.new.pen ≡ self.old.pen }
         ensures pages { self.new.pages ≡ self.old.pages }
     {
-        self.wal.read_flushed(alloc, settings, from, most)
+        // (made anew from its number, by which the proof compares it)
+        let upto = Some(Lsn(self.wal.flushed().0));
+        read_piece(alloc, &mut self.wal.area, settings, from, upto, most)
     }
 
     /// Shows that a note is a beginning of the history. The note knows the whole history

@@ -1,15 +1,17 @@
 -- What a partition keeps of its history.
-use Rattle.std.specs.Prelude.{◌≡◌, ℕ, ◌≤◌, ◌==◌, ◌&&◌, Bool, true, false, List, map, Option, Some, None, IfSome, if◌then◌else◌}
+use Rattle.std.specs.Prelude.{◌≡◌, ℕ, ◌≤◌, ◌==◌, ◌&&◌, Bool, true, false, List, map, Option, Some, None, IfSome, IsSome, if◌then◌else◌}
 use Rattle.std.specs.List.{All, fold, list_any}
 use Rattle.std.specs.FinMap.{empty}
 use Rattle.lsn_core.specs.declared.ids.ForkId.{ForkId}
 use Rattle.lsn_core.specs.Tip.{tip_with}
+use Rattle.rel_files.specs.Laws.{HasOnlyForks}
 use Rattle.history.specs.Entry.{Act, Create, Truncate, Change, Drop, Mark, Entry}
 use Rattle.history.specs.Apply.{main_fork, is_same_fork, is_of_any, apply_all}
 use Rattle.history.specs.Written.{tip_over}
 use Rattle.partitions.specs.Parts.{part_of}
 use Rattle.fuzzy_copies.specs.Touches.{touches}
 use Rattle.fuzzy_copies.specs.Taken.{since}
+use Rattle.fuzzy_copies.specs.Orderly.{AreOwnFrom}
 use Rattle.page_frames.specs.Marks.{DirtyMarks, touch_end}
 use Rattle.page_pool.specs.declared.work.Work.{Work}
 use Rattle.page_pool.specs.declared.work.Work.TheVariants.{Make, Cut, Remove}
@@ -70,3 +72,14 @@ pub record Follows (q : ℕ) (history : List Entry) (part : Part) : Type 0 where
   -- where its area tells its files, its frames are what its part of the history makes
   pub made : IfSome part.disk
       (λ files. apply_all empty (map (part_of q) history) ≡ Some part.frames)
+
+-- a partition follows the history, and its segment files have so many blocks each at most; where
+-- areas tell their files, its own tells them, and holds no file but those of forks, and all entries
+-- of the history from its point on are of this run
+pub record IsPartOf (q relseg : ℕ) (tells : Type 0) (history : List Entry) (part : Part)
+    : Type 0 where
+  pub follows : Follows q history part
+  pub relseg_is : part.relseg ≡ relseg
+  pub own : tells → AreOwnFrom part.point history
+  pub told : tells → IsSome part.disk
+  pub alone : tells → IfSome part.disk HasOnlyForks

@@ -1,4 +1,5 @@
 pub mod Area
+pub mod Boxed
 pub mod Fails
 pub mod Lending
 pub mod Memory

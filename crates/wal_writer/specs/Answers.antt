@@ -1,14 +1,9 @@
 -- What calls on the writer of the WAL answer.
-use Rattle.std.specs.Prelude.{◌≡◌, ℕ, ◌-◌, ◌<◌, ◌≤◌, length, Some, Result, Ok, Err}
-use Rattle.std.specs.Global.{Vec}
+use Rattle.std.specs.Prelude.{◌≡◌, ℕ, ◌-◌, ◌<◌, ◌≤◌, length, Result, Ok, Err}
 use Rattle.std.specs.Option.{option_map}
 use Rattle.lsn_core.specs.Files.{Files}
-use Rattle.lsn_core.specs.Segment.{StoreSettings}
 use Rattle.vault.specs.declared.area.Vault.{Ghosts}
-use Rattle.wal_archive.specs.Rules.{lsn}
 use Rattle.wal_archive.specs.Writing.{archive_written}
-use Rattle.wal_reader.specs.declared.fault.WalFault.{WalFault}
-use Rattle.wal_pieces.specs.Piece.{ReadsPiece}
 use Rattle.wal_record.specs.Tips.{wal_limit}
 use Rattle.wal_record.specs.declared.record.Record.{Record}
 use Rattle.wal_record.specs.declared.record.Kind.{Kind}
@@ -76,9 +71,3 @@ module _ {V : Type 0} (g : Ghosts V) where
 
   abbrev pub FlushWrites : ℕ → WalState V → WalState V → Type 0
   FlushWrites to old new = FlushWritesAt (flush_end old.tail to) old new
-
-  -- a piece of what is flushed is read
-  abbrev pub ReadsFlushed : StoreSettings → ℕ → ℕ → WalState V → WalState V
-      → Result (Vec Record) WalFault → Type 0
-  ReadsFlushed s from most old new result =
-      ReadsPiece g s from (Some (lsn old.tail.flushed)) most old.area new.area result

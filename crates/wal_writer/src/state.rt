@@ -2,13 +2,12 @@
 
 ghost use Rattle.std.specs.Prelude.{◌≡◌, ◌<◌, ◌≤◌, IsOk, IfOk, OnOk, OnErr};
 ghost use Rattle.lsn_core.specs.Causes.{HasCause};
-ghost use Rattle.vault.specs.Frame.{OnlyReads};
 ghost use Rattle.wal_record.specs.Spelling.{IsWritable};
 ghost use Rattle.wal_record.specs.Tips.{IsWithin};
 ghost use Rattle.wal_writer.specs.Log.{IsLog, IsReady, log_at, flush_end, touched_to};
 ghost use Rattle.wal_writer.specs.Answers.{PrepareAnswer, AddAnswer, AppendAnswer};
 ghost use Rattle.wal_writer.specs.Answers.{FlushesAt, Flushes, TearsAt, Tears, Keeps};
-ghost use Rattle.wal_writer.specs.Answers.{FlushWritesAt, FlushWrites, ReadsFlushed};
+ghost use Rattle.wal_writer.specs.Answers.{FlushWritesAt, FlushWrites};
 
 use crate::fault::AppendFault;
 use crate::pieces::write_synced;
@@ -17,14 +16,13 @@ use crate::tail::Tail;
 use lsn_core::{AreaFault, Lsn, NoMemory, Settings, WalTip};
 use std::alloc::Global;
 use vault::Vault;
-use wal_pieces::read_piece;
-use wal_reader::WalFault;
 use wal_record::{Kind, Record};
 
 /// The WAL of an area: entries are appended in memory, and flushed into its segment files.
 #[derive(Drop)]
 pub struct WalState<V: Vault> {
-    area: V,
+    /// Its area, from which what is flushed can be read.
+    pub area: V,
     tail: Tail,
 }
 
@@ -118,24 +116,6 @@ impl<V: Vault> WalState<V> {
         Ok(Flushed {
             to: Lsn(self.tail.flushed()),
         })
-    }
-
-    /// The first entries of the WAL of these settings from a place on, so many of them, as far as it
-    /// is flushed: what `read_piece` answers of the area. Nothing is looked at from the flushed place
-    /// on, and nothing changes.
-    pub fn read_flushed(
-        &mut self,
-        alloc: Global,
-        settings: &Settings,
-        from: Lsn,
-        most: u32,
-    ) -> Result<Vec<Record>, WalFault>
-        ensures answer { ReadsFlushed V.Vault settings.now from.0 most self.old self.new result }
-        ensures reads { OnlyReads V.Vault self.old.area self.new.area }
-        ensures tail { self.new.tail ≡ self.old.tail }
-    {
-        let upto = Some(Lsn(self.tail.flushed()));
-        read_piece(alloc, &mut self.area, settings, from, upto, most)
     }
 
     /// Where all before it is flushed.

@@ -1,5 +1,5 @@
 -- What was made durable is opened.
-use Rattle.data_areas.specs.Boxed.{on_heap}
+use Rattle.vault.specs.Boxed.{on_heap}
 use Rattle.data_areas.specs.Rebuilt.{held_by, AreRebuilt}
 use Rattle.data_areas.specs.Settling.{SettledSoFar, AreOpened, AreLeft}
 use Rattle.data_areas.proofs.Settled.{all_rebuilt, held_still, came_to}

@@ -1,7 +1,7 @@
 -- Areas on the heap.
 use Rattle.std.specs.Prelude.{box_value}
 use Rattle.vault.specs.declared.area.Vault.{Ghosts}
-use Rattle.data_areas.specs.declared.boxed.BoxedArea.{BoxedArea}
+use Rattle.vault.specs.declared.boxed.BoxedArea.{BoxedArea}
 
 -- what is known of areas is known of them where they are on the heap
 abbrev pub on_heap : {V : Type 0} → Ghosts V → Ghosts (BoxedArea V)

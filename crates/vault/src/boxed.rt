@@ -2,10 +2,10 @@
 
 ghost use Rattle.std.specs.Prelude.{box_value};
 
+use crate::area::Vault;
 use lsn_core::{AreaFault, Text};
 use std::alloc::Global;
 use std::boxed::Box;
-use vault::Vault;
 
 /// An area on the heap: a value that holds it has a known size, whatever the area is. It is the
 /// area that it holds.
