@@ -11,4 +11,4 @@ mod naming;
 
 pub use blanks::Blanks;
 pub use entries::{EntryBooks, EntryShare, EntryShares};
-pub use naming::{AreaFaults, Commands, Entries, OfLedgers};
+pub use naming::{AreaFaults, Entries, Made, OfLedgers};

@@ -1,0 +1,5 @@
+pub mod Replayed
+pub mod Begun
+pub mod Unbegun
+pub mod Refilled
+pub mod Moments
