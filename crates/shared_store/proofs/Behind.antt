@@ -41,10 +41,10 @@ use Rattle.page_pool.proofs.Items.{first_none}
 use Rattle.page_pool.proofs.Judged.{blocks_on}
 use Rattle.page_pool.proofs.PartsAlike.{judged_alike, counted_alike}
 use Rattle.page_pool.proofs.Followed.{told}
-use Rattle.shared_store.specs.declared.fault.InsertFault.{InsertFault}
-use Rattle.shared_store.specs.declared.fault.InsertFault.TheVariants as fault
+use Rattle.store_faults.specs.declared.insert_fault.InsertFault.{InsertFault}
+use Rattle.store_faults.specs.declared.insert_fault.InsertFault.TheVariants as fault
 use Rattle.shared_store.specs.Refusals.{most_pages, fault_at, judged_form, judged_total, judged_room, judged_at, IsRefused, IsRefusedBehind}
-use Rattle.shared_store.specs.Opened.{IsPartOf}
+use Rattle.page_pool.specs.Facts.{IsPartOf}
 use Rattle.shared_store.specs.Inside.{pages_behind, is_over, IsAdmitted}
 
 -- ---- the store behind a history, and a partition's part of it

@@ -8,7 +8,7 @@ use Rattle.lsn_core.specs.declared.fault.StoreFault.TheVariants as store
 use Rattle.lsn_core.specs.declared.fault.MarkFault.{MarkFault}
 use Rattle.lsn_core.specs.declared.fault.MarkFault.TheVariants as mark
 use Rattle.shared_store.specs.declared.receipt.Receipt.{Receipt}
-use Rattle.shared_store.specs.declared.fault.InsertFault.{InsertFault}
+use Rattle.store_faults.specs.declared.insert_fault.InsertFault.{InsertFault}
 use Rattle.shared_store.specs.Seen.{Seen, Booked, SharesStay, ShareRose, BooksOne, BooksIf, IsThere, failed_area, share_of, share_of_data, with_fault, with_data}
 use Rattle.shared_store.specs.Shared.{TakesFaults, TakesInsertFault, TakesMarkFault}
 

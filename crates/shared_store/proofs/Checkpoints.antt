@@ -2,7 +2,7 @@
 use Rattle.std.proofs.Common.{◌≡◌, ℕ, ◌≤◌, List, [], ◌∷◌, ◌++◌, sym, ap, subst, ◌∙◌, arith, append_assoc, Some, Result, Ok, Err, IfOk, OnOk, OnErr, IfErr, ◌+◌}
 use Rattle.history.specs.declared.op.Op.{Op}
 use Rattle.shared_store.specs.declared.receipt.Receipt.{Receipt}
-use Rattle.shared_store.specs.declared.fault.InsertFault.{InsertFault}
+use Rattle.store_faults.specs.declared.insert_fault.InsertFault.{InsertFault}
 use Rattle.shared_store.specs.Calls.{IsReceipt, IsTaken}
 use Rattle.shared_store.specs.Refusals.{IsRefusedBehind}
 use mathlib.Core.List.{IsPrefix}

@@ -42,7 +42,7 @@ use Rattle.page_pool.proofs.Behind.{unsettled}
 use Rattle.page_pool.specs.Calls.{HoldsPart, IsHeld, AreWholePages, SameUnwritten, ReadsDisk}
 use Rattle.page_pool.proofs.Covering.{followers_cover}
 use Rattle.page_pool.proofs.Torn.{lacks_mended}
-use Rattle.shared_store.specs.Opened.{IsPartOf}
+use Rattle.page_pool.specs.Facts.{IsPartOf}
 use Rattle.shared_store.specs.Copied.{HasRedoPoint, listed_length, ListsPart}
 use Rattle.shared_store.proofs.Behind.{part_made}
 use Rattle.shared_store.proofs.Kept.{part_read}

@@ -1,35 +1,34 @@
 -- What the value under the WAL's lock keeps, behind entries and flushes.
-use Rattle.std.proofs.Common.{◌≡◌, ℕ, ◌+◌, ◌<◌, ◌≤◌, Bool, true, false, List, [], ◌∷◌, length, Option, Some, Result, Ok, Err, IfOk, OnErr, slice_set, get_or, refl, sym, ap, subst, ◌∙◌, arith, inl, inr, is_some, true≢false, ◌||◌, ◌&&◌, cond, length-append}
+use Rattle.std.proofs.Common.{◌≡◌, ℕ, ◌+◌, ◌<◌, ◌≤◌, Bool, true, false, List, [], ◌∷◌, ◌++◌, length, Option, Some, None, refl, sym, ap, subst, ◌∙◌, arith, inl, inr, is_some, true≢false, ◌||◌, ◌&&◌, not, cond, length-append}
 use Rattle.std.specs.Prelude.{◌==◌}
 use Rattle.std.specs.List.{list_any, filter}
 use Rattle.std.proofs.lemmas.List.Elements.{filter-append}
 use Rattle.std.proofs.lemmas.Bool.{eq-eqb, eqb-true}
-use Rattle.std.specs.Prelude.{sum}
-use Rattle.std.proofs.lemmas.List.Sums.{sum_by-set}
 use Rattle.lsn_core.specs.Segment.{StoreSettings}
 use Rattle.lsn_core.specs.declared.lsn.Place.{Place}
 use Rattle.vault.specs.declared.area.Vault.{Ghosts}
 use Rattle.history.specs.declared.op.Op.{Op}
 use Rattle.history.specs.declared.op.Op.TheVariants as op
-use Rattle.history.specs.Entry.{Entry, Marking}
+use Rattle.history.specs.Entry.{Entry, Marking, is_of_run}
 use Rattle.history.specs.Op.{act_of_op}
 use Rattle.partitions.specs.Parts.{concerns, act_concerns, is_item_of, is_rel_of, partition_of, ConcernsNoOther}
 use Rattle.journal.specs.Journal.{Written}
 use Rattle.page_pool.specs.Ready.{HasItems}
 use Rattle.store_ledgers.specs.Counts.{Counts, Held, count_at, counted}
-use Rattle.shared_store.specs.Opened.{IsWalOf, IsPartOf, AreCounts}
+use Rattle.shared_store.specs.Open.{IsWalOf, AreCounts}
+use Rattle.page_pool.specs.Facts.{IsPartOf}
 use Rattle.shared_store.specs.Calls.{MayWriteWal, IsReceipt, IsMarkOf, IsMarkBy}
 use Rattle.shared_store.specs.Inside.{AddsOnly, KeepsWal, IsNextOf, HasMark, written_end}
 use Rattle.journal.specs.Lawful.{IsLawful}
 use Rattle.page_pool.specs.Part.{Part}
 use Rattle.shared_store.specs.declared.receipt.Receipt.{Receipt}
-use Rattle.shared_store.specs.Seen.{is_by, is_number, accepted_by}
-use Rattle.shared_store.specs.Locked.{RunsOn, IsDesk, IsHeldPart, WalStart, HasRisen, own_count}
+use Rattle.shared_store.specs.Seen.{is_by, is_mark_by, is_number, accepted_by, marks_by}
+use Rattle.shared_store.specs.Locked.{RunsOn, IsDesk, IsHeldPart, WalStart, Standing, HasMoreMarks, HasRisen, made_in, own_count}
 use Rattle.shared_store.proofs.Growths.{RunsBy, runs_more, runs_by_more, counts_more, counts_same}
 use Rattle.shared_store.proofs.Keeping.{counted_here, counted_there, risen_stays}
 use Rattle.shared_store.proofs.Goes.{writes_on, writes_none}
 use Rattle.shared_store.proofs.Kept.{wal_after, resized}
-use Rattle.shared_store.proofs.Tallies.{counts_marked}
+use Rattle.shared_store.proofs.Tallies.{one_if, kept_more, counts_marked}
 
 module _ {W : Type 0} (g : Ghosts W) (settings : StoreSettings) (tells : Type 0) (found : List Entry) (workers : ℕ) (from : WalStart) (start : ℕ) where
   since_adds : (mark : ℕ) (old new : Written W) → IsWalOf g settings tells old.wal mark → from.flushed ≤ old.wal.tail.flushed → AddsOnly old new → MayWriteWal settings.segment from.flushed (written_end old) from.files (g.files old.wal.area)
@@ -40,16 +39,16 @@ module _ {W : Type 0} (g : Ghosts W) (settings : StoreSettings) (tells : Type 0)
       within (omega (arith, adds.within, adds.top)) adds.top since (writes_none settings.segment old.wal.tail.flushed (written_end new) (g.files old.wal.area)))
 
   -- behind more entries
-  pub desk_adds : (old new : Written W) (mark faults : ℕ) (counts counts_now : List ℕ) (entries entries_now : Counts) (commands commands_now : ℕ) → IsDesk g settings tells found workers from start old mark counts entries commands faults → AddsOnly old new
-      → RunsBy workers found new.pen → AreCounts counts_now new.pen → length counts_now ≡ length counts → commands_now ≡ sum counts_now → ((q : ℕ) → q < 4 → count_at q entries_now ≡ own_count q found new.pen)
-      → IsDesk g settings tells found workers from start new mark counts_now entries_now commands_now faults
-  desk_adds old new mark faults counts counts_now entries entries_now commands commands_now d adds grown counted crew summed concerned = record {
+  pub desk_adds : (old new : Written W) (mark faults : ℕ) (counts counts_now : List ℕ) (entries entries_now : Counts) (made made_now : ℕ) → IsDesk g settings tells found workers from start old mark counts entries made faults → AddsOnly old new
+      → RunsBy workers found new.pen → AreCounts counts_now new.pen → length counts_now ≡ length counts → made_now ≡ length (made_in new.pen) → ((q : ℕ) → q < 4 → count_at q entries_now ≡ own_count q found new.pen)
+      → IsDesk g settings tells found workers from start new mark counts_now entries_now made_now faults
+  desk_adds old new mark faults counts counts_now entries entries_now made made_now d adds grown counted crew booked concerned = record {
     wal = wal_after g settings mark tells old new adds d.wal;
     grown = grown.0;
     of_run = grown.1;
     counted = counted;
     crew = crew ∙ d.crew;
-    summed = summed;
+    booked = booked;
     concerned_are = concerned;
     risen = subst (λ (a : W). HasRisen start faults (g.faults a)) (sym adds.area) d.risen;
     within = subst (λ n. from.flushed ≤ n) (sym adds.flushed) d.within;
@@ -57,9 +56,9 @@ module _ {W : Type 0} (g : Ghosts W) (settings : StoreSettings) (tells : Type 0)
   }
 
   -- behind a flush
-  pub desk_flushed : (old new : Written W) (mark mark_now faults faults_now : ℕ) (counts : List ℕ) (entries : Counts) (commands : ℕ) → IsDesk g settings tells found workers from start old mark counts entries commands faults → KeepsWal g old new
-      → mark_now ≤ new.wal.tail.flushed → HasRisen start faults_now (g.faults new.wal.area) → IsDesk g settings tells found workers from start new mark_now counts entries commands faults_now
-  desk_flushed old new mark mark_now faults faults_now counts entries commands d keeps marked risen =
+  pub desk_flushed : (old new : Written W) (mark mark_now faults faults_now : ℕ) (counts : List ℕ) (entries : Counts) (made : ℕ) → IsDesk g settings tells found workers from start old mark counts entries made faults → KeepsWal g old new
+      → mark_now ≤ new.wal.tail.flushed → HasRisen start faults_now (g.faults new.wal.area) → IsDesk g settings tells found workers from start new mark_now counts entries made faults_now
+  desk_flushed old new mark mark_now faults faults_now counts entries made d keeps marked risen =
       let ends : written_end new ≡ written_end old = cc (keeps.pen, keeps.segment) in
       record {
         wal = record {
@@ -72,7 +71,7 @@ module _ {W : Type 0} (g : Ghosts W) (settings : StoreSettings) (tells : Type 0)
         of_run = d.of_run;
         counted = subst (AreCounts counts) (sym keeps.pen) d.counted;
         crew = d.crew;
-        summed = d.summed;
+        booked = d.booked ∙ ap (λ (h : List Entry). length (made_in h)) (sym keeps.pen);
         concerned_are = λ q lt. d.concerned_are q lt ∙ ap (own_count q found) (sym keeps.pen);
         risen = risen;
         within = omega (arith, d.within, keeps.flushed);
@@ -135,6 +134,9 @@ concerned_marked found old new worker marking place c runs mark are p less = are
 some_worker : (o : Option ℕ) (worker : ℕ) → o ≡ Some worker → is_some o ≡ true
 some_worker o worker e = ap (λ (x : Option ℕ). is_some x) e
 
+mark_by : (a b : Option ℕ) (worker : ℕ) → a ≡ Some worker → b ≡ None → (is_number worker a && not (is_some b)) ≡ true
+mark_by a b worker e f = rw (e, f, eq-eqb worker worker refl) refl
+
 runs_marked : (workers : ℕ) (found old new : List Entry) (worker : ℕ) (marking : Marking) (place : Place) → worker < workers → ((e : Entry) → IsMarkOf worker marking e → IsMarkBy worker e) → RunsBy workers found old → HasMark worker marking old new place → RunsBy workers found new
 runs_marked workers found old new worker marking place less kind runs mark =
     runs_by_more workers found old new mark.entry runs mark.grown (some_worker mark.entry.worker worker mark.is.1) (worker, less, inr (kind mark.entry mark.is))
@@ -146,39 +148,54 @@ runs_received : (workers : ℕ) (found old new : List Entry) (worker : ℕ) (com
 runs_received workers found old new worker command receipt less runs r =
     runs_by_more workers found old new r.entry runs r.grown (some_worker r.entry.worker worker r.by) (worker, less, inl (by_both r.entry.worker r.entry.seq worker receipt.seq r.by r.seq))
 
--- behind a mark, whatever is answered
-pub desk_marked : {W E : Type 0} (g : Ghosts W) (settings : StoreSettings) (tells : Type 0) (found : List Entry) (workers : ℕ) (from : WalStart) (start : ℕ) (r : Result Place E) (worker : ℕ) (marking : Marking) (old new : Written W) (mark faults : ℕ) (counts : List ℕ) (entries : Counts) (commands : ℕ)
-    → worker < workers → ((e : Entry) → IsMarkOf worker marking e → IsMarkBy worker e) → IsDesk g settings tells found workers from start old mark counts entries commands faults → IfOk r (HasMark worker marking old.pen new.pen) → OnErr r (new ≡ old) → AddsOnly old new → IsDesk g settings tells found workers from start new mark counts entries commands faults
-desk_marked g settings tells found workers from start (Ok place) worker marking old new mark faults counts entries commands less kind d is same adds =
-    desk_adds g settings tells found workers from start old new mark faults counts counts entries entries commands commands d adds
-    (runs_marked workers found old.pen new.pen worker marking place less kind (d.grown, d.of_run) is) (counts_marked counts old.pen new.pen is.entry d.counted is.grown is.is.2) refl d.summed
-    (concerned_marked found old.pen new.pen worker marking place entries d.grown is d.concerned_are)
-desk_marked {W} {E} g settings tells found workers from start (Err e) worker marking old new mark faults counts entries commands less kind d is same adds =
-    subst (λ (j : Written W). IsDesk g settings tells found workers from start j mark counts entries commands faults) (sym same) d
+-- workers made one more entry
+made_more : (old new : List Entry) (e : Entry) (worker made made_now : ℕ) → new ≡ old ++ (e ∷ []) → e.worker ≡ Some worker → made ≡ length (made_in old) → made_now ≡ made + 1 → made_now ≡ length (made_in new)
+made_more old new e worker made made_now grown by all more =
+    let one : one_if (is_of_run e) ≡ one_if true = ap one_if (some_worker e.worker worker by) in
+    omega (arith, ap (λ (h : List Entry). length (made_in h)) grown, kept_more is_of_run old e, one, all, more)
+
+-- behind a mark, which is booked
+pub desk_marked : {W : Type 0} (g : Ghosts W) (settings : StoreSettings) (tells : Type 0) (found : List Entry) (workers : ℕ) (from : WalStart) (start : ℕ) (worker : ℕ) (marking : Marking) (place : Place) (old new last : Written W) (mark faults : ℕ) (counts : List ℕ) (entries : Counts) (made made_now : ℕ)
+    → worker < workers → ((e : Entry) → IsMarkOf worker marking e → IsMarkBy worker e) → IsDesk g settings tells found workers from start old mark counts entries made faults → HasMark worker marking old.pen new.pen place → AddsOnly old new → last ≡ new → made_now ≡ made + 1
+    → IsDesk g settings tells found workers from start last mark counts entries made_now faults
+desk_marked {W} g settings tells found workers from start worker marking place old new last mark faults counts entries made made_now less kind d is adds same more =
+    subst (λ (j : Written W). IsDesk g settings tells found workers from start j mark counts entries made_now faults) (sym same)
+    (desk_adds g settings tells found workers from start old new mark faults counts counts entries entries made made_now d adds
+    (runs_marked workers found old.pen new.pen worker marking place less kind (d.grown, d.of_run) is) (counts_marked counts old.pen new.pen is.entry d.counted is.grown is.is.2) refl
+    (made_more old.pen new.pen is.entry worker made made_now is.grown is.is.1 d.booked more)
+    (concerned_marked found old.pen new.pen worker marking place entries d.grown is d.concerned_are))
+
+-- a mark is one that its worker hasn't seen
+pub more_marks : (own : Standing) (old new : List Entry) (marking : Marking) (place : Place) → own.list ≡ old → HasMark own.worker marking old new place → HasMoreMarks own new
+more_marks own old new marking place same is =
+    let e : Entry = is.entry in
+    let one : one_if (is_mark_by own.worker e) ≡ one_if true = ap one_if (mark_by e.worker e.seq own.worker is.is.1 is.is.2) in
+    record {
+      seen = (e ∷ [], ap (λ (l : List Entry). l ++ (e ∷ [])) same ∙ sym is.grown);
+      more = omega (arith, ap (λ (l : List Entry). length (marks_by own.worker l)) same, ap (λ (l : List Entry). length (marks_by own.worker l)) is.grown, kept_more (is_mark_by own.worker) old e, one);
+    }
+
+pub runs_on_mark : (found old new : List Entry) (worker : ℕ) (marking : Marking) (place : Place) → RunsOn found old → HasMark worker marking old new place → RunsOn found new
+runs_on_mark found old new worker marking place runs is = runs_more found old new is.entry runs is.grown (some_worker is.entry.worker worker is.is.1)
 
 pub runs_next : (found old new : List Entry) (command : Op) → RunsOn found old → IsNextOf command old new → RunsOn found new
 runs_next found old new command runs next = runs_more found old new next.entry runs next.grown next.own
 
-pub sum_more : (counts : List ℕ) (i n : ℕ) → i < length counts → n ≡ get_or counts i 0 → sum (slice_set counts i (n + 1)) ≡ sum counts + 1
-sum_more counts i n lt is = omega (arith, sum_by-set (λ (x : ℕ). x) counts i (n + 1) 0 lt, is)
-
-pub desk_same : {W : Type 0} (g : Ghosts W) (settings : StoreSettings) (tells : Type 0) (found : List Entry) (workers : ℕ) (from : WalStart) (start : ℕ) (old new : Written W) (mark faults : ℕ) (counts counts_now : List ℕ) (entries : Counts) (commands : ℕ) → new ≡ old → counts_now ≡ counts
-    → IsDesk g settings tells found workers from start old mark counts entries commands faults → IsDesk g settings tells found workers from start new mark counts_now entries commands faults
-desk_same {W} g settings tells found workers from start old new mark faults counts counts_now entries commands same counted d =
-    subst (λ (j : Written W). IsDesk g settings tells found workers from start j mark counts_now entries commands faults) (sym same)
-    (subst (λ l. IsDesk g settings tells found workers from start old mark l entries commands faults) (sym counted) d)
+pub desk_same : {W : Type 0} (g : Ghosts W) (settings : StoreSettings) (tells : Type 0) (found : List Entry) (workers : ℕ) (from : WalStart) (start : ℕ) (old new : Written W) (mark faults : ℕ) (counts counts_now : List ℕ) (entries : Counts) (made : ℕ) → new ≡ old → counts_now ≡ counts
+    → IsDesk g settings tells found workers from start old mark counts entries made faults → IsDesk g settings tells found workers from start new mark counts_now entries made faults
+desk_same {W} g settings tells found workers from start old new mark faults counts counts_now entries made same counted d =
+    subst (λ (j : Written W). IsDesk g settings tells found workers from start j mark counts_now entries made faults) (sym same)
+    (subst (λ l. IsDesk g settings tells found workers from start old mark l entries made faults) (sym counted) d)
 
 -- the value under the WAL's lock behind a command
-pub desk_inserted : {W : Type 0} (g : Ghosts W) (settings : StoreSettings) (tells : Type 0) (found : List Entry) (workers : ℕ) (from : WalStart) (start : ℕ) (q : ℕ) (command : Op) (worker : ℕ) (receipt : Receipt) (old new last : Written W) (mark faults : ℕ) (counts counts_now : List ℕ) (entries entries_now : Counts) (commands commands_now : ℕ)
-    → IsDesk g settings tells found workers from start old mark counts entries commands faults → AddsOnly old new → IsNextOf command old.pen new.pen → q < 4 → HasItems command → ConcernsNoOther q (act_of_op command) → worker < workers
-    → IsReceipt worker command old.pen new.pen receipt → AreCounts counts_now new.pen → length counts_now ≡ length counts → counts_now ≡ slice_set counts worker (receipt.seq + 1) → entries_now ≡ counted q entries → commands_now ≡ commands + 1 → last ≡ new
-    → IsDesk g settings tells found workers from start last mark counts_now entries_now commands_now faults
-desk_inserted {W} g settings tells found workers from start q command worker receipt old new last mark faults counts counts_now entries entries_now commands commands_now d adds next lt items alone known is are long set entries_are commands_are same =
-    let lt_worker : worker < length counts = omega (arith, known, d.crew) in
-    let seq : receipt.seq ≡ get_or counts worker 0 = is.next ∙ sym (d.counted worker lt_worker) in
-    let sums : commands_now ≡ sum counts_now = omega (arith, commands_are, d.summed, ap sum set, sum_more counts worker receipt.seq lt_worker seq) in
-    subst (λ (j : Written W). IsDesk g settings tells found workers from start j mark counts_now entries_now commands_now faults) (sym same)
-    (desk_adds g settings tells found workers from start old new mark faults counts counts_now entries entries_now commands commands_now d adds (runs_received workers found old.pen new.pen worker command receipt known (d.grown, d.of_run) is) are long sums
+pub desk_inserted : {W : Type 0} (g : Ghosts W) (settings : StoreSettings) (tells : Type 0) (found : List Entry) (workers : ℕ) (from : WalStart) (start : ℕ) (q : ℕ) (command : Op) (worker : ℕ) (receipt : Receipt) (old new last : Written W) (mark faults : ℕ) (counts counts_now : List ℕ) (entries entries_now : Counts) (made made_now : ℕ)
+    → IsDesk g settings tells found workers from start old mark counts entries made faults → AddsOnly old new → IsNextOf command old.pen new.pen → q < 4 → HasItems command → ConcernsNoOther q (act_of_op command) → worker < workers
+    → IsReceipt worker command old.pen new.pen receipt → AreCounts counts_now new.pen → length counts_now ≡ length counts → entries_now ≡ counted q entries → made_now ≡ made + 1 → last ≡ new
+    → IsDesk g settings tells found workers from start last mark counts_now entries_now made_now faults
+desk_inserted {W} g settings tells found workers from start q command worker receipt old new last mark faults counts counts_now entries entries_now made made_now d adds next lt items alone known is are long entries_are made_are same =
+    subst (λ (j : Written W). IsDesk g settings tells found workers from start j mark counts_now entries_now made_now faults) (sym same)
+    (desk_adds g settings tells found workers from start old new mark faults counts counts_now entries entries_now made made_now d adds (runs_received workers found old.pen new.pen worker command receipt known (d.grown, d.of_run) is) are long
+    (made_more old.pen new.pen is.entry worker made made_now is.grown is.by d.booked made_are)
     (λ p less. ap (λ c. count_at p c) entries_are ∙ concerned_by q found old.pen new.pen command entries lt d.grown next items alone d.concerned_are p less))
 
 -- that under the partition's lock
@@ -206,3 +223,6 @@ accepted_more worker command old new receipt r =
     ap (λ (l : List Entry). length (accepted_by worker l)) r.grown
     ∙ (ap (λ (l : List Entry). length l) (filter-append (is_by worker) old (r.entry ∷ []))
     ∙ (length-append (filter (is_by worker) old) (filter (is_by worker) (r.entry ∷ [])) ∙ ap (λ (l : List Entry). length (accepted_by worker old) + length l) one))
+
+pub no_fewer_marks : (worker : ℕ) (command : Op) (old new : List Entry) (receipt : Receipt) → IsReceipt worker command old new receipt → length (marks_by worker old) ≤ length (marks_by worker new)
+no_fewer_marks worker command old new receipt r = omega (arith, ap (λ (l : List Entry). length (marks_by worker l)) r.grown, kept_more (is_mark_by worker) old r.entry)

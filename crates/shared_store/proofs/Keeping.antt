@@ -1,8 +1,8 @@
 -- What the values under the locks of an open store keep.
-use Rattle.std.proofs.Common.{◌≡◌, ℕ, zero, suc, ◌+◌, ◌<◌, ◌≤◌, true, List, [], ◌∷◌, ◌++◌, length, Result, Err, refl, sym, ap, subst, ◌∙◌, arith, length-append}
+use Rattle.std.proofs.Common.{◌≡◌, ℕ, zero, suc, ◌+◌, ◌<◌, ◌≤◌, true, List, [], ◌∷◌, ◌++◌, length, Result, Ok, Err, IfOk, OnErr, refl, sym, ap, subst, ◌∙◌, arith, length-append}
 use Rattle.std.proofs.lemmas.List.Elements.{All-append, All-weaker, All-nil, All-cons}
 use mathlib.Core.List.{IsPrefix}
-use Rattle.timeline.proofs.Prefixes.{prefix_length}
+use Rattle.timeline.proofs.Prefixes.{prefix_length, prefix_trans}
 use Rattle.lsn_core.specs.Causes.{Rose, HasCause}
 use Rattle.lsn_core.specs.declared.fault.AreaFault.{AreaFault}
 use Rattle.lsn_core.specs.declared.fault.AreaFault.TheVariants as area
@@ -12,7 +12,7 @@ use Rattle.lsn_core.specs.Segment.{StoreSettings}
 use Rattle.lsn_core.specs.Tip.{Tip, tip_with}
 use Rattle.wal_record.specs.Tips.{first_tip, wal_limit}
 use Rattle.wal_writer.specs.Log.{Log, IsLog}
-use Rattle.history.specs.Entry.{Entry, Marking, is_of_run}
+use Rattle.history.specs.Entry.{Entry, Marking, RedoMark, is_of_run}
 use Rattle.history.specs.Written.{tip_past, tip_over, tip_of}
 use Rattle.history.proofs.Pushes.{all_first, all_rest}
 use Rattle.partitions.specs.Parts.{concerns}
@@ -23,8 +23,8 @@ use Rattle.page_pool.specs.Part.{Part}
 use Rattle.page_pool.specs.Facts.{history_end}
 use Rattle.page_pool.proofs.Followed.{others_followed}
 use Rattle.store_ledgers.specs.Counts.{Counts, Held, count_at, counted}
-use Rattle.shared_store.specs.Opened.{IsPartOf}
-use Rattle.shared_store.specs.Locked.{RunsOn, IsHeldPart, HasRisen, own_count, Standing, Follows, failures}
+use Rattle.page_pool.specs.Facts.{IsPartOf}
+use Rattle.shared_store.specs.Locked.{RunsOn, IsHeldPart, HasRisen, own_count, Standing, Follows, GoesOn, failures}
 use Rattle.shared_store.specs.Inside.{fault_of, AreaCause, HasMark}
 use Rattle.shared_store.specs.Shared.{IsPlaced}
 use Rattle.shared_store.proofs.Kept.{history_ends}
@@ -62,12 +62,41 @@ pub end_at : (mib : ℕ) (history : List Entry) → 0 < length history → (tip_
 end_at mib history some = omega (arith, some_ends mib history some)
 
 -- a worker that meets the history
-pub follows_to : (log : Log) (pen : List Entry) (old new : Standing) → EndsWith log pen → IsPrefix old.list pen → new.list ≡ pen → new.worker ≡ old.worker → new.accepted ≡ old.accepted → Follows old new
-follows_to log pen old new ends p whole worker accepted = record {
+pub follows_to : (log : Log) (pen : List Entry) (old new : Standing) → EndsWith log pen → IsPrefix old.list pen → new.list ≡ pen → new.worker ≡ old.worker → new.accepted ≡ old.accepted → new.marks ≡ old.marks → Follows old new
+follows_to log pen old new ends p whole worker accepted marks = record {
   seen = subst (λ l. IsPrefix old.list l) (sym whole) p;
   ends = subst (λ l. history_end old.list ≤ history_end l) (sym whole) (ends_later log old.list pen ends p);
   worker = worker;
   accepted = accepted;
+  marks = marks;
+}
+
+-- a worker that met the history, and saw its mark behind it
+pub marked_on : (marking : Marking) (place : Place) (old met booked new : Standing) (before history : List Entry) (worker : ℕ) → Follows old met → met.list ≡ before → HasMark worker marking before history place → booked.list ≡ history → booked.worker ≡ met.worker → booked.accepted ≡ met.accepted → Follows booked new → GoesOn old new
+marked_on marking place old met booked new before history worker one whole is seen same count two = record {
+  seen = prefix_trans old.list booked.list new.list (subst (λ l. IsPrefix old.list l) (sym seen) (prefix_trans old.list before history (subst (λ l. IsPrefix old.list l) whole one.seen) (is.entry ∷ [], sym is.grown))) two.seen;
+  ends = omega (arith, one.ends, ap history_end whole, is.late, history_ends before is.entry, ap history_end is.grown, ap history_end seen, two.ends);
+  worker = two.worker ∙ (same ∙ one.worker);
+  accepted = two.accepted ∙ (count ∙ one.accepted);
+}
+
+-- the start of a checkpoint, whatever is answered
+pub started_on : {E : Type 0} (r : Result Place E) (old met booked new : Standing) (before history : List Entry) (worker : ℕ) → Follows old met → met.list ≡ before → IfOk r (HasMark worker (RedoMark 1) before history) → OnErr r (history ≡ before) → booked.list ≡ history → booked.worker ≡ met.worker → booked.accepted ≡ met.accepted → Follows booked new → GoesOn old new
+started_on (Ok place) old met booked new before history worker one whole is none seen same count two = marked_on (RedoMark 1) place old met booked new before history worker one whole is seen same count two
+started_on {E} (Err e) old met booked new before history worker one whole is none seen same count two = record {
+  seen = prefix_trans old.list booked.list new.list (subst (λ l. IsPrefix old.list l) (whole ∙ (sym none ∙ sym seen)) one.seen) two.seen;
+  ends = omega (arith, one.ends, ap history_end (whole ∙ (sym none ∙ sym seen)), two.ends);
+  worker = two.worker ∙ (same ∙ one.worker);
+  accepted = two.accepted ∙ (count ∙ one.accepted);
+}
+
+-- behind a call that lets it see no more
+pub goes_still : (old mid new : Standing) → GoesOn old mid → new.list ≡ mid.list → new.worker ≡ mid.worker → new.accepted ≡ mid.accepted → GoesOn old new
+goes_still old mid new on list worker accepted = record {
+  seen = subst (λ l. IsPrefix old.list l) (sym list) on.seen;
+  ends = omega (arith, on.ends, ap history_end list);
+  worker = worker ∙ on.worker;
+  accepted = accepted ∙ on.accepted;
 }
 
 -- the last mark of a history ends where that does, in the room of the WAL

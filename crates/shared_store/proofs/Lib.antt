@@ -1,4 +1,3 @@
-pub mod OfOne
 pub mod Tallies
 pub mod Kept
 pub mod Goes
@@ -13,16 +12,7 @@ pub mod Desks
 pub mod Sums
 pub mod SharedLaws
 pub mod Checkpoints
-pub mod Refused
 pub mod MarkFaults
-pub mod Closed
+pub mod Recorded
 pub mod Pieces
-pub mod Readings
-pub mod Begun
-pub mod Unbegun
-pub mod Refilled
-pub mod Moments
-pub mod Starting
-pub mod Ending
-pub mod Closing
 pub mod Booked

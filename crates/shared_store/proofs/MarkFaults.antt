@@ -1,17 +1,18 @@
 -- What a mark that failed leaves.
-use Rattle.std.proofs.Common.{◌≡◌, ℕ, List, [], ◌∷◌, ◌++◌, length, slice_get, Some, Err, refl, sym, ap, subst, ◌∙◌, inl, inr}
+use Rattle.std.proofs.Common.{◌≡◌, ℕ, ◌+◌, ◌≤◌, List, [], ◌∷◌, ◌++◌, length, slice_get, Some, Result, Ok, Err, refl, sym, ap, subst, ◌∙◌, arith, inl, inr}
 use mathlib.Core.List.{IsPrefix}
 use Rattle.timeline.proofs.Prefixes.{prefix_get, prefix_length, prefix_trans}
 use Rattle.lsn_core.specs.declared.lsn.Place.{Place}
+use Rattle.wal_writer.specs.declared.state.Flushed.{Flushed}
 use Rattle.lsn_core.specs.declared.fault.StoreFault.{StoreFault}
 use Rattle.lsn_core.specs.declared.fault.StoreFault.TheVariants as store
 use Rattle.lsn_core.specs.declared.fault.MarkFault.TheVariants as mark
 use Rattle.lsn_core.specs.declared.fault.MarkFault.{MarkFault}
-use Rattle.history.specs.Entry.{Entry, Mark, RedoMark, Online, BackupEnd}
+use Rattle.history.specs.Entry.{Entry, Marking, Mark, RedoMark, Online, BackupEnd}
 use Rattle.shared_store.specs.Calls.{HasNoRoom}
 use Rattle.shared_store.specs.Inside.{IsFullFor, mark_fault}
 use Rattle.shared_store.specs.Seen.{Seen}
-use Rattle.shared_store.specs.Locked.{Standing, Follows, HasMarked, AppendsMark, FlushesMark}
+use Rattle.shared_store.specs.Locked.{Standing, Follows, GoesOn, HasMarked, AppendsMark, FlushesMark}
 use Rattle.shared_store.specs.Shared.{own_of, FindsNoRoomIn, MayFindNoRoom, MayHaveStarted, MayHaveEnded}
 
 -- nothing but what was seen since
@@ -22,6 +23,12 @@ not_started worker mib old new fault none = record { before = new.list; past = n
 pub ended_not : (mib start : ℕ) (old new : Seen) (fault : MarkFault) → FlushesMark mib (BackupEnd start) (own_of old) (own_of new) (Err fault) → MayHaveEnded old.worker start old.list new.list
 ended_not mib start old new fault (inl none) = record { before = new.list; past = none.0.was.seen; left = inl refl }
 ended_not mib start old new fault (inr x) = record { before = x.1.before; past = x.1.past; left = inr (x.1.mark.entry, x.1.mark.is, x.1.mark.grown) }
+
+-- one mark at most
+pub flushed_marks : (mib : ℕ) (marking : Marking) (old new : Standing) (r : Result (Place × Flushed) MarkFault) → FlushesMark mib marking old new r → new.marks ≤ old.marks + 1
+flushed_marks mib marking old new (Ok x) is = omega (arith, is.0.marks)
+flushed_marks mib marking old new (Err fault) (inl none) = omega (arith, none.0.was.marks)
+flushed_marks mib marking old new (Err fault) (inr x) = omega (arith, x.1.marks)
 
 -- ---- where want of room is why
 
@@ -60,6 +67,6 @@ none_for mib a b d start (mark.WalFull n) m on full = (full.0, finds_none mib a 
 none_for mib a b d start mark.NoMemory m on full = tt
 
 -- an end finds none behind the start
-pub end_full : (mib : ℕ) (a b c d : Standing) (start : Place) (fault : MarkFault) → HasMarked (RedoMark 1) a b start → Follows b c → Follows c d → FlushesMark mib (Online start.start.0) c d (Err fault) → MayFindNoRoom mib a.worker (length a.list) d.list fault
+pub end_full : (mib : ℕ) (a b c d : Standing) (start : Place) (fault : MarkFault) → HasMarked (RedoMark 1) a b start → Follows b c → GoesOn c d → FlushesMark mib (Online start.start.0) c d (Err fault) → MayFindNoRoom mib a.worker (length a.list) d.list fault
 end_full mib a b c d start fault m one two (inl none) = none_for mib a b d start fault m (prefix_trans b.list c.list d.list one.seen two.seen) none.0.full
 end_full mib a b c d start fault m one two (inr x) = subst (MayFindNoRoom mib a.worker (length a.list) d.list) (sym x.3) (fault_not_full mib a.worker (length a.list) d.list x.2)

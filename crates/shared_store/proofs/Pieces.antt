@@ -38,12 +38,12 @@ use Rattle.journal.specs.Lawful.{StandInPlace}
 use Rattle.journal.specs.Journal.{EndsWith, Written, IsJournal}
 use Rattle.journal.proofs.Ends.{entry_ends, record_ends, log_ends}
 use Rattle.journal.proofs.Stands.{start_later}
-use Rattle.shared_store.specs.Opened.{IsWalOf}
+use Rattle.shared_store.specs.Open.{IsWalOf}
 use Rattle.shared_store.specs.Records.{is_place_of, IsPlaceOf, ArePartOf, HasRecords, EndBehind, AreSome, RecordsEndAtEntries, PlacesStay}
 use Rattle.shared_store.specs.Inside.{AreaCause, KeepsWal, EndsAtDamage, written_end}
 use Rattle.shared_store.specs.Calls.{MayWriteWal}
 use Rattle.shared_store.proofs.Goes.{writes_none, writes_on}
-use Rattle.shared_store.proofs.Closed.{IsHeld, history_held, some_of}
+use Rattle.shared_store.proofs.Recorded.{IsHeld, history_held, some_of}
 
 -- ---- the places of a history's entries are those of its records
 

@@ -1,5 +1,5 @@
 -- What lies under the locks of an open store, and what it keeps there.
-use Rattle.std.specs.Prelude.{◌≡◌, ℕ, ◌+◌, ◌-◌, ◌^◌, ◌<◌, ◌≤◌, ◌⊎◌, min, true, List, [], ◌∷◌, ◌++◌, length, drop, sum, Option, Some, None, Result, Ok, Err}
+use Rattle.std.specs.Prelude.{◌≡◌, ℕ, ◌+◌, ◌-◌, ◌^◌, ◌<◌, ◌≤◌, ◌⊎◌, min, true, List, [], ◌∷◌, ◌++◌, length, drop, Option, Some, None, Result, Ok, Err}
 use Rattle.std.specs.List.{All, filter}
 use Rattle.lsn_core.specs.Files.{Files}
 use Rattle.lsn_core.specs.Segment.{StoreSettings}
@@ -19,20 +19,25 @@ use Rattle.page_pool.specs.Part.{Part}
 use Rattle.page_pool.specs.Facts.{history_end}
 use mathlib.Core.List.{IsPrefix}
 use Rattle.store_ledgers.specs.Counts.{Counts, Held, count_at}
-use Rattle.shared_store.specs.Opened.{IsPartOf, IsWalOf, AreCounts}
+use Rattle.page_pool.specs.Facts.{IsPartOf}
+use Rattle.shared_store.specs.Open.{IsWalOf, AreCounts}
 use Rattle.history.specs.declared.op.Op.{Op}
 use Rattle.shared_store.specs.declared.receipt.Receipt.{Receipt}
-use Rattle.shared_store.specs.declared.fault.InsertFault.{InsertFault}
+use Rattle.store_faults.specs.declared.insert_fault.InsertFault.{InsertFault}
 use Rattle.shared_store.specs.Refusals.{IsRefusedBehind}
 use Rattle.shared_store.specs.Calls.{MayWriteWal, IsReceipt, IsTaken, IsOfRun}
 use Rattle.shared_store.specs.Inside.{written_end, HasMark, IsFullFor, mark_fault}
-use Rattle.shared_store.specs.Seen.{Seen, Booked, no_faults, both_booked, failed_area}
+use Rattle.shared_store.specs.Seen.{Seen, Booked, marks_by, no_faults, both_booked, failed_area}
 
 -- a history begins with what was found, and what comes behind it is of this run
 pub record RunsOn (found history : List Entry) : Type 0 where
   pub own : List Entry
   pub all : history ≡ found ++ own
   pub by : All (λ e. is_of_run e ≡ true) own
+
+-- the entries that the workers of a run made
+abbrev pub made_in : List Entry → List Entry
+made_in history = filter is_of_run history
 
 -- how many of some entries concern a partition, and how many of a run's
 abbrev pub concerned : ℕ → List Entry → ℕ
@@ -55,17 +60,17 @@ pub record WalStart : Type 0 where
 -- ---- the lock of the WAL
 
 -- what its value keeps: the history, which all notes begin and behind what was found is the workers'
--- own, the WAL that tells it, and the books of the partitions' entries, of the workers' commands, and
+-- own, the WAL that tells it, and the books of the partitions' entries, of the workers' entries, and
 -- of the faults of the WAL's area
 pub record IsDesk {W : Type 0} (g : Ghosts W) (settings : StoreSettings) (tells : Type 0)
     (found : List Entry) (workers : ℕ) (from : WalStart) (start : ℕ) (journal : Written W)
-    (mark : ℕ) (counts : List ℕ) (entries : Counts) (commands faults : ℕ) : Type 0 where
+    (mark : ℕ) (counts : List ℕ) (entries : Counts) (made faults : ℕ) : Type 0 where
   pub wal : IsWalOf g settings tells journal.wal mark
   pub grown : RunsOn found journal.pen
   pub of_run : All (IsOfRun workers) grown.own
   pub counted : AreCounts counts journal.pen
   pub crew : length counts ≡ workers
-  pub summed : commands ≡ sum counts
+  pub booked : made ≡ length (made_in journal.pen)
   pub concerned_are : (q : ℕ) → q < 4 → count_at q entries ≡ own_count q found journal.pen
   pub risen : HasRisen start faults (g.faults journal.wal.area)
   pub within : from.flushed ≤ journal.wal.tail.flushed
@@ -96,16 +101,26 @@ pub record Shown : Type 0 where
 pub record Standing : Type 0 where
   pub worker : ℕ
   pub accepted : ℕ
+  pub marks : ℕ
   pub list : List Entry
   pub wal : ℕ
 
--- it has lost nothing of what it had seen
+-- it has lost nothing of what it had seen, and counted no mark
 pub record Moves (old new : Standing) : Type 0 where
   pub seen : IsPrefix old.list new.list
   pub worker : new.worker ≡ old.worker
+  pub marks : new.marks ≡ old.marks
 
--- and counted no command
+-- and counted no command and no mark
 pub record Follows (old new : Standing) : Type 0 where
+  pub seen : IsPrefix old.list new.list
+  pub ends : history_end old.list ≤ history_end new.list
+  pub worker : new.worker ≡ old.worker
+  pub accepted : new.accepted ≡ old.accepted
+  pub marks : new.marks ≡ old.marks
+
+-- or it may have counted marks, and no command
+pub record GoesOn (old new : Standing) : Type 0 where
   pub seen : IsPrefix old.list new.list
   pub ends : history_end old.list ≤ history_end new.list
   pub worker : new.worker ≡ old.worker
@@ -196,12 +211,32 @@ pub record HasMarked (marking : Marking) (old new : Standing) (place : Place) : 
   pub mark : HasMark old.worker marking before new.list place
   pub worker : new.worker ≡ old.worker
   pub accepted : new.accepted ≡ old.accepted
+  pub marks : new.marks ≡ old.marks + 1
 
 -- or there was no room for it behind all that has been seen now, or no memory
 pub record HasNotMarked (mib : ℕ) (marking : Marking) (old new : Standing) (fault : MarkFault)
     : Type 0 where
   pub was : Follows old new
   pub full : IsFullFor (Mark marking) mib new.list fault
+
+-- how many marks a call made of one
+abbrev pub marks_of : {T : Type 0} → Result T MarkFault → ℕ
+marks_of (Ok x) = 1
+marks_of (Err fault) = 0
+
+-- a worker that saw the whole history sees it still, and counts the mark that was made, if any
+pub record BooksMark {T : Type 0} (old new : Standing) (history : List Entry)
+    (result : Result T MarkFault) : Type 0 where
+  pub whole : new.list ≡ history
+  pub worker : new.worker ≡ old.worker
+  pub accepted : new.accepted ≡ old.accepted
+  pub marks : new.marks ≡ old.marks + marks_of result
+  pub faults : new.wal ≡ old.wal
+
+-- one more mark of a worker stands in a history than it has seen
+pub record HasMoreMarks (old : Standing) (history : List Entry) : Type 0 where
+  pub seen : IsPrefix old.list history
+  pub more : length (marks_by old.worker old.list) < length (marks_by old.worker history)
 
 abbrev pub AppendsMark :
     ℕ → Marking → Standing → Standing → Result Place MarkFault → Type 0
@@ -223,7 +258,7 @@ FlushesMark mib marking old new (Err fault) =
 -- shares of several workers together: of how many, and what stands on them
 pub record AllHeld : Type 0 where
   pub parts : ℕ
-  pub commands : ℕ
+  pub made : ℕ
   pub faults : Booked
 
 -- those of these workers, gathered behind others
@@ -231,22 +266,15 @@ abbrev pub gathered : AllHeld → List Seen → AllHeld
 gathered all [] = all
 gathered all (pass ∷ passes) = record {
   parts = (gathered all passes).parts + 1;
-  commands = (gathered all passes).commands + pass.accepted;
+  made = (gathered all passes).made + (pass.accepted + pass.marks);
   faults = both_booked (gathered all passes).faults pass.faults;
 }
 
 -- so many, with nothing on them
 abbrev pub empty_shares : ℕ → AllHeld
-empty_shares parts = record { parts = parts; commands = 0; faults = no_faults }
+empty_shares parts = record { parts = parts; made = 0; faults = no_faults }
 
 -- a list's items have these numbers, from one on, in order
 abbrev pub AreNumbered : {X : Type 0} → (X → ℕ) → ℕ → List X → Type 0
 AreNumbered number n [] = Unit {0}
 AreNumbered number n (x ∷ xs) = (number x ≡ n) × AreNumbered number (n + 1) xs
-
--- a number is the sum of the workers' commands in a history
-pub record AddsUp (workers : ℕ) (history : List Entry) (total : ℕ) : Type 0 where
-  pub counts : List ℕ
-  pub long : length counts ≡ workers
-  pub are : AreCounts counts history
-  pub summed : total ≡ sum counts

@@ -4,15 +4,18 @@ use Rattle.std.specs.List.{All, list_any}
 use mathlib.Core.List.{IsPrefix}
 use Rattle.lsn_core.specs.Files.{Files}
 use Rattle.lsn_core.specs.Segment.{IsSegmentMib, StoreSettings}
+use Rattle.lsn_core.specs.Tip.{Tip}
 use Rattle.wal_record.specs.declared.record.Record.{Record}
 use Rattle.wal_record.specs.Sound.{IsSound}
-use Rattle.wal_record.specs.Tips.{wal_limit}
+use Rattle.wal_record.specs.Tips.{first_tip, wal_limit}
+use Rattle.wal_archive.specs.Archive.{archive_of}
+use Rattle.wal_archive.specs.Laws.{HasNoGap}
+use Rattle.wal_reader.specs.Wal.{IsWal, ReadsOn}
 use Rattle.wal_pieces.specs.Laws.{from_place}
 use Rattle.history.specs.Entry.{Entry}
 use Rattle.history.specs.Written.{tip_of}
 use Rattle.fuzzy_copies.specs.Logged.{log_of}
 use Rattle.journal.specs.Lawful.{IsLawful}
-use Rattle.shared_store.specs.Close.{HoldsRecords}
 
 -- an entry starts at a place, or ends there
 abbrev pub is_place_of : ℕ → Entry → Bool
@@ -21,6 +24,15 @@ is_place_of place e = (e.start == place) || (e.end == place)
 -- one of a history's entries does
 abbrev pub IsPlaceOf : List Entry → ℕ → Type 0
 IsPlaceOf history place = list_any (is_place_of place) history ≡ true
+
+-- these records are read of the files of a WAL up to a place, where it then ends, unless it goes on
+-- there over a missing file
+pub record HoldsRecords (s : StoreSettings) (records : List Record) (end : ℕ) (files : Files)
+    : Type 0 where
+  pub tip : Tip
+  pub at : tip.end ≡ end
+  pub read : ReadsOn s files (first_tip s.segment) records tip
+  pub whole : HasNoGap s.segment (archive_of s.segment files) tip.end → IsWal s files records tip
 
 -- a WAL has records for a history, up to where that ends, and its area holds them; these are the
 -- first of those that start at a place or past it, so many

@@ -1,5 +1,5 @@
--- What a worker has seen of the history, and its commands there.
-use Rattle.std.specs.Prelude.{◌≡◌, ℕ, ◌+◌, ◌<◌, ◌≤◌, ◌==◌, ◌&&◌, Bool, false, List, Option, Some, None, if◌then◌else◌}
+-- What a worker has seen of the history, and its commands and marks there.
+use Rattle.std.specs.Prelude.{◌≡◌, ℕ, ◌+◌, ◌<◌, ◌≤◌, ◌==◌, ◌&&◌, Bool, false, List, Option, Some, None, not, if◌then◌else◌}
 use Rattle.std.specs.Option.{is_some}
 use Rattle.std.specs.List.{filter}
 use mathlib.Core.List.{IsPrefix}
@@ -8,8 +8,8 @@ use Rattle.lsn_core.specs.declared.fault.StoreArea.{StoreArea}
 use Rattle.lsn_core.specs.declared.fault.StoreArea.TheVariants.{Wal, Data, Sums}
 use Rattle.lsn_core.specs.declared.fault.StoreFault.{StoreFault}
 use Rattle.lsn_core.specs.declared.fault.StoreFault.TheVariants as store
-use Rattle.shared_store.specs.declared.fault.InsertFault.{InsertFault}
-use Rattle.shared_store.specs.declared.fault.InsertFault.TheVariants as insert
+use Rattle.store_faults.specs.declared.insert_fault.InsertFault.{InsertFault}
+use Rattle.store_faults.specs.declared.insert_fault.InsertFault.TheVariants as insert
 
 -- how many faults of each area of a store a worker was answered
 pub record Booked : Type 0 where
@@ -34,13 +34,25 @@ both_booked a b = record {
   sums = a.sums + b.sums;
 }
 
--- what a pass shows: its worker's number, how many commands of it were accepted, the beginning of
--- the history that it has seen, and how many faults it was answered
+-- what a pass shows: its worker's number, how many commands of it were accepted, how many marks it
+-- made, the beginning of the history that it has seen, and how many faults it was answered
 pub record Seen : Type 0 where
   pub worker : ℕ
   pub accepted : ℕ
+  pub marks : ℕ
   pub list : List Entry
   pub faults : Booked
+
+-- a pass that has seen a history: none of its commands was accepted yet, it made no mark, and it was
+-- answered no fault
+abbrev pub fresh_pass : ℕ → List Entry → Seen
+fresh_pass worker history = record {
+  worker = worker;
+  accepted = 0;
+  marks = 0;
+  list = history;
+  faults = no_faults;
+}
 
 -- nothing that was seen is lost, and the worker stays
 pub record StaysBy (old new : Seen) : Type 0 where
@@ -58,6 +70,14 @@ is_by worker entry = is_number worker entry.worker && is_some entry.seq
 -- the accepted commands of a worker, in order
 abbrev pub accepted_by : ℕ → List Entry → List Entry
 accepted_by worker history = filter (is_by worker) history
+
+-- this worker made the entry as a mark
+abbrev pub is_mark_by : ℕ → Entry → Bool
+is_mark_by worker entry = is_number worker entry.worker && not (is_some entry.seq)
+
+-- the marks of a worker, in order: starts and ends of checkpoints, and ends of backups
+abbrev pub marks_by : ℕ → List Entry → List Entry
+marks_by worker history = filter (is_mark_by worker) history
 
 -- ---- faults
 

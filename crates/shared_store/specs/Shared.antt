@@ -1,5 +1,5 @@
 -- What the calls on a shared store answer, in terms of what a pass had seen and has seen then.
-use Rattle.std.specs.Prelude.{◌≡◌, ℕ, ◌+◌, ◌<◌, ◌≤◌, ◌⊎◌, List, [], ◌∷◌, ◌++◌, length, slice_get, sum, Some, Result, Ok, Err}
+use Rattle.std.specs.Prelude.{◌≡◌, ℕ, ◌+◌, ◌<◌, ◌≤◌, ◌⊎◌, List, [], ◌∷◌, ◌++◌, length, slice_get, Some, Result, Ok, Err}
 use Rattle.std.specs.List.{All, sum_by}
 use mathlib.Core.List.{IsPrefix}
 use Rattle.lsn_core.specs.declared.fault.StoreFault.{StoreFault}
@@ -10,11 +10,10 @@ use Rattle.lsn_core.specs.declared.lsn.Lsn.{Lsn}
 use Rattle.wal_writer.specs.declared.state.Flushed.{Flushed}
 use Rattle.history.specs.Entry.{Entry, Marking, Mark, RedoMark, Online, BackupEnd}
 use Rattle.shared_store.specs.declared.receipt.Receipt.{Receipt}
-use Rattle.shared_store.specs.declared.fault.InsertFault.{InsertFault}
+use Rattle.store_faults.specs.declared.insert_fault.InsertFault.{InsertFault}
 use Rattle.shared_store.specs.declared.receipt.Redo.{Redo}
-use Rattle.shared_store.specs.Opened.{AreCounts}
-use Rattle.shared_store.specs.Seen.{Seen, Booked, accepted_by, TakesFault, BooksOne, BooksIf, failed_area}
-use Rattle.shared_store.specs.Locked.{Standing, AreNumbered}
+use Rattle.shared_store.specs.Seen.{Seen, Booked, accepted_by, marks_by, TakesFault, BooksOne, BooksIf, failed_area}
+use Rattle.shared_store.specs.Locked.{Standing, AreNumbered, made_in}
 use Rattle.shared_store.specs.Refusals.{IsRefusedBehind}
 use Rattle.fuzzy_copies.specs.Orderly.{AllEndBy}
 use Rattle.fuzzy_copies.specs.Taken.{IsSeen}
@@ -27,6 +26,7 @@ abbrev pub own_of : Seen → Standing
 own_of s = record {
   worker = s.worker;
   accepted = s.accepted;
+  marks = s.marks;
   list = s.list;
   wal = s.faults.wal;
 }
@@ -172,13 +172,22 @@ EndsComeBehind =
     → HasRedoPoint seen from → IsPrefix seen old → HasEnded worker start old new end flushed
     → IsSeen seen new from end.0
 
--- the passes of all workers, in order, that together counted as many commands as were accepted of
--- each worker, and none more than its worker has in a history: each counted just its worker's
-abbrev pub PassesCountTheirCommands : Type 0
-PassesCountTheirCommands =
-    (passes : List Seen) (counts : List ℕ) (history : List Entry)
-    → AreNumbered (λ (p : Seen). p.worker) 0 passes → length passes ≡ length counts
-    → AreCounts counts history
-    → All (λ (p : Seen). p.accepted ≤ length (accepted_by p.worker history)) passes
-    → sum_by (λ (p : Seen). p.accepted) passes ≡ sum counts
-    → All (λ (p : Seen). p.accepted ≡ length (accepted_by p.worker history)) passes
+-- a pass counted just the commands and the marks that its worker has in a history
+pub record CountsItsOwn (history : List Entry) (pass : Seen) : Type 0 where
+  pub commands : pass.accepted ≡ length (accepted_by pass.worker history)
+  pub marks : pass.marks ≡ length (marks_by pass.worker history)
+
+-- or no more of them
+pub record CountsNoMore (history : List Entry) (pass : Seen) : Type 0 where
+  pub commands : pass.accepted ≤ length (accepted_by pass.worker history)
+  pub marks : pass.marks ≤ length (marks_by pass.worker history)
+
+-- the passes of all workers, in order, that together counted as many entries as workers made, and none
+-- more than its worker has in a history: each counted just its worker's
+abbrev pub PassesCountTheirEntries : Type 0
+PassesCountTheirEntries =
+    (passes : List Seen) (history : List Entry)
+    → AreNumbered (λ (p : Seen). p.worker) 0 passes
+    → All (CountsNoMore history) passes
+    → sum_by (λ (p : Seen). p.accepted + p.marks) passes ≡ length (made_in history)
+    → All (CountsItsOwn history) passes

@@ -1,12 +1,12 @@
 //! Checkpoints of an open store, and the ends of backups.
 
-ghost use Rattle.std.specs.Prelude.{◌≡◌, ◌<◌, ◌≤◌, true, length, IfOk, IfErr, OnErr};
+ghost use Rattle.std.specs.Prelude.{◌≡◌, ◌+◌, ◌<◌, ◌≤◌, true, length, IfOk, IfErr, OnErr};
 ghost use Rattle.history.specs.Entry.{RedoMark, Online, BackupEnd};
 ghost use Rattle.journal.specs.Lawful.{IsLawful};
 ghost use Rattle.page_pool.specs.Facts.{history_end};
 ghost use Rattle.shared_store.specs.Seen.{StaysBy};
 ghost use Rattle.shared_store.specs.Inside.{AreCleaned, IsCleaned};
-ghost use Rattle.shared_store.specs.Locked.{Follows, AppendsMark, FlushesMark};
+ghost use Rattle.shared_store.specs.Locked.{Follows, GoesOn, AppendsMark, FlushesMark};
 ghost use Rattle.shared_store.specs.Shared.{TakesFaults, TakesMarkFault, HasCheckpointIn, HasEnded, own_of, SameData};
 ghost use Rattle.shared_store.specs.Shared.{MayHaveStarted, MayFindNoRoom, MayHaveEnded, MayFindNoRoomFor, IsPlaced};
 
@@ -28,7 +28,7 @@ impl<J: OfCrew, V: Vault> Store<J, V> {
     fn start(&self, rt: &impl Wait, alloc: Global, pass: &mut Pass<J>) -> Result<Place, MarkFault>
         ensures marks { AppendsMark J.settings.segment (RedoMark 1) (own_of pass.old)
             (own_of pass.new) result }
-        ensures was { Follows (own_of pass.old) (own_of pass.new) }
+        ensures was { GoesOn (own_of pass.old) (own_of pass.new) }
         ensures lawful { J.tells ≡ true → IsLawful J.settings.segment pass.new.list }
         ensures faults { pass.new.faults ≡ pass.old.faults }
     {
@@ -110,7 +110,7 @@ impl<J: OfCrew, V: Vault> Store<J, V> {
         requires { AreCleaned redo done.now }
         ensures marks { FlushesMark J.settings.segment (Online redo.0) (own_of pass.old)
             (own_of pass.new) result }
-        ensures was { Follows (own_of pass.old) (own_of pass.new) }
+        ensures was { GoesOn (own_of pass.old) (own_of pass.new) }
         ensures lawful { J.tells ≡ true → IsLawful J.settings.segment pass.new.list }
         ensures faults { SameData pass.old.faults pass.new.faults }
     {
@@ -130,7 +130,7 @@ impl<J: OfCrew, V: Vault> Store<J, V> {
         ensures marks { FlushesMark J.settings.segment (BackupEnd start.0) (own_of pass.old)
             (own_of pass.new) result }
         ensures placed { IfOk result (λ x. IsPlaced J.settings.segment pass.new.list x.0.end.0) }
-        ensures was { Follows (own_of pass.old) (own_of pass.new) }
+        ensures was { GoesOn (own_of pass.old) (own_of pass.new) }
         ensures lawful { J.tells ≡ true → IsLawful J.settings.segment pass.new.list }
         ensures faults { SameData pass.old.faults pass.new.faults }
     {
@@ -180,6 +180,7 @@ impl<J: OfCrew, V: Vault> Store<J, V> {
         ensures lawful { J.tells ≡ true → IsLawful J.settings.segment pass.new.list }
         ensures seen { StaysBy pass.old pass.new }
         ensures accepted { pass.new.accepted ≡ pass.old.accepted }
+        ensures marks { pass.new.marks ≤ pass.old.marks + 2 }
     {
         let start = match self.start(rt, alloc, pass) {
             Ok(start) => start,
@@ -223,6 +224,7 @@ impl<J: OfCrew, V: Vault> Store<J, V> {
         ensures lawful { J.tells ≡ true → IsLawful J.settings.segment pass.new.list }
         ensures seen { StaysBy pass.old pass.new }
         ensures accepted { pass.new.accepted ≡ pass.old.accepted }
+        ensures marks { pass.new.marks ≤ pass.old.marks + 1 }
     {
         match self.end_mark(rt, alloc, pass, start) {
             Ok((place, flushed)) => Ok((place.end, flushed)),

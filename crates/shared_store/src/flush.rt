@@ -5,7 +5,7 @@ ghost use Rattle.lsn_core.specs.declared.fault.StoreArea.TheVariants.{Wal};
 ghost use Rattle.journal.specs.Journal.{IsEndOf};
 ghost use Rattle.page_pool.specs.Facts.{history_end};
 ghost use Rattle.page_pool.specs.Calls.{MayWriteNext, MayWriteAll};
-ghost use Rattle.shared_store.specs.Opened.{IsPartOf};
+ghost use Rattle.page_pool.specs.Facts.{IsPartOf};
 ghost use Rattle.shared_store.specs.Inside.{AreaCause, KeepsWal, written_end};
 
 use crate::fault::fault_of;
@@ -42,7 +42,7 @@ pub(crate) fn flush<J: OfStore, V: Vault>(
 }
 
 /// Flushes the WAL up to its end, and keeps how far it is flushed.
-pub(crate) fn flush_whole<J: OfStore, V: Vault>(
+pub fn flush_whole<J: OfStore, V: Vault>(
     alloc: Global,
     journal: &mut Journal<J, V>,
     mark: &mut Flushed,
@@ -69,7 +69,7 @@ pub(crate) fn flush_whole<J: OfStore, V: Vault>(
 
 /// Flushes the WAL up to its end, where it isn't flushed up to where an entry of the history ends:
 /// what was appended behind that entry goes along, so that it costs no flush of its own.
-pub(crate) fn flush_past<J: OfStore, V: Vault>(
+pub fn flush_past<J: OfStore, V: Vault>(
     alloc: Global,
     journal: &mut Journal<J, V>,
     mark: &mut Flushed,

@@ -30,11 +30,15 @@ use wal_writer::Flushed;
 /// entries there, and the book of its area's faults. Contracts see a `Shown` of
 /// `specs/Locked.antt`.
 #[derive(Drop)]
-pub(crate) struct HeldPart<J: OfCrew, W: Vault, const Q: u32> {
-    pub(crate) part: Partition<W, Q>,
-    pub(crate) note: Note<HistoryEntry, J>,
-    pub(crate) share: EntryShare<J>,
-    pub(crate) faults: Book<AreaFaults<J, Q>>,
+pub struct HeldPart<J: OfCrew, W: Vault, const Q: u32> {
+    /// The partition.
+    pub part: Partition<W, Q>,
+    /// The beginning of the history that it follows.
+    pub note: Note<HistoryEntry, J>,
+    /// All shares of its entries.
+    pub share: EntryShare<J>,
+    /// The book of the faults of its area.
+    pub faults: Book<AreaFaults<J, Q>>,
 }
 
 impl<J: OfCrew, W: Vault, const Q: u32> Model for HeldPart<J, W, Q> {
@@ -83,7 +87,7 @@ impl<J: OfCrew, W: Vault, const Q: u32> HeldPart<J, W, Q> {
     }
 
     /// Makes room for a command, before which the WAL is flushed past what is written for that.
-    pub(crate) fn make_room(
+    pub fn make_room(
         &mut self,
         alloc: Global,
         op: &Op,

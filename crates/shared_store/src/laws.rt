@@ -2,7 +2,7 @@
 
 ghost use Rattle.shared_store.specs.Copied.{RedoPointsStay, RedoPointsRun};
 ghost use Rattle.shared_store.specs.Records.{RecordsEndAtEntries, PlacesStay};
-ghost use Rattle.shared_store.specs.Shared.{CheckpointsLeaveRedoPoints, EndsComeBehind, PassesCountTheirCommands};
+ghost use Rattle.shared_store.specs.Shared.{CheckpointsLeaveRedoPoints, EndsComeBehind, PassesCountTheirEntries};
 
 /// A checkpoint leaves its redo point, which stays as the history goes on. From there on a copy may
 /// be taken while entries are written, and the end of a backup comes behind all that was seen.
@@ -13,10 +13,10 @@ pub fn copies_start_at_redo_points()
     ensures ends { EndsComeBehind }
 {}
 
-/// Where the passes of all workers counted as many commands as were accepted together, and none more
-/// than its worker has in the history, each counted just its worker's.
-pub fn passes_count_their_commands()
-    ensures { PassesCountTheirCommands }
+/// Where the passes of all workers counted as many entries as they made together, and none more
+/// commands or marks than its worker has in the history, each counted just its worker's.
+pub fn passes_count_their_entries()
+    ensures { PassesCountTheirEntries }
 {}
 
 /// Each record that is answered ends where an entry does that was seen, so that the next piece can be

@@ -2,7 +2,7 @@
 
 ghost use Rattle.std.specs.Prelude.{◌≡◌, ◌<◌, ◌≤◌, true, length};
 ghost use Rattle.journal.specs.Lawful.{IsLawful};
-ghost use Rattle.shared_store.specs.Seen.{accepted_by};
+ghost use Rattle.shared_store.specs.Seen.{accepted_by, marks_by};
 ghost use Rattle.shared_store.specs.Locked.{RunsOn};
 
 use crate::naming::OfCrew;
@@ -13,12 +13,17 @@ use store_ledgers::AreaFaults;
 
 /// A worker's shares of the faults of the areas that have a lock of their own.
 #[derive(Drop)]
-pub(crate) struct FaultShares<J: OfCrew> {
-    pub(crate) data0: Share<AreaFaults<J, 0>>,
-    pub(crate) data1: Share<AreaFaults<J, 1>>,
-    pub(crate) data2: Share<AreaFaults<J, 2>>,
-    pub(crate) data3: Share<AreaFaults<J, 3>>,
-    pub(crate) sums: Share<AreaFaults<J, 5>>,
+pub struct FaultShares<J: OfCrew> {
+    /// Its share of the faults of the first data area.
+    pub data0: Share<AreaFaults<J, 0>>,
+    /// Of the second.
+    pub data1: Share<AreaFaults<J, 1>>,
+    /// Of the third.
+    pub data2: Share<AreaFaults<J, 2>>,
+    /// Of the fourth.
+    pub data3: Share<AreaFaults<J, 3>>,
+    /// Of the area of the summaries.
+    pub sums: Share<AreaFaults<J, 5>>,
 }
 
 /// What a worker owns of an open store: its number, how many of its commands were accepted, what it
@@ -26,8 +31,10 @@ pub(crate) struct FaultShares<J: OfCrew> {
 /// of it at any time. Contracts see a `Seen` of `specs/Seen.antt`.
 #[derive(Drop)]
 pub struct Pass<J: OfCrew> {
-    pub(crate) own: Knowing<J>,
-    pub(crate) shares: FaultShares<J>,
+    /// What it knows and has counted under the WAL's lock.
+    pub own: Knowing<J>,
+    /// Its shares of the faults of the other areas.
+    pub shares: FaultShares<J>,
 }
 
 impl<J: OfCrew> Model for Pass<J> {
@@ -39,6 +46,7 @@ impl<J: OfCrew> Model for Pass<J> {
     ghost view = { λ p. record {
       worker = p.own.worker;
       accepted = p.own.accepted;
+      marks = p.own.marks;
       list = p.own.list;
       faults = record {
         wal = p.own.wal;
@@ -71,10 +79,12 @@ impl<J: OfCrew> Pass<J> {
     }
 
     /// What is known of it at any time: what it has seen begins with what was found, goes on by
-    /// entries of this run, has its accepted commands, and is lawful where areas tell their files.
+    /// entries of this run, has its accepted commands and its marks, and is lawful where areas tell
+    /// their files.
     pub fn know(&self)
         ensures worker { self.now.worker < J.workers }
         ensures accepted { self.now.accepted ≤ length (accepted_by self.now.worker self.now.list) }
+        ensures marks { self.now.marks ≤ length (marks_by self.now.worker self.now.list) }
         ensures grown { RunsOn J.found self.now.list }
         ensures lawful { J.tells ≡ true → IsLawful J.settings.segment self.now.list }
     {

@@ -4,7 +4,7 @@ ghost use Rattle.std.specs.Prelude.{◌≡◌, ◌≤◌, true, IfOk, IfErr};
 ghost use Rattle.lsn_core.specs.declared.fault.StoreArea.TheVariants.{Wal};
 ghost use Rattle.journal.specs.Lawful.{IsLawful};
 ghost use Rattle.shared_store.specs.Seen.{StaysBy};
-ghost use Rattle.shared_store.specs.Opened.{IsWalOf};
+ghost use Rattle.shared_store.specs.Open.{IsWalOf};
 ghost use Rattle.shared_store.specs.Records.{IsPlaceOf, ArePartOf, HasRecords, AreSome};
 ghost use Rattle.shared_store.specs.Locked.{IsOfWal};
 ghost use Rattle.shared_store.specs.Shared.{TakesFaults};
@@ -47,6 +47,7 @@ impl<J: OfCrew, V: Vault> Store<J, V> {
         ensures faults { TakesFaults pass.old pass.new result }
         ensures seen { StaysBy pass.old pass.new }
         ensures accepted { pass.new.accepted ≡ pass.old.accepted }
+        ensures marks { pass.new.marks ≡ pass.old.marks }
     {
         let settings = self.settings;
         self.desk

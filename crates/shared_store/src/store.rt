@@ -1,31 +1,22 @@
 //! An open store, shared by reference between workers.
 
-ghost use Rattle.std.specs.Prelude.{◌≡◌, ◌+◌, ◌<◌, ◌≤◌, ◌⊎◌, true, None, IfOk, OnOk, OnErr, IfErr};
+ghost use Rattle.std.specs.Prelude.{◌≡◌, ◌+◌, ◌<◌, ◌≤◌, ◌⊎◌, true, None, IfOk, OnErr};
 ghost use mathlib.Core.List.{IsPrefix};
 ghost use Rattle.lsn_core.specs.declared.fault.StoreArea.TheVariants.{Sums};
-ghost use Rattle.history.specs.Op.{act_of_op};
-ghost use Rattle.partitions.specs.Parts.{ConcernsNoOther};
-ghost use Rattle.page_pool.specs.Ready.{HasItems};
 ghost use Rattle.journal.specs.Journal.{IsEndOf};
 ghost use Rattle.journal.specs.Lawful.{IsLawful};
 ghost use Rattle.shared_store.specs.Copied.{HasRedoPoint, ListsPart, CopiesBlock};
 ghost use Rattle.fuzzy_copies.specs.Taken.{IsBlockCopied};
 ghost use Rattle.shared_store.specs.Seen.{StaysBy, with_fault};
 ghost use Rattle.shared_store.specs.Locked.{RunsOn};
-ghost use Rattle.shared_store.specs.Refusals.{IsRefusedBehind, judged_form};
-ghost use Rattle.shared_store.specs.Inside.{NamesNoArea};
-ghost use Rattle.shared_store.specs.Shared.{TakesFaults, TakesInsertFault, InsertAnswer};
+ghost use Rattle.shared_store.specs.Shared.{TakesFaults};
 
-use crate::crew::Undealt;
 use crate::desk::Desk;
-use crate::fault::InsertFault;
 use crate::held::HeldPart;
-use crate::locking::{copy_with, insert_with, list_with, write_with};
+use crate::locking::{copy_with, list_with, write_with};
 use crate::naming::OfCrew;
 use crate::pass::Pass;
-use crate::receipt::Receipt;
-use data_areas::BoxedArea;
-use history::Op;
+use crate::shares::Undealt;
 use journal::HistoryEntry;
 use lsn_core::{BlockId, ForkLen, Lsn, Settings, StoreFault};
 use page_pool::Turn;
@@ -35,7 +26,7 @@ use std::sync::ledger::Book;
 use std::sync::{Mutex, Wait};
 use store_ledgers::AreaFaults;
 use timeline::{Note, Timeline};
-use vault::Vault;
+use vault::{BoxedArea, Vault};
 use wal_writer::Flushed;
 
 /// An open store: its WAL with the history under one lock, and its pages in four partitions, each
@@ -43,15 +34,22 @@ use wal_writer::Flushed;
 /// partitions' locks.
 #[derive(Drop)]
 pub struct Store<J: OfCrew, V: Vault> {
-    pub(crate) line: Timeline<HistoryEntry, J>,
-    pub(crate) desk: Mutex<Desk<J, BoxedArea<V>>>,
-    pub(crate) part0: Mutex<HeldPart<J, BoxedArea<V>, 0>>,
-    pub(crate) part1: Mutex<HeldPart<J, BoxedArea<V>, 1>>,
-    pub(crate) part2: Mutex<HeldPart<J, BoxedArea<V>, 2>>,
-    pub(crate) part3: Mutex<HeldPart<J, BoxedArea<V>, 3>>,
-    pub(crate) settings: Settings,
+    /// The word by which notes of the history are split and joined.
+    pub line: Timeline<HistoryEntry, J>,
+    /// The WAL, under its lock.
+    pub desk: Mutex<Desk<J, BoxedArea<V>>>,
+    /// The first partition, under its lock.
+    pub part0: Mutex<HeldPart<J, BoxedArea<V>, 0>>,
+    /// The second.
+    pub part1: Mutex<HeldPart<J, BoxedArea<V>, 1>>,
+    /// The third.
+    pub part2: Mutex<HeldPart<J, BoxedArea<V>, 2>>,
+    /// The fourth.
+    pub part3: Mutex<HeldPart<J, BoxedArea<V>, 3>>,
+    /// Its settings.
+    pub settings: Settings,
     /// What is left of the workers' shares. Nobody locks it before the store is closed.
-    pub(crate) rest: Mutex<Undealt<J>>,
+    pub rest: Mutex<Undealt<J>>,
     ghost settings_are: { settings ≡ J.settings },
 }
 
@@ -84,6 +82,7 @@ impl<J: OfCrew, V: Vault> Store<J, V> {
         ensures that { IsPrefix note.list pass.new.list }
         ensures seen { StaysBy pass.old pass.new }
         ensures accepted { pass.new.accepted ≡ pass.old.accepted }
+        ensures marks { pass.new.marks ≡ pass.old.marks }
         ensures faults { pass.new.faults ≡ pass.old.faults }
         ensures lawful { J.tells ≡ true → IsLawful J.settings.segment pass.new.list }
     {
@@ -103,117 +102,11 @@ impl<J: OfCrew, V: Vault> Store<J, V> {
     pub fn look(&self, rt: &impl Wait, pass: &mut Pass<J>)
         ensures seen { StaysBy pass.old pass.new }
         ensures accepted { pass.new.accepted ≡ pass.old.accepted }
+        ensures marks { pass.new.marks ≡ pass.old.marks }
         ensures faults { pass.new.faults ≡ pass.old.faults }
         ensures lawful { J.tells ≡ true → IsLawful J.settings.segment pass.new.list }
     {
         self.desk.lock(rt).look(&self.line, &mut pass.own);
-    }
-
-    /// Inserts a command: judges its form and what it shows by itself, makes room for its pages in
-    /// the partition, before which the WAL is flushed past what is written for that, and up to its
-    /// end where more than 4 MiB of it wait, judges the command on the pages, appends its entry to the
-    /// WAL and the history, and changes the pages. The entry isn't durable before a flush. A refusal
-    /// is the first one in order, but for an area that fails, and leaves history and pages as they
-    /// are; one that a command shows by itself changes nothing.
-    pub fn insert(
-        &self,
-        rt: &impl Wait,
-        alloc: Global,
-        pass: &mut Pass<J>,
-        op: &Op,
-    ) -> Result<Receipt, InsertFault>
-        ensures answer { InsertAnswer (J.tells ≡ true) J.settings.segment op.now pass.old pass.new
-            result }
-        ensures lawful { J.tells ≡ true → IsLawful J.settings.segment pass.new.list }
-        ensures seen { StaysBy pass.old pass.new }
-        ensures faults { TakesInsertFault pass.old pass.new result }
-    {
-        match self.admit(rt, pass, op) {
-            Ok(q) => self.insert_into(rt, alloc, pass, q, op),
-            Err(fault) => Err(fault),
-        }
-    }
-
-    /// Judges a command by its form and what it shows by itself, behind all that the pass sees then.
-    fn admit(&self, rt: &impl Wait, pass: &mut Pass<J>, op: &Op) -> Result<u32, InsertFault>
-        ensures below { IfOk result (λ q. q < 4) }
-        ensures form { OnOk result (judged_form op.now ≡ None) }
-        ensures items { OnOk result (HasItems op.now) }
-        ensures alone { IfOk result (λ q. ConcernsNoOther q (act_of_op op.now)) }
-        ensures refused { J.tells ≡ true
-            → IfErr result (IsRefusedBehind J.settings.segment pass.new.list op.now) }
-        ensures named { IfErr result NamesNoArea }
-        ensures lawful { J.tells ≡ true → IsLawful J.settings.segment pass.new.list }
-        ensures seen { StaysBy pass.old pass.new }
-        ensures accepted { pass.new.accepted ≡ pass.old.accepted }
-        ensures faults { pass.new.faults ≡ pass.old.faults }
-    {
-        self.desk.lock(rt).admit(&self.line, &mut pass.own, op)
-    }
-
-    /// Inserts a command of good form into the partition that it concerns.
-    fn insert_into(
-        &self,
-        rt: &impl Wait,
-        alloc: Global,
-        pass: &mut Pass<J>,
-        q: u32,
-        op: &Op,
-    ) -> Result<Receipt, InsertFault>
-        requires number { q < 4 }
-        requires form { judged_form op.now ≡ None }
-        requires items { HasItems op.now }
-        requires alone { ConcernsNoOther q (act_of_op op.now) }
-        ensures answer { InsertAnswer (J.tells ≡ true) J.settings.segment op.now pass.old pass.new
-            result }
-        ensures lawful { J.tells ≡ true → IsLawful J.settings.segment pass.new.list }
-        ensures seen { StaysBy pass.old pass.new }
-        ensures faults { TakesInsertFault pass.old pass.new result }
-    {
-        let Pass { own, shares } = pass;
-        let (line, desk) = (&self.line, &self.desk);
-        match q {
-            0 => insert_with(
-                rt,
-                alloc,
-                line,
-                desk,
-                &self.part0,
-                own,
-                &mut shares.data0,
-                op,
-            ),
-            1 => insert_with(
-                rt,
-                alloc,
-                line,
-                desk,
-                &self.part1,
-                own,
-                &mut shares.data1,
-                op,
-            ),
-            2 => insert_with(
-                rt,
-                alloc,
-                line,
-                desk,
-                &self.part2,
-                own,
-                &mut shares.data2,
-                op,
-            ),
-            _ => insert_with(
-                rt,
-                alloc,
-                line,
-                desk,
-                &self.part3,
-                own,
-                &mut shares.data3,
-                op,
-            ),
-        }
     }
 
     /// Flushes the WAL up to where an entry ends that the pass has seen.
@@ -230,6 +123,7 @@ impl<J: OfCrew, V: Vault> Store<J, V> {
         ensures faults { TakesFaults pass.old pass.new result }
         ensures seen { StaysBy pass.old pass.new }
         ensures accepted { pass.new.accepted ≡ pass.old.accepted }
+        ensures marks { pass.new.marks ≡ pass.old.marks }
     {
         self.desk
             .lock(rt)
@@ -250,6 +144,7 @@ impl<J: OfCrew, V: Vault> Store<J, V> {
         ensures faults { TakesFaults pass.old pass.new result }
         ensures seen { StaysBy pass.old pass.new }
         ensures accepted { pass.new.accepted ≡ pass.old.accepted }
+        ensures marks { pass.new.marks ≡ pass.old.marks }
     {
         let Pass { own, shares } = pass;
         let (line, desk) = (&self.line, &self.desk);
@@ -281,6 +176,7 @@ impl<J: OfCrew, V: Vault> Store<J, V> {
         ensures faults { TakesFaults pass.old pass.new result }
         ensures seen { StaysBy pass.old pass.new }
         ensures accepted { pass.new.accepted ≡ pass.old.accepted }
+        ensures marks { pass.new.marks ≡ pass.old.marks }
     {
         let Pass { own, shares } = pass;
         let (line, desk) = (&self.line, &self.desk);
@@ -349,6 +245,7 @@ impl<J: OfCrew, V: Vault> Store<J, V> {
         ensures faults { TakesFaults pass.old pass.new result }
         ensures seen { StaysBy pass.old pass.new }
         ensures accepted { pass.new.accepted ≡ pass.old.accepted }
+        ensures marks { pass.new.marks ≡ pass.old.marks }
     {
         match self.copy_page(rt, alloc, pass, &at, from) {
             Ok(Some(page)) => {
@@ -376,6 +273,7 @@ impl<J: OfCrew, V: Vault> Store<J, V> {
         ensures faults { TakesFaults pass.old pass.new result }
         ensures seen { StaysBy pass.old pass.new }
         ensures accepted { pass.new.accepted ≡ pass.old.accepted }
+        ensures marks { pass.new.marks ≡ pass.old.marks }
     {
         let Pass { own, shares } = pass;
         let (line, desk) = (&self.line, &self.desk);

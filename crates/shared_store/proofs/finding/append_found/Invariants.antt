@@ -1,7 +1,0 @@
-use Rattle.std.proofs.Common.{[], ◌∷◌}
-use Rattle.history.specs.Whole.{entry_of}
-use Rattle.shared_store.proofs.finding.append_found.Given as goal
-
--- the entry that is appended
-abbrev pub ghosts-tell_found : goal.ghosts-tell_found
-ghosts-tell_found a = record { next = entry_of a._entry.now ∷ [] }

@@ -1,0 +1,2 @@
+pub mod OfOne
+pub mod Refused

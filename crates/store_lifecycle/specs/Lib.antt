@@ -1,0 +1,4 @@
+pub mod Close
+pub mod Starts
+pub mod Begun
+pub mod Ended
