@@ -7,8 +7,8 @@
 //! it is taken away again. `is_empty` looks whether an area can take a backup. `specs/Directory.antt`
 //! says what rows list and what a directory has, `specs/Area.antt` what writing leaves of an area.
 //!
-//! Left to others: the files of the forks and the label (`base_backup`, `combine`), and the grammar of
-//! a manifest (`manifest`).
+//! Left to others: the files of the forks and the label (`backup_sending`, `combine`), and the
+//! grammar of a manifest (`manifest`).
 #![tactic(auto)]
 
 mod empty;

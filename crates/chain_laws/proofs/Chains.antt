@@ -33,12 +33,12 @@ use Rattle.incr_file.specs.Plan.{has_block, planned}
 use Rattle.chain_files.specs.Held.{most_pages, is_full, IsForkOf, IsStoreOf}
 use Rattle.chain_files.specs.Segments.{chain_segments, form_of, forms_of}
 use Rattle.shared_store.specs.Copied.{listed_length}
-use Rattle.base_backup.specs.declared.basis.Basis.{Basis}
+use Rattle.backup_sending.specs.declared.basis.Basis.{Basis}
 use Rattle.backup_files.specs.Directory.{directory_with}
-use Rattle.base_backup.specs.Sent.{blocks_at, file_of, is_known}
-use Rattle.base_backup.proofs.Listings.{count_fits}
-use Rattle.base_backup.proofs.Planned.{blocks_rise}
-use Rattle.base_backup.proofs.Segments.{named_at}
+use Rattle.backup_sending.specs.Sent.{blocks_at, file_of, is_known}
+use Rattle.backup_sending.proofs.Listings.{count_fits}
+use Rattle.backup_sending.proofs.Planned.{blocks_rise}
+use Rattle.backup_sending.proofs.Segments.{named_at}
 use Rattle.chain_laws.specs.Chain.{IsSoundChain}
 use Rattle.chain_laws.specs.Increment.{IsIncrementOf}
 use Rattle.chain_laws.specs.Laws.{IncrementsExtendSoundChains}

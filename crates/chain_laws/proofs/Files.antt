@@ -30,14 +30,14 @@ use Rattle.incr_file.specs.declared.plan.FilePlan.{FilePlan}
 use Rattle.incr_file.specs.declared.plan.FilePlan.TheVariants.{Whole, Incr}
 use Rattle.chain_files.specs.Segments.{form_of}
 use Rattle.shared_store.specs.Copied.{listed_length}
-use Rattle.base_backup.specs.declared.basis.Basis.{Basis}
+use Rattle.backup_sending.specs.declared.basis.Basis.{Basis}
 use Rattle.backup_files.specs.Directory.{label_name, manifest_name, directory_with}
-use Rattle.base_backup.specs.Sent.{SegmentPlan, SentFile, AreFor, AreListed, AreSent, IsCopyOf, IsSentAs, blocks_sent, file_of, fork_plans, front_bytes, is_part, list_plans, segment_plan, sent_path}
-use Rattle.base_backup.proofs.Blocks.{for_length}
-use Rattle.base_backup.proofs.Listings.{count_fits}
+use Rattle.backup_sending.specs.Sent.{SegmentPlan, SentFile, AreFor, AreListed, AreSent, IsCopyOf, IsSentAs, blocks_sent, file_of, fork_plans, front_bytes, is_part, list_plans, segment_plan, sent_path}
+use Rattle.backup_sending.proofs.Blocks.{for_length}
+use Rattle.backup_sending.proofs.Listings.{count_fits}
 use Rattle.backup_files.proofs.Appended.{absent}
-use Rattle.base_backup.proofs.Segments.{named_at}
-use Rattle.base_backup.proofs.Texts.{never_named}
+use Rattle.backup_sending.proofs.Segments.{named_at}
+use Rattle.backup_sending.proofs.Texts.{never_named}
 use Rattle.chain_files.proofs.Pages.{pages_again}
 use Rattle.chain_laws.proofs.Plans.{IsOfList, all_plans, length_in}
 use Rattle.chain_laws.proofs.Sending.{IsSentIn}

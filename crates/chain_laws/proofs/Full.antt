@@ -22,11 +22,11 @@ use Rattle.fuzzy_copies.proofs.Longer.{sound_later}
 use Rattle.manifest.specs.Text.{manifest_text}
 use Rattle.backup_restore.specs.Directories.{StoresAreHeld, PlainDirectoriesAreChains, AlikeFilesHoldOneStore}
 use Rattle.backup_files.specs.Directory.{label_name, manifest_name, listing_with}
-use Rattle.base_backup.specs.Directory.{directory_of}
-use Rattle.base_backup.proofs.Listings.{count_fits}
+use Rattle.backup_sending.specs.Directory.{directory_of}
+use Rattle.backup_sending.proofs.Listings.{count_fits}
 use Rattle.backup_files.proofs.Appended.{absent}
-use Rattle.base_backup.proofs.Segments.{named_at}
-use Rattle.base_backup.proofs.Texts.{never_named}
+use Rattle.backup_sending.proofs.Segments.{named_at}
+use Rattle.backup_sending.proofs.Texts.{never_named}
 use Rattle.chain_files.specs.Held.{IsStoreOfChain}
 use Rattle.chain_files.specs.Segments.{chain_segments}
 use Rattle.chain_laws.specs.Laws.{FullBackupsHoldTheirCopies, FullBackupsAreSoundChains, SoundChainsStaySound, ChainsCombinedAlikeAreSoundAlike}

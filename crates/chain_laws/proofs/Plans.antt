@@ -14,8 +14,8 @@ use Rattle.history.specs.Apply.{is_same_fork}
 use Rattle.history.proofs.Stores.{fork_is, fork_self}
 use Rattle.wal_summary.proofs.Sums.{apart}
 use Rattle.shared_store.specs.Copied.{listed_length}
-use Rattle.base_backup.specs.declared.basis.Basis.{Basis}
-use Rattle.base_backup.specs.Sent.{SegmentPlan, fork_plans, list_plans, segment_plan}
+use Rattle.backup_sending.specs.declared.basis.Basis.{Basis}
+use Rattle.backup_sending.specs.Sent.{SegmentPlan, fork_plans, list_plans, segment_plan}
 
 -- ---- the forks of a list
 

@@ -25,11 +25,11 @@ use Rattle.summary_store.specs.Kept.{AreKept}
 use Rattle.shared_summaries.specs.Laws.{AnswersSumUp}
 use Rattle.shared_summaries.specs.Shelf.{IsTrueFor}
 use Rattle.summary_publish.specs.Published.{AdvanceAnswers, ArePublished, with_files}
-use Rattle.base_backup.specs.declared.basis.Basis.{Basis}
+use Rattle.backup_sending.specs.declared.basis.Basis.{Basis}
 use Rattle.backup_files.specs.Directory.{directory_with}
-use Rattle.base_backup.specs.Sent.{SentFile, AreListed, AreSent, IsCopyOf, IsSentAs, blocks_sent, file_of}
-use Rattle.base_backup.proofs.Blocks.{for_more}
-use Rattle.base_backup.proofs.Sound.{seen_on}
+use Rattle.backup_sending.specs.Sent.{SentFile, AreListed, AreSent, IsCopyOf, IsSentAs, blocks_sent, file_of}
+use Rattle.backup_sending.proofs.Blocks.{for_more}
+use Rattle.backup_sending.proofs.Sound.{seen_on}
 use Rattle.chain_laws.specs.Increment.{IsIncrementOf}
 
 -- ---- a history that goes on

@@ -5,9 +5,9 @@ use Rattle.lsn_core.specs.declared.ids.ForkLen.{ForkLen}
 use Rattle.history.specs.Entry.{Entry}
 use Rattle.fuzzy_copies.specs.Summary.{summary_of}
 use Rattle.wal_summary.specs.Summary.{IsSummary}
-use Rattle.base_backup.specs.declared.basis.Basis.{Basis}
+use Rattle.backup_sending.specs.declared.basis.Basis.{Basis}
 use Rattle.backup_files.specs.Directory.{directory_with}
-use Rattle.base_backup.specs.Sent.{SentFile, AreListed, AreSent, file_of}
+use Rattle.backup_sending.specs.Sent.{SentFile, AreListed, AreSent, file_of}
 
 -- a directory's files are those of the forks that were listed while a history was written, from one
 -- place to another, each as it is planned; beside them it has a label and a manifest, and no others.

@@ -13,8 +13,8 @@ use Rattle.fuzzy_copies.specs.Taken.{IsRunning}
 use Rattle.chain_files.specs.Held.{IsStoreOfChain}
 use Rattle.chain_files.specs.Segments.{chain_segments}
 use Rattle.backup_restore.specs.Directories.{AreAlike}
-use Rattle.base_backup.specs.declared.basis.Basis.{Basis}
-use Rattle.base_backup.specs.Directory.{IsFullBackup}
+use Rattle.backup_sending.specs.declared.basis.Basis.{Basis}
+use Rattle.backup_sending.specs.Directory.{IsFullBackup}
 use Rattle.chain_laws.specs.Chain.{IsSoundChain}
 use Rattle.chain_laws.specs.Increment.{IsIncrementOf}
 

@@ -7,7 +7,7 @@
 //! full backup.
 //!
 //! Left to others: the law of copies block by block (`fuzzy_copies`), and what takes a backup
-//! (`base_backup`).
+//! (`backup_sending`, `incr_backup`).
 #![tactic(auto)]
 
 mod laws;

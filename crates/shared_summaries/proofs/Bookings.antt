@@ -12,8 +12,8 @@ use Rattle.shared_store.specs.Locked.{HasRisen}
 use Rattle.summary_publish.specs.Published.{LooksOn, PublishCause, PublishTakes, AdvanceTakes}
 use Rattle.summary_publish.proofs.Adding.{stays_same}
 use Rattle.summary_publish.proofs.Later.{prefix_self}
-use Rattle.summary_publish.specs.declared.advancing.AdvanceFault.{AdvanceFault}
-use Rattle.summary_publish.specs.declared.advancing.AdvanceFault.TheVariants.{Gap, Store}
+use Rattle.store_faults.specs.declared.advance_fault.AdvanceFault.{AdvanceFault}
+use Rattle.store_faults.specs.declared.advance_fault.AdvanceFault.TheVariants.{Gap, Store}
 use Rattle.shared_summaries.specs.Shelf.{TakesAdvanceFaults}
 use Rattle.shared_summaries.specs.Inside.{HasBooked, fault_of, advance_fault, with_sums}
 
@@ -88,5 +88,6 @@ booked_looks fault old new book total b = record {
   seen = subst (IsPrefix old.list) (sym b.list) (prefix_self old.list);
   worker = b.worker;
   accepted = b.accepted;
+  marks = b.marks;
   shares = shares_stay fault old new b.faults;
 }

@@ -15,8 +15,8 @@ use Rattle.summary_publish.specs.Entries.{first_start}
 use Rattle.summary_publish.specs.Published.{Advances, AdvancesTo, AdvanceAnswers}
 use Rattle.summary_publish.specs.Partly.{MayPublish, MayAdvance, AdvancesPartly}
 use Rattle.summary_publish.specs.True.{IsTrue}
-use Rattle.summary_publish.specs.declared.advancing.AdvanceFault.{AdvanceFault}
-use Rattle.summary_publish.specs.declared.advancing.AdvanceFault.TheVariants.{Gap, Store}
+use Rattle.store_faults.specs.declared.advance_fault.AdvanceFault.{AdvanceFault}
+use Rattle.store_faults.specs.declared.advance_fault.AdvanceFault.TheVariants.{Gap, Store}
 use Rattle.summary_publish.proofs.Since.{runs_begin_true, true_is_honest, true_stays, publishing_keeps_true, crew_sums_up}
 use Rattle.summary_publish.proofs.Later.{prefix_self, prefix_trans}
 use Rattle.summary_publish.proofs.Ranges.{orderly_front}

@@ -12,8 +12,8 @@ use Rattle.shared_store.specs.Seen.{Seen, Booked, with_fault}
 use Rattle.shared_store.specs.Locked.{RunsOn, HasRisen}
 use Rattle.summary_publish.specs.Published.{GoesOnFrom}
 use Rattle.summary_publish.specs.declared.known.Known.{Known}
-use Rattle.summary_publish.specs.declared.advancing.AdvanceFault.{AdvanceFault}
-use Rattle.summary_publish.specs.declared.advancing.AdvanceFault.TheVariants.{Gap, Store}
+use Rattle.store_faults.specs.declared.advance_fault.AdvanceFault.{AdvanceFault}
+use Rattle.store_faults.specs.declared.advance_fault.AdvanceFault.TheVariants.{Gap, Store}
 use Rattle.shared_summaries.specs.Shelf.{AreShelved}
 
 -- what the lock holds: the area, the beginning of the history that its summaries were made of, where
@@ -64,5 +64,6 @@ pub record HasBooked (fault : Option StoreFault) (old new : Seen) (book now : �
   pub list : new.list ≡ old.list
   pub worker : new.worker ≡ old.worker
   pub accepted : new.accepted ≡ old.accepted
+  pub marks : new.marks ≡ old.marks
   pub faults : new.faults ≡ with_sums fault old.faults
   pub total : now ≡ book + sums_failures fault

@@ -12,8 +12,8 @@ use Rattle.shared_store.specs.Seen.{Seen, TakesFault}
 use Rattle.summary_publish.specs.Entries.{first_start}
 use Rattle.summary_publish.specs.Published.{Advances, AdvanceAnswers}
 use Rattle.summary_publish.specs.True.{IsTrue}
-use Rattle.summary_publish.specs.declared.advancing.AdvanceFault.{AdvanceFault}
-use Rattle.summary_publish.specs.declared.advancing.AdvanceFault.TheVariants.{Gap, Store}
+use Rattle.store_faults.specs.declared.advance_fault.AdvanceFault.{AdvanceFault}
+use Rattle.store_faults.specs.declared.advance_fault.AdvanceFault.TheVariants.{Gap, Store}
 use Rattle.shared_summaries.specs.Grown.{HasGrown}
 
 -- an area's files are true for a history that goes on from what a run found, where they were honest

@@ -17,8 +17,9 @@ use std::boxed::Box;
 use std::marker::Model;
 use std::sync::Wait;
 use std::sync::ledger::Book;
+use store_faults::AdvanceFault;
 use store_ledgers::AreaFaults;
-use summary_publish::{AdvanceFault, Known, advance, advance_covering};
+use summary_publish::{Known, advance, advance_covering};
 use timeline::Note;
 use vault::Vault;
 use wal_summary::Summary;
@@ -152,9 +153,19 @@ fn advance_in<J: OfCrew, V: Vault>(
     when: u64,
 ) -> Result<u64, StoreFault>
     requires shelf { IsShelf V.Vault (J.tells ≡ true) J.settings J.found J.sums (J.starts 5)
-        (record { area = area.old; list = note.old.list; known = known.old; booked = book.old.total }) }
+        (record {
+          area = area.old;
+          list = note.old.list;
+          known = known.old;
+          booked = book.old.total;
+        }) }
     ensures shelf { IsShelf V.Vault (J.tells ≡ true) J.settings J.found J.sums (J.starts 5)
-        (record { area = area.new; list = note.new.list; known = known.new; booked = book.new.total }) }
+        (record {
+          area = area.new;
+          list = note.new.list;
+          known = known.new;
+          booked = book.new.total;
+        }) }
     ensures published { IfOk result (HasPublished (J.tells ≡ true) J.found J.sums
         pass.new.list when) }
     ensures lawful { J.tells ≡ true → IsLawful J.settings.segment pass.new.list }
@@ -184,9 +195,19 @@ fn cover_in<J: OfCrew, V: Vault>(
 ) -> Result<Summary, AdvanceFault>
     requires range { from.0 < to.0 }
     requires shelf { IsShelf V.Vault (J.tells ≡ true) J.settings J.found J.sums (J.starts 5)
-        (record { area = area.old; list = note.old.list; known = known.old; booked = book.old.total }) }
+        (record {
+          area = area.old;
+          list = note.old.list;
+          known = known.old;
+          booked = book.old.total;
+        }) }
     ensures shelf { IsShelf V.Vault (J.tells ≡ true) J.settings J.found J.sums (J.starts 5)
-        (record { area = area.new; list = note.new.list; known = known.new; booked = book.new.total }) }
+        (record {
+          area = area.new;
+          list = note.new.list;
+          known = known.new;
+          booked = book.new.total;
+        }) }
     ensures covered { HasCovered (J.tells ≡ true) J.found J.sums pass.new.list when
         from.0 to.0 result }
     ensures lawful { J.tells ≡ true → IsLawful J.settings.segment pass.new.list }

@@ -14,8 +14,9 @@ use std::alloc::Global;
 use std::boxed::Box;
 use std::sync::ledger::Book;
 use std::sync::{Mutex, Wait};
+use store_faults::AdvanceFault;
 use store_ledgers::AreaFaults;
-use summary_publish::{AdvanceFault, Known, first_start};
+use summary_publish::{Known, first_start};
 use vault::Vault;
 use wal_summary::Summary;
 

@@ -10,7 +10,7 @@ use Rattle.lsn_core.specs.declared.lsn.Lsn.{Lsn}
 use Rattle.wal_summary.specs.declared.kept.CoverFault.{CoverFault}
 use Rattle.wal_summary.specs.declared.kept.CoverFault.TheVariants as cover
 use Rattle.wal_summary.specs.Kept.{CoverAnswers, IsGap}
-use Rattle.summary_publish.specs.declared.advancing.AdvanceFault.{AdvanceFault}
+use Rattle.store_faults.specs.declared.advance_fault.AdvanceFault.{AdvanceFault}
 use Rattle.vault.specs.Frame.{OnlyReads, IsDurable}
 use Rattle.summary_store.specs.Kept.{AreKept, end_behind}
 use Rattle.summary_publish.proofs.Later.{prefix_trans}
@@ -88,6 +88,7 @@ looks_on p q r one two = record {
   seen = prefix_trans p.list q.list r.list one.seen two.seen;
   worker = two.worker ∙ one.worker;
   accepted = two.accepted ∙ one.accepted;
+  marks = two.marks ∙ one.marks;
   shares = shares_on p.faults q.faults r.faults one.shares two.shares;
 }
 
@@ -96,7 +97,7 @@ ok_on (Ok t) P Q f h = f t h
 ok_on (Err e) P Q f h = tt
 
 pub looks_still : (p : Seen) → LooksOn p p
-looks_still p = record { seen = ([], append-nil p.list); worker = refl; accepted = refl; shares = stays_same p.faults p.faults refl }
+looks_still p = record { seen = ([], append-nil p.list); worker = refl; accepted = refl; marks = refl; shares = stays_same p.faults p.faults refl }
 
 when_some : (o : Option Files) (P : Files → Type 0) (Q : Files → Type 0) → ((m : Files) → P m → Q m) → IfSome o P → IfSome o Q
 when_some None P Q f held = tt

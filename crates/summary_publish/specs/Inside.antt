@@ -30,8 +30,8 @@ use Rattle.shared_store.specs.Records.{IsPlaceOf}
 use Rattle.summary_publish.specs.Entries.{next_redo}
 use Rattle.summary_publish.specs.Published.{IsNext, AreNext, IsWhole, with_file, with_files}
 use Rattle.summary_publish.specs.Partly.{MayWriteSummary}
-use Rattle.summary_publish.specs.declared.advancing.AdvanceFault.{AdvanceFault}
-use Rattle.summary_publish.specs.declared.advancing.AdvanceFault.TheVariants as advance
+use Rattle.store_faults.specs.declared.advance_fault.AdvanceFault.{AdvanceFault}
+use Rattle.store_faults.specs.declared.advance_fault.AdvanceFault.TheVariants as advance
 
 -- the entries that start at a place or past it
 abbrev pub from_place : ℕ → List Entry → List Entry

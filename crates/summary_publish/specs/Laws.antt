@@ -21,7 +21,8 @@ RunsBeginTrue =
 
 abbrev pub TrueIsHonest : Type 0
 TrueIsHonest =
-    (found own : List Entry) (files : Files) → IsTrue found own files → IsHonest (found ++ own) files
+    (found own : List Entry) (files : Files)
+    → IsTrue found own files → IsHonest (found ++ own) files
 
 -- it stays so as other workers' entries are added
 abbrev pub TrueStays : Type 0

@@ -44,7 +44,8 @@ LeavesFirst told history made from old new =
 
 -- behind what was kept of an area's files the first of the summaries were published that a history has,
 -- and maybe the next one, or a part of it
-pub record MayPublish (told : Type 0) (history : List Entry) (made : ℕ) (old new : Files) : Type 0 where
+pub record MayPublish (told : Type 0) (history : List Entry) (made : ℕ) (old new : Files)
+    : Type 0 where
   pub kept : List Summary
   pub held : AreKept old kept
   pub some : LeavesSome told history made (end_behind (first_start history) kept) old new

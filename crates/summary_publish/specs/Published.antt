@@ -24,8 +24,8 @@ use Rattle.shared_store.specs.Locked.{IsOfWal}
 use Rattle.shared_store.specs.Records.{IsPlaceOf}
 use Rattle.summary_publish.specs.Entries.{first_start, next_redo}
 use Rattle.summary_publish.specs.declared.known.Known.{Known}
-use Rattle.summary_publish.specs.declared.advancing.AdvanceFault.{AdvanceFault}
-use Rattle.summary_publish.specs.declared.advancing.AdvanceFault.TheVariants.{Gap, Store}
+use Rattle.store_faults.specs.declared.advance_fault.AdvanceFault.{AdvanceFault}
+use Rattle.store_faults.specs.declared.advance_fault.AdvanceFault.TheVariants.{Gap, Store}
 
 -- the summary of a history's entries from a place up to the next redo point
 pub record IsNext (history : List Entry) (made place : ℕ) (sum : Summary) : Type 0 where
@@ -109,11 +109,12 @@ AdvanceAnswers g told history made from to old new (Err (Gap place)) =
 AdvanceAnswers g told history made from to old new (Err (Store fault)) = Unit {0}
 
 -- a pass only looked on: nothing that it had seen is lost, the worker stays, no command of it is
--- counted, and no fault that it was answered is forgotten
+-- counted and no mark, and no fault that it was answered is forgotten
 pub record LooksOn (old new : Seen) : Type 0 where
   pub seen : IsPrefix old.list new.list
   pub worker : new.worker ≡ old.worker
   pub accepted : new.accepted ≡ old.accepted
+  pub marks : new.marks ≡ old.marks
   pub shares : SharesStay old.faults new.faults
 
 -- ---- faults

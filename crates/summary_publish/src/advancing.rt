@@ -18,18 +18,10 @@ use lsn_core::{Lsn, StoreFault};
 use shared_store::{OfCrew, Pass, Store};
 use std::alloc::Global;
 use std::sync::Wait;
+use store_faults::AdvanceFault;
 use summary_store::{end_behind, kept_in};
 use vault::Vault;
 use wal_summary::{CoverFault, Summary, covering};
-
-/// Why no summary of a range is answered.
-#[derive(Clone, Copy, Debug, PartialEq, Eq)]
-pub enum AdvanceFault {
-    /// No kept summary has this place, the least such of the range.
-    Gap(Lsn),
-    /// Summaries couldn't be published or read.
-    Store(StoreFault),
-}
 
 /// Publishes, in order, one summary for each range between neighbouring redo points, from the
 /// greatest kept end of an area on, which is the first entry's start where none is kept, and says how

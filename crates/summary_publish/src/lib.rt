@@ -21,7 +21,7 @@ mod publishing;
 mod reading;
 mod writing;
 
-pub use advancing::{AdvanceFault, advance, advance_covering};
+pub use advancing::{advance, advance_covering};
 pub use feed::first_start;
 pub use known::Known;
 pub use laws::{areas_stay_true, crew_sums_up};

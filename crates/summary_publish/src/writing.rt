@@ -26,7 +26,8 @@ pub(crate) fn write_summary<V: Vault>(
 ) -> Result<(), AreaFault>
     requires { IsWritable sum.now }
     ensures whole { OnOk result (IsWhole sum.now) }
-    ensures file { OnOk result (V.files area.new ≡ option_map (with_file sum.now) (V.files area.old)) }
+    ensures file { OnOk result
+        (V.files area.new ≡ option_map (with_file sum.now) (V.files area.old)) }
     ensures left { IsLeft sum.now (V.files area.old) (V.files area.new) }
     ensures changes { ChangesOnly V.Vault IsSummaryName area.old area.new }
     ensures cause { HasCause (V.faults area.old) (V.faults area.new) result }

@@ -15,7 +15,7 @@ pub returns-clause-orderly : goal.returns-clause-orderly
 returns-clause-orderly g c = orderly_now (g.J.OfStore.tells ≡ true) g.J.OfCrew.settings.segment c.records-answer.new.pass.list c.know.ensures.lawful
 
 pub returns-clause-looks : goal.returns-clause-looks
-returns-clause-looks g c = record { seen = c.records-answer.ensures.seen.seen; worker = c.records-answer.ensures.seen.worker; accepted = c.records-answer.ensures.accepted; shares = takes_stays c.args.pass.now c.records-answer.new.pass c.records-answer.result c.records-answer.ensures.faults }
+returns-clause-looks g c = record { seen = c.records-answer.ensures.seen.seen; worker = c.records-answer.ensures.seen.worker; accepted = c.records-answer.ensures.accepted; marks = c.records-answer.ensures.marks; shares = takes_stays c.args.pass.now c.records-answer.new.pass c.records-answer.result c.records-answer.ensures.faults }
 
 pub returns-clause-faults : goal.returns-clause-faults
 returns-clause-faults g c = read_takes c.args.pass.now c.records-answer.new.pass c.records-answer.result c.records-answer.ensures.wal c.records-answer.ensures.faults

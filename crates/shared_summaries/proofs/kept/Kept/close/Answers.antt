@@ -23,5 +23,6 @@ returns-clause-looks g c = record {
   seen = c.learn.ensures.seen.seen;
   worker = c.learn.ensures.seen.worker;
   accepted = c.learn.ensures.accepted;
+  marks = c.learn.ensures.marks;
   shares = stays_same c.args.pass.now.faults c.learn.new.pass.faults c.learn.ensures.faults;
 }

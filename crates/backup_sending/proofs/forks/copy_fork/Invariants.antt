@@ -1,0 +1,16 @@
+use Rattle.std.proofs.Common.{◌≡◌, ◌≤◌, ◌-◌, true}
+use Rattle.backup_sending.specs.Backup.{site_of}
+use Rattle.backup_sending.specs.Inside.{CopiesOn}
+use Rattle.backup_sending.proofs.Segments.{ForkSoFar}
+use Rattle.backup_sending.proofs.forks.copy_fork.Given as goal
+
+-- so many segments were copied
+abbrev pub invariant-loop-seg : goal.invariant-loop-seg
+invariant-loop-seg g l = record {
+  within : l.seg ≤ l.count;
+  step : CopiesOn g.V.Vault (site_of l.fn.pass l.fn.out) (site_of l.pass l.out);
+  far : ForkSoFar (g.J.OfStore.tells ≡ true) l.pass.list l.from.0 l.relseg l.fork l.seg l.modified (g.V.Vault.files l.fn.out) (g.V.Vault.files l.out) l.fn.rows.items l.rows.items;
+}
+
+abbrev pub decreases-loop-seg : goal.decreases-loop-seg
+decreases-loop-seg g l = l.count - l.seg

@@ -1,0 +1,48 @@
+use Rattle.std.proofs.Common.{◌≡◌, true, List, map, subst, sym}
+use Rattle.std.specs.List.Sorted.{IsStrictlySortedBy}
+use Rattle.lsn_core.specs.Store.{fork_cmp}
+use Rattle.lsn_core.specs.declared.ids.ForkLen.{ForkLen}
+use Rattle.backup_sending.specs.Backup.{site_of}
+use Rattle.backup_sending.specs.Inside.{CopyCause, ListsForks}
+use Rattle.backup_sending.specs.Sending.{SendsList, SendsStore}
+use Rattle.backup_files.proofs.Passed.{ok_more, err_more}
+use Rattle.backup_sending.proofs.Copying.{store_failed}
+use Rattle.backup_sending.proofs.Steps.{cause_behind, copies_on, copies_store, redo_on}
+use Rattle.backup_sending.proofs.SentFiles.{store_sent}
+use Rattle.backup_sending.proofs.sending.send_store.Goals as goal
+
+pub returns-in_err-forks-clause-copies_on : goal.returns-in_err-forks-clause-copies_on
+returns-in_err-forks-clause-copies_on g c = copies_store g.V.Vault c.args.pass.now c.all_forks.new.pass c.args.out.now c.all_forks.ensures.looks
+
+pub returns-in_err-forks-clause-cause : goal.returns-in_err-forks-clause-cause
+returns-in_err-forks-clause-cause g c =
+    store_failed g.V.Vault (site_of c.args.pass.now c.args.out.now) (site_of c.all_forks.new.pass c.args.out.now) c.from_residual.result c.in_err-forks.field-0.0 c.from_residual.ensures.1 c.in_err-forks.ensures.cause
+
+pub send_forks-requires-clause-redo : goal.send_forks-requires-clause-redo
+send_forks-requires-clause-redo g c = λ κs lives. redo_on c.args.pass.now c.all_forks.new.pass c.args.from.0 c.all_forks.ensures.looks c.requires.redo
+
+pub send_forks-requires-clause-order : goal.send_forks-requires-clause-order
+send_forks-requires-clause-order g c = λ κs lives. subst (λ (l : List ForkLen). IsStrictlySortedBy fork_cmp (map (λ x. x.fork) l)) (sym c.deref.ensures.value) c.in_ok-forks.ensures.list.order
+
+pub returns-clause-sent : goal.returns-clause-sent
+returns-clause-sent g c =
+    ok_more c.send_forks.result (λ rows. SendsList (g.J.OfStore.tells ≡ true) c.send_forks.new.pass.list c.args.from.0 c.args.basis.now c.deref.result.now c.args.modified.now (g.V.Vault.files c.args.out.now) (g.V.Vault.files c.send_forks.new.out) rows.items)
+    (λ rows. SendsStore (g.J.OfStore.tells ≡ true) c.send_forks.new.pass.list c.args.from.0 c.args.basis.now c.args.modified.now (g.V.Vault.files c.send_forks.new.out) rows.items)
+    (λ rows sent.
+    store_sent (g.J.OfStore.tells ≡ true) c.all_forks.new.pass.list c.send_forks.new.pass.list c.args.from.0 c.args.basis.now c.deref.result.now c.args.modified.now (g.V.Vault.files c.args.out.now) (g.V.Vault.files c.send_forks.new.out) rows.items c.requires.relseg.least
+    c.requires.empty c.send_forks.ensures.copies_on.looks.stays.seen (subst (λ (l : List ForkLen). ListsForks (g.J.OfStore.tells ≡ true) c.all_forks.new.pass.list c.args.from.0 l) (sym c.deref.ensures.value) c.in_ok-forks.ensures.list) sent)
+    c.send_forks.ensures.sent
+
+pub returns-clause-copies_on : goal.returns-clause-copies_on
+returns-clause-copies_on g c =
+    copies_on g.V.Vault (site_of c.args.pass.now c.args.out.now) (site_of c.all_forks.new.pass c.args.out.now) (site_of c.send_forks.new.pass c.send_forks.new.out)
+    (copies_store g.V.Vault c.args.pass.now c.all_forks.new.pass c.args.out.now c.all_forks.ensures.looks) c.send_forks.ensures.copies_on
+
+pub returns-clause-cause : goal.returns-clause-cause
+returns-clause-cause g c =
+    let a = site_of c.args.pass.now c.args.out.now in
+    let b = site_of c.all_forks.new.pass c.args.out.now in
+    let d = site_of c.send_forks.new.pass c.send_forks.new.out in
+    err_more c.send_forks.result (CopyCause g.V.Vault b d) (CopyCause g.V.Vault a d)
+    (λ why is. cause_behind g.V.Vault a b d why (copies_store g.V.Vault c.args.pass.now c.all_forks.new.pass c.args.out.now c.all_forks.ensures.looks) is)
+    c.send_forks.ensures.cause

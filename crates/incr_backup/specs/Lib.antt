@@ -1,0 +1,4 @@
+pub mod Prior
+pub mod Incr
+pub mod IncrInside
+pub mod IncrSteps
