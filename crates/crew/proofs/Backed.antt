@@ -7,22 +7,23 @@ use Rattle.lsn_core.specs.declared.fault.StoreFault.TheVariants as store
 use Rattle.vault.specs.declared.area.Vault.{Ghosts}
 use Rattle.vault.specs.Site.{AreaState, IsStill, state_in}
 use Rattle.shared_store.specs.Seen.{Seen, ShareRose}
-use Rattle.base_backup.specs.declared.done.Done.{Done}
-use Rattle.base_backup.specs.declared.fault.BackupFault.{BackupFault}
-use Rattle.base_backup.specs.declared.fault.BackupFault.TheVariants as backup
+use Rattle.backup_sending.specs.declared.done.Done.{Done}
+use Rattle.store_faults.specs.declared.backup_fault.BackupFault.{BackupFault}
+use Rattle.store_faults.specs.declared.backup_fault.BackupFault.TheVariants as backup
 use Rattle.backup_files.specs.Area.{EndsSynced, HoldsNothing}
 use Rattle.backup_files.proofs.Synced.{synced_is_durable}
-use Rattle.base_backup.specs.Backup.{LooksOn, IsTakenFull, IsTakenWhole, BackupCause, GoesPast, LeavesManifest, KeepsFull, IsUntouched, site_of}
+use Rattle.backup_sending.specs.Backup.{LooksOn, IsTakenFull, IsTakenWhole, BackupCause, GoesPast, LeavesManifest, KeepsFull, IsUntouched, site_of}
 use Rattle.command_base.specs.Areas.{backup_name, AreaIsDurable}
-use Rattle.crew.specs.declared.answer.Answer.TheVariants.{Backup, BackupRefused}
-use Rattle.crew.specs.declared.answer.Stop.TheVariants as stop
-use Rattle.crew.specs.Run.{Basis, HoldsBackup, StaysFull, IsBackupRefused, backup_stop}
+use Rattle.run_answers.specs.declared.answer.Answer.TheVariants.{Backup, BackupRefused}
+use Rattle.run_answers.specs.declared.answer.Stop.TheVariants as stop
+use Rattle.crew.specs.Run.{Basis, HoldsBackup, StaysFull, IsBackupRefused}
+use Rattle.run_answers.specs.Stopping.{backup_stop}
 use Rattle.crew.specs.Running.{WentOn, BackupRuns}
 use Rattle.crew.proofs.Held.{files_at, only_at}
 use Rattle.crew.proofs.Steps.{went_still}
 
-pub looked : (old new : Seen) → LooksOn old new → WentOn old new []
-looked old new l = went_still old new l.stays l.accepted l.shares
+pub looked : (old new : Seen) → LooksOn 3 old new → WentOn 3 old new []
+looked old new l = went_still old new l.stays l.accepted l.marks l.shares
 
 -- ---- a backup that was taken
 
@@ -38,7 +39,7 @@ holds tells b name old new files done t = record {
 }
 
 pub taken : {V : Type 0} (g : Ghosts V) (tells : Type 0) (b : Basis) (name : List ℕ) (old new : Seen) (area now : V) (done : Done) → IsTakenFull tells b.settings name b.when old new (g.files now) done → EndsSynced g now → HoldsNothing (g.files area)
-    → LooksOn old new → g.faults area ≤ g.faults now → BackupRuns g tells b name old new area now (Backup done.start done.end)
+    → LooksOn 3 old new → g.faults area ≤ g.faults now → BackupRuns g tells b name old new area now (Backup done.start done.end)
 taken g tells b name old new area now done t synced empty l later = λ held mid was is others. record {
   made = [];
   went = looked old new l;
@@ -88,7 +89,7 @@ stays_full g old new area now kept =
     weaker (g.files area) (λ m. m ≢ empty → IsUntouched g (site_of old area) (site_of new now)) (λ m. m ≢ empty → IsStill (state_in g area) (state_in g now)) (λ m whole some. record { files = (whole some).files; past = (whole some).past }) kept
 
 pub refused : {V : Type 0} (g : Ghosts V) (tells : Type 0) (b : Basis) (name : List ℕ) (old new : Seen) (area now : V) (why : BackupFault) → GoesPast (g.files area) why → KeepsFull g (site_of old area) (site_of new now)
-    → LeavesManifest g (IsTakenWhole tells b.settings name b.when old new (g.files now)) area now why → BackupCause g b.settings.segment (site_of old area) (site_of new now) why → LooksOn old new → g.faults area ≤ g.faults now
+    → LeavesManifest g (IsTakenWhole tells b.settings name b.when old new (g.files now)) area now why → BackupCause g b.settings.segment (site_of old area) (site_of new now) why → LooksOn 3 old new → g.faults area ≤ g.faults now
     → BackupRuns g tells b name old new area now (BackupRefused why)
 refused g tells b name old new area now why past kept left cause l later = λ held mid was is others. record {
   made = [];

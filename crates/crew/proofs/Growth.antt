@@ -9,14 +9,14 @@ use Rattle.lsn_core.specs.declared.lsn.Place.{Place}
 use Rattle.lsn_core.specs.declared.fault.StoreArea.{StoreArea}
 use Rattle.history.specs.declared.op.Op.{Op}
 use Rattle.history.specs.Entry.{Entry}
-use Rattle.shared_store.specs.declared.fault.InsertFault.{InsertFault}
-use Rattle.shared_store.specs.declared.fault.InsertFault.TheVariants as insert
+use Rattle.store_faults.specs.declared.insert_fault.InsertFault.{InsertFault}
+use Rattle.store_faults.specs.declared.insert_fault.InsertFault.TheVariants as insert
 use Rattle.shared_store.specs.Seen.{Seen}
-use Rattle.crew.specs.declared.script.Command.TheVariants as command
-use Rattle.crew.specs.declared.order.Order.{Order}
-use Rattle.crew.specs.declared.answer.Answer.TheVariants.{Accepted, Refused, Grown, Stopped}
-use Rattle.crew.specs.Orders.{op_asked, grow_op, grow_ops}
-use Rattle.crew.specs.Shape.{Shape}
+use Rattle.scripts.specs.declared.script.Command.TheVariants as command
+use Rattle.scripts.specs.declared.order.Order.{Order}
+use Rattle.run_answers.specs.declared.answer.Answer.TheVariants.{Accepted, Refused, Grown, Stopped}
+use Rattle.scripts.specs.Orders.{op_asked, grow_op, grow_ops}
+use Rattle.scripts.specs.Shape.{Shape}
 use Rattle.crew.specs.Run.{IsMade, Made, span_end, span_of, TellsFault}
 use Rattle.crew.specs.Running.{WentOn, Inserts, CommandRuns}
 use Rattle.crew.proofs.Moments.{made_later, made_on}
@@ -81,7 +81,7 @@ span_more (x ∷ es) e (suc k) l =
 -- so many commands of a growth were accepted
 pub record IsGrowing (tells : Type 0) (mib : ℕ) (old now : Seen) (at : BlockId) (shape : Shape) (k : ℕ) (span : Place) : Type 0 where
   pub made : List Entry
-  pub went : WentOn old now made
+  pub went : WentOn 0 old now made
   pub are : Made tells mib old.worker now.list (length old.list) (grow_ops at shape k) made
   pub span_is : span ≡ span_of made
   pub count_is : length made ≡ k
@@ -113,7 +113,7 @@ pub stopped : (tells : Type 0) (settings : StoreSettings) (old now new : Seen) (
     → Inserts tells settings.segment (grow_op at shape k) now new (Err why) → k < count → CommandRuns tells settings (command.Grow at count shape) old new (Stopped k why)
 stopped tells settings old now new at shape k count span why g i lt = λ when found sums held. record {
   made = g.made;
-  went = subst (λ (es : List Entry). WentOn old new es) (append-nil g.made) (went_further old now new g.made [] g.went i.0);
+  went = subst (λ (es : List Entry). WentOn 0 old new es) (append-nil g.made) (went_further old now new g.made [] g.went i.0);
   answered = (
     at,
     count,

@@ -11,7 +11,7 @@ use Rattle.vault.specs.Site.{Areas, AreaState, state_in}
 use Rattle.vault.specs.Lending.{Names, IsOneOf, AreLater, names_of}
 use Rattle.vault.proofs.SetAreas.{set_at-same, set_at-other, same_or_not}
 use Rattle.vault.proofs.LentAreas.{later_set, later_named}
-use Rattle.crew.specs.declared.script.Line.{Line}
+use Rattle.scripts.specs.declared.script.Line.{Line}
 use Rattle.crew.specs.Backups.{area_asked, areas_asked, areas_of, AreHeld}
 use Rattle.crew.specs.Run.{OnlyAt}
 

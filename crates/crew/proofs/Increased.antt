@@ -11,17 +11,17 @@ use Rattle.vault.specs.Lending.{IsNoneOf}
 use Rattle.history.specs.Entry.{Entry}
 use Rattle.manifest.specs.Listing.{Listing}
 use Rattle.manifest.specs.Text.{manifest_text}
-use Rattle.base_backup.specs.Sent.{file_of}
+use Rattle.backup_sending.specs.Sent.{file_of}
 use Rattle.backup_files.specs.Directory.{manifest_name, directory_with, listing_with}
-use Rattle.base_backup.specs.Prior.{HasListing}
+use Rattle.incr_backup.specs.Prior.{HasListing}
 use Rattle.shared_store.specs.Seen.{accepted_by}
 use Rattle.command_base.specs.Areas.{backup_name, AreaIsDurable}
 use Rattle.command_base.proofs.Told.{some_told, at_told}
-use Rattle.crew.specs.declared.script.Command.{Command}
-use Rattle.crew.specs.declared.script.Command.TheVariants as command
-use Rattle.crew.specs.declared.script.Line.{Line}
-use Rattle.crew.specs.declared.answer.Answer.{Answer}
-use Rattle.crew.specs.declared.answer.Answer.TheVariants.{Accepted, Refused, Grown, Stopped, Redo, CheckpointRefused, Wrote, Published, CallFailed, Backup, BackupRefused, IncrRefused, NotRun}
+use Rattle.scripts.specs.declared.script.Command.{Command}
+use Rattle.scripts.specs.declared.script.Command.TheVariants as command
+use Rattle.scripts.specs.declared.script.Line.{Line}
+use Rattle.run_answers.specs.declared.answer.Answer.{Answer}
+use Rattle.run_answers.specs.declared.answer.Answer.TheVariants.{Accepted, Refused, Grown, Stopped, Redo, CheckpointRefused, Wrote, Published, CallFailed, Backup, BackupRefused, IncrRefused, NotRun}
 use Rattle.crew.specs.Backups.{areas_asked}
 use Rattle.crew.specs.Run.{Basis, HoldsIncr, incr_areas, TakesIncr, LineAnswer, Answered, KeepsTo, IncrStandsFor, IncrsStand, AnswersTellIncrs}
 use Rattle.crew.proofs.Kept.{still_same, still_on, never_empty, area_stays, area_keeps}

@@ -7,12 +7,12 @@ use mathlib.Core.List.{IsPrefix}
 use Rattle.vault.specs.Site.{Areas}
 use Rattle.history.specs.declared.op.Op.{Op}
 use Rattle.history.specs.Entry.{Entry}
-use Rattle.shared_store.specs.Seen.{Seen, is_number, is_by, accepted_by}
-use Rattle.crew.specs.declared.script.Command.{Command}
-use Rattle.crew.specs.declared.script.Line.{Line}
-use Rattle.crew.specs.declared.answer.Answer.{Answer}
-use Rattle.crew.specs.declared.answer.Answer.TheVariants as answer
-use Rattle.crew.specs.Orders.{op_asked, grow_ops}
+use Rattle.shared_store.specs.Seen.{Seen, is_number, is_by, accepted_by, marks_by}
+use Rattle.scripts.specs.declared.script.Command.{Command}
+use Rattle.scripts.specs.declared.script.Line.{Line}
+use Rattle.run_answers.specs.declared.answer.Answer.{Answer}
+use Rattle.run_answers.specs.declared.answer.Answer.TheVariants as answer
+use Rattle.scripts.specs.Orders.{op_asked, grow_ops}
 use Rattle.crew.specs.Run.{Basis, Made, LineAnswer, Answered, RunsLines, IsAnswered, CrewIsJoined}
 use Rattle.crew.proofs.Lists.{prefix_length, cut_at, around, IsSublist, sub_front, sub_join, sub_whole}
 use Rattle.crew.proofs.Moments.{answered_later}
@@ -84,9 +84,9 @@ all_made tells b w h from lines answers es to held new a e =
     let among : IsSublist es (accepted_by w h) = subst (λ (xs : List Entry). IsSublist es xs) cut (sub_front es (accepted_by w (drop from h)) (accepted_by w (take from h)) (answered_among tells b w h from lines answers es to held new a)) in
     sub_whole es (accepted_by w h) among (omega (arith, e))
 
-joins_worker : (tells : Type 0) (b : Basis) (history : List Entry) (lines : List Line) (answers : List Answer) (held kept : Areas) (old new : Seen) → RunsLines tells b lines old new held kept answers → length old.list ≡ length b.found → old.accepted ≡ 0 → IsPrefix new.list history → new.accepted ≡ length (accepted_by new.worker history)
+joins_worker : (tells : Type 0) (b : Basis) (history : List Entry) (lines : List Line) (answers : List Answer) (held kept : Areas) (old new : Seen) → RunsLines tells b lines old new held kept answers → length old.list ≡ length b.found → old.accepted ≡ 0 → old.marks ≡ 0 → IsPrefix new.list history → new.accepted ≡ length (accepted_by new.worker history) → new.marks ≡ length (marks_by new.worker history)
     → IsAnswered tells b old.worker history (length b.found) lines answers held kept
-joins_worker tells b history lines answers held kept old new ran found none p all =
+joins_worker tells b history lines answers held kept old new ran found none unmarked p all marks =
     let w = old.worker in
     let later : Answered tells b w history (length old.list) lines answers ran.made (length new.list) held kept = answered_later tells b w new.list history (length old.list) lines answers ran.made (length new.list) held kept p ran.answered in
     let mine : new.accepted ≡ length (accepted_by w history) = all ∙ ap (λ (n : ℕ). length (accepted_by n history)) ran.stays.worker in
@@ -97,10 +97,11 @@ joins_worker tells b history lines answers held kept old new ran found none p al
       within = prefix_length new.list history p;
       answered = subst (λ (n : ℕ). Answered tells b w history n lines answers (accepted_by w history) (length new.list) held kept) found
           (subst (λ (es : List Entry). Answered tells b w history (length old.list) lines answers es (length new.list) held kept) whole later);
+      marked = omega (arith, ran.marked, unmarked, marks, ap (λ (n : ℕ). length (marks_by n history)) ran.stays.worker);
       order = ran.order;
     }
 
 pub crew_joined : CrewIsJoined
 crew_joined tells b history worker lines answers held kept so =
     subst (λ (n : ℕ). IsAnswered (tells ≡ true) b n history (length b.found) lines answers held kept) so.who
-    (joins_worker (tells ≡ true) b history lines answers held kept so.old so.new so.ran so.found so.none so.seen so.all)
+    (joins_worker (tells ≡ true) b history lines answers held kept so.old so.new so.ran so.found so.none so.unmarked so.seen so.all so.marks)

@@ -11,10 +11,10 @@ use Rattle.vault.proofs.LentAreas.{one_or_none}
 use Rattle.vault.proofs.SetAreas.{same_or_not}
 use Rattle.history.specs.Entry.{Entry}
 use Rattle.shared_store.specs.Seen.{accepted_by}
-use Rattle.shared_store.specs.declared.fault.InsertFault.{InsertFault}
-use Rattle.shared_store.specs.declared.fault.InsertFault.TheVariants as insert
-use Rattle.base_backup.specs.declared.fault.BackupFault.TheVariants as backup
-use Rattle.base_backup.specs.declared.incr_fault.IncrFault.TheVariants as incr
+use Rattle.store_faults.specs.declared.insert_fault.InsertFault.{InsertFault}
+use Rattle.store_faults.specs.declared.insert_fault.InsertFault.TheVariants as insert
+use Rattle.store_faults.specs.declared.backup_fault.BackupFault.TheVariants as backup
+use Rattle.store_faults.specs.declared.incr_fault.IncrFault.TheVariants as incr
 use Rattle.std.specs.Prelude.{IsSome, IfSome}
 use Rattle.std.specs.Ordering.{nat_cmp}
 use Rattle.std.specs.Cmp.Lexicographic.{slice_cmp, nat_list_cmp_total}
@@ -23,17 +23,19 @@ use Rattle.std.specs.FinMap.{get, insert, empty, get-insert, get-empty}
 use Rattle.lsn_core.specs.Store.{Store, files_of}
 use Rattle.backup_files.specs.Area.{HoldsNothing}
 use Rattle.backup_files.specs.Directory.{label_name, manifest_name}
-use Rattle.base_backup.specs.Directory.{directory_of}
+use Rattle.backup_sending.specs.Directory.{directory_of}
 use Rattle.command_base.specs.Areas.{backup_name, AreaIsDurable}
 use Rattle.command_base.proofs.Told.{some_told, at_told}
-use Rattle.crew.specs.declared.script.Command.{Command}
-use Rattle.crew.specs.declared.script.Command.TheVariants as command
-use Rattle.crew.specs.declared.script.Line.{Line}
-use Rattle.crew.specs.declared.answer.Answer.{Answer}
-use Rattle.crew.specs.declared.answer.Answer.TheVariants.{Accepted, Refused, Grown, Stopped, Redo, CheckpointRefused, Wrote, Published, CallFailed, Backup, BackupRefused, IncrRefused, NotRun}
-use Rattle.crew.specs.declared.answer.Stop.TheVariants as stop
-use Rattle.crew.specs.Backups.{area_asked, areas_asked, backup_taken, prior_taken}
-use Rattle.crew.specs.Run.{Basis, HoldsBackup, OnlyAt, OnlyAmong, StaysFull, LineAnswer, Answered, insert_stop, mark_stop, StandsFor, BackupsStand, FailsFor, BackupFaultsRose, AnswersTellBackups}
+use Rattle.scripts.specs.declared.script.Command.{Command}
+use Rattle.scripts.specs.declared.script.Command.TheVariants as command
+use Rattle.scripts.specs.declared.script.Line.{Line}
+use Rattle.run_answers.specs.declared.answer.Answer.{Answer}
+use Rattle.run_answers.specs.declared.answer.Answer.TheVariants.{Accepted, Refused, Grown, Stopped, Redo, CheckpointRefused, Wrote, Published, CallFailed, Backup, BackupRefused, IncrRefused, NotRun}
+use Rattle.run_answers.specs.declared.answer.Stop.TheVariants as stop
+use Rattle.crew.specs.Backups.{area_asked, areas_asked}
+use Rattle.scripts.specs.Named.{backup_taken, prior_taken}
+use Rattle.crew.specs.Run.{Basis, HoldsBackup, OnlyAt, OnlyAmong, StaysFull, LineAnswer, Answered, StandsFor, BackupsStand, FailsFor, BackupFaultsRose, AnswersTellBackups}
+use Rattle.run_answers.specs.Stopping.{insert_stop, mark_stop}
 
 -- ---- names
 

@@ -12,12 +12,5 @@ pub mod Summed
 pub mod Incremented
 pub mod Increased
 pub mod Two
-pub mod Priors
 pub mod RunLaws
 pub mod Joined
-pub mod Pieces
-pub mod Each
-pub mod ItemWords
-pub mod SoFar
-pub mod OneAnswer
-pub mod Workers

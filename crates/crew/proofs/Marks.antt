@@ -1,5 +1,5 @@
 -- Checkpoints and flushes.
-use Rattle.std.proofs.Common.{◌≡◌, ℕ, ◌≤◌, List, [], ◌∷◌, ◌++◌, length, slice_get, Some, refl, ap, sym, subst, ◌∙◌, arith, append_assoc, length-append, inl}
+use Rattle.std.proofs.Common.{◌≡◌, ℕ, ◌+◌, ◌≤◌, List, [], ◌∷◌, ◌++◌, length, slice_get, Some, refl, ap, sym, subst, ◌∙◌, arith, append_assoc, length-append, inl}
 use Rattle.std.specs.Prelude.{Err}
 use Rattle.lsn_core.specs.declared.fault.MarkFault.{MarkFault}
 use Rattle.lsn_core.specs.declared.fault.MarkFault.TheVariants as mark
@@ -12,11 +12,12 @@ use Rattle.wal_writer.specs.declared.state.Flushed.{Flushed}
 use Rattle.shared_store.specs.declared.receipt.Redo as receipt
 use Rattle.shared_store.specs.Seen.{Seen, StaysBy, ShareRose, TakesFault}
 use Rattle.shared_store.specs.Shared.{HasCheckpointIn, MayFindNoRoom, TakesMarkFault}
-use Rattle.base_backup.specs.Entries.{HasCheckpointAt}
-use Rattle.crew.specs.declared.script.Command.TheVariants as command
-use Rattle.crew.specs.declared.answer.Answer.TheVariants.{Redo, CheckpointRefused, Wrote, CallFailed}
-use Rattle.crew.specs.declared.answer.Stop.TheVariants as stop
-use Rattle.crew.specs.Run.{IsCheckpointRefused, mark_stop}
+use Rattle.backup_sending.specs.Entries.{HasCheckpointAt}
+use Rattle.scripts.specs.declared.script.Command.TheVariants as command
+use Rattle.run_answers.specs.declared.answer.Answer.TheVariants.{Redo, CheckpointRefused, Wrote, CallFailed}
+use Rattle.run_answers.specs.declared.answer.Stop.TheVariants as stop
+use Rattle.crew.specs.Run.{IsCheckpointRefused}
+use Rattle.run_answers.specs.Stopping.{mark_stop}
 use Rattle.crew.specs.Running.{WentOn, CommandRuns}
 use Rattle.crew.proofs.Lists.{prefix_length, next_there}
 use Rattle.shared_store.proofs.Booked.{takes_rose, mark_stays}
@@ -25,9 +26,9 @@ use Rattle.crew.proofs.Steps.{went_further, went_still}
 
 -- ---- checkpoints
 
-pub redone : (tells : Type 0) (settings : StoreSettings) (old new : Seen) (redo : receipt.Redo) (flushed : Flushed) → HasCheckpointIn old.worker old.list new.list redo flushed → StaysBy old new → new.accepted ≡ old.accepted → new.faults ≡ old.faults
+pub redone : (tells : Type 0) (settings : StoreSettings) (old new : Seen) (redo : receipt.Redo) (flushed : Flushed) → HasCheckpointIn old.worker old.list new.list redo flushed → StaysBy old new → new.accepted ≡ old.accepted → new.marks ≤ old.marks + 2 → new.faults ≡ old.faults
     → CommandRuns tells settings command.Checkpoint old new (Redo redo.redo)
-redone tells settings old new redo flushed c stays accepted faults = λ when found sums held.
+redone tells settings old new redo flushed c stays accepted marked faults = λ when found sums held.
     let cut : new.list ≡ (c.before ++ (c.first ∷ c.between)) ++ (c.last ∷ []) = c.grown ∙ sym (append_assoc c.before (c.first ∷ c.between) (c.last ∷ [])) in
     let there : HasCheckpointAt old.worker (length old.list) new.list redo.redo.0 = record {
       first = c.first;
@@ -44,7 +45,7 @@ redone tells settings old new redo flushed c stays accepted faults = λ when fou
     } in
     record {
       made = [];
-      went = went_still old new stays accepted (shares_same old.faults new.faults faults);
+      went = went_still old new stays accepted marked (shares_same old.faults new.faults faults);
       answered = (refl, refl, there, refl);
       risen = λ area t. absurd cc;
       run = refl;
@@ -65,10 +66,10 @@ why_not mib worker before now (mark.WalFull n) full = full
 why_not mib worker before now mark.NoMemory full = tt
 
 pub not_redone : (T : Type 0) (tells : Type 0) (settings : StoreSettings) (old new : Seen) (why : MarkFault) → MayFindNoRoom settings.segment old.worker (length old.list) new.list why → TakesMarkFault {T = T} old new (Err why) → StaysBy old new
-    → new.accepted ≡ old.accepted → CommandRuns tells settings command.Checkpoint old new (CheckpointRefused why)
-not_redone T tells settings old new why full takes stays accepted = λ when found sums held. record {
+    → new.accepted ≡ old.accepted → new.marks ≤ old.marks + 2 → CommandRuns tells settings command.Checkpoint old new (CheckpointRefused why)
+not_redone T tells settings old new why full takes stays accepted marked = λ when found sums held. record {
   made = [];
-  went = went_still old new stays accepted (mark_stays {T = T} old new (Err why) takes);
+  went = went_still old new stays accepted marked (mark_stays {T = T} old new (Err why) takes);
   answered = (refl, refl, why_not settings.segment old.worker (length old.list) new.list why full, refl);
   risen = λ area t. mark_risen T old new why area takes t;
   run = refl;
@@ -79,7 +80,7 @@ not_redone T tells settings old new why full takes stays accepted = λ when foun
 pub told_fault : (why : StoreFault) (area : StoreArea) → Some (stop.Store why) ≡ Some (stop.Store (store.Failed area)) → why ≡ store.Failed area
 told_fault why area e = cc e
 
-pub not_written : (tells : Type 0) (settings : StoreSettings) (old now new : Seen) (count : ℕ) (why : StoreFault) → WentOn old now [] → WentOn now new [] → TakesFault now new why → CommandRuns tells settings (command.Flush count) old new (CallFailed why)
+pub not_written : (tells : Type 0) (settings : StoreSettings) (old now new : Seen) (count : ℕ) (why : StoreFault) → WentOn 0 old now [] → WentOn 0 now new [] → TakesFault now new why → CommandRuns tells settings (command.Flush count) old new (CallFailed why)
 not_written tells settings old now new count why w v takes = λ when found sums held. record {
   made = [];
   went = went_further old now new [] [] w v;
@@ -88,5 +89,5 @@ not_written tells settings old now new count why w v takes = λ when found sums 
   run = refl;
 }
 
-pub written : (tells : Type 0) (settings : StoreSettings) (old new : Seen) (count wrote : ℕ) → WentOn old new [] → wrote ≤ count → CommandRuns tells settings (command.Flush count) old new (Wrote wrote)
+pub written : (tells : Type 0) (settings : StoreSettings) (old new : Seen) (count wrote : ℕ) → WentOn 0 old new [] → wrote ≤ count → CommandRuns tells settings (command.Flush count) old new (Wrote wrote)
 written tells settings old new count wrote w few = λ when found sums held. record { made = []; went = w; answered = (count, refl, refl, few, refl); risen = λ area t. absurd cc; run = refl }

@@ -8,9 +8,10 @@ use Rattle.history.specs.declared.op.Op.{Op}
 use Rattle.history.specs.Entry.{Entry}
 use Rattle.vault.specs.Site.{Areas}
 use Rattle.shared_store.specs.Seen.{accepted_by}
-use Rattle.crew.specs.declared.script.Line.{Line}
-use Rattle.crew.specs.declared.answer.Answer.{Answer}
-use Rattle.crew.specs.Run.{Basis, IsMade, IsTakenAt, Made, LineAnswer, Answered, InOrder, is_not_run, stops_with}
+use Rattle.scripts.specs.declared.script.Line.{Line}
+use Rattle.run_answers.specs.declared.answer.Answer.{Answer}
+use Rattle.crew.specs.Run.{Basis, IsMade, IsTakenAt, Made, LineAnswer, Answered, InOrder}
+use Rattle.run_answers.specs.Stopping.{is_not_run, stops_with}
 use Rattle.crew.proofs.Lists.{prefix_length, prefix_get, prefix_take}
 
 -- ---- entries

@@ -1,15 +1,18 @@
 -- Lines as far as they were run.
-use Rattle.std.proofs.Common.{◌≡◌, ℕ, ◌+◌, Bool, true, false, List, [], ◌∷◌, ◌++◌, length, refl, sym, subst, ◌∙◌}
+use Rattle.std.proofs.Common.{◌≡◌, ℕ, Bool, true, false, List, [], ◌∷◌, ◌++◌, length, refl, sym, subst, ◌∙◌}
+use Rattle.std.specs.List.{sum_by}
+use Rattle.std.proofs.lemmas.List.Sums.{sum_by_push}
 use Rattle.std.proofs.lemmas.List.Elements.{All-nil, All-push}
 use Rattle.lsn_core.specs.declared.fault.StoreArea.{StoreArea}
 use Rattle.vault.specs.Site.{Areas}
 use Rattle.history.specs.Entry.{Entry}
 use Rattle.shared_store.specs.Seen.{Seen, SharesStay, ShareRose}
-use Rattle.crew.specs.declared.script.Command.{Command}
-use Rattle.crew.specs.declared.script.Line.{Line}
-use Rattle.crew.specs.declared.answer.Answer.{Answer}
-use Rattle.crew.specs.declared.answer.Answer.TheVariants.{NotRun}
-use Rattle.crew.specs.Run.{Basis, LineAnswer, Answered, RunsLines, InOrder, TellsFault, SharesRose, stops_with}
+use Rattle.scripts.specs.declared.script.Command.{Command}
+use Rattle.scripts.specs.declared.script.Line.{Line}
+use Rattle.run_answers.specs.declared.answer.Answer.{Answer}
+use Rattle.run_answers.specs.declared.answer.Answer.TheVariants.{NotRun}
+use Rattle.crew.specs.Run.{Basis, LineAnswer, Answered, RunsLines, InOrder, TellsFault, SharesRose, marks_allowed}
+use Rattle.run_answers.specs.Stopping.{stops_with}
 use Rattle.crew.specs.Running.{WentOn, LineRuns}
 use Rattle.crew.proofs.Moments.{answered_more, order_more, stopped_by, stopped_more}
 use Rattle.crew.proofs.Shares.{rose_on, rose_from}
@@ -21,7 +24,7 @@ not_run tells b line seen held = record { made = []; went = went_nowhere seen; a
 
 pub record IsRunning (tells : Type 0) (b : Basis) (old now : Seen) (held kept : Areas) (lines : List Line) (answers : List Answer) (stopped : Bool) : Type 0 where
   pub made : List Entry
-  pub went : WentOn old now made
+  pub went : WentOn (sum_by marks_allowed answers) old now made
   pub answered : Answered tells b old.worker now.list (length old.list) lines answers made (length now.list) held kept
   pub order : InOrder false answers
   pub stopped_is : stopped ≡ stopped_by false answers
@@ -48,7 +51,7 @@ runs_more tells b old now new held kept last lines more line answers after answe
     subst (λ (n : ℕ). LineAnswer tells b n (length now.list) new.list line.command answer l.made kept last) r.went.stays.worker l.answered in
     let grown : IsRunning tells b old new held last (lines ++ (line ∷ [])) (answers ++ (answer ∷ [])) (stops_with answer) = record {
       made = r.made ++ l.made;
-      went = went_further old now new r.made l.made r.went l.went;
+      went = subst (λ n. WentOn n old new (r.made ++ l.made)) (sym (sum_by_push marks_allowed answers answer)) (went_further old now new r.made l.made r.went l.went);
       answered = answered_more tells b old.worker now.list new.list (length old.list) lines answers r.made line answer l.made held kept last l.went.stays.seen here r.answered;
       order = order_more false answers answer r.order (l.run ∙ r.stopped_is);
       stopped_is = sym (stopped_more false answers answer);
@@ -65,6 +68,7 @@ runs_all tells b old new held mid lines answers stopped r = record {
   made = r.made;
   answered = r.answered;
   counted = r.went.counted;
+  marked = r.went.marked;
   order = r.order;
   risen = r.risen;
 }

@@ -1,5 +1,5 @@
 -- What a worker has seen, from one call to the next.
-use Rattle.std.proofs.Common.{◌≡◌, ℕ, ◌+◌, List, [], ◌∷◌, ◌++◌, length, take, slice_get, Some, refl, ap, sym, subst, ◌∙◌, arith, append_assoc, append-nil, length-append}
+use Rattle.std.proofs.Common.{◌≡◌, ℕ, ◌≤◌, ◌+◌, List, [], ◌∷◌, ◌++◌, length, take, slice_get, Some, refl, ap, sym, subst, ◌∙◌, arith, append_assoc, append-nil, length-append}
 use Rattle.std.specs.Prelude.{Ok, Err}
 use Rattle.lsn_core.specs.declared.lsn.Lsn.{Lsn}
 use Rattle.lsn_core.specs.declared.lsn.Place.{Place}
@@ -7,8 +7,8 @@ use Rattle.journal.specs.Lawful.{IsLawful}
 use Rattle.history.specs.declared.op.Op.{Op}
 use Rattle.history.specs.Entry.{Entry}
 use Rattle.shared_store.specs.declared.receipt.Receipt.{Receipt}
-use Rattle.shared_store.specs.declared.fault.InsertFault.{InsertFault}
-use Rattle.shared_store.specs.declared.fault.InsertFault.TheVariants as insert
+use Rattle.store_faults.specs.declared.insert_fault.InsertFault.{InsertFault}
+use Rattle.store_faults.specs.declared.insert_fault.InsertFault.TheVariants as insert
 use Rattle.shared_store.specs.Seen.{Seen, StaysBy, SharesStay, BooksIf, failed_area, accepted_by}
 use Rattle.shared_store.specs.Shared.{HasInserted, HasRefused}
 use Rattle.shared_store.specs.Calls.{IsTaken}
@@ -26,23 +26,29 @@ stays_trans a b c p q = record {
   worker = q.worker ∙ p.worker;
 }
 
-pub went_nowhere : (seen : Seen) → WentOn seen seen []
+pub went_nowhere : (seen : Seen) → WentOn 0 seen seen []
 went_nowhere seen = record {
   stays = record { seen = ([], append-nil seen.list); worker = refl };
   counted = omega arith;
+  marked = omega arith;
   shares = shares_same seen.faults seen.faults refl;
 }
 
-pub went_further : (old now new : Seen) (made more : List Entry) → WentOn old now made → WentOn now new more → WentOn old new (made ++ more)
-went_further old now new made more one two = record {
+pub went_further : {m n : ℕ} (old now new : Seen) (made more : List Entry) → WentOn m old now made → WentOn n now new more → WentOn (m + n) old new (made ++ more)
+went_further {m} {n} old now new made more one two = record {
   stays = stays_trans old now new one.stays two.stays;
   counted = omega (arith, one.counted, two.counted, length-append made more);
+  marked = omega (arith, one.marked, two.marked);
   shares = shares_on old.faults now.faults new.faults one.shares two.shares;
 }
 
 -- a call that did no command
-pub went_still : (old new : Seen) → StaysBy old new → new.accepted ≡ old.accepted → SharesStay old.faults new.faults → WentOn old new []
-went_still old new stays accepted shares = record { stays = stays; counted = omega (arith, accepted); shares = shares }
+pub went_still : {most : ℕ} (old new : Seen) → StaysBy old new → new.accepted ≡ old.accepted → new.marks ≤ old.marks + most → SharesStay old.faults new.faults → WentOn most old new []
+went_still old new stays accepted marked shares = record { stays = stays; counted = omega (arith, accepted); marked = marked; shares = shares }
+
+-- none that made no mark
+pub none_marked : (old new : ℕ) → new ≡ old → new ≤ old + 0
+none_marked old new same = omega (arith, same)
 
 -- ---- a command's entry
 
@@ -58,8 +64,8 @@ taken_there mib history asked receipt e t start end = record {
   end = sym end ∙ ap (λ (l : Lsn). l.0) t.end;
 }
 
-pub inserted : (tells : Type 0) (mib : ℕ) (asked : Op) (old new : Seen) (receipt : Receipt) → HasInserted tells mib asked old new receipt → StaysBy old new → new.faults ≡ old.faults → Inserts tells mib asked old new (Ok receipt.place)
-inserted tells mib asked old new receipt i stays faults =
+pub inserted : (tells : Type 0) (mib : ℕ) (asked : Op) (old new : Seen) (receipt : Receipt) → HasInserted tells mib asked old new receipt → StaysBy old new → new.marks ≡ old.marks → new.faults ≡ old.faults → Inserts tells mib asked old new (Ok receipt.place)
+inserted tells mib asked old new receipt i stays marks faults =
     let r = i.receipt_is in
     let e : Entry = r.entry in
     let cut : take (length i.before) new.list ≡ i.before = ap (take (length i.before)) r.grown ∙ up_to_here i.before (e ∷ []) in
@@ -70,12 +76,12 @@ inserted tells mib asked old new receipt i stays faults =
       seq = r.seq ∙ ap (λ (n : ℕ). Some n) r.next ∙ ap (λ (xs : List Entry). Some (length (accepted_by old.worker xs))) (sym cut);
       told = λ t. subst (λ (xs : List Entry). IsTakenAt mib xs asked e) (sym cut) (taken_there mib i.before asked receipt e (i.taken t) r.start r.end);
     } in
-    let went : WentOn old new (e ∷ []) = record { stays = stays; counted = i.counted; shares = shares_same old.faults new.faults faults } in
+    let went : WentOn 0 old new (e ∷ []) = record { stays = stays; counted = i.counted; marked = none_marked old.marks new.marks marks; shares = shares_same old.faults new.faults faults } in
     (e, length i.before, prefix_length old.list i.before i.past, made, went, same_place receipt.place e.start e.end r.start r.end)
 
-pub refused : (tells : Type 0) (mib : ℕ) (asked : Op) (old new : Seen) (why : InsertFault) → HasRefused tells mib asked old new why → StaysBy old new → BooksIf (failed_area why) old new → Inserts tells mib asked old new (Err why)
-refused tells mib asked old new why r stays books = (
-  went_still old new stays r.counted (refusal_stays old new why books),
+pub refused : (tells : Type 0) (mib : ℕ) (asked : Op) (old new : Seen) (why : InsertFault) → HasRefused tells mib asked old new why → StaysBy old new → new.marks ≡ old.marks → BooksIf (failed_area why) old new → Inserts tells mib asked old new (Err why)
+refused tells mib asked old new why r stays marks books = (
+  went_still old new stays r.counted (none_marked old.marks new.marks marks) (refusal_stays old new why books),
   r.refused,
   λ area is. refusal_rose old new why area books is,
 )

@@ -4,16 +4,16 @@ use Rattle.lsn_core.specs.declared.fault.StoreFault.{StoreFault}
 use Rattle.shared_store.specs.Seen.{Seen, TakesFault}
 use Rattle.shared_summaries.specs.Shelf.{HasPublished}
 use Rattle.summary_publish.specs.Published.{LooksOn}
-use Rattle.crew.specs.declared.script.Command.TheVariants as command
-use Rattle.crew.specs.declared.answer.Answer.TheVariants.{Published, CallFailed}
+use Rattle.scripts.specs.declared.script.Command.TheVariants as command
+use Rattle.run_answers.specs.declared.answer.Answer.TheVariants.{Published, CallFailed}
 use Rattle.crew.specs.Run.{Basis}
 use Rattle.crew.specs.Running.{WentOn, RunsAlone}
 use Rattle.crew.proofs.Marks.{told_fault}
 use Rattle.crew.proofs.Shares.{fault_rose}
-use Rattle.crew.proofs.Steps.{went_still}
+use Rattle.crew.proofs.Steps.{none_marked, went_still}
 
-looked : (old new : Seen) → LooksOn old new → WentOn old new []
-looked old new l = went_still old new (record { seen = l.seen; worker = l.worker }) l.accepted l.shares
+looked : (old new : Seen) → LooksOn old new → WentOn 0 old new []
+looked old new l = went_still old new (record { seen = l.seen; worker = l.worker }) l.accepted (none_marked old.marks new.marks l.marks) l.shares
 
 pub published : (tells : Type 0) (b : Basis) (old new : Seen) (count : ℕ) → HasPublished tells b.found b.sums new.list b.when count → LooksOn old new → RunsAlone tells b command.Summarise old new (Published count)
 published tells b old new count p l = λ held. record {

@@ -11,7 +11,7 @@ use Rattle.vault.specs.Lending.{IsNoneOf, AreLater}
 use Rattle.vault.proofs.LentAreas.{later_again}
 use Rattle.shared_store.specs.Seen.{Seen}
 use Rattle.command_base.specs.Areas.{backup_name}
-use Rattle.crew.specs.declared.script.Command.TheVariants as command
+use Rattle.scripts.specs.declared.script.Command.TheVariants as command
 use Rattle.crew.specs.declared.increments.Turn.{Turn}
 use Rattle.crew.specs.declared.increments.Turn.TheVariants as place
 use Rattle.crew.specs.Backups.{area_asked, areas_of}

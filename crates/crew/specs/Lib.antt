@@ -1,12 +1,4 @@
-pub mod Shape
-pub mod Orders
-pub mod Cuts
-pub mod Items
-pub mod Meaning
-pub mod Reasons
-pub mod Script
-pub mod Laws
 pub mod Backups
 pub mod Run
-pub mod Inside
+pub mod Crewing
 pub mod Running

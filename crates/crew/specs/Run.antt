@@ -1,6 +1,6 @@
 -- What the lines of a worker are answered, over the history that it has seen.
-use Rattle.std.specs.Prelude.{◌≡◌, ◌≢◌, ℕ, ◌+◌, ◌<◌, ◌≤◌, ◌⊎◌, ◌||◌, Bool, true, false, List, [], ◌∷◌, ◌++◌, map, length, take, slice_get, Option, Some, None, IsSome, IfSome, Result, Ok, Err}
-use Rattle.std.specs.List.{All}
+use Rattle.std.specs.Prelude.{◌≡◌, ◌≢◌, ℕ, ◌+◌, ◌<◌, ◌≤◌, ◌⊎◌, ◌||◌, Bool, true, false, List, [], ◌∷◌, ◌++◌, map, length, take, slice_get, Option, Some, None, IsSome, IfSome, Ok, Err}
+use Rattle.std.specs.List.{All, sum_by}
 use Rattle.std.specs.Option.{is_some}
 use Rattle.std.specs.FinMap.{empty}
 use mathlib.Core.List.{IsPrefix}
@@ -25,37 +25,40 @@ use Rattle.fuzzy_copies.specs.Taken.{IsTaken}
 use Rattle.history.specs.Apply.{apply_all}
 use Rattle.history.specs.Op.{act_of_op}
 use Rattle.history.specs.Written.{record_of, tip_of}
-use Rattle.shared_store.specs.declared.fault.InsertFault.{InsertFault}
-use Rattle.shared_store.specs.declared.fault.InsertFault.TheVariants as insert
-use Rattle.shared_store.specs.Seen.{Seen, StaysBy, ShareRose, accepted_by}
+use Rattle.store_faults.specs.declared.insert_fault.InsertFault.{InsertFault}
+use Rattle.store_faults.specs.declared.insert_fault.InsertFault.TheVariants as insert
+use Rattle.shared_store.specs.Seen.{Seen, StaysBy, ShareRose, accepted_by, marks_by}
 use Rattle.shared_store.specs.Refusals.{judged_at, IsRefusedBehind}
 use Rattle.shared_store.specs.Shared.{FindsNoRoomIn}
-use Rattle.base_backup.specs.declared.fault.BackupFault.{BackupFault}
-use Rattle.base_backup.specs.declared.fault.BackupFault.TheVariants as backup
+use Rattle.store_faults.specs.declared.backup_fault.BackupFault.{BackupFault}
+use Rattle.store_faults.specs.declared.backup_fault.BackupFault.TheVariants as backup
 use Rattle.backup_files.specs.Area.{HoldsNothing, HoldsSomething, KeepsManifest, RoseTwice}
-use Rattle.base_backup.specs.Entries.{HasCheckpointAt, HasBackupAt, MeetsFullWal, SumsUp}
-use Rattle.base_backup.specs.Directory.{IsFullBackup, IsDirectory, incr_label}
-use Rattle.base_backup.specs.declared.basis.Basis.{Basis as Plan}
-use Rattle.base_backup.specs.declared.incr_fault.IncrFault.{IncrFault}
-use Rattle.base_backup.specs.declared.incr_fault.IncrFault.TheVariants as incr
-use Rattle.base_backup.specs.Prior.{HasListing, IsOfStore, PriorAnswer}
-use Rattle.base_backup.specs.Sent.{SentFile, AreListed, AreSent, file_of}
+use Rattle.backup_sending.specs.Entries.{HasCheckpointAt, HasBackupAt, MeetsFullWal}
+use Rattle.incr_backup.specs.Incr.{SumsUp}
+use Rattle.backup_sending.specs.Directory.{IsFullBackup, IsDirectory, incr_label}
+use Rattle.backup_sending.specs.declared.basis.Basis.{Basis as Plan}
+use Rattle.store_faults.specs.declared.incr_fault.IncrFault.{IncrFault}
+use Rattle.store_faults.specs.declared.incr_fault.IncrFault.TheVariants as incr
+use Rattle.incr_backup.specs.Prior.{HasListing, IsOfStore, PriorAnswer}
+use Rattle.backup_sending.specs.Sent.{SentFile, AreListed, AreSent, file_of}
 use Rattle.manifest.specs.Listing.{Listing}
 use Rattle.command_base.specs.Areas.{backup_name, AreaIsDurable}
-use Rattle.crew.specs.declared.script.Command.{Command}
-use Rattle.crew.specs.declared.script.Command.TheVariants as command
-use Rattle.crew.specs.declared.script.Line.{Line}
-use Rattle.crew.specs.declared.order.Order.{Order}
-use Rattle.crew.specs.declared.answer.Answer.{Answer}
-use Rattle.crew.specs.declared.answer.Answer.TheVariants.{Accepted, Refused, Grown, Stopped, Redo, CheckpointRefused, Wrote, Published, CallFailed, Backup, BackupRefused, IncrRefused, NotRun}
-use Rattle.crew.specs.declared.answer.Stop.{Stop}
-use Rattle.crew.specs.declared.answer.Stop.TheVariants as stop
-use Rattle.crew.specs.Backups.{area_asked, areas_asked, backup_taken, prior_taken}
-use Rattle.crew.specs.Orders.{op_asked, grow_op, grow_ops}
-use Rattle.crew.specs.Shape.{Shape}
+use Rattle.scripts.specs.declared.script.Command.{Command}
+use Rattle.scripts.specs.declared.script.Command.TheVariants as command
+use Rattle.scripts.specs.declared.script.Line.{Line}
+use Rattle.scripts.specs.declared.order.Order.{Order}
+use Rattle.run_answers.specs.Stopping.{stop_of, is_not_run, stops_with}
+use Rattle.run_answers.specs.declared.answer.Answer.{Answer}
+use Rattle.run_answers.specs.declared.answer.Answer.TheVariants.{Accepted, Refused, Grown, Stopped, Redo, CheckpointRefused, Wrote, Published, CallFailed, Backup, BackupRefused, IncrRefused, NotRun}
+use Rattle.run_answers.specs.declared.answer.Stop.{Stop}
+use Rattle.run_answers.specs.declared.answer.Stop.TheVariants as stop
+use Rattle.crew.specs.Backups.{area_asked, areas_asked}
+use Rattle.scripts.specs.Named.{backup_taken, prior_taken}
+use Rattle.scripts.specs.Orders.{op_asked, grow_op, grow_ops}
+use Rattle.scripts.specs.Shape.{Shape}
 use Rattle.summary_store.specs.Honest.{IsHonest}
 use Rattle.shared_summaries.specs.Shelf.{HasPublished}
-use Rattle.summary_publish.specs.declared.advancing.AdvanceFault.TheVariants as advance
+use Rattle.store_faults.specs.declared.advance_fault.AdvanceFault.TheVariants as advance
 
 -- ---- commands in a history
 
@@ -371,6 +374,16 @@ LineAnswer tells b worker before now line (IncrRefused why) made held mid =
     (incr_areas held name prior) (incr_areas mid name prior) why
 LineAnswer tells b worker before now line NotRun made held mid = (made ≡ []) × (mid ≡ held)
 
+-- how many marks of a worker a line's answer allows: the start and the end of a checkpoint, and behind
+-- these the end of a backup; none of a line that asks for neither
+abbrev pub marks_allowed : Answer → ℕ
+marks_allowed (Redo redo) = 2
+marks_allowed (CheckpointRefused why) = 2
+marks_allowed (Backup start end) = 3
+marks_allowed (BackupRefused why) = 3
+marks_allowed (IncrRefused why) = 3
+marks_allowed answer = 0
+
 -- ---- lines in turn
 
 -- lines and their answers, one each, from a moment of a history to another, the entries that their
@@ -391,63 +404,6 @@ Answered tells b worker history from (line ∷ lines) (answer ∷ answers) made 
 
 -- ---- what stops a worker
 
--- by what the refusal of a command stops it, that of a checkpoint, and those of backups: a device
--- that failed, or want of memory, but not want of room in the WAL, no area that holds a file, and
--- nothing that is judged of a prior backup
-abbrev pub insert_stop : InsertFault → Option Stop
-insert_stop (insert.Failed area) = Some (stop.Store (store.Failed area))
-insert_stop insert.NoMemory = Some (stop.Store store.NoMemory)
-insert_stop why = None
-
-abbrev pub mark_stop : MarkFault → Option Stop
-mark_stop (mark.Failed area) = Some (stop.Store (store.Failed area))
-mark_stop (mark.WalFull n) = None
-mark_stop mark.NoMemory = Some (stop.Store store.NoMemory)
-
-abbrev pub backup_stop : BackupFault → Option Stop
-backup_stop backup.NotEmpty = None
-backup_stop (backup.WalFull n) = None
-backup_stop (backup.StoreFailed area) = Some (stop.Store (store.Failed area))
-backup_stop backup.OutFailed = Some stop.Backup
-backup_stop backup.NoMemory = Some (stop.Store store.NoMemory)
-
-abbrev pub incr_stop : IncrFault → Option Stop
-incr_stop incr.NotEmpty = None
-incr_stop incr.NoManifest = None
-incr_stop (incr.ManifestRefused why) = None
-incr_stop (incr.SystemDiffers have expected) = None
-incr_stop (incr.Overlap start end) = None
-incr_stop (incr.Gap place) = None
-incr_stop (incr.WalFull n) = None
-incr_stop (incr.StoreFailed area) = Some (stop.Store (store.Failed area))
-incr_stop incr.SumsFailed = Some (stop.Store (store.Failed Sums))
-incr_stop incr.PriorFailed = Some stop.Prior
-incr_stop incr.OutFailed = Some stop.Backup
-incr_stop incr.NoMemory = Some (stop.Store store.NoMemory)
-
-abbrev pub stop_of : Answer → Option Stop
-stop_of (Accepted place) = None
-stop_of (Refused why) = insert_stop why
-stop_of (Grown k place) = None
-stop_of (Stopped k why) = insert_stop why
-stop_of (Redo redo) = None
-stop_of (CheckpointRefused why) = mark_stop why
-stop_of (Wrote k) = None
-stop_of (Published k) = None
-stop_of (CallFailed why) = Some (stop.Store why)
-stop_of (Backup start end) = None
-stop_of (BackupRefused why) = backup_stop why
-stop_of (IncrRefused why) = incr_stop why
-stop_of NotRun = None
-
-abbrev pub is_not_run : Answer → Bool
-is_not_run NotRun = true
-is_not_run answer = false
-
--- behind such an answer no line is run
-abbrev pub stops_with : Answer → Bool
-stops_with answer = is_not_run answer || is_some (stop_of answer)
-
 -- lines aren't run exactly behind an answer that stops the worker
 abbrev pub InOrder : Bool → List Answer → Type 0
 InOrder stopped [] = Unit {0}
@@ -466,8 +422,8 @@ SharesRose answers old new =
 -- ---- a worker's run
 
 -- a worker ran its lines: over what it has seen now each is answered, its accepted commands there are
--- those that the answers name, in order, and an answer names an area of the store, or of summaries, only
--- where the pass's share of its faults rose
+-- those that the answers name, in order, it made no more marks than these allow, and an answer names
+-- an area of the store, or of summaries, only where the pass's share of its faults rose
 pub record RunsLines (tells : Type 0) (b : Basis) (lines : List Line) (old new : Seen)
     (held mid : Areas) (answers : List Answer) : Type 0 where
   pub stays : StaysBy old new
@@ -475,17 +431,20 @@ pub record RunsLines (tells : Type 0) (b : Basis) (lines : List Line) (old new :
   pub answered : Answered tells b old.worker new.list (length old.list) lines answers made
       (length new.list) held mid
   pub counted : new.accepted ≡ old.accepted + length made
+  pub marked : new.marks ≤ old.marks + sum_by marks_allowed answers
   pub order : InOrder false answers
   pub risen : SharesRose answers old new
 
 -- a worker's answers over the finished history, of which so many entries were found: its accepted
--- commands are exactly those that the answers name, in order
+-- commands are exactly those that the answers name, in order, and it made no more marks than these
+-- allow
 pub record IsAnswered (tells : Type 0) (b : Basis) (worker : ℕ) (history : List Entry)
     (found : ℕ) (lines : List Line) (answers : List Answer) (held new : Areas) : Type 0 where
   pub to : ℕ
   pub within : to ≤ length history
   pub answered :
       Answered tells b worker history found lines answers (accepted_by worker history) to held new
+  pub marked : length (marks_by worker history) ≤ sum_by marks_allowed answers
   pub order : InOrder false answers
 
 -- ---- what stands of backups when all lines were run
@@ -578,7 +537,8 @@ AnswersStay =
     → Answered (tells ≡ true) b worker history from lines answers made to held new
 
 -- how a worker's pass began and ended in a run: it saw what was found, and what it has seen is a
--- beginning of the history, where as many of its commands stand as were accepted
+-- beginning of the history, where as many of its commands stand as were accepted, and as many marks as
+-- it made
 pub record RanSo (tells : Type 0) (b : Basis) (history : List Entry) (worker : ℕ)
     (lines : List Line) (answers : List Answer) (held kept : Areas) : Type 0 where
   pub old : Seen
@@ -587,8 +547,10 @@ pub record RanSo (tells : Type 0) (b : Basis) (history : List Entry) (worker : �
   pub who : old.worker ≡ worker
   pub found : length old.list ≡ length b.found
   pub none : old.accepted ≡ 0
+  pub unmarked : old.marks ≡ 0
   pub seen : IsPrefix new.list history
   pub all : new.accepted ≡ length (accepted_by new.worker history)
+  pub marks : new.marks ≡ length (marks_by new.worker history)
 
 -- a worker's accepted commands stand in the history once, in the order of its answers
 abbrev pub CrewIsJoined : Type 0

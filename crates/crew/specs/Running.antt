@@ -12,24 +12,26 @@ use Rattle.vault.specs.Lending.{IsNoneOf}
 use Rattle.command_base.specs.Areas.{backup_name}
 use Rattle.history.specs.declared.op.Op.{Op}
 use Rattle.history.specs.Entry.{Entry}
-use Rattle.shared_store.specs.declared.fault.InsertFault.{InsertFault}
-use Rattle.shared_store.specs.declared.fault.InsertFault.TheVariants as insert
+use Rattle.store_faults.specs.declared.insert_fault.InsertFault.{InsertFault}
+use Rattle.store_faults.specs.declared.insert_fault.InsertFault.TheVariants as insert
 use Rattle.shared_store.specs.Seen.{Seen, StaysBy, SharesStay, ShareRose}
-use Rattle.base_backup.specs.Incr.{IncrSite, incr_site}
+use Rattle.incr_backup.specs.Incr.{IncrSite, incr_site}
 use Rattle.crew.specs.declared.increments.Places.{Places}
 use Rattle.crew.specs.declared.increments.Turn.{Turn}
 use Rattle.crew.specs.declared.increments.Turn.TheVariants as place
-use Rattle.crew.specs.declared.script.Command.{Command}
-use Rattle.crew.specs.declared.script.Command.TheVariants as command
-use Rattle.crew.specs.declared.answer.Answer.{Answer}
+use Rattle.scripts.specs.declared.script.Command.{Command}
+use Rattle.scripts.specs.declared.script.Command.TheVariants as command
+use Rattle.run_answers.specs.declared.answer.Answer.{Answer}
 use Rattle.crew.specs.Backups.{area_asked}
-use Rattle.crew.specs.Run.{Basis, basis_of, IsMade, IsRefusedNow, LineAnswer, TellsFault, is_not_run, span_of}
+use Rattle.crew.specs.Run.{Basis, basis_of, IsMade, IsRefusedNow, LineAnswer, TellsFault, marks_allowed, span_of}
+use Rattle.run_answers.specs.Stopping.{is_not_run}
 
--- a worker has seen more, and its accepted commands of these entries are counted; no share of its
--- faults fell
-pub record WentOn (old new : Seen) (made : List Entry) : Type 0 where
+-- a worker has seen more, and its accepted commands of these entries are counted, and so many marks at
+-- most; no share of its faults fell
+pub record WentOn (most : ℕ) (old new : Seen) (made : List Entry) : Type 0 where
   pub stays : StaysBy old new
   pub counted : new.accepted ≡ old.accepted + length made
+  pub marked : new.marks ≤ old.marks + most
   pub shares : SharesStay old.faults new.faults
 
 -- a command's entry stands behind all that was seen, at this place; or the command is refused behind
@@ -38,9 +40,9 @@ abbrev pub Inserts : Type 0 → ℕ → Op → Seen → Seen → Result Place In
 Inserts tells mib asked old new (Ok place) =
     (entry : Entry) × (number : ℕ) × (length old.list ≤ number)
     × IsMade tells mib old.worker new.list number asked entry
-    × WentOn old new (entry ∷ []) × (place ≡ span_of (entry ∷ []))
+    × WentOn 0 old new (entry ∷ []) × (place ≡ span_of (entry ∷ []))
 Inserts tells mib asked old new (Err why) =
-    WentOn old new [] × IsRefusedNow tells mib new.list asked why
+    WentOn 0 old new [] × IsRefusedNow tells mib new.list asked why
     × ((area : StoreArea) → why ≡ insert.Failed area → ShareRose area old new)
 
 -- a line's command was run and answered, or not run where the worker was stopped before it, and
@@ -48,7 +50,7 @@ Inserts tells mib asked old new (Err why) =
 pub record LineRuns (tells : Type 0) (b : Basis) (line : Command) (stopped : Bool) (old new : Seen)
     (held mid : Areas) (answer : Answer) : Type 0 where
   pub made : List Entry
-  pub went : WentOn old new made
+  pub went : WentOn (marks_allowed answer) old new made
   pub answered :
       LineAnswer tells b old.worker (length old.list) new.list line answer made held mid
   pub risen : (area : StoreArea) → TellsFault area answer → ShareRose area old new

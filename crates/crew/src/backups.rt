@@ -4,15 +4,15 @@ ghost use Rattle.std.specs.Prelude.{◌≡◌, ◌≤◌, ◌∷◌, [], true, f
 ghost use Rattle.std.specs.List.{position};
 ghost use Rattle.vault.specs.Lending.{AreLater};
 ghost use Rattle.command_base.specs.Areas.{backup_name};
-ghost use Rattle.crew.specs.declared.script.Command.TheVariants as command;
+ghost use Rattle.scripts.specs.declared.script.Command.TheVariants as command;
 ghost use Rattle.crew.specs.Backups.{areas_of, AreHeld};
 ghost use Rattle.crew.specs.Run.{basis_of};
 ghost use Rattle.crew.specs.Running.{LineRuns, BackupRuns};
 
-use crate::answer::Answer;
-use base_backup::{Gate, take_full};
+use backup_sending::{Gate, take_full};
 use command_base::is_backup_name;
 use lsn_core::Text;
+use run_answers::Answer;
 use shared_store::{OfCrew, Pass, Store};
 use std::alloc::Global;
 use std::sync::Wait;

@@ -2,16 +2,17 @@
 
 ghost use Rattle.std.specs.Prelude.{◌≡◌, ◌≢◌, ◌≤◌, List, ℕ, true, false};
 ghost use Rattle.vault.specs.Lending.{AreLater};
-ghost use Rattle.crew.specs.declared.script.Command.TheVariants as command;
+ghost use Rattle.scripts.specs.declared.script.Command.TheVariants as command;
 ghost use Rattle.crew.specs.Backups.{area_asked, areas_of, AreHeld};
 ghost use Rattle.crew.specs.Run.{basis_of};
-ghost use Rattle.base_backup.specs.Incr.{incr_site};
+ghost use Rattle.incr_backup.specs.Incr.{incr_site};
 ghost use Rattle.crew.specs.Running.{LineRuns, IncrRuns, AreIn, AreAt, IsLater, turned_site};
 
-use crate::answer::Answer;
 use crate::backups;
-use base_backup::{Gate, take_incr};
+use backup_sending::Gate;
+use incr_backup::take_incr;
 use lsn_core::Text;
+use run_answers::Answer;
 use shared_store::{OfCrew, Pass, Store};
 use shared_summaries::Summaries;
 use std::alloc::Global;

@@ -1,14 +1,7 @@
-//! Laws of scripts and of their runs: each is the contract of a function that does nothing.
+//! Laws of runs: each is the contract of a function that does nothing.
 
-ghost use Rattle.crew.specs.Laws.{HasOneAnswer};
 ghost use Rattle.crew.specs.Run.{AnswersStay, CrewIsJoined, AnswersTellBackups, TakenOrRefused};
 ghost use Rattle.crew.specs.Run.{AnswersTellIncrs};
-
-/// The answers on a script shut each other out: it is taken as one list of commands, or refused at
-/// one line for one reason.
-pub fn script_has_one_answer()
-    ensures { HasOneAnswer }
-{}
 
 /// Lines that were answered over a beginning of a history are answered so over the history, whatever
 /// other workers do later.

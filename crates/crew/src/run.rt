@@ -4,27 +4,27 @@ ghost use Rattle.std.specs.Prelude.{◌≡◌, ◌+◌, ◌<◌, ◌≤◌, ◌=
 ghost use Rattle.std.specs.Prelude.{[], true, false, length, IfOk};
 ghost use Rattle.std.specs.Vec.{vec_len, vec_capacity};
 ghost use Rattle.history.specs.declared.op.Op.{Op};
-ghost use Rattle.crew.specs.declared.script.Command.TheVariants as command;
+ghost use Rattle.scripts.specs.declared.script.Command.TheVariants as command;
 ghost use Rattle.vault.specs.Lending.{AreLater};
 ghost use Rattle.crew.specs.Backups.{area_asked, areas_asked, areas_of, AreHeld};
-ghost use Rattle.crew.specs.Backups.{HasOtherPrior, HaveOtherPriors};
+ghost use Rattle.scripts.specs.Named.{HasOtherPrior, HaveOtherPriors};
 ghost use Rattle.crew.specs.Run.{RunsLines, basis_of};
 ghost use Rattle.crew.specs.Running.{Inserts, CommandRuns, LineRuns};
 
-use crate::answer::Answer;
 use crate::backups::full;
 use crate::increments::incr;
-use crate::order::{Order, grow_op};
-use crate::script::{Command, Line};
-use crate::shape::PageShape;
 use crate::summaries::summarise;
-use base_backup::{Gate, StepKind};
+use backup_sending::{Gate, StepKind};
 use history::Op;
 use lsn_core::{BlockId, Lsn, NoMemory, Place};
-use shared_store::{InsertFault, OfCrew, Pass, Store};
+use run_answers::Answer;
+use scripts::{Command, Line, Order, PageShape, grow_op};
+use shared_store::{OfCrew, Pass, Store};
 use shared_summaries::Summaries;
 use std::alloc::Global;
 use std::sync::Wait;
+use store_faults::InsertFault;
+use store_insertion::insert_command;
 use vault::{Held, Vault};
 
 /// Inserts a command, which is refused where there was no memory to make it.
@@ -44,7 +44,7 @@ fn insert_made<J: OfCrew, V: Vault>(
         pass.know();
         return Err(InsertFault::NoMemory);
     };
-    match store.insert(rt, alloc, pass, &op) {
+    match insert_command(store, rt, alloc, pass, &op) {
         Ok(receipt) => {
             gate.passed(pass.worker(), StepKind::Insert);
             Ok(receipt.place)

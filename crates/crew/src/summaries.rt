@@ -1,12 +1,12 @@
 //! Summaries of the WAL, published into the area that workers share.
 
 ghost use Rattle.std.specs.Prelude.{◌≡◌, true};
-ghost use Rattle.crew.specs.declared.script.Command.TheVariants as command;
+ghost use Rattle.scripts.specs.declared.script.Command.TheVariants as command;
 ghost use Rattle.crew.specs.Run.{basis_of};
 ghost use Rattle.crew.specs.Running.{RunsAlone};
 
-use crate::answer::Answer;
-use base_backup::{Gate, StepKind};
+use backup_sending::{Gate, StepKind};
+use run_answers::Answer;
 use shared_store::{OfCrew, Pass, Store};
 use shared_summaries::Summaries;
 use std::alloc::Global;

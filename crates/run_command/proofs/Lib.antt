@@ -3,8 +3,8 @@ pub mod StoreLent
 pub mod ToldLess
 pub mod OwnEntries
 pub mod Noted
+pub mod Idle
 pub mod RunDone
-pub mod OneWorker
+pub mod Seated
+pub mod Crews
 pub mod RunAnswers
-pub mod AnswerLines
-pub mod Stops

@@ -1,5 +1,5 @@
 -- The areas of backups and of summaries, each noted once.
-use Rattle.std.proofs.Common.{◌≡◌, ◌≢◌, ℕ, ◌≤◌, ◌⊎◌, Bool, true, false, not, List, [], ◌∷◌, ◌++◌, length, length-append, get_or, true≢false, Option, Some, None, refl, sym, ap, subst, ◌∙◌, arith, inl, inr}
+use Rattle.std.proofs.Common.{◌≡◌, ◌≢◌, ℕ, ◌≤◌, ◌⊎◌, Bool, true, false, not, List, [], ◌∷◌, ◌++◌, length, length-append, get_or, true≢false, refl, sym, ap, subst, ◌∙◌, arith, inl, inr}
 use Rattle.std.specs.Prelude.{bytes_eq, nat_eq, ◌||◌}
 use Rattle.std.proofs.lemmas.Bool.{eq-eqb}
 use Rattle.std.specs.List.{list_any}
@@ -8,13 +8,13 @@ use Rattle.std.proofs.lemmas.Grind.{flat_map-append}
 use Rattle.std.proofs.lemmas.Slice.Eq.{bytes_eq-Decides}
 use Rattle.vault.specs.Lending.{Names, IsOneOf, IsNoneOf, AreDistinct}
 use Rattle.command_base.specs.Areas.{wal_name, data_name, sums_name, backup_name}
-use Rattle.crew.specs.declared.script.Command.{Command}
-use Rattle.crew.specs.declared.script.Command.TheVariants as command
-use Rattle.crew.specs.declared.script.Line.{Line}
-use Rattle.crew.specs.declared.script.Task.{Task}
+use Rattle.scripts.specs.declared.script.Command.{Command}
+use Rattle.scripts.specs.declared.script.Command.TheVariants as command
+use Rattle.scripts.specs.declared.script.Line.{Line}
+use Rattle.scripts.specs.declared.script.Task.{Task}
 use Rattle.crew.specs.Backups.{area_asked, areas_asked}
 use Rattle.run_command.specs.Run.{store_asks, backups_asked}
-use Rattle.run_command.specs.Inner.{AreEachOnce, AddsAsked, AreAsked, task_list, lines_in}
+use Rattle.run_command.specs.Inner.{AreEachOnce, AddsAsked, AreAsked}
 use Rattle.run_command.proofs.ToldLess.{one_front, one_back}
 use Rattle.run_command.proofs.StoreLent.{one_either}
 
@@ -155,11 +155,19 @@ none_of_store (line ∷ lines) n one =
       | inr later ↦ none_of_store lines n later
     ]
 
+none_of_script : (script : List Task) (n : List ℕ) → IsOneOf n (backups_asked script) → IsNoneOf n rest_asks
+none_of_script [] n one = absurd one
+none_of_script (task ∷ script) n one =
+    elim (one_either n (areas_asked task.lines) (backups_asked script) one) [
+      | inl here ↦ none_of_store task.lines n here
+      | inr later ↦ none_of_script script n later
+    ]
+
 none_both : (n : List ℕ) (front rest : Names) → IsNoneOf n front → IsNoneOf n rest → IsNoneOf n (front ++ rest)
 none_both n [] rest first last = last
 none_both n (name ∷ front) rest first last = (first.0, none_both n front rest first.1 last)
 
-distinct_both : (front rest : Names) → AreDistinct front → AreDistinct rest → ((n : List ℕ) → IsOneOf n front → IsNoneOf n rest) → AreDistinct (front ++ rest)
+pub distinct_both : (front rest : Names) → AreDistinct front → AreDistinct rest → ((n : List ℕ) → IsOneOf n front → IsNoneOf n rest) → AreDistinct (front ++ rest)
 distinct_both [] rest first last apart = last
 distinct_both (name ∷ front) rest first last apart =
     (none_both name front rest first.0 (apart name (inl refl)), distinct_both front rest first.1 last (λ n one. apart n (inr one)))
@@ -177,22 +185,12 @@ rest_distinct : AreDistinct rest_asks
 rest_distinct = (sums_apart, store_distinct)
 
 -- the names as they are asked for, of backups, of summaries and of the store
-asked_as : (lines : List Line) (names : Names) (asked : AreAsked lines names) → names ≡ asked.backups ++ rest_asks
-asked_as lines names asked = asked.names_are ∙ append_assoc asked.backups (sums_name ∷ []) store_asks
+asked_as : (script : List Task) (names : Names) (asked : AreAsked script names) → names ≡ asked.backups ++ rest_asks
+asked_as script names asked = asked.names_are ∙ append_assoc asked.backups (sums_name ∷ []) store_asks
 
-pub all_distinct : (lines : List Line) (names : Names) → AreAsked lines names → AreDistinct names
-all_distinct lines names asked =
-    subst AreDistinct (sym (asked_as lines names asked)) (distinct_both asked.backups rest_asks asked.each.distinct rest_distinct (λ n one. none_of_store lines n (asked.each.only n one)))
+pub all_distinct : (script : List Task) (names : Names) → AreAsked script names → AreDistinct names
+all_distinct script names asked =
+    subst AreDistinct (sym (asked_as script names asked)) (distinct_both asked.backups rest_asks asked.each.distinct rest_distinct (λ n one. none_of_script script n (asked.each.only n one)))
 
-pub six_at_least : (lines : List Line) (names : Names) → AreAsked lines names → 6 ≤ length names
-six_at_least lines names asked = omega (arith, ap (λ (ns : Names). length ns) (asked_as lines names asked), length-append asked.backups rest_asks)
-
--- names behind those of backups
-pub asked_all : (lines : List Line) (backups names : Names) → AreEachOnce (areas_asked lines) backups → names ≡ backups ++ rest_asks → AreAsked lines names
-asked_all lines backups names each is = record { backups = backups; each = each; names_are = is ∙ sym (append_assoc backups (sums_name ∷ []) store_asks) }
-
--- ---- of a script
-
-pub asked_of : (task : Option Task) → backups_asked (task_list task) ≡ areas_asked (lines_in task)
-asked_of None = refl
-asked_of (Some task) = append-nil (areas_asked task.lines)
+pub six_at_least : (script : List Task) (names : Names) → AreAsked script names → 6 ≤ length names
+six_at_least script names asked = omega (arith, ap (λ (ns : Names). length ns) (asked_as script names asked), length-append asked.backups rest_asks)

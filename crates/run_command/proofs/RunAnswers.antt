@@ -1,22 +1,21 @@
 -- Why `run` comes to its answer, seen from the site.
-use Rattle.std.proofs.Common.{◌≡◌, ℕ, List, [], ◌∷◌, ◌++◌, Option, Result, Ok, Err, IfSome, sym, ap, subst, ◌∙◌, inl, inr}
-use Rattle.std.specs.Result.{IsErrAnd}
+use Rattle.std.proofs.Common.{◌≡◌, ℕ, List, [], ◌∷◌, ◌++◌, Option, Ok, Err, IfSome, sym, ap, subst, ◌∙◌, inl, inr}
 use Rattle.lsn_core.specs.Files.{Files}
 use Rattle.vault.specs.declared.area.Vault.{Ghosts as Vaults}
 use Rattle.vault.specs.declared.site.Site.{Ghosts as Sites}
 use Rattle.vault.specs.Site.{Areas, AreaState, state_in}
-use Rattle.vault.specs.Lending.{Names, IsOneOf, IsNoneOf}
+use Rattle.vault.specs.Lending.{Names, IsOneOf}
 use Rattle.recovery.specs.declared.fault.RecoveryFault.{RecoveryFault}
-use Rattle.shared_store.specs.declared.areas.StoreAreas.{StoreAreas}
-use Rattle.shared_store.specs.declared.found.BeginWhy.{BeginWhy}
-use Rattle.shared_store.specs.declared.found.BeginWhy.TheVariants as begin
+use Rattle.store_areas.specs.declared.areas.StoreAreas.{StoreAreas}
+use Rattle.store_faults.specs.declared.begin_why.BeginWhy.{BeginWhy}
+use Rattle.store_faults.specs.declared.begin_why.BeginWhy.TheVariants as begin
 use Rattle.lsn_core.specs.declared.fault.StoreArea.TheVariants.{Data}
 use Rattle.lsn_core.specs.declared.fault.StoreFault.{StoreFault}
 use Rattle.lsn_core.specs.declared.fault.StoreFault.TheVariants as store
-use Rattle.shared_store.specs.Begin.{BeginCause, MayComeLate, DataFails, SameData, faults_of}
-use Rattle.crew.specs.declared.script.Task.{Task}
-use Rattle.run_command.specs.declared.command.RunReport.{RunReport}
-use Rattle.run_command.specs.declared.command.RunFault.TheVariants as run
+use Rattle.store_areas.specs.Begin.{BeginCause, MayComeLate, DataFails, SameData, faults_of}
+use Rattle.scripts.specs.declared.script.Task.{Task}
+use Rattle.run_answers.specs.declared.outcome.RunReport.{RunReport}
+use Rattle.run_answers.specs.declared.outcome.RunFault.TheVariants as run
 use Rattle.command_base.specs.Areas.{wal_name, data_name, sums_name, Keeps}
 use Rattle.vault.specs.declared.lending.Held.{Held}
 use Rattle.crew.specs.Backups.{areas_of}
@@ -97,23 +96,16 @@ cant_begin g script old new a b (begin.Data fault) others was at wal (inr memory
 -- ---- the answers
 
 pub ran_ok : {S V : Type 0} (s : Sites S V) (g : Vaults V) (when : ℕ) (script : List Task) (old new : S) (held kept : List (Held V)) (before sums : V) (a b : StoreAreas V) (report : RunReport) → RunBack s g script old new held kept before sums a b
-    → IsRunOn g when a b before sums (areas_of g held) (areas_of g kept) report → tasks_told report.told ≡ script → RunsScript s when script old new (Ok report)
+    → IsRunOn g when a b before sums held kept report → tasks_told report.told ≡ script → RunsScript s when script old new (Ok report)
 ran_ok s g when script old new held kept before sums a b report back ran same = λ left rest reads now moment behind has.
-    let were : AreAsAt (backups_asked (tasks_told report.told)) (areas_of g held) (s.areas old) = subst (λ (ts : List Task). AreAsAt (backups_asked ts) (areas_of g held) (s.areas old)) (sym same) back.were in
-    let are : AreAsAt (backups_asked (tasks_told report.told)) (areas_of g kept) (s.areas new) = subst (λ (ts : List Task). AreAsAt (backups_asked ts) (areas_of g kept) (s.areas new)) (sym same) back.after in
-    (same, has, run_done g when (s.areas old) (s.areas new) a b before sums (areas_of g held) (areas_of g kept) report back.was back.is back.before back.behind were are ran)
+    (same, has, run_done g when (s.areas old) (s.areas new) a b before sums held kept report back.was back.is back.before back.behind back.held_there back.kept_there ran)
 
 pub ran_err : {S V : Type 0} (s : Sites S V) (g : Vaults V) (when : ℕ) (script : List Task) (old new : S) (held kept : List (Held V)) (before sums : V) (a b : StoreAreas V) (why : BeginWhy) → RunBack s g script old new held kept before sums a b
-    → areas_of g kept ≡ areas_of g held → sums ≡ before → HasNotBegun g a b why → RunsScript s when script old new (Err (run.Begin why))
+    → kept ≡ held → sums ≡ before → HasNotBegun g a b why → RunsScript s when script old new (Err (run.Begin why))
 ran_err s g when script old new held kept before sums a b why back same still un = λ left rest reads now moment behind has. (
   has,
   cant_begin g script (s.areas old) (s.areas new) a b why
-      (others_keep g script (s.areas old) (s.areas new) before sums (held_keep script (s.areas old) (s.areas new) (areas_of g held) (areas_of g kept) back.were back.after same) back.before back.behind still) back.was back.is un.wal un.cause,
+      (others_keep g script (s.areas old) (s.areas new) before sums (held_keep script (s.areas old) (s.areas new) (areas_of g held) (areas_of g kept) back.were back.after (ap (areas_of g) same)) back.before back.behind still) back.was back.is un.wal un.cause,
 )
 
 -- ---- no script
-
--- what holds of an error, of what is that error
-pub err_as : {T E : Type 0} (r : Result T E) (e : E) (P : Result T E → Type 0) → IsErrAnd r (λ x. x ≡ e) → P (Err e) → P r
-err_as {T = T} {E = E} (Ok x) e P is holds = absurd is
-err_as {T = T} {E = E} (Err x) e P is holds = subst (λ (y : E). P (Err y)) (sym is) holds

@@ -1,10 +1,10 @@
 -- What a run leaves of the areas of a store, and the history that it came to.
-use Rattle.std.proofs.Common.{◌≡◌, ℕ, zero, suc, ◌+◌, ◌-◌, ◌<◌, ◌≤◌, Bool, true, false, List, [], ◌∷◌, ◌++◌, map, length, get_or, Option, Some, None, Result, Ok, Err, IfSome, refl, sym, ap, subst, ◌∙◌, arith, inl}
-use Rattle.std.specs.List.{All, slice_get, sum_by}
+use Rattle.std.proofs.Common.{◌≡◌, ℕ, zero, suc, ◌+◌, ◌-◌, ◌<◌, ◌≤◌, Bool, true, false, List, [], ◌∷◌, ◌++◌, map, length, get_or, Option, Some, None, Result, Ok, Err, IfSome, refl, sym, ap, subst, ◌∙◌, arith, inl, inr}
+use Rattle.std.specs.List.{All, flat_map, slice_get, sum_by}
 use Rattle.std.specs.FinMap.{empty, get}
-use Rattle.std.specs.Prelude.{IsSome, codes, max, ◌==◌}
-use Rattle.std.proofs.lemmas.List.Sums.{sum_by-cons}
-use Rattle.std.proofs.lemmas.List.Elements.{All-nil, All-cons}
+use Rattle.std.specs.Prelude.{IsSome, codes, ◌==◌}
+use Rattle.std.proofs.lemmas.List.Sums.{get_or-le-sum_by}
+use Rattle.std.proofs.lemmas.Option.{get_or_from_slice_get, slice_get-get_or, slice_get_within}
 use Rattle.lsn_core.specs.Causes.{Rose}
 use Rattle.lsn_core.specs.Files.{Files}
 use Rattle.lsn_core.specs.Store.{Store}
@@ -17,7 +17,10 @@ use Rattle.lsn_core.specs.declared.fault.StoreFault.{StoreFault}
 use Rattle.lsn_core.specs.declared.fault.StoreFault.TheVariants as store
 use Rattle.vault.specs.Area.{Related}
 use Rattle.vault.specs.Site.{Areas, AreaState, state_in}
-use Rattle.vault.specs.Lending.{Names, IsOneOf}
+use Rattle.vault.specs.Lending.{IsOneOf, Names, names_of}
+use Rattle.vault.specs.declared.lending.Held.{Held}
+use Rattle.vault.proofs.LentAreas.{later_named}
+use Rattle.vault.proofs.SetAreas.{set_at-same, set_at-other, same_or_not}
 use Rattle.vault.specs.declared.area.Vault.{Ghosts as Vaults}
 use Rattle.wal_archive.specs.Archive.{archive_of}
 use Rattle.wal_archive.specs.Writing.{IsLeft}
@@ -25,7 +28,7 @@ use Rattle.wal_record.specs.declared.record.Record.{Record}
 use Rattle.wal_record.specs.Tips.{first_tip}
 use Rattle.wal_reader.specs.Settings.{GivesSettings, IsSettingsOf}
 use Rattle.wal_reader.specs.Wal.{ReadsOn, IsWal}
-use Rattle.history.specs.Entry.{Entry, is_of_run}
+use Rattle.history.specs.Entry.{Entry}
 use Rattle.history.specs.Apply.{apply_all}
 use Rattle.history.specs.Whole.{entry_of}
 use Rattle.history.specs.Written.{tip_of, wal_of}
@@ -36,32 +39,36 @@ use Rattle.journal.proofs.Stands.{lawful_orderly}
 use Rattle.recovery.specs.Causes.{HasSettings}
 use mathlib.Core.List.{IsPrefix}
 use Rattle.timeline.proofs.Prefixes.{prefix_trans}
-use Rattle.shared_store.specs.declared.areas.StoreAreas.{StoreAreas}
-use Rattle.shared_store.specs.declared.found.Found.{Found}
-use Rattle.shared_store.specs.declared.found.BeginWhy.{BeginWhy}
-use Rattle.shared_store.specs.Seen.{Seen, Booked, accepted_by, share_of}
-use Rattle.shared_store.specs.Opened.{Faults, NoneFell, count_of}
-use Rattle.shared_store.specs.Locked.{WalStart, HasRisen}
+use Rattle.store_areas.specs.declared.areas.StoreAreas.{StoreAreas}
+use Rattle.store_areas.specs.declared.found.Found.{Found}
+use Rattle.store_faults.specs.declared.begin_why.BeginWhy.{BeginWhy}
+use Rattle.shared_store.specs.Seen.{Seen, Booked, accepted_by, marks_by, share_of}
+use Rattle.shared_store.specs.Shared.{CountsItsOwn}
+use Rattle.store_areas.specs.Opened.{NoneFell}
+use Rattle.shared_store.specs.Locked.{HasRisen}
 use Rattle.shared_store.specs.Calls.{MayWriteWal, IsOfRun}
-use Rattle.shared_store.specs.Begin.{HasBegun, faults_of, fresh_pass, shown_of}
-use Rattle.shared_store.specs.Close.{IsClosed, CloseAnswer, HoldsHistory, HoldsRecords, area_at, area_of, all_booked, booked_at}
+use Rattle.store_areas.specs.Begin.{HasBegun, faults_of, shown_of}
+use Rattle.shared_store.specs.Seen.{fresh_pass}
+use Rattle.shared_store.specs.Records.{HoldsRecords}
+use Rattle.store_lifecycle.specs.Close.{CloseAnswer, HoldsHistory, area_at, area_of, all_booked, booked_at}
 use Rattle.shared_store.specs.Inside.{end_of}
 use Rattle.shared_summaries.proofs.Shelves.{crews_keep_honest}
-use Rattle.crew.specs.declared.answer.Answer.{Answer}
-use Rattle.crew.specs.Backups.{areas_asked}
-use Rattle.crew.specs.Run.{Basis, basis_of, RunsLines, IsAnswered, TellsFault, IsHonestFor}
+use Rattle.crew.specs.Backups.{areas_asked, areas_of}
+use Rattle.crew.specs.Run.{Basis, basis_of, IsAnswered, TellsFault}
 use Rattle.crew.proofs.Joined.{crew_joined}
 use Rattle.crew.proofs.Kept.{backups_told}
 use Rattle.crew.proofs.Increased.{incrs_told}
-use Rattle.run_command.specs.declared.told.Told.{Told}
-use Rattle.run_command.specs.declared.command.RunReport.{RunReport}
+use Rattle.run_answers.specs.declared.told.Told.{Told}
+use Rattle.run_answers.specs.declared.outcome.RunReport.{RunReport}
 use Rattle.command_base.specs.Areas.{wal_name, sums_name}
 use Rattle.summary_store.specs.Honest.{IsHonest}
-use Rattle.run_command.specs.Run.{AreTold, AreAsAt, backups_asked, tasks_told, found_tip, HasFound, all_records, HoldsRun, LeavesWal, IsClosing, StoreFails, ToldFaultsRose, KeepsHonest, RunDone, run_basis}
-use Rattle.run_command.specs.Inner.{RunsTasks, HasRunTo, HasRunOn, IsRunOn, RunsOn, basis_found, starts_of, wal_start, tell}
+use Rattle.run_command.specs.Run.{AreTold, found_tip, HasFound, all_records, HoldsRun, LeavesWal, IsClosing, StoreFails, ToldFaultsRose, KeepsHonest, RunDone, run_basis}
+use Rattle.run_command.specs.Inner.{AreLast, HasRunTo, HasRunOn, IsLaterPass, IsRunOn, Part, RunsOn, RunsPart, basis_found, starts_of, wal_start, tell}
 use Rattle.command_base.proofs.Told.{some_told, at_told}
-use Rattle.run_command.proofs.StoreLent.{AreAt, all_durable, wal_files, data_files, rose_at, tell_told, other, none_counted}
-use Rattle.run_command.proofs.ToldLess.{answered_less, stand_less, incrs_less, fail_at, one_front, one_back}
+use Rattle.run_command.proofs.Idle.{none_own}
+use Rattle.run_command.proofs.StoreLent.{AreAt, AreThere, all_durable, wal_files, data_files, rose_at, tell_told, other, none_counted}
+use Rattle.run_command.proofs.ToldLess.{answered_less, stand_less, incrs_less, fail_at}
+use Rattle.run_command.proofs.Crews.{all_at, found_seen, from_at, last_at, length_map, length_told, part_at}
 use Rattle.run_command.proofs.OwnEntries.{AreOwn, owned, written_own, parted, same_front, held_read, log_makes}
 
 -- ---- the areas hold the history
@@ -134,70 +141,102 @@ found_later g a found sums later (suc (suc (suc zero))) lt = later (Data 3)
 found_later g a found sums later (suc (suc (suc (suc zero)))) lt = later Wal
 found_later g a found sums later (suc (suc (suc (suc (suc n))))) lt = absurd (omega (arith, lt))
 
--- one worker's faults are all that are booked
-booked_alone : (number : ℕ) (p : Seen) → all_booked number (p ∷ []) ≡ booked_at number p.faults
-booked_alone number p = sum_by-cons (λ (x : Seen). booked_at number x.faults) p [] ∙ omega arith
+-- what a pass was answered is booked with what the others were
+booked_among : (number : ℕ) (passes : List Seen) (worker : ℕ) (p : Seen) → slice_get passes worker ≡ Some p → booked_at number p.faults ≤ all_booked number passes
+booked_among number passes worker p there =
+    subst (λ (q : Seen). booked_at number q.faults ≤ all_booked number passes) (get_or_from_slice_get passes worker p p there)
+    (get_or-le-sum_by (λ (x : Seen). booked_at number x.faults) passes worker p (slice_get_within passes worker p there))
 
--- ---- the worker's run
+sums_among : (passes : List Seen) (worker : ℕ) (p : Seen) → slice_get passes worker ≡ Some p → p.faults.sums ≤ sum_by (λ (q : Seen). q.faults.sums) passes
+sums_among passes worker p there =
+    subst (λ (q : Seen). q.faults.sums ≤ sum_by (λ (q : Seen). q.faults.sums) passes) (get_or_from_slice_get passes worker p p there)
+    (get_or-le-sum_by (λ (x : Seen). x.faults.sums) passes worker p (slice_get_within passes worker p there))
 
-slot_none : (t u : Told) (w : ℕ) → slice_get (t ∷ []) (suc w) ≡ Some u → ⊥
-slot_none t u w there = cc
+-- ---- a worker's run
 
--- a script without a worker leaves the pass, and one with a worker runs its lines
-pub tasks_none : (tells : Type 0) (b : Basis) (told : List Told) (pass : Seen) (held : Areas) → told ≡ [] → RunsTasks tells b told pass pass held held
-tasks_none tells b told pass held none = subst (λ (ts : List Told). RunsTasks tells b ts pass pass held held) (sym none) (refl, refl)
+-- what holds of each pass holds of one
+of_pass : (P : Seen → Type 0) (passes : List Seen) (worker : ℕ) (p : Seen) → All P passes → slice_get passes worker ≡ Some p → P p
+of_pass P passes worker p all there = subst P (get_or_from_slice_get passes worker p p there) (all worker p (slice_get_within passes worker p there))
 
-pub tasks_one : (tells : Type 0) (b : Basis) (told : List Told) (t : Told) (pass seen : Seen) (held kept : Areas) → told ≡ t ∷ [] → RunsLines tells b t.task.lines pass seen held kept t.answers → RunsTasks tells b told pass seen held kept
-tasks_one tells b told t pass seen held kept one ran = subst (λ (ts : List Told). RunsTasks tells b ts pass seen held kept) (sym one) ran
+-- a worker's part of a run, with its pass when the store was closed
+record WorkerRan {V : Type 0} (g : Vaults V) (tells : Type 0) (b : Basis) (passes : List Seen) (parts : List (Part V)) (worker : ℕ) (t : Told) : Type 0 where
+  part : Part V
+  there : slice_get parts worker ≡ Some part
+  told : part.told ≡ t
+  ran : RunsPart g tells b part
+  from : part.from ≡ fresh_pass worker b.found
+  last : Seen
+  at : slice_get passes worker ≡ Some last
+  later : IsLaterPass part.to last
 
--- over the finished history each worker was answered so
-answered : {V : Type 0} (g : Vaults V) (tells : Bool) (b : Basis) (start : ℕ) (last : Seen) (sums : V) (booked : ℕ) (held kept : Areas) (told : List Told) (history : List Entry) → HasRunTo g (tells ≡ true) b start last sums booked held kept told
-    → IsPrefix last.list history → last.accepted ≡ length (accepted_by last.worker history) → (worker : ℕ) (t : Told) → slice_get told worker ≡ Some t → IsAnswered (tells ≡ true) b worker history (length b.found) t.task.lines t.answers held kept
-answered g tells b start last sums booked held kept [] history ran seen all worker t there = absurd cc
-answered g tells b start last sums booked held kept (u ∷ []) history ran seen all zero t there =
-    let same : u ≡ t = cc in
-    subst (λ (v : Told). IsAnswered (tells ≡ true) b 0 history (length b.found) v.task.lines v.answers held kept) same
-    (crew_joined tells b history 0 u.task.lines u.answers held kept (record {
-      old = fresh_pass 0 b.found;
-      new = ran.seen;
-      ran = ran.runs;
-      who = refl;
-      found = refl;
-      none = refl;
-      seen = prefix_trans ran.seen.list last.list history ran.stays.seen seen;
-      all = sym ran.accepted ∙ (all ∙ ap (λ (w : ℕ). length (accepted_by w history)) ran.stays.worker);
-    }))
-answered g tells b start last sums booked held kept (u ∷ []) history ran seen all (suc worker) t there = absurd (slot_none u t worker there)
-answered g tells b start last sums booked held kept (u ∷ (v ∷ told)) history ran seen all worker t there = absurd ran.runs
+worker_ran : {V : Type 0} (g : Vaults V) (tells : Type 0) (b : Basis) (start : ℕ) (first : Seen) (rest : List Seen) (sums : V) (booked : ℕ) (held kept : List (Held V)) (told : List Told) (ran : HasRunTo g tells b start first rest sums booked held kept told) (worker : ℕ) (t : Told) → slice_get told worker ≡ Some t
+    → WorkerRan g tells b (first ∷ rest) ran.parts worker t
+worker_ran g tells b start first rest sums booked held kept told ran worker t there =
+    let it = part_at g tells b ran.parts held kept told worker t ran.has there in
+    let end = last_at b.found ran.parts first rest worker it.0 ran.last it.1 in
+    record {
+      part = it.0;
+      there = it.1;
+      told = it.2;
+      ran = all_at (RunsPart g tells b) ran.parts worker it.0 ran.has.ran it.1;
+      from = from_at b.found ran.parts worker it.0 ran.fresh it.1;
+      last = end.0;
+      at = end.1;
+      later = end.2;
+    }
 
--- what the worker has seen begins with what was found
-found_seen : {V : Type 0} (g : Vaults V) (tells : Type 0) (b : Basis) (start : ℕ) (last : Seen) (sums : V) (booked : ℕ) (held kept : Areas) (told : List Told) → HasRunTo g tells b start last sums booked held kept told → IsPrefix b.found last.list
-found_seen g tells b start last sums booked held kept [] ran = subst (λ (p : Seen). IsPrefix p.list last.list) ran.runs.0 ran.stays.seen
-found_seen g tells b start last sums booked held kept (t ∷ []) ran = prefix_trans b.found ran.seen.list last.list ran.runs.stays.seen ran.stays.seen
-found_seen g tells b start last sums booked held kept (t ∷ (u ∷ told)) ran = absurd ran.runs
+-- the areas of a worker, by its number
+abbrev pub areas_at : {V : Type 0} → (Part V → List (Held V)) → List (Part V) → ℕ → List (Held V)
+areas_at f [] worker = []
+areas_at f (part ∷ parts) zero = f part
+areas_at f (part ∷ parts) (suc worker) = areas_at f parts worker
+
+at_number : {V : Type 0} (f : Part V → List (Held V)) (parts : List (Part V)) (worker : ℕ) (part : Part V) → slice_get parts worker ≡ Some part → areas_at f parts worker ≡ f part
+at_number f [] worker part there = absurd cc
+at_number f (p ∷ parts) zero part there =
+    let same : p ≡ part = cc in
+    ap f same
+at_number f (p ∷ parts) (suc worker) part there = at_number f parts worker part there
+
+-- over the finished history a worker was answered so
+answered : {V : Type 0} (g : Vaults V) (tells : Bool) (b : Basis) (passes : List Seen) (parts : List (Part V)) (history : List Entry) (worker : ℕ) (t : Told) → WorkerRan g (tells ≡ true) b passes parts worker t → All (λ (p : Seen). IsPrefix p.list history) passes → All (CountsItsOwn history) passes
+    → IsAnswered (tells ≡ true) b worker history (length b.found) t.task.lines t.answers (areas_of g (areas_at (λ part. part.held) parts worker)) (areas_of g (areas_at (λ part. part.kept) parts worker))
+answered g tells b passes parts history worker t w seen all =
+    let counts : CountsItsOwn history w.last = of_pass (CountsItsOwn history) passes worker w.last all w.at in
+    let who : w.last.worker ≡ worker = w.later.stays.worker ∙ (w.ran.run.stays.worker ∙ ap (λ (p : Seen). p.worker) w.from) in
+    let is = crew_joined tells b history worker w.part.told.task.lines w.part.told.answers (areas_of g w.part.held) (areas_of g w.part.kept) (record {
+      old = w.part.from;
+      new = w.part.to;
+      ran = w.ran.run;
+      who = ap (λ (p : Seen). p.worker) w.from;
+      found = ap (λ (p : Seen). length p.list) w.from;
+      none = ap (λ (p : Seen). p.accepted) w.from;
+      unmarked = ap (λ (p : Seen). p.marks) w.from;
+      seen = prefix_trans w.part.to.list w.last.list history w.later.stays.seen (of_pass (λ (p : Seen). IsPrefix p.list history) passes worker w.last seen w.at);
+      all = sym w.later.accepted ∙ (counts.commands ∙ ap (λ (n : ℕ). length (accepted_by n history)) w.later.stays.worker);
+      marks = sym w.later.marks ∙ (counts.marks ∙ ap (λ (n : ℕ). length (marks_by n history)) w.later.stays.worker);
+    }) in
+    subst (λ (h : List (Held _)). IsAnswered (tells ≡ true) b worker history (length b.found) t.task.lines t.answers (areas_of g h) (areas_of g (areas_at (λ part. part.kept) parts worker))) (sym (at_number (λ part. part.held) parts worker w.part w.there))
+    (subst (λ (k : List (Held _)). IsAnswered (tells ≡ true) b worker history (length b.found) t.task.lines t.answers (areas_of g w.part.held) (areas_of g k)) (sym (at_number (λ part. part.kept) parts worker w.part w.there))
+    (subst (λ (u : Told). IsAnswered (tells ≡ true) b worker history (length b.found) u.task.lines u.answers (areas_of g w.part.held) (areas_of g w.part.kept)) w.told is))
 
 -- each area that an answer tells to have failed did
-shares_told : {V : Type 0} (g : Vaults V) (tells : Type 0) (b : Basis) (start : ℕ) (last : Seen) (sums : V) (booked : ℕ) (held kept old new : Areas) (told : List Told) → HasRunTo g tells b start last sums booked held kept told
-    → ((area : StoreArea) → 0 < share_of area last.faults → StoreFails old new (store.Failed area)) → ToldFaultsRose old new told
-shares_told g tells b start last sums booked held kept old new [] ran fails = All-nil (λ (t : Told). All (λ answer. (area : StoreArea) → TellsFault area answer → StoreFails old new (store.Failed area)) t.answers)
-shares_told g tells b start last sums booked held kept old new (t ∷ []) ran fails =
-    All-cons (λ (t : Told). All (λ answer. (area : StoreArea) → TellsFault area answer → StoreFails old new (store.Failed area)) t.answers) t []
-    (λ k d within area tells. fails area (omega (arith, ran.runs.risen k d within area tells, ap (share_of area) ran.faults)))
-    (All-nil (λ (t : Told). All (λ answer. (area : StoreArea) → TellsFault area answer → StoreFails old new (store.Failed area)) t.answers))
-shares_told g tells b start last sums booked held kept old new (t ∷ (u ∷ told)) ran fails = absurd ran.runs
+share_told : {V : Type 0} (g : Vaults V) (tells : Type 0) (b : Basis) (passes : List Seen) (parts : List (Part V)) (worker : ℕ) (t : Told) (old new : Areas) → WorkerRan g tells b passes parts worker t
+    → ((area : StoreArea) (w : ℕ) (p : Seen) → slice_get passes w ≡ Some p → 0 < share_of area p.faults → StoreFails old new (store.Failed area)) → All (λ answer. (area : StoreArea) → TellsFault area answer → StoreFails old new (store.Failed area)) t.answers
+share_told g tells b passes parts worker t old new w fails =
+    subst (λ (u : Told). All (λ answer. (area : StoreArea) → TellsFault area answer → StoreFails old new (store.Failed area)) u.answers) w.told
+    (λ k d within area tells. fails area worker w.last w.at (omega (arith, w.ran.run.risen k d within area tells, ap (share_of area) w.later.faults)))
+
+shares_told : {V : Type 0} (g : Vaults V) (tells : Type 0) (b : Basis) (start : ℕ) (first : Seen) (rest : List Seen) (sums : V) (booked : ℕ) (held kept : List (Held V)) (old new : Areas) (told : List Told) → HasRunTo g tells b start first rest sums booked held kept told
+    → ((area : StoreArea) (w : ℕ) (p : Seen) → slice_get (first ∷ rest) w ≡ Some p → 0 < share_of area p.faults → StoreFails old new (store.Failed area)) → ToldFaultsRose old new told
+shares_told g tells b start first rest sums booked held kept old new told ran fails = λ k d within.
+    let there : slice_get told k ≡ Some (get_or told k d) = slice_get-get_or told k d within in
+    share_told g tells b (first ∷ rest) ran.parts k (get_or told k d) old new (worker_ran g tells b start first rest sums booked held kept told ran k (get_or told k d) there) fails
 
 -- ---- the whole
 
--- the areas that a worker asks for are among those of its script
-asked_among : (told : List Told) (worker : ℕ) (t : Told) (n : List ℕ) → slice_get told worker ≡ Some t → IsOneOf n (areas_asked t.task.lines) → IsOneOf n (backups_asked (tasks_told told))
-asked_among [] worker t n there one = absurd cc
-asked_among (u ∷ told) zero t n there one =
-    let same : u ≡ t = cc in
-    one_front n (areas_asked u.task.lines) (backups_asked (tasks_told told)) (subst (λ (v : Told). IsOneOf n (areas_asked v.task.lines)) (sym same) one)
-asked_among (u ∷ told) (suc worker) t n there one = one_back n (areas_asked u.task.lines) (backups_asked (tasks_told told)) (asked_among told worker t n there one)
-
 -- all that a run came to, seen from the site: its areas, and the basis as the site tells it
-record IsAtSite {V : Type 0} (g : Vaults V) (when : ℕ) (old new : Areas) (a b : StoreAreas V) (before sums : V) (held kept : Areas) (report : RunReport) : Type 0 where
+record IsAtSite {V : Type 0} (g : Vaults V) (when : ℕ) (old new : Areas) (a b : StoreAreas V) (before sums : V) (held kept : List (Held V)) (report : RunReport) : Type 0 where
   found : Found V
   begun : HasBegun (g.files a.wal) (shown_of g found) found.tip
   later : NoneFell (faults_of g a) (shown_of g found).faults
@@ -212,7 +251,7 @@ record IsAtSite {V : Type 0} (g : Vaults V) (when : ℕ) (old new : Areas) (a b 
 basis_same : (s : StoreSettings) (when : ℕ) (h i : List Entry) (f e : Option Files) → h ≡ i → f ≡ e → basis_of s when h f ≡ basis_of s when i e
 basis_same s when h i f e first second = ap (λ (x : List Entry). basis_of s when x f) first ∙ ap (λ (y : Option Files). basis_of s when i y) second
 
-at_site : {V : Type 0} (g : Vaults V) (when : ℕ) (old new : Areas) (a b : StoreAreas V) (before sums : V) (held kept : Areas) (report : RunReport) → AreAt g old a → AreAt g new b → old sums_name ≡ state_in g before → new sums_name ≡ state_in g sums → IsRunOn g when a b before sums held kept report
+at_site : {V : Type 0} (g : Vaults V) (when : ℕ) (old new : Areas) (a b : StoreAreas V) (before sums : V) (held kept : List (Held V)) (report : RunReport) → AreAt g old a → AreAt g new b → old sums_name ≡ state_in g before → new sums_name ≡ state_in g sums → IsRunOn g when a b before sums held kept report
     → IsAtSite g when old new a b before sums held kept report
 at_site g when old new a b before sums held kept report was at sums_was sums_at ran =
     let has : HasBegun (g.files a.wal) (shown_of g ran.found) ran.found.tip = ran.begins.has in
@@ -231,7 +270,7 @@ at_site g when old new a b before sums held kept report was at sums_was sums_at 
       runs = subst (λ (x : Basis). HasRunOn g (tell g a ≡ true) x (wal_start g ran.found) (starts_of g ran.found before) b sums held kept report.told report.closed) same ran.runs;
     }
 
-leaves : {V : Type 0} (g : Vaults V) (when : ℕ) (old new : Areas) (a b : StoreAreas V) (before sums : V) (held kept : Areas) (report : RunReport) (x : IsAtSite g when old new a b before sums held kept report) → LeavesWal x.found.settings x.begun.found x.runs.closes.history (old wal_name) (new wal_name)
+leaves : {V : Type 0} (g : Vaults V) (when : ℕ) (old new : Areas) (a b : StoreAreas V) (before sums : V) (held kept : List (Held V)) (report : RunReport) (x : IsAtSite g when old new a b before sums held kept report) → LeavesWal x.found.settings x.begun.found x.runs.closes.history (old wal_name) (new wal_name)
 leaves g when old new a b before sums held kept report x =
     let s : StoreSettings = x.found.settings in
     let end : ℕ = end_of s.segment x.runs.closes.history in
@@ -239,26 +278,23 @@ leaves g when old new a b before sums held kept report x =
     (subst (λ (o : Option Files). MayWriteWal s.segment x.found.tip.end end (old wal_name).files o) (sym (wal_files g new b x.at))
     (subst (λ (o : Option Files). MayWriteWal s.segment x.found.tip.end end o (g.files b.wal)) (x.begun.wal ∙ sym (wal_files g old a x.was)) x.runs.closes.wal))
 
--- what holds of each pass, of the only one
-first_of : (P : Seen → Type 0) (p : Seen) → All P (p ∷ []) → P p
-first_of P p all = all 0 p (omega arith)
-
-own_grown : {V : Type 0} (g : Vaults V) (when : ℕ) (old new : Areas) (a b : StoreAreas V) (before sums : V) (held kept : Areas) (report : RunReport) (x : IsAtSite g when old new a b before sums held kept report) → x.runs.closes.history ≡ map entry_of x.begun.found ++ x.runs.closes.runs.own
+own_grown : {V : Type 0} (g : Vaults V) (when : ℕ) (old new : Areas) (a b : StoreAreas V) (before sums : V) (held kept : List (Held V)) (report : RunReport) (x : IsAtSite g when old new a b before sums held kept report) → x.runs.closes.history ≡ map entry_of x.begun.found ++ x.runs.closes.runs.own
 own_grown g when old new a b before sums held kept report x = x.runs.closes.runs.all
 
-was_given : {V : Type 0} (g : Vaults V) (when : ℕ) (old new : Areas) (a b : StoreAreas V) (before sums : V) (held kept : Areas) (report : RunReport) (x : IsAtSite g when old new a b before sums held kept report) → HasSettings (old wal_name).files x.found.settings
+was_given : {V : Type 0} (g : Vaults V) (when : ℕ) (old new : Areas) (a b : StoreAreas V) (before sums : V) (held kept : List (Held V)) (report : RunReport) (x : IsAtSite g when old new a b before sums held kept report) → HasSettings (old wal_name).files x.found.settings
 was_given g when old new a b before sums held kept report x = subst (λ (o : Option Files). HasSettings o x.found.settings) (sym (wal_files g old a x.was)) x.begun.given
 
-was_there : {V : Type 0} (g : Vaults V) (when : ℕ) (old new : Areas) (a b : StoreAreas V) (before sums : V) (held kept : Areas) (report : RunReport) (x : IsAtSite g when old new a b before sums held kept report) → IfSome (old wal_name).files (HasFound x.found.settings x.begun.found)
+was_there : {V : Type 0} (g : Vaults V) (when : ℕ) (old new : Areas) (a b : StoreAreas V) (before sums : V) (held kept : List (Held V)) (report : RunReport) (x : IsAtSite g when old new a b before sums held kept report) → IfSome (old wal_name).files (HasFound x.found.settings x.begun.found)
 was_there g when old new a b before sums held kept report x =
     subst (λ (t : Tip). IfSome (old wal_name).files (λ m. IsWal x.found.settings m x.begun.found t)) x.begun.tip_is
     (subst (λ (o : Option Files). IfSome o (λ m. IsWal x.found.settings m x.begun.found x.found.tip)) (sym (wal_files g old a x.was)) x.begun.archive)
 
--- an area of the store of which the worker was answered a fault failed
-number_fails : {V : Type 0} (g : Vaults V) (when : ℕ) (old new : Areas) (a b : StoreAreas V) (before sums : V) (held kept : Areas) (report : RunReport) (x : IsAtSite g when old new a b before sums held kept report) (number : ℕ) → number < 5 → 0 < booked_at number x.runs.last.faults → StoreFails old new (store.Failed (area_of number))
-number_fails g when old new a b before sums held kept report x number lt some =
-    by_number g old new a b number (starts_of g x.found before number) (all_booked number (x.runs.last ∷ [])) x.was x.at lt (found_later g a x.found before x.later number lt)
-    (omega (arith, some, booked_alone number x.runs.last)) (x.runs.closes.risen number lt)
+-- an area of the store of which a worker was answered a fault failed
+number_fails : {V : Type 0} (g : Vaults V) (when : ℕ) (old new : Areas) (a b : StoreAreas V) (before sums : V) (held kept : List (Held V)) (report : RunReport) (x : IsAtSite g when old new a b before sums held kept report) (number worker : ℕ) (p : Seen) → number < 5 → slice_get (x.runs.first ∷ x.runs.rest) worker ≡ Some p → 0 < booked_at number p.faults
+    → StoreFails old new (store.Failed (area_of number))
+number_fails g when old new a b before sums held kept report x number worker p lt there some =
+    by_number g old new a b number (starts_of g x.found before number) (all_booked number (x.runs.first ∷ x.runs.rest)) x.was x.at lt (found_later g a x.found before x.later number lt)
+    (omega (arith, some, booked_among number (x.runs.first ∷ x.runs.rest) worker p there)) (x.runs.closes.risen number lt)
 
 none_shared : (q : ℕ) (p : Booked) → 4 ≤ q → share_of (Data q) p ≡ 0
 none_shared q p le =
@@ -268,37 +304,51 @@ none_shared q p le =
     let three : q == 3 ≡ false = other q 3 (omega arith) in
     rw (zero, one, two, three) refl
 
-area_fails : {V : Type 0} (g : Vaults V) (when : ℕ) (old new : Areas) (a b : StoreAreas V) (before sums : V) (held kept : Areas) (report : RunReport) (x : IsAtSite g when old new a b before sums held kept report) (area : StoreArea) → 0 < share_of area x.runs.last.faults → StoreFails old new (store.Failed area)
-area_fails g when old new a b before sums held kept report x Wal some = number_fails g when old new a b before sums held kept report x 4 (omega arith) some
-area_fails g when old new a b before sums held kept report x (Data zero) some = number_fails g when old new a b before sums held kept report x 0 (omega arith) some
-area_fails g when old new a b before sums held kept report x (Data (suc zero)) some = number_fails g when old new a b before sums held kept report x 1 (omega arith) some
-area_fails g when old new a b before sums held kept report x (Data (suc (suc zero))) some = number_fails g when old new a b before sums held kept report x 2 (omega arith) some
-area_fails g when old new a b before sums held kept report x (Data (suc (suc (suc zero)))) some = number_fails g when old new a b before sums held kept report x 3 (omega arith) some
-area_fails g when old new a b before sums held kept report x (Data (suc (suc (suc (suc q))))) some =
-    absurd (omega (arith, some, none_shared (suc (suc (suc (suc q)))) x.runs.last.faults (omega arith)))
-area_fails g when old new a b before sums held kept report x Sums some =
-    let rose : Rose (g.faults before) (g.faults sums) = rises (g.faults before) (g.faults before) x.runs.last.faults.sums (g.faults sums) (omega arith) some x.runs.ran.risen in
+area_fails : {V : Type 0} (g : Vaults V) (when : ℕ) (old new : Areas) (a b : StoreAreas V) (before sums : V) (held kept : List (Held V)) (report : RunReport) (x : IsAtSite g when old new a b before sums held kept report) (area : StoreArea) (worker : ℕ) (p : Seen) → slice_get (x.runs.first ∷ x.runs.rest) worker ≡ Some p → 0 < share_of area p.faults
+    → StoreFails old new (store.Failed area)
+area_fails g when old new a b before sums held kept report x Wal worker p there some = number_fails g when old new a b before sums held kept report x 4 worker p (omega arith) there some
+area_fails g when old new a b before sums held kept report x (Data zero) worker p there some = number_fails g when old new a b before sums held kept report x 0 worker p (omega arith) there some
+area_fails g when old new a b before sums held kept report x (Data (suc zero)) worker p there some = number_fails g when old new a b before sums held kept report x 1 worker p (omega arith) there some
+area_fails g when old new a b before sums held kept report x (Data (suc (suc zero))) worker p there some = number_fails g when old new a b before sums held kept report x 2 worker p (omega arith) there some
+area_fails g when old new a b before sums held kept report x (Data (suc (suc (suc zero)))) worker p there some = number_fails g when old new a b before sums held kept report x 3 worker p (omega arith) there some
+area_fails g when old new a b before sums held kept report x (Data (suc (suc (suc (suc q))))) worker p there some =
+    absurd (omega (arith, some, none_shared (suc (suc (suc (suc q)))) p.faults (omega arith)))
+area_fails g when old new a b before sums held kept report x Sums worker p there some =
+    let all : ℕ = sum_by (λ (q : Seen). q.faults.sums) (x.runs.first ∷ x.runs.rest) in
+    let rose : Rose (g.faults before) (g.faults sums) = rises (g.faults before) (g.faults before) all (g.faults sums) (omega arith) (omega (arith, some, sums_among (x.runs.first ∷ x.runs.rest) worker p there)) x.runs.ran.risen in
     omega (arith, rose, ap (λ (y : AreaState). y.faults) x.sums_was, ap (λ (y : AreaState). y.faults) x.sums_at)
 
 -- how closing ended
-closing : {V : Type 0} (g : Vaults V) (when : ℕ) (old new : Areas) (a b : StoreAreas V) (before sums : V) (held kept : Areas) (report : RunReport) (x : IsAtSite g when old new a b before sums held kept report) (answer : Result Lsn StoreFault)
-    → CloseAnswer g (tell g a ≡ true) x.found.settings x.runs.closes.history (starts_of g x.found before) (x.runs.last ∷ []) b answer
+closing : {V : Type 0} (g : Vaults V) (when : ℕ) (old new : Areas) (a b : StoreAreas V) (before sums : V) (held kept : List (Held V)) (report : RunReport) (x : IsAtSite g when old new a b before sums held kept report) (answer : Result Lsn StoreFault)
+    → CloseAnswer g (tell g a ≡ true) x.found.settings x.runs.closes.history (starts_of g x.found before) (x.runs.first ∷ x.runs.rest) b answer
     → (AreTold old → HoldsHistory g x.found.settings x.runs.closes.history b → HoldsRun x.found.settings x.begun.found x.runs.closes.history new)
     → IsClosing x.found.settings x.begun.found x.runs.closes.history old new answer
 closing g when old new a b before sums held kept report x (Ok end) is holds = (is.0, λ told. holds told (is.1 (x.leads told)))
 closing g when old new a b before sums held kept report x (Err (store.Failed which)) is holds =
     subst (λ (w : StoreArea). StoreFails old new (store.Failed w)) (sym is.is)
-    (by_number g old new a b is.number (starts_of g x.found before is.number) (all_booked is.number (x.runs.last ∷ []) + 1) x.was x.at is.below (found_later g a x.found before x.later is.number is.below) (omega arith) is.risen)
+    (by_number g old new a b is.number (starts_of g x.found before is.number) (all_booked is.number (x.runs.first ∷ x.runs.rest) + 1) x.was x.at is.below (found_later g a x.found before x.later is.number is.below) (omega arith) is.risen)
 closing g when old new a b before sums held kept report x (Err store.NoMemory) is holds = tt
 
--- there is one worker, whether or not the script has one
-one_worker : {V : Type 0} (g : Vaults V) (tells : Type 0) (b : Basis) (start : ℕ) (last : Seen) (sums : V) (booked : ℕ) (held kept : Areas) (told : List Told) → HasRunTo g tells b start last sums booked held kept told → 1 ≡ max 1 (length told)
-one_worker g tells b start last sums booked held kept [] ran = refl
-one_worker g tells b start last sums booked held kept (t ∷ []) ran = refl
-one_worker g tells b start last sums booked held kept (t ∷ (u ∷ told)) ran = absurd ran.runs
+-- its entries are those of the workers that the script has
+own_of : {V : Type 0} (found own history : List Entry) (parts : List (Part V)) (first : Seen) (rest : List Seen) (many : ℕ) → AreLast found parts first rest → length parts ≡ many → history ≡ found ++ own → All (IsOfRun (length (first ∷ rest))) own → CountsItsOwn history first → All (IsOfRun many) own
+own_of found own history [] first rest many last is grown of all =
+    let one : length (first ∷ rest) ≡ 1 = ap (λ (ps : List Seen). suc (length ps)) last.1 in
+    let who : first.worker ≡ 0 = last.0.stays.worker in
+    subst (λ (n : ℕ). All (IsOfRun n) own) is
+    (none_own found own history grown (subst (λ (n : ℕ). All (IsOfRun n) own) one of)
+    (omega (arith, all.commands, last.0.accepted, ap (λ (w : ℕ). length (accepted_by w history)) who))
+    (omega (arith, all.marks, last.0.marks, ap (λ (w : ℕ). length (marks_by w history)) who)))
+own_of found own history (part ∷ parts) first rest many last is grown of all =
+    let same : length (first ∷ rest) ≡ many = ap (λ (ps : List Seen). suc (length ps)) last.1 ∙ (ap suc (length_map (λ p. p.to) parts) ∙ is) in
+    subst (λ (n : ℕ). All (IsOfRun n) own) same of
+
+told_own : {V : Type 0} (g : Vaults V) (tells : Type 0) (b : Basis) (start : ℕ) (first : Seen) (rest : List Seen) (sums : V) (booked : ℕ) (held kept : List (Held V)) (told : List Told) (own history : List Entry) → HasRunTo g tells b start first rest sums booked held kept told
+    → history ≡ b.found ++ own → All (IsOfRun (length (first ∷ rest))) own → CountsItsOwn history first → All (IsOfRun (length told)) own
+told_own g tells b start first rest sums booked held kept told own history ran grown of all =
+    own_of b.found own history ran.parts first rest (length told) ran.last (length_told g tells b ran.parts held kept told ran.has) grown of all
 
 -- no count of an area of the store fell
-run_fell : {V : Type 0} (g : Vaults V) (when : ℕ) (a b : StoreAreas V) (before sums : V) (held kept : Areas) (report : RunReport) → IsRunOn g when a b before sums held kept report → NoneFell (faults_of g a) (faults_of g b)
+run_fell : {V : Type 0} (g : Vaults V) (when : ℕ) (a b : StoreAreas V) (before sums : V) (held kept : List (Held V)) (report : RunReport) → IsRunOn g when a b before sums held kept report → NoneFell (faults_of g a) (faults_of g b)
 run_fell g when a b before sums held kept report ran Wal = omega (arith, ran.begins.later Wal, started _ _ _ (ran.runs.closes.risen 4 (omega arith)))
 run_fell g when a b before sums held kept report ran (Data zero) = omega (arith, ran.begins.later (Data 0), started _ _ _ (ran.runs.closes.risen 0 (omega arith)))
 run_fell g when a b before sums held kept report ran (Data (suc zero)) = omega (arith, ran.begins.later (Data 1), started _ _ _ (ran.runs.closes.risen 1 (omega arith)))
@@ -309,33 +359,76 @@ run_fell g when a b before sums held kept report ran (Data (suc (suc (suc (suc q
 run_fell g when a b before sums held kept report ran Sums = omega arith
 
 -- nor that of the area of summaries
-sums_fell : {V : Type 0} (g : Vaults V) (when : ℕ) (a b : StoreAreas V) (before sums : V) (held kept : Areas) (report : RunReport) → IsRunOn g when a b before sums held kept report → g.faults before ≤ g.faults sums
+sums_fell : {V : Type 0} (g : Vaults V) (when : ℕ) (a b : StoreAreas V) (before sums : V) (held kept : List (Held V)) (report : RunReport) → IsRunOn g when a b before sums held kept report → g.faults before ≤ g.faults sums
 sums_fell g when a b before sums held kept report ran = started _ _ _ ran.runs.ran.risen
 
 -- nor where no store was begun
-pub runs_fell : {V : Type 0} (g : Vaults V) (when : ℕ) (a b : StoreAreas V) (before sums : V) (held kept : Areas) (r : Result RunReport BeginWhy) → RunsOn g when a b before sums held kept r → NoneFell (faults_of g a) (faults_of g b) × (g.faults before ≤ g.faults sums)
+pub runs_fell : {V : Type 0} (g : Vaults V) (when : ℕ) (a b : StoreAreas V) (before sums : V) (held kept : List (Held V)) (r : Result RunReport BeginWhy) → RunsOn g when a b before sums held kept r → NoneFell (faults_of g a) (faults_of g b) × (g.faults before ≤ g.faults sums)
 runs_fell g when a b before sums held kept (Ok report) ran = (run_fell g when a b before sums held kept report ran, sums_fell g when a b before sums held kept report ran)
 runs_fell g when a b before sums held kept (Err why) un = (un.0.later, omega (arith, ap (λ v. g.faults v) un.1))
 
--- over the finished history each worker was answered so
-all_answered : {V : Type 0} (g : Vaults V) (when : ℕ) (old new : Areas) (a b : StoreAreas V) (before sums : V) (held kept : Areas) (report : RunReport) (x : IsAtSite g when old new a b before sums held kept report) (worker : ℕ) (t : Told) → slice_get report.told worker ≡ Some t
-    → IsAnswered (tell g a ≡ true) (run_basis x.found.settings when x.begun.found old) worker x.runs.closes.history (length (map entry_of x.begun.found)) t.task.lines t.answers held kept
-all_answered g when old new a b before sums held kept report x worker t there =
-    answered g (tell g a) (run_basis x.found.settings when x.begun.found old) (starts_of g x.found before 5) x.runs.last sums x.runs.last.faults.sums held kept report.told x.runs.closes.history x.runs.ran
-    (first_of (λ (p : Seen). IsPrefix p.list x.runs.closes.history) x.runs.last x.runs.closes.seen)
-    (first_of (λ (p : Seen). p.accepted ≡ length (accepted_by p.worker x.runs.closes.history)) x.runs.last x.runs.closes.counted) worker t there
+-- the run of one of its workers
+its_run : {V : Type 0} (g : Vaults V) (when : ℕ) (old new : Areas) (a b : StoreAreas V) (before sums : V) (held kept : List (Held V)) (report : RunReport) (x : IsAtSite g when old new a b before sums held kept report) (worker : ℕ) (t : Told) → slice_get report.told worker ≡ Some t
+    → WorkerRan g (tell g a ≡ true) (run_basis x.found.settings when x.begun.found old) (x.runs.first ∷ x.runs.rest) x.runs.ran.parts worker t
+its_run g when old new a b before sums held kept report x worker t there =
+    worker_ran g (tell g a ≡ true) (run_basis x.found.settings when x.begun.found old) (starts_of g x.found before 5) x.runs.first x.runs.rest sums (sum_by (λ (q : Seen). q.faults.sums) (x.runs.first ∷ x.runs.rest)) held kept report.told x.runs.ran worker t there
 
-still_honest : {V : Type 0} (g : Vaults V) (when : ℕ) (old new : Areas) (a b : StoreAreas V) (before sums : V) (held kept : Areas) (report : RunReport) (x : IsAtSite g when old new a b before sums held kept report) → KeepsHonest (map entry_of x.begun.found) x.runs.closes.history old new
+-- over the finished history each worker was answered so
+all_answered : {V : Type 0} (g : Vaults V) (when : ℕ) (old new : Areas) (a b : StoreAreas V) (before sums : V) (held kept : List (Held V)) (report : RunReport) (x : IsAtSite g when old new a b before sums held kept report) (worker : ℕ) (t : Told) → slice_get report.told worker ≡ Some t
+    → IsAnswered (tell g a ≡ true) (run_basis x.found.settings when x.begun.found old) worker x.runs.closes.history (length (map entry_of x.begun.found)) t.task.lines t.answers (areas_of g (areas_at (λ part. part.held) x.runs.ran.parts worker)) (areas_of g (areas_at (λ part. part.kept) x.runs.ran.parts worker))
+all_answered g when old new a b before sums held kept report x worker t there =
+    answered g (tell g a) (run_basis x.found.settings when x.begun.found old) (x.runs.first ∷ x.runs.rest) x.runs.ran.parts x.runs.closes.history worker t (its_run g when old new a b before sums held kept report x worker t there) x.runs.closes.seen x.runs.closes.counted
+
+there_front : {V : Type 0} (g : Vaults V) (site : Areas) (xs ys : List (Held V)) → AreThere g site (xs ++ ys) → AreThere g site xs
+there_front g site [] ys all = tt
+there_front g site (x ∷ xs) ys all = (all.0, there_front g site xs ys all.1)
+
+there_back : {V : Type 0} (g : Vaults V) (site : Areas) (xs ys : List (Held V)) → AreThere g site (xs ++ ys) → AreThere g site ys
+there_back g site [] ys all = all
+there_back g site (x ∷ xs) ys all = there_back g site xs ys all.1
+
+there_at : {V : Type 0} (g : Vaults V) (site : Areas) (f : Part V → List (Held V)) (parts : List (Part V)) (worker : ℕ) → AreThere g site (flat_map f parts) → AreThere g site (areas_at f parts worker)
+there_at g site f [] worker all = tt
+there_at g site f (part ∷ parts) zero all = there_front g site (f part) (flat_map f parts) all
+there_at g site f (part ∷ parts) (suc worker) all = there_at g site f parts worker (there_back g site (f part) (flat_map f parts) all)
+
+as_there : {V : Type 0} (g : Vaults V) (site : Areas) (held : List (Held V)) (n : List ℕ) → AreThere g site held → IsOneOf n (names_of held) → areas_of g held n ≡ site n
+as_there g site [] n all one = absurd one
+as_there g site (x ∷ held) n all one =
+    elim (same_or_not n x.name) [
+      | inl is ↦ ap (areas_of g (x ∷ held)) is ∙ (set_at-same (areas_of g held) x.name (state_in g x.area) ∙ (sym all.0 ∙ ap site (sym is)))
+      | inr apart ↦ set_at-other (areas_of g held) x.name n (state_in g x.area) apart ∙ elim one [
+        | inl first ↦ absurd (apart first)
+        | inr later ↦ as_there g site held n all.1 later
+      ]
+    ]
+
+-- what it held is the site's of before, and what it holds that of now
+was_held : {V : Type 0} (g : Vaults V) (tells : Type 0) (b : Basis) (passes : List Seen) (parts : List (Part V)) (site : Areas) (worker : ℕ) (t : Told) → WorkerRan g tells b passes parts worker t → AreThere g site (flat_map (λ part. part.held) parts)
+    → (n : List ℕ) → IsOneOf n (areas_asked t.task.lines) → areas_of g (areas_at (λ part. part.held) parts worker) n ≡ site n
+was_held g tells b passes parts site worker t w all n one =
+    let mine : IsOneOf n (names_of w.part.held) = w.ran.mine n (subst (λ (u : Told). IsOneOf n (areas_asked u.task.lines)) (sym w.told) one) in
+    as_there g site (areas_at (λ part. part.held) parts worker) n (there_at g site (λ part. part.held) parts worker all)
+    (subst (λ (h : List (Held _)). IsOneOf n (names_of h)) (sym (at_number (λ part. part.held) parts worker w.part w.there)) mine)
+
+is_kept : {V : Type 0} (g : Vaults V) (tells : Type 0) (b : Basis) (passes : List Seen) (parts : List (Part V)) (site : Areas) (worker : ℕ) (t : Told) → WorkerRan g tells b passes parts worker t → AreThere g site (flat_map (λ part. part.kept) parts)
+    → (n : List ℕ) → IsOneOf n (areas_asked t.task.lines) → areas_of g (areas_at (λ part. part.kept) parts worker) n ≡ site n
+is_kept g tells b passes parts site worker t w all n one =
+    let mine : IsOneOf n (names_of w.part.kept) = subst (λ (ns : Names). IsOneOf n ns) (sym (later_named g w.part.held w.part.kept w.ran.later)) (w.ran.mine n (subst (λ (u : Told). IsOneOf n (areas_asked u.task.lines)) (sym w.told) one)) in
+    as_there g site (areas_at (λ part. part.kept) parts worker) n (there_at g site (λ part. part.kept) parts worker all)
+    (subst (λ (h : List (Held _)). IsOneOf n (names_of h)) (sym (at_number (λ part. part.kept) parts worker w.part w.there)) mine)
+
+still_honest : {V : Type 0} (g : Vaults V) (when : ℕ) (old new : Areas) (a b : StoreAreas V) (before sums : V) (held kept : List (Held V)) (report : RunReport) (x : IsAtSite g when old new a b before sums held kept report) → KeepsHonest (map entry_of x.begun.found) x.runs.closes.history old new
 still_honest g when old new a b before sums held kept report x told was =
     let b0 : Basis = run_basis x.found.settings when x.begun.found old in
     let history : List Entry = x.runs.closes.history in
     let order : IsOrderly 0 history = lawful_orderly x.found.settings.segment history (x.runs.closes.lawful (x.leads told)) in
     let honest : IfSome (g.files sums) (IsHonest history) =
-    crews_keep_honest (tell g a) b0.found x.runs.last.list history b0.sums (g.files sums) (x.leads told) order (found_seen g (tell g a ≡ true) b0 (starts_of g x.found before 5) x.runs.last sums x.runs.last.faults.sums held kept report.told x.runs.ran)
-    x.runs.ran.shelved (first_of (λ (p : Seen). IsPrefix p.list history) x.runs.last x.runs.closes.seen) was in
+    crews_keep_honest (tell g a) b0.found x.runs.first.list history b0.sums (g.files sums) (x.leads told) order (found_seen g (tell g a ≡ true) b0 x.runs.ran.parts x.runs.first x.runs.rest x.runs.ran.has.ran x.runs.ran.fresh x.runs.ran.last)
+    x.runs.ran.shelved (of_pass (λ (p : Seen). IsPrefix p.list history) (x.runs.first ∷ x.runs.rest) 0 x.runs.first x.runs.closes.seen refl) was in
     subst (λ (o : Option Files). IfSome o (IsHonest history)) (sym (ap (λ (y : AreaState). y.files) x.sums_at)) honest
 
-run_holds : {V : Type 0} (g : Vaults V) (when : ℕ) (old new : Areas) (a b : StoreAreas V) (before sums : V) (held kept : Areas) (report : RunReport) (x : IsAtSite g when old new a b before sums held kept report) → AreTold old → HoldsHistory g x.found.settings x.runs.closes.history b → HoldsRun x.found.settings x.begun.found x.runs.closes.history new
+run_holds : {V : Type 0} (g : Vaults V) (when : ℕ) (old new : Areas) (a b : StoreAreas V) (before sums : V) (held kept : List (Held V)) (report : RunReport) (x : IsAtSite g when old new a b before sums held kept report) → AreTold old → HoldsHistory g x.found.settings x.runs.closes.history b → HoldsRun x.found.settings x.begun.found x.runs.closes.history new
 run_holds g when old new a b before sums held kept report x told holds =
     let s : StoreSettings = x.found.settings in
     let has : HasBegun (g.files a.wal) (shown_of g x.found) x.found.tip = x.begun in
@@ -347,8 +440,8 @@ run_holds g when old new a b before sums held kept report x told holds =
     (at_told (old wal_name).files files.0 (HasFound s has.found) files.1 (was_there g when old new a b before sums held kept report x))
     (leaves g when old new a b before sums held kept report x)
 
-pub run_done : {V : Type 0} (g : Vaults V) (when : ℕ) (old new : Areas) (a b : StoreAreas V) (before sums : V) (held kept : Areas) (report : RunReport) → AreAt g old a → AreAt g new b → old sums_name ≡ state_in g before → new sums_name ≡ state_in g sums → AreAsAt (backups_asked (tasks_told report.told)) held old
-    → AreAsAt (backups_asked (tasks_told report.told)) kept new → IsRunOn g when a b before sums held kept report → RunDone when old new report
+pub run_done : {V : Type 0} (g : Vaults V) (when : ℕ) (old new : Areas) (a b : StoreAreas V) (before sums : V) (held kept : List (Held V)) (report : RunReport) → AreAt g old a → AreAt g new b → old sums_name ≡ state_in g before → new sums_name ≡ state_in g sums → AreThere g old held → AreThere g new kept
+    → IsRunOn g when a b before sums held kept report → RunDone when old new report
 run_done g when old new a b before sums held kept report was at sums_was sums_at were are ran =
     let x : IsAtSite g when old new a b before sums held kept report = at_site g when old new a b before sums held kept report was at sums_was sums_at ran in
     let s : StoreSettings = x.found.settings in
@@ -356,9 +449,15 @@ run_done g when old new a b before sums held kept report was at sums_was sums_at
     let base : Basis = run_basis s when has.found old in
     let history : List Entry = x.runs.closes.history in
     let wal : (old wal_name).files ≡ g.files a.wal = wal_files g old a was in
-    let mine : (worker : ℕ) (t : Told) → slice_get report.told worker ≡ Some t → IsAnswered (tell g a ≡ true) base worker history (length base.found) t.task.lines t.answers held kept = all_answered g when old new a b before sums held kept report x in
-    let there : (worker : ℕ) (t : Told) → slice_get report.told worker ≡ Some t → (n : List ℕ) → IsOneOf n (areas_asked t.task.lines) → kept n ≡ new n = λ worker t is n one. are n (asked_among report.told worker t n is one) in
-    let here : (worker : ℕ) (t : Told) → slice_get report.told worker ≡ Some t → (n : List ℕ) → IsOneOf n (areas_asked t.task.lines) → held n ≡ old n = λ worker t is n one. were n (asked_among report.told worker t n is one) in
+    let parts : List (Part _) = x.runs.ran.parts in
+    let were_at : ℕ → Areas = λ worker. areas_of g (areas_at (λ part. part.held) parts worker) in
+    let are_at : ℕ → Areas = λ worker. areas_of g (areas_at (λ part. part.kept) parts worker) in
+    let mine : (worker : ℕ) (t : Told) → slice_get report.told worker ≡ Some t → IsAnswered (tell g a ≡ true) base worker history (length base.found) t.task.lines t.answers (were_at worker) (are_at worker) = all_answered g when old new a b before sums held kept report x in
+    let ran_by : (worker : ℕ) (t : Told) → slice_get report.told worker ≡ Some t → WorkerRan g (tell g a ≡ true) base (x.runs.first ∷ x.runs.rest) parts worker t = its_run g when old new a b before sums held kept report x in
+    let there : (worker : ℕ) (t : Told) → slice_get report.told worker ≡ Some t → (n : List ℕ) → IsOneOf n (areas_asked t.task.lines) → are_at worker n ≡ new n =
+    λ worker t is n one. is_kept g (tell g a ≡ true) base (x.runs.first ∷ x.runs.rest) parts new worker t (ran_by worker t is) (subst (λ (hs : List (Held _)). AreThere g new hs) x.runs.ran.has.kept_are are) n one in
+    let here : (worker : ℕ) (t : Told) → slice_get report.told worker ≡ Some t → (n : List ℕ) → IsOneOf n (areas_asked t.task.lines) → were_at worker n ≡ old n =
+    λ worker t is n one. was_held g (tell g a ≡ true) base (x.runs.first ∷ x.runs.rest) parts old worker t (ran_by worker t is) (subst (λ (hs : List (Held _)). AreThere g old hs) x.runs.ran.has.held_are were) n one in
     record {
       settings = s;
       given = was_given g when old new a b before sums held kept report x;
@@ -369,25 +468,26 @@ run_done g when old new a b before sums held kept report was at sums_was sums_at
       archive = was_there g when old new a b before sums held kept report x;
       opened = x.opened ∙ ap (λ (t : Tip). t.end) has.tip_is;
       history = history;
-      held = λ worker. held;
+      held = were_at;
       were = λ worker t is name one. here worker t is name one;
-      kept = λ worker. kept;
+      kept = are_at;
       are = λ worker t is name one. there worker t is name one;
       happened = record {
         own = x.runs.closes.runs.own;
         grown = x.runs.closes.runs.all;
-        of_run = subst (λ (n : ℕ). All (IsOfRun n) x.runs.closes.runs.own) (one_worker g (tell g a ≡ true) base (starts_of g x.found before 5) x.runs.last sums x.runs.last.faults.sums held kept report.told x.runs.ran) x.runs.closes.of_run;
+        of_run = told_own g (tell g a ≡ true) base (starts_of g x.found before 5) x.runs.first x.runs.rest sums (sum_by (λ (q : Seen). q.faults.sums) (x.runs.first ∷ x.runs.rest)) held kept report.told x.runs.closes.runs.own history x.runs.ran x.runs.closes.runs.all x.runs.closes.of_run
+            (of_pass (CountsItsOwn history) (x.runs.first ∷ x.runs.rest) 0 x.runs.first x.runs.closes.counted refl);
         lawful = λ told. x.runs.closes.lawful (x.leads told);
-        answered = λ worker t is. answered_less (tell g a ≡ true) (AreTold old) base worker history (length base.found) t.task.lines t.answers held kept x.leads (mine worker t is);
+        answered = λ worker t is. answered_less (tell g a ≡ true) (AreTold old) base worker history (length base.found) t.task.lines t.answers (were_at worker) (are_at worker) x.leads (mine worker t is);
       };
-      completed = λ worker t is. stand_less (tell g a ≡ true) (AreTold old) base worker history t.task.lines t.answers kept new x.leads (there worker t is)
-          (backups_told (tell g a) base worker history (length base.found) t.task.lines t.answers held kept (mine worker t is)).0;
-      incremented = λ worker t is. incrs_less (tell g a ≡ true) (AreTold old) base worker history t.task.lines t.answers kept new x.leads (there worker t is)
-          (incrs_told (tell g a) base worker history t.task.lines t.answers held kept (mine worker t is));
+      completed = λ worker t is. stand_less (tell g a ≡ true) (AreTold old) base worker history t.task.lines t.answers (are_at worker) new x.leads (there worker t is)
+          (backups_told (tell g a) base worker history (length base.found) t.task.lines t.answers (were_at worker) (are_at worker) (mine worker t is)).0;
+      incremented = λ worker t is. incrs_less (tell g a ≡ true) (AreTold old) base worker history t.task.lines t.answers (are_at worker) new x.leads (there worker t is)
+          (incrs_told (tell g a) base worker history t.task.lines t.answers (were_at worker) (are_at worker) (mine worker t is));
       left = leaves g when old new a b before sums held kept report x;
       closing = closing g when old new a b before sums held kept report x report.closed x.runs.closes.answer (run_holds g when old new a b before sums held kept report x);
-      risen = shares_told g (tell g a ≡ true) base (starts_of g x.found before 5) x.runs.last sums x.runs.last.faults.sums held kept old new report.told x.runs.ran (area_fails g when old new a b before sums held kept report x);
-      backups_failed = λ worker t is. fail_at t.task.lines t.answers held kept old new (here worker t is) (there worker t is)
-          (backups_told (tell g a) base worker history (length base.found) t.task.lines t.answers held kept (mine worker t is)).1;
+      risen = shares_told g (tell g a ≡ true) base (starts_of g x.found before 5) x.runs.first x.runs.rest sums (sum_by (λ (q : Seen). q.faults.sums) (x.runs.first ∷ x.runs.rest)) held kept old new report.told x.runs.ran (area_fails g when old new a b before sums held kept report x);
+      backups_failed = λ worker t is. fail_at t.task.lines t.answers (were_at worker) (are_at worker) old new (here worker t is) (there worker t is)
+          (backups_told (tell g a) base worker history (length base.found) t.task.lines t.answers (were_at worker) (are_at worker) (mine worker t is)).1;
       honest = still_honest g when old new a b before sums held kept report x;
     }

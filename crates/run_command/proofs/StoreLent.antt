@@ -8,7 +8,6 @@ use Rattle.lsn_core.specs.Causes.{Rose}
 use Rattle.lsn_core.specs.Files.{Files}
 use Rattle.lsn_core.specs.declared.fault.StoreArea.{StoreArea}
 use Rattle.lsn_core.specs.declared.fault.StoreArea.TheVariants.{Wal, Data, Sums}
-use Rattle.lsn_core.specs.declared.fault.StoreFault.{StoreFault}
 use Rattle.lsn_core.specs.declared.fault.StoreFault.TheVariants as store
 use Rattle.vault.specs.declared.area.Vault.{Ghosts as Vaults}
 use Rattle.vault.specs.Frame.{IsDurable}
@@ -19,16 +18,16 @@ use Rattle.vault.specs.Site.{Areas, AreaState, AllHome, state_in}
 use Rattle.vault.specs.Lending.{Names, IsOneOf, IsNoneOf, names_of, AreAreasOf, AreOut, AreLater, WritesAmong, AreTaken, NoneTaken, TakeCause, GivesBack}
 use Rattle.vault.proofs.SetAreas.{set_at-same, set_at-other, same_or_not}
 use Rattle.vault.proofs.LentAreas.{one_or_none, lent, areas_named, later_named, out_front, out_later, gives_more}
-use Rattle.shared_store.specs.declared.areas.StoreAreas.{StoreAreas}
-use Rattle.shared_store.specs.Begin.{faults_of}
-use Rattle.shared_store.specs.Close.{AreDurable, data_area}
-use Rattle.shared_store.specs.Opened.{Faults, NoneFell, count_of, data_count}
+use Rattle.store_areas.specs.declared.areas.StoreAreas.{StoreAreas}
+use Rattle.store_areas.specs.Begin.{faults_of}
+use Rattle.store_lifecycle.specs.Close.{AreDurable}
+use Rattle.store_areas.specs.Begin.{data_area}
+use Rattle.store_areas.specs.Opened.{Faults, NoneFell, count_of, data_count}
 use Rattle.run_command.specs.declared.lending.StoreNames.{StoreNames}
 use Rattle.command_base.specs.Areas.{wal_name, data_name, sums_name, AreaIsDurable}
-use Rattle.crew.specs.declared.script.Line.{Line}
-use Rattle.crew.specs.declared.script.Task.{Task}
-use Rattle.crew.specs.Backups.{areas_asked, areas_of, AreHeld}
-use Rattle.run_command.specs.Run.{store_asks, backups_asked, others_asked, run_asks, AreTold, AreAsAt, StoreFails}
+use Rattle.scripts.specs.declared.script.Task.{Task}
+use Rattle.crew.specs.Backups.{areas_of}
+use Rattle.run_command.specs.Run.{store_asks, backups_asked, run_asks, AreTold, AreAsAt, StoreFails}
 use Rattle.run_command.specs.Inner.{held_of, tell, AreEachOnce, AreAsked}
 use Rattle.run_command.proofs.ToldLess.{one_front, one_back}
 
@@ -124,7 +123,7 @@ five_later g names are now later = (
   (refl, omega (arith, later (Data 0)), (refl, omega (arith, later (Data 1)), (refl, omega (arith, later (Data 2)), (refl, omega (arith, later (Data 3)), tt)))),
 )
 
-both_later : {A : Type 0} (g : Vaults A) (xs xs2 ys ys2 : List (Held A)) → AreLater g xs xs2 → AreLater g ys ys2 → AreLater g (xs ++ ys) (xs2 ++ ys2)
+pub both_later : {A : Type 0} (g : Vaults A) (xs xs2 ys ys2 : List (Held A)) → AreLater g xs xs2 → AreLater g ys ys2 → AreLater g (xs ++ ys) (xs2 ++ ys2)
 both_later g [] [] ys ys2 first second = second
 both_later g [] (x ∷ xs2) ys ys2 first second = absurd first
 both_later g (x ∷ xs) [] ys ys2 first second = absurd first
@@ -177,7 +176,7 @@ store_gives s g old mid then new names are out first second third =
 
 -- ---- lent as a slice
 
-later_length : {A : Type 0} (g : Vaults A) (xs ys : List (Held A)) → AreLater g xs ys → length ys ≡ length xs
+pub later_length : {A : Type 0} (g : Vaults A) (xs ys : List (Held A)) → AreLater g xs ys → length ys ≡ length xs
 later_length g [] [] later = refl
 later_length g [] (y ∷ ys) later = absurd later
 later_length g (x ∷ xs) [] later = absurd later
@@ -249,6 +248,17 @@ one_both n front rest more only one =
       | inr last ↦ one_back n more rest last
     ]
 
+-- these are the areas of a site by the names that they have
+abbrev pub AreThere : {V : Type 0} → Vaults V → Areas → List (Held V) → Type 0
+AreThere g site [] = Unit {0}
+AreThere g site (one ∷ held) = (site one.name ≡ state_in g one.area) × AreThere g site held
+
+are_there : {A : Type 0} (g : Vaults A) (site : Areas) (names : Names) (held : List (Held A)) → AreAreasOf g site names held → AreThere g site held
+are_there g site [] [] are = tt
+are_there g site [] (x ∷ held) are = absurd are
+are_there g site (name ∷ names) [] are = absurd are
+are_there g site (name ∷ names) (x ∷ held) are = (ap site are.0 ∙ are.1, are_there g site names held are.2)
+
 -- what a site comes to whose areas were all at home, once they were given back
 pub record RunBack {S A : Type 0} (s : Sites S A) (g : Vaults A) (script : List Task) (old new : S) (held kept : List (Held A)) (sums sums_now : A) (are now : StoreAreas A) : Type 0 where
   pub site : WritesAmong (run_asks script) (s.areas old) (s.areas new)
@@ -256,6 +266,8 @@ pub record RunBack {S A : Type 0} (s : Sites S A) (g : Vaults A) (script : List 
   pub is : AreAt g (s.areas new) now
   pub were : AreAsAt (backups_asked script) (areas_of g held) (s.areas old)
   pub after : AreAsAt (backups_asked script) (areas_of g kept) (s.areas new)
+  pub held_there : AreThere g (s.areas old) held
+  pub kept_there : AreThere g (s.areas new) kept
   pub before : s.areas old sums_name ≡ state_in g sums
   pub behind : s.areas new sums_name ≡ state_in g sums_now
   pub later : s.take_faults old ≤ s.take_faults new
@@ -269,7 +281,7 @@ are_at g areas names are is = record {
   data3 = is.2.2.2.2.1;
 }
 
-names_of_both : {A : Type 0} (xs ys : List (Held A)) → names_of (xs ++ ys) ≡ names_of xs ++ names_of ys
+pub names_of_both : {A : Type 0} (xs ys : List (Held A)) → names_of (xs ++ ys) ≡ names_of xs ++ names_of ys
 names_of_both [] ys = refl
 names_of_both (x ∷ xs) ys = ap (λ (ns : Names). x.name ∷ ns) (names_of_both xs ys)
 
@@ -332,48 +344,49 @@ run_back s g script backups old mid new names held kept one two are now each hom
       is = is.store_are;
       were = λ n some. as_there g (s.areas old) backups held n was.backups_are (each.all n some);
       after = λ n some. as_there g (s.areas new) backups kept n is.backups_are (each.all n some);
+      held_there = are_there g (s.areas old) backups held was.backups_are;
+      kept_there = are_there g (s.areas new) backups kept is.backups_are;
       before = was.sums_is;
       behind = is.sums_is;
       later = back.later;
     }
 
 -- what was asked for is held under its names
-pub asked_held : {S A : Type 0} (s : Sites S A) (g : Vaults A) (lines : List Line) (ns : Names) (old mid : S) (held : List (Held A)) (one : Held A) (names : StoreNames) (are : StoreAreas A) → AreAsked lines ns → AreTaken s g ns old mid ((held ++ (one ∷ [])) ++ held_of names are) → AreHeld (areas_asked lines) held
-asked_held s g lines ns old mid held one names are asked taken =
-    let areas : AreAreasOf g (s.areas old) ((asked.backups ++ (sums_name ∷ [])) ++ store_asks) ((held ++ (one ∷ [])) ++ held_of names are) =
-    subst (λ (xs : Names). AreAreasOf g (s.areas old) xs ((held ++ (one ∷ [])) ++ held_of names are)) asked.names_are taken.areas in
-    let parts : AreParts g (s.areas old) asked.backups held one.area are = in_parts g (s.areas old) asked.backups held one names are areas in
-    λ n some. subst (λ (xs : Names). IsOneOf n xs) (sym parts.named) (asked.each.all n some)
+pub held_named : {S A : Type 0} (s : Sites S A) (g : Vaults A) (backups ns : Names) (old mid : S) (held : List (Held A)) (one : Held A) (names : StoreNames) (are : StoreAreas A) → ns ≡ (backups ++ (sums_name ∷ [])) ++ store_asks → AreTaken s g ns old mid ((held ++ (one ∷ [])) ++ held_of names are) → names_of held ≡ backups
+held_named s g backups ns old mid held one names are is taken =
+    let areas : AreAreasOf g (s.areas old) ((backups ++ (sums_name ∷ [])) ++ store_asks) ((held ++ (one ∷ [])) ++ held_of names are) =
+    subst (λ (xs : Names). AreAreasOf g (s.areas old) xs ((held ++ (one ∷ [])) ++ held_of names are)) is taken.areas in
+    let parts : AreParts g (s.areas old) backups held one.area are = in_parts g (s.areas old) backups held one names are areas in
+    parts.named
 
 -- the areas of the backups and of summaries later
 pub others_later : {A : Type 0} (g : Vaults A) (held kept : List (Held A)) (one two : Held A) → AreLater g held kept → two.name ≡ one.name → g.faults one.area ≤ g.faults two.area → AreLater g (held ++ (one ∷ [])) (kept ++ (two ∷ []))
 others_later g held kept one two later named fell = both_later g held kept (one ∷ []) (two ∷ []) later (named, fell, tt)
 
 -- all of it, from the site's side
-pub run_ends : {S A : Type 0} (s : Sites S A) (g : Vaults A) (lines : List Line) (script : List Task) (ns : Names) (old mid then new : S) (names : StoreNames) (held kept : List (Held A)) (one two : Held A) (are now : StoreAreas A) → AreAsked lines ns → areas_asked lines ≡ backups_asked script
+pub run_ends : {S A : Type 0} (s : Sites S A) (g : Vaults A) (script : List Task) (ns : Names) (old mid then new : S) (names : StoreNames) (held kept : List (Held A)) (one two : Held A) (are now : StoreAreas A) → AreAsked script ns
     → AllHome (s.areas old) → AreTaken s g ns old mid ((held ++ (one ∷ [])) ++ held_of names are) → AreLater g (held ++ (one ∷ [])) (kept ++ (two ∷ [])) → NoneFell (faults_of g are) (faults_of g now) → GivesBack s g (held_of names now) mid then → GivesBack s g (kept ++ (two ∷ [])) then new
     → RunBack s g script old new held kept one.area two.area are now
-run_ends s g lines script ns old mid then new names held kept one two are now asked same home taken later fell first second =
+run_ends s g script ns old mid then new names held kept one two are now asked home taken later fell first second =
     let there : AreTaken s g ((asked.backups ++ (sums_name ∷ [])) ++ store_asks) old mid ((held ++ (one ∷ [])) ++ held_of names are) = subst (λ (xs : Names). AreTaken s g xs old mid ((held ++ (one ∷ [])) ++ held_of names are)) asked.names_are taken in
     let out : AreOut g (s.areas mid) ((kept ++ (two ∷ [])) ++ held_of names now) = run_out g (s.areas mid) (held ++ (one ∷ [])) (kept ++ (two ∷ [])) names are now there.out later fell in
     let gives : GivesBack s g ((kept ++ (two ∷ [])) ++ held_of names now) mid new = gives_more s g (kept ++ (two ∷ [])) (held_of names now) mid then new out first second in
-    let each : AreEachOnce (backups_asked script) asked.backups = subst (λ (xs : Names). AreEachOnce xs asked.backups) same asked.each in
-    run_back s g script asked.backups old mid new names held kept one two are now each home there later gives
+    run_back s g script asked.backups old mid new names held kept one two are now asked.each home there later gives
 
 -- the area of summaries goes back before those of the backups
 pub others_give : {S A : Type 0} (s : Sites S A) (g : Vaults A) (old mid new : S) (held : List (Held A)) (one : Held A) → AreOut g (s.areas old) (held ++ (one ∷ [])) → GivesBack s g (one ∷ []) old mid → GivesBack s g held mid new → GivesBack s g (held ++ (one ∷ [])) old new
 others_give s g old mid new held one out first second = gives_more s g held (one ∷ []) old mid new out first second
 
 -- one of the areas wasn't handed out
-pub untaken : {S A : Type 0} (s : Sites S A) (g : Vaults A) (lines : List Line) (script : List Task) (ns : Names) (old new : S) (fault : TakeFault) → AreAsked lines ns → areas_asked lines ≡ backups_asked script → NoneTaken s ns old new fault
+pub untaken : {S A : Type 0} (s : Sites S A) (g : Vaults A) (script : List Task) (ns : Names) (old new : S) (fault : TakeFault) → AreAsked script ns → NoneTaken s ns old new fault
     → (s.areas new ≡ s.areas old) × TakeCause (run_asks script) (s.take_faults old) (s.take_faults new) fault
-untaken s g lines script ns old new fault asked same none =
+untaken s g script ns old new fault asked none =
     let among : IsOneOf fault.area ((asked.backups ++ (sums_name ∷ [])) ++ store_asks) = subst (λ (xs : Names). IsOneOf fault.area xs) asked.names_are none.cause.among in
-    let more : IsOneOf fault.area ((areas_asked lines ++ (sums_name ∷ [])) ++ store_asks) = wider fault.area asked.backups (areas_asked lines) asked.each.only among in (
+    let more : IsOneOf fault.area ((backups_asked script ++ (sums_name ∷ [])) ++ store_asks) = wider fault.area asked.backups (backups_asked script) asked.each.only among in (
       none.areas,
       record {
         later = none.cause.later;
-        among = subst (λ (xs : Names). IsOneOf fault.area ((xs ++ (sums_name ∷ [])) ++ store_asks)) same more;
+        among = more;
         failed = none.cause.failed;
       },
     )

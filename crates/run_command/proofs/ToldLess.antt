@@ -5,29 +5,30 @@ use Rattle.lsn_core.specs.Files.{Files}
 use Rattle.lsn_core.specs.declared.lsn.Lsn.{Lsn}
 use Rattle.vault.specs.Site.{Areas, AreaState, IsStill}
 use Rattle.vault.specs.Lending.{Names, IsOneOf}
-use Rattle.base_backup.specs.declared.fault.BackupFault.{BackupFault}
-use Rattle.base_backup.specs.declared.fault.BackupFault.TheVariants as backup
-use Rattle.base_backup.specs.declared.incr_fault.IncrFault.{IncrFault}
-use Rattle.base_backup.specs.declared.incr_fault.IncrFault.TheVariants as incr
-use Rattle.base_backup.specs.Sent.{SentFile, AreFor, IsCopyOf, IsSentAs, blocks_sent}
+use Rattle.store_faults.specs.declared.backup_fault.BackupFault.{BackupFault}
+use Rattle.store_faults.specs.declared.backup_fault.BackupFault.TheVariants as backup
+use Rattle.store_faults.specs.declared.incr_fault.IncrFault.{IncrFault}
+use Rattle.store_faults.specs.declared.incr_fault.IncrFault.TheVariants as incr
+use Rattle.backup_sending.specs.Sent.{SentFile, AreFor, IsCopyOf, IsSentAs, blocks_sent}
 use Rattle.lsn_core.specs.Store.{ForkPages}
 use Rattle.wal_summary.specs.declared.summary.Summary.{Summary}
 use Rattle.summary_publish.specs.Published.{Advances, AdvancesTo, AdvanceAnswers}
-use Rattle.summary_publish.specs.declared.advancing.AdvanceFault.{AdvanceFault}
-use Rattle.summary_publish.specs.declared.advancing.AdvanceFault.TheVariants as advance
+use Rattle.store_faults.specs.declared.advance_fault.AdvanceFault.{AdvanceFault}
+use Rattle.store_faults.specs.declared.advance_fault.AdvanceFault.TheVariants as advance
 use Rattle.command_base.specs.Areas.{backup_name}
 use Rattle.history.specs.declared.op.Op.{Op}
 use Rattle.history.specs.Entry.{Entry}
 use Rattle.shared_store.specs.Seen.{accepted_by}
-use Rattle.crew.specs.declared.script.Command.{Command}
-use Rattle.crew.specs.declared.script.Command.TheVariants as command
-use Rattle.crew.specs.declared.script.Line.{Line}
-use Rattle.crew.specs.declared.answer.Answer.{Answer}
-use Rattle.crew.specs.declared.answer.Answer.TheVariants.{Accepted, Refused, Grown, Stopped, Redo, CheckpointRefused, Wrote, Published, CallFailed, Backup, BackupRefused, IncrRefused, NotRun}
-use Rattle.crew.specs.Orders.{op_asked, grow_ops}
-use Rattle.crew.specs.Backups.{area_asked, areas_asked, backup_taken, prior_taken}
+use Rattle.scripts.specs.declared.script.Command.{Command}
+use Rattle.scripts.specs.declared.script.Command.TheVariants as command
+use Rattle.scripts.specs.declared.script.Line.{Line}
+use Rattle.run_answers.specs.declared.answer.Answer.{Answer}
+use Rattle.run_answers.specs.declared.answer.Answer.TheVariants.{Accepted, Refused, Grown, Stopped, Redo, CheckpointRefused, Wrote, Published, CallFailed, Backup, BackupRefused, IncrRefused, NotRun}
+use Rattle.scripts.specs.Orders.{op_asked, grow_ops}
+use Rattle.crew.specs.Backups.{area_asked, areas_asked}
+use Rattle.scripts.specs.Named.{backup_taken, prior_taken}
 use Rattle.shared_summaries.specs.Shelf.{AreShelved, HasPublished, states}
-use Rattle.base_backup.specs.Entries.{SumsUp}
+use Rattle.incr_backup.specs.Incr.{SumsUp}
 use Rattle.crew.specs.Run.{Basis, HoldsBackup, IsBackupRefused, IncrAreas, incr_areas, HoldsIncr, IsIncrRefused, IncrStandsFor, IncrsStand, KeepsTo, Made, LineAnswer, Answered, IsAnswered, StandsFor, BackupsStand, RoseFor, FailsFor, BackupFaultsRose}
 
 made_less : (S T : Type 0) (mib worker : ℕ) (history : List Entry) (from : ℕ) (ops : List Op) (made : List Entry) → (T → S) → Made S mib worker history from ops made → Made T mib worker history from ops made
@@ -197,6 +198,7 @@ answered_less S T b worker history found lines answers held new leads is = recor
   to = is.to;
   within = is.within;
   answered = lines_less S T b worker history found lines answers (accepted_by worker history) is.to held new leads is.answered;
+  marked = is.marked;
   order = is.order;
 }
 

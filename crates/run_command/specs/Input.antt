@@ -1,7 +1,7 @@
 -- The script of the input, as far as it is read.
 use Rattle.std.specs.Prelude.{◌≡◌, ℕ, ◌+◌, ◌≤◌, List, length, take, drop, Option, IfSome}
 use Rattle.std.specs.Option.{option_map}
-use Rattle.crew.specs.Reasons.{script_limit}
+use Rattle.scripts.specs.Reasons.{script_limit}
 
 -- the input was read: all of it, or one byte more than a script may have. What is behind these
 -- bytes is left

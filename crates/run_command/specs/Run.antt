@@ -1,5 +1,5 @@
 -- `run`: what running a script does, prints and ends with.
-use Rattle.std.specs.Prelude.{◌≡◌, ℕ, ◌+◌, ◌<◌, ◌≤◌, max, List, [], ◌∷◌, ◌++◌, map, length, slice_get, Option, Some, None, Result, Ok, Err, IsSome, IfSome, codes}
+use Rattle.std.specs.Prelude.{◌≡◌, ℕ, ◌+◌, ◌<◌, ◌≤◌, List, [], ◌∷◌, ◌++◌, map, length, slice_get, Option, Some, None, Result, Ok, Err, IsSome, IfSome, codes}
 use Rattle.std.specs.List.{All, flat_map}
 use Rattle.std.specs.FinMap.{empty}
 use Rattle.std.specs.Fmt.{decimal}
@@ -25,47 +25,51 @@ use Rattle.history.specs.Written.{wal_of, tip_of}
 use Rattle.journal.specs.Lawful.{IsLawful}
 use Rattle.recovery.specs.Causes.{HasSettings}
 use Rattle.shared_store.specs.Calls.{MayWriteWal, IsOfRun}
-use Rattle.shared_store.specs.Begin.{BeginCause, MayComeFirst, MayComeLate}
-use Rattle.shared_store.specs.Close.{HoldsRecords, HoldsPart}
-use Rattle.shared_store.specs.declared.found.BeginWhy.{BeginWhy}
-use Rattle.shared_store.specs.declared.found.BeginWhy.TheVariants as begin
-use Rattle.crew.specs.declared.script.Task.{Task}
-use Rattle.crew.specs.declared.why.Why.{Why}
-use Rattle.crew.specs.Reasons.{script_limit, why_bytes}
-use Rattle.crew.specs.Script.{IsScript, IsRefusedAt}
-use Rattle.crew.specs.declared.script.Line.{Line}
-use Rattle.crew.specs.declared.answer.Stop.{Stop}
-use Rattle.crew.specs.declared.answer.Stop.TheVariants as stop
+use Rattle.store_areas.specs.Begin.{BeginCause, MayComeFirst, MayComeLate}
+use Rattle.shared_store.specs.Records.{HoldsRecords}
+use Rattle.store_lifecycle.specs.Close.{HoldsPart}
+use Rattle.store_faults.specs.declared.begin_why.BeginWhy.{BeginWhy}
+use Rattle.store_faults.specs.declared.begin_why.BeginWhy.TheVariants as begin
+use Rattle.scripts.specs.declared.script.Task.{Task}
+use Rattle.scripts.specs.declared.why.Why.{Why}
+use Rattle.scripts.specs.Reasons.{script_limit, why_bytes}
+use Rattle.scripts.specs.Script.{IsScript, IsRefusedAt}
+use Rattle.scripts.specs.declared.script.Line.{Line}
+use Rattle.run_answers.specs.Telling.{RunResult}
+use Rattle.run_answers.specs.declared.answer.Stop.{Stop}
+use Rattle.run_answers.specs.declared.answer.Stop.TheVariants as stop
 use Rattle.crew.specs.Backups.{areas_asked}
 use Rattle.crew.specs.Run.{Basis, basis_of, IsAnswered, BackupsStand, BackupFaultsRose, IncrsStand, TellsFault, IsHonestFor}
 use Rattle.command_base.specs.declared.status.Status.{Status}
 use Rattle.command_base.specs.declared.status.Status.TheVariants as status
-use Rattle.run_command.specs.declared.told.Told.{Told}
-use Rattle.run_command.specs.declared.command.RunReport.{RunReport}
-use Rattle.run_command.specs.declared.command.RunFault.{RunFault}
-use Rattle.run_command.specs.declared.command.RunFault.TheVariants as run
+use Rattle.run_answers.specs.declared.told.Told.{Told}
+use Rattle.run_answers.specs.declared.outcome.RunReport.{RunReport}
+use Rattle.run_answers.specs.declared.outcome.RunFault.{RunFault}
+use Rattle.run_answers.specs.declared.outcome.RunFault.TheVariants as run
 use Rattle.command_base.specs.Areas.{wal_name, data_name, sums_name, area_name, Keeps, AreaCause, AreaIsDurable}
-use Rattle.command_base.specs.Outside.{Outside, Works, LeavesSite, IsUntaken}
+use Rattle.command_base.specs.Outside.{IsMoment, Outside, Works, LeavesSite, IsUntaken}
 use Rattle.run_command.specs.Input.{IsInput, TakesAtMost}
-use Rattle.command_base.specs.Faults.{refused_line, area_text, take_text, begin_text, memory_text, area_status, store_status, begin_status}
-use Rattle.run_command.specs.Report.{first_told, report_text}
-
-abbrev pub RunResult : Type 0
-RunResult = Result RunReport RunFault
+use Rattle.command_base.specs.Faults.{refused_line, area_text, take_text, memory_text, area_status, store_status}
+use Rattle.run_answers.specs.Begin.{begin_text, begin_status}
+use Rattle.run_answers.specs.Report.{first_told, report_text}
 
 -- ---- the script
+
+-- the most workers of a script that is run (profile)
+abbrev pub run_workers : ℕ
+run_workers = 8
 
 -- the input was read, and it is a script that is taken
 pub record HasScript (left now : Option (List ℕ)) (script : List Task) : Type 0 where
   pub bytes : List ℕ
   pub input : IsInput bytes left now
-  pub script_is : IsScript bytes script
+  pub script_is : IsScript run_workers bytes script
 
 -- the input was read, and this line is the first that is refused
 pub record HasRefusedLine (left now : Option (List ℕ)) (line : ℕ) (why : Why) : Type 0 where
   pub bytes : List ℕ
   pub input : IsInput bytes left now
-  pub refused : IsRefusedAt bytes line why
+  pub refused : IsRefusedAt run_workers bytes line why
 
 -- ---- what the run of a script comes to, over the areas of a store
 
@@ -135,14 +139,14 @@ run_basis s when found old = basis_of s when (map entry_of found) (old sums_name
 
 -- a history goes on behind the entries that were found by entries of the workers alone, and, where
 -- areas tell, lawfully, each entry in the place where it is written; over it
--- each worker's lines were answered so, at this moment, and its commands there are those that its
--- answers name; and its backups made of its areas those
+-- each worker's lines were answered so, at this moment, its commands there are those that its answers
+-- name, and its marks no more than these allow; and its backups made of its areas those
 pub record HasHistory
     (tells : Type 0) (b : Basis) (told : List Told) (held kept : ℕ → Areas) (history : List Entry)
     : Type 0 where
   pub own : List Entry
   pub grown : history ≡ b.found ++ own
-  pub of_run : All (IsOfRun (max 1 (length told))) own
+  pub of_run : All (IsOfRun (length told)) own
   pub lawful : tells → IsLawful b.settings.segment history
   pub answered : (worker : ℕ) (t : Told) → slice_get told worker ≡ Some t
       → IsAnswered tells b worker history (length b.found) t.task.lines t.answers
@@ -280,10 +284,6 @@ RunAnswer when script old new (Err (run.Site fault)) =
 RunAnswer when script old new (Err (run.Begin why)) =
     HasScript old.left new.left script × CantBegin script old.areas new.areas why
 
--- a moment is the clock's
-abbrev pub IsMoment : Outside → ℕ → Type 0
-IsMoment old when = IfSome old.moment (λ told. when ≡ told)
-
 -- `run`, of a script where the input has one, at the clock's moment. Of the input no more is taken
 -- than one byte more than a script may have
 abbrev pub RunDoes : Outside → Outside → RunResult → Type 0
@@ -293,42 +293,3 @@ RunDoes old new r =
     × (old.reads ≤ new.reads)
     × TakesAtMost (script_limit + 1) old.left new.left
     × RunAnswer when script old new r
-
--- ---- what it prints, and its status
-
-abbrev pub script_text : ℕ → Why → List ℕ
-script_text line why = codes "2 ScriptLine " ++ (decimal line ++ (32 ∷ why_bytes why))
-
-abbrev pub run_fault_text : RunFault → List ℕ
-run_fault_text (run.Input why) = area_text (codes "input") why
-run_fault_text (run.Script line why) = script_text line why
-run_fault_text run.NoMemory = memory_text
-run_fault_text (run.Site fault) = take_text fault
-run_fault_text (run.Begin why) = begin_text why
-
-abbrev pub run_text : RunResult → List ℕ
-run_text (Ok report) = report_text report
-run_text (Err fault) = refused_line (run_fault_text fault)
-
--- the status of a run by how it ended: with the line by which a worker was stopped first; where none
--- was, as closing the store did
-abbrev pub stop_status : Stop → Status
-stop_status (stop.Store why) = store_status why
-stop_status stop.Backup = status.Device
-stop_status stop.Prior = status.Device
-
-abbrev pub closed_status : Result Lsn StoreFault → Status
-closed_status (Ok end) = status.Done
-closed_status (Err why) = store_status why
-
-abbrev pub ending_status : Option (Line × Stop) → Result Lsn StoreFault → Status
-ending_status None closed = closed_status closed
-ending_status (Some first) closed = stop_status first.1
-
-abbrev pub run_status : RunResult → Status
-run_status (Ok report) = ending_status (first_told report.told) report.closed
-run_status (Err (run.Input why)) = area_status why
-run_status (Err (run.Script line why)) = status.Usage
-run_status (Err run.NoMemory) = status.Memory
-run_status (Err (run.Site fault)) = area_status fault.why
-run_status (Err (run.Begin why)) = begin_status why

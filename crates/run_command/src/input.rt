@@ -2,13 +2,13 @@
 
 ghost use Rattle.std.specs.Prelude.{◌+◌, ◌<◌, IfOk};
 ghost use Rattle.lsn_core.specs.Causes.{HasCause};
-ghost use Rattle.crew.specs.Reasons.{script_limit};
+ghost use Rattle.scripts.specs.Reasons.{script_limit};
 ghost use Rattle.run_command.specs.Input.{TakesAtMost};
 ghost use Rattle.run_command.specs.Inner.{IsReadOn, IsInputOf};
 
 use byte_words::zeros;
-use crew::SCRIPT_LIMIT;
 use lsn_core::AreaFault;
+use scripts::SCRIPT_LIMIT;
 use std::alloc::Global;
 use vault::Source;
 

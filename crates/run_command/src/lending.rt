@@ -4,15 +4,16 @@ ghost use Rattle.std.specs.Prelude.{◌≡◌, ◌≤◌, ◌∷◌, ◌++◌, [
 ghost use Rattle.std.specs.List.{list_any};
 ghost use Rattle.vault.specs.Site.{AllHome};
 ghost use Rattle.vault.specs.Lending.{AreDistinct, AreOut, GivesBack};
-ghost use Rattle.command_base.specs.Areas.{backup_name};
+ghost use Rattle.command_base.specs.Areas.{backup_name, sums_name};
 ghost use Rattle.crew.specs.Backups.{area_asked, areas_asked};
-ghost use Rattle.run_command.specs.Inner.{held_of, AreEachOnce, AddsAsked, AreAsked, TakesRun};
+ghost use Rattle.run_command.specs.Run.{store_asks};
+ghost use Rattle.run_command.specs.Inner.{held_of, AreEachOnce, AddsAsked, TakesRun};
 
 use command_base::{backup_name, joined};
-use crew::{Command, Line};
 use lsn_core::{NoMemory, Text};
-use shared_store::StoreAreas;
+use scripts::{Command, Line};
 use std::alloc::Global;
+use store_areas::StoreAreas;
 use vault::{Held, Site, TakeFault, Vault, give_all, give_one, give_two, take_all};
 
 /// The names under which the areas of a store go back.
@@ -81,7 +82,7 @@ fn is_among(names: &[Text], name: &[u8]) -> bool
 }
 
 /// The areas that lines ask for beside those of every run, each once.
-fn asked_areas(alloc: Global, lines: &[Line]) -> Result<Vec<Text>, NoMemory>
+pub fn asked_areas(alloc: Global, lines: &[Line]) -> Result<Vec<Text>, NoMemory>
     ensures { IfOk result (λ names. AreEachOnce (areas_asked lines.now) names.items) }
 {
     let mut names = Vec::new(alloc);
@@ -92,6 +93,16 @@ fn asked_areas(alloc: Global, lines: &[Line]) -> Result<Vec<Text>, NoMemory>
 }
 
 /// Puts names behind others.
+pub fn keep_names(names: &mut Vec<Text>, more: Vec<Text>) -> Result<(), NoMemory>
+    ensures { OnOk result (names.new.items ≡ names.old.items ++ more.items) }
+{
+    for name in more {
+        names.push(name)?;
+    }
+    Ok(())
+}
+
+/// Puts names of areas behind others.
 fn push_names(alloc: Global, names: &mut Vec<Text>, more: &[&[u8]]) -> Result<(), NoMemory>
     ensures { OnOk result
         (names.new.items ≡ names.old.items ++ map (λ name. name.now) more.now) }
@@ -102,12 +113,12 @@ fn push_names(alloc: Global, names: &mut Vec<Text>, more: &[&[u8]]) -> Result<()
     Ok(())
 }
 
-/// The areas that a run of these lines asks for: those of its backups, that of summaries, and those of
-/// the store.
-pub fn run_names(alloc: Global, lines: &[Line]) -> Result<Vec<Text>, NoMemory>
-    ensures { IfOk result (λ names. AreAsked lines.now names.items) }
+/// The areas that a run asks for: behind these of its backups that of summaries, and those of the store.
+pub fn run_names(alloc: Global, backups: Vec<Text>) -> Result<Vec<Text>, NoMemory>
+    ensures { IfOk result
+        (λ names. names.items ≡ (backups.items ++ (sums_name ∷ [])) ++ store_asks) }
 {
-    let mut names = asked_areas(alloc, lines)?;
+    let mut names = backups;
     push_names(
         alloc,
         &mut names,

@@ -5,7 +5,7 @@
 //! `specs/Report.antt`. It asks for the areas of a store and of its backups once its script is taken and
 //! all memory that a refusal would need is there, and gives them back in any case.
 //!
-//! Left to others: the grammar of scripts and the run of a line (`crew`), an open store
+//! Left to others: the grammar of scripts (`scripts`), the run of a line (`crew`), an open store
 //! (`shared_store`), texts and statuses of faults (`command_base`), and where the input and the site
 //! come from (`pgbackup_cli`).
 #![tactic(auto)]
@@ -13,9 +13,7 @@
 mod command;
 mod input;
 mod lending;
-mod report;
 mod running;
-mod told;
+mod seats;
 
-pub use command::{RunFault, RunReport, run, run_status, run_text};
-pub use told::{Told, ToldTasks};
+pub use command::{run, run_gated};

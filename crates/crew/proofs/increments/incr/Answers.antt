@@ -1,7 +1,7 @@
 -- The two areas, lent at once.
 use Rattle.std.proofs.Common.{List, ℕ, sym, subst}
 use Rattle.crew.specs.Backups.{area_asked, areas_of, AreHeld}
-use Rattle.crew.specs.declared.script.Command.TheVariants as command
+use Rattle.scripts.specs.declared.script.Command.TheVariants as command
 use Rattle.crew.specs.Running.{AreAt}
 use Rattle.crew.proofs.Two.{two_parts}
 use Rattle.crew.proofs.increments.incr.Goals as goal

@@ -1,5 +1,5 @@
 use Rattle.std.proofs.Common.{◌≡◌, true}
-use Rattle.base_backup.specs.Incr.{incr_site}
+use Rattle.incr_backup.specs.Incr.{incr_site}
 use Rattle.crew.specs.Run.{basis_of}
 use Rattle.crew.proofs.Incremented.{taken, refused}
 use Rattle.crew.proofs.increments.incr_into.Goals as goal

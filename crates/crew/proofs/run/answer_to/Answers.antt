@@ -1,6 +1,7 @@
 use Rattle.std.proofs.Common.{subst}
-use Rattle.crew.specs.declared.script.Command.{Command}
-use Rattle.crew.specs.Backups.{area_asked, AreHeld, HasOtherPrior}
+use Rattle.scripts.specs.declared.script.Command.{Command}
+use Rattle.crew.specs.Backups.{area_asked, AreHeld}
+use Rattle.scripts.specs.Named.{HasOtherPrior}
 use Rattle.crew.proofs.Held.{later_same}
 use Rattle.crew.proofs.run.answer_to.Goals as goal
 

@@ -1,5 +1,5 @@
 use Rattle.std.proofs.Common.{◌≡◌, ◌+◌, true, refl}
-use Rattle.crew.specs.Orders.{grow_op}
+use Rattle.scripts.specs.Orders.{grow_op}
 use Rattle.crew.proofs.Growth.{grows_none, grows_more, stopped}
 use Rattle.crew.proofs.run.grow.Goals as goal
 

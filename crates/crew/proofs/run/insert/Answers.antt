@@ -1,5 +1,5 @@
 use Rattle.std.proofs.Common.{◌≡◌, true}
-use Rattle.crew.specs.Orders.{op_asked}
+use Rattle.scripts.specs.Orders.{op_asked}
 use Rattle.crew.proofs.Growth.{accepted, refused_line}
 use Rattle.crew.proofs.run.insert.Goals as goal
 

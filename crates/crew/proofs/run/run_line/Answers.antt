@@ -1,5 +1,5 @@
 use Rattle.std.proofs.Common.{◌≡◌, Bool, true, sym, subst}
-use Rattle.crew.specs.declared.answer.Answer.TheVariants.{NotRun}
+use Rattle.run_answers.specs.declared.answer.Answer.TheVariants.{NotRun}
 use Rattle.crew.specs.Backups.{areas_of}
 use Rattle.crew.specs.Run.{basis_of}
 use Rattle.crew.specs.Running.{LineRuns}

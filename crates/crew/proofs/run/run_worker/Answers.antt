@@ -1,11 +1,11 @@
 use Rattle.std.proofs.Common.{◌≡◌, ◌+◌, ◌∷◌, ◌++◌, [], true, List, take, ap, sym, subst, ◌∙◌, arith}
 use Rattle.std.proofs.lemmas.List.{take_more, take_all}
 use Rattle.vault.proofs.LentAreas.{later_again}
-use Rattle.crew.specs.declared.script.Line.{Line}
+use Rattle.scripts.specs.declared.script.Line.{Line}
 use Rattle.crew.specs.Backups.{areas_of}
 use Rattle.crew.specs.Run.{basis_of}
 use Rattle.crew.proofs.Held.{later_same, line_held}
-use Rattle.crew.proofs.Priors.{line_fits}
+use Rattle.scripts.proofs.Priors.{line_fits}
 use Rattle.crew.proofs.Ran.{IsRunning, runs_none, runs_more, runs_all}
 use Rattle.crew.proofs.run.run_worker.Goals as goal
 

@@ -1,6 +1,6 @@
 use Rattle.std.proofs.Common.{◌≡◌, ◌+◌, ◌∷◌, ◌++◌, [], take, ap, sym, ◌∙◌}
 use Rattle.std.proofs.lemmas.List.{take_more}
-use Rattle.crew.specs.declared.script.Line.{Line}
+use Rattle.scripts.specs.declared.script.Line.{Line}
 use Rattle.run_command.proofs.Noted.{noted_more}
 use Rattle.run_command.proofs.lending.asked_areas.Goals as goal
 

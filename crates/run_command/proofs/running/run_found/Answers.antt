@@ -2,5 +2,5 @@
 use Rattle.crew.proofs.Held.{later_same}
 use Rattle.run_command.proofs.running.run_found.Goals as goal
 
-pub returns-in-Err-clause-held_later : goal.returns-in-Err-clause-held_later
-returns-in-Err-clause-held_later g c = later_same g.V.Vault c.args.held.now
+pub returns-in-Err-clause-later : goal.returns-in-Err-clause-later
+returns-in-Err-clause-later g c = later_same g.V.Vault c.args.held.now.items

@@ -1,7 +1,7 @@
--- The store is begun at what was found of it, its ledgers are those that are handed over, and it has one
--- worker.
+-- The store is begun at what was found of it, its ledgers are those that are handed over, and it has as
+-- many passes as its script needs.
 use Rattle.std.specs.Prelude.{box_value}
-use Rattle.run_command.specs.Inner.{tell_found, entries_named, faults_named, wal_start, starts_of}
+use Rattle.run_command.specs.Inner.{tell_found, entries_named, faults_named, passes_for, wal_start, starts_of}
 use Rattle.run_command.proofs.running.run_named.Given as goal
 
 abbrev pub ghosts-run_found-J-OfTimeline : goal.ghosts-run_found-J-OfTimeline
@@ -14,8 +14,8 @@ abbrev pub ghosts-run_found-J-OfLedgers : goal.ghosts-run_found-J-OfLedgers
 ghosts-run_found-J-OfLedgers g a = record {
   entries_named = entries_named a.blanks;
   faults_named = faults_named a.blanks;
-  commands_named = a.blanks.commands.name;
-  passes = 1;
+  made_named = a.blanks.made.name;
+  passes = passes_for a.work.seats.items;
 }
 
 abbrev pub ghosts-run_found-J-OfCrew : goal.ghosts-run_found-J-OfCrew
@@ -24,6 +24,6 @@ ghosts-run_found-J-OfCrew g a = record {
   found = a.found.opened.list;
   wal = wal_start g.V.Vault a.found;
   starts = starts_of g.V.Vault a.found (box_value a.sums);
-  workers = 1;
+  workers = passes_for a.work.seats.items;
   sums = g.V.Vault.files (box_value a.sums);
 }

@@ -1,5 +1,0 @@
-use Rattle.crew.proofs.OneAnswer.{one_answer}
-use Rattle.crew.proofs.laws.script_has_one_answer.Goals as goal
-
-pub returns : goal.returns
-returns c = one_answer

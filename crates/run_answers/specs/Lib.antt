@@ -1,0 +1,4 @@
+pub mod Stopping
+pub mod Report
+pub mod Begin
+pub mod Telling

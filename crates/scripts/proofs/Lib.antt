@@ -1,0 +1,10 @@
+pub mod Drafts
+pub mod Priors
+pub mod Pieces
+pub mod Each
+pub mod ItemWords
+pub mod Closed
+pub mod SoFar
+pub mod OneAnswer
+pub mod Apart
+pub mod Workers

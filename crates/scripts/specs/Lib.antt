@@ -1,0 +1,12 @@
+pub mod Shape
+pub mod Orders
+pub mod Cuts
+pub mod Items
+pub mod Meaning
+pub mod Named
+pub mod Draft
+pub mod Reasons
+pub mod Script
+pub mod Laws
+pub mod Apart
+pub mod Inside
