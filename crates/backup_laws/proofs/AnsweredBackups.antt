@@ -11,9 +11,9 @@ use Rattle.chain_check.specs.Laws.{DirectoriesAreOneMember, ListedIsNotRefused}
 use Rattle.chain_check.specs.Refusals.{HasRefusal}
 use Rattle.command_base.proofs.Told.{at_told}
 use Rattle.recovery.proofs.OneWal.{same_lsn}
-use Rattle.pgbackup_cli.specs.Verify.{VerifyResult, VerifyDoes, VerifyDone, report_of}
-use Rattle.pgbackup_cli.specs.declared.verify.VerifyReport.{VerifyReport}
-use Rattle.pgbackup_cli.specs.declared.verify.VerifyFault.TheVariants as verify
+use Rattle.chain_commands.specs.Verify.{VerifyResult, VerifyDoes, VerifyDone, report_of}
+use Rattle.chain_commands.specs.declared.verifying.VerifyReport.{VerifyReport}
+use Rattle.chain_commands.specs.declared.verifying.VerifyFault.TheVariants as verify
 use Rattle.backup_laws.specs.Runs.{IsBackedUp}
 use Rattle.backup_laws.specs.Chains.{IsIncremented}
 use Rattle.backup_laws.specs.Finished.{AnsweredBackupsAreListed, AnsweredBackupsAreVerified, IsListedBackup, IsVerified, full_member, incr_member}

@@ -14,8 +14,8 @@ use Rattle.backup_label.specs.declared.label.Label.{Label}
 use Rattle.manifest.specs.Listing.{Listing}
 use Rattle.manifest.specs.Text.{manifest_text}
 use Rattle.backup_files.specs.Directory.{label_name, manifest_name, listing_with}
-use Rattle.base_backup.specs.Directory.{IsDirectory, incr_label}
-use Rattle.base_backup.proofs.Labels.{label_apart}
+use Rattle.backup_sending.specs.Directory.{IsDirectory, incr_label}
+use Rattle.backup_sending.proofs.Labels.{label_apart}
 use Rattle.chain_check.specs.Directory.{HasManifest, IsAsListed}
 use Rattle.chain_check.specs.Laws.{ListedHaveForms}
 use Rattle.chain_check.specs.declared.member.Member.{Member}
@@ -23,7 +23,7 @@ use Rattle.chain_files.specs.Segments.{AllHaveForms}
 use Rattle.chain_files.specs.Told.{all_told}
 use Rattle.chain_laws.proofs.Files.{get_other}
 use Rattle.command_base.proofs.Told.{at_told}
-use Rattle.pgbackup_cli.specs.Chain.{AreMembersIn, files_told}
+use Rattle.chain_commands.specs.Chain.{AreMembersIn, files_told}
 use Rattle.backup_laws.proofs.Members.{Known, manifest_once, put_there, some_is}
 
 -- ---- the directories of a chain

@@ -17,7 +17,7 @@ use Rattle.chain_check.specs.declared.member.Member.{Member}
 use Rattle.chain_laws.specs.Chain.{IsSoundChain}
 use Rattle.command_base.specs.Areas.{wal_name}
 use Rattle.run_command.specs.Run.{RunDone, IsClosing, all_records, found_tip}
-use Rattle.pgbackup_cli.specs.Chain.{backup_areas, files_told}
+use Rattle.chain_commands.specs.Chain.{backup_areas, files_told}
 use Rattle.backup_laws.specs.Runs.{IsBackedUp}
 use Rattle.backup_laws.specs.Chains.{IsIncremented, IsSoundFull, IsSoundIncrement}
 use Rattle.backup_laws.specs.Finished.{full_member}

@@ -40,25 +40,25 @@ use Rattle.shared_store.specs.Copied.{HasRedoPoint}
 use Rattle.shared_store.specs.Seen.{accepted_by}
 use Rattle.shared_store.proofs.RedoPoints.{redo_runs}
 use Rattle.backup_files.specs.Directory.{manifest_name, listing_with}
-use Rattle.base_backup.specs.Directory.{IsDirectory, IsFullBackup, incr_label}
-use Rattle.base_backup.specs.Prior.{HasListing}
-use Rattle.base_backup.specs.Sent.{file_of}
+use Rattle.backup_sending.specs.Directory.{IsDirectory, IsFullBackup, incr_label}
+use Rattle.incr_backup.specs.Prior.{HasListing}
+use Rattle.backup_sending.specs.Sent.{file_of}
 use Rattle.chain_laws.specs.Chain.{IsSoundChain}
 use Rattle.chain_laws.specs.Increment.{IsIncrementOf}
 use Rattle.chain_laws.specs.Laws.{IncrementsExtendSoundChains, FullBackupsAreSoundChains, SoundChainsStaySound}
 use Rattle.chain_laws.proofs.Taken.{IsSumOf, sum_of, increment_of}
 use Rattle.command_base.specs.Areas.{backup_name, AreaIsDurable}
 use Rattle.command_base.proofs.Told.{some_told, at_told}
-use Rattle.crew.specs.declared.script.Command.{Command}
-use Rattle.crew.specs.declared.script.Command.TheVariants as command
-use Rattle.crew.specs.declared.script.Line.{Line}
-use Rattle.crew.specs.declared.answer.Answer.{Answer}
-use Rattle.crew.specs.declared.answer.Answer.TheVariants.{Backup}
+use Rattle.scripts.specs.declared.script.Command.{Command}
+use Rattle.scripts.specs.declared.script.Command.TheVariants as command
+use Rattle.scripts.specs.declared.script.Line.{Line}
+use Rattle.run_answers.specs.declared.answer.Answer.{Answer}
+use Rattle.run_answers.specs.declared.answer.Answer.TheVariants.{Backup}
 use Rattle.crew.specs.Backups.{area_asked, areas_asked}
 use Rattle.crew.specs.Run.{Basis, HoldsBackup, HoldsIncr, IsAnswered, TakesFull, TakesIncr, incr_areas}
 use Rattle.crew.proofs.Kept.{never_empty}
-use Rattle.run_command.specs.declared.told.Told.{Told}
-use Rattle.run_command.specs.declared.command.RunReport.{RunReport}
+use Rattle.run_answers.specs.declared.told.Told.{Told}
+use Rattle.run_answers.specs.declared.outcome.RunReport.{RunReport}
 use Rattle.run_command.specs.Run.{RunDone, AreTold, backups_asked, run_basis, tasks_told}
 use Rattle.run_command.proofs.OwnEntries.{AreOwn, written_own}
 use Rattle.run_command.proofs.ToldLess.{one_front, one_back}

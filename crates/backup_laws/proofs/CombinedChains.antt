@@ -16,9 +16,9 @@ use Rattle.command_base.specs.Areas.{backup_name}
 use Rattle.command_base.specs.Outside.{Outside}
 use Rattle.command_base.proofs.Told.{at_told}
 use Rattle.recovery.proofs.OneWal.{same_lsn}
-use Rattle.pgbackup_cli.specs.declared.combining.CombineReport.{CombineReport}
-use Rattle.pgbackup_cli.specs.Chain.{IsOfChain, files_told}
-use Rattle.pgbackup_cli.specs.Combine.{CombineSeen, CombinesChain, combine_seen}
+use Rattle.chain_commands.specs.declared.combining.CombineReport.{CombineReport}
+use Rattle.chain_commands.specs.Chain.{IsOfChain, files_told}
+use Rattle.chain_commands.specs.Combine.{CombineSeen, CombinesChain, combine_seen}
 use Rattle.backup_laws.specs.CombinedChains.{HasCombined, CombinedChainsStaySound}
 use Rattle.backup_laws.proofs.ChainMembers.{AllListed, members_listed, all_forms}
 

@@ -8,7 +8,7 @@ use Rattle.history.specs.Entry.{Entry}
 use Rattle.chain_check.specs.Directory.{IsAsListed}
 use Rattle.chain_check.specs.declared.member.Member.{Member}
 use Rattle.combine.specs.Laws.{full_member}
-use Rattle.pgbackup_cli.specs.declared.combining.CombineReport.{CombineReport}
+use Rattle.chain_commands.specs.declared.combining.CombineReport.{CombineReport}
 use Rattle.backup_laws.specs.Restores.{PastRun}
 use Rattle.backup_laws.specs.ChainRestores.{Combining, IsTakenByOne, IsCompletedBackup}
 use Rattle.backup_laws.proofs.ChainMembers.{AllListed, first_listed}

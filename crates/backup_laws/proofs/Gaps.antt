@@ -19,15 +19,16 @@ use Rattle.summary_store.specs.Honest.{is_redo_start}
 use Rattle.summary_publish.specs.Entries.{first_start, next_redo}
 use Rattle.summary_publish.specs.Partly.{MayAdvance}
 use Rattle.summary_publish.specs.Published.{ArePublished, AdvanceAnswers, with_files}
-use Rattle.summary_publish.specs.declared.advancing.AdvanceFault.TheVariants as advance
+use Rattle.store_faults.specs.declared.advance_fault.AdvanceFault.TheVariants as advance
 use Rattle.summary_publish.proofs.Adding.{end_append}
 use Rattle.summary_publish.proofs.Fitting.{one_of}
 use Rattle.summary_publish.proofs.KeptFiles.{covered_below, kept_once, next_kept, end_from}
 use Rattle.shared_summaries.specs.Grown.{HasGrown, IsOldGap}
 use Rattle.shared_summaries.specs.Shelf.{states}
 use Rattle.shared_summaries.proofs.Grown.{runs_begin_grown, publishing_grows, gaps_are_old}
-use Rattle.base_backup.specs.Entries.{HasCheckpointAt, SumsUp}
-use Rattle.base_backup.proofs.Marks.{checkpoint_on}
+use Rattle.backup_sending.specs.Entries.{HasCheckpointAt}
+use Rattle.incr_backup.specs.Incr.{SumsUp}
+use Rattle.backup_sending.proofs.Marks.{checkpoint_on}
 use Rattle.command_base.proofs.Told.{some_told, at_told}
 use Rattle.backup_laws.specs.Gaps.{FilesKeepOneList, PublishedAreKept, GapsAreOld, AnswersAreCovered, RefusedGapsAreOld}
 

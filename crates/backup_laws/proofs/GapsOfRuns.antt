@@ -6,8 +6,8 @@ use Rattle.history.specs.Whole.{entry_of}
 use Rattle.summary_store.specs.Honest.{is_redo_start}
 use Rattle.summary_publish.specs.Entries.{first_start}
 use Rattle.shared_summaries.specs.Grown.{IsOldGap}
-use Rattle.base_backup.specs.declared.incr_fault.IncrFault.TheVariants.{Gap}
-use Rattle.crew.specs.declared.answer.Answer.TheVariants.{IncrRefused}
+use Rattle.store_faults.specs.declared.incr_fault.IncrFault.TheVariants.{Gap}
+use Rattle.run_answers.specs.declared.answer.Answer.TheVariants.{IncrRefused}
 use Rattle.crew.specs.Run.{Basis}
 use Rattle.run_command.specs.Run.{AreTold, run_basis}
 use Rattle.backup_laws.specs.Gaps.{GapsOfRunsAreOld}

@@ -2,8 +2,8 @@
 use Rattle.std.proofs.Common.{◌≡◌, ℕ, zero, suc, List, [], ◌∷◌, drop, subst}
 use Rattle.vault.specs.Site.{Areas}
 use Rattle.history.specs.Entry.{Entry}
-use Rattle.crew.specs.declared.script.Line.{Line}
-use Rattle.crew.specs.declared.answer.Answer.{Answer}
+use Rattle.scripts.specs.declared.script.Line.{Line}
+use Rattle.run_answers.specs.declared.answer.Answer.{Answer}
 use Rattle.crew.specs.Run.{Basis, StandsFor, BackupsStand}
 
 -- where all backups of lines stand, that of a line does

@@ -29,9 +29,9 @@ use Rattle.backup_files.specs.Rows.{path_of}
 use Rattle.backup_files.proofs.Appended.{absent, get_here}
 use Rattle.backup_files.proofs.Digests.{spelled}
 use Rattle.backup_files.proofs.Listable.{all_map}
-use Rattle.base_backup.specs.Directory.{IsDirectory}
-use Rattle.base_backup.proofs.Labels.{label_apart}
-use Rattle.base_backup.proofs.Texts.{never_named}
+use Rattle.backup_sending.specs.Directory.{IsDirectory}
+use Rattle.backup_sending.proofs.Labels.{label_apart}
+use Rattle.backup_sending.proofs.Texts.{never_named}
 use Rattle.chain_files.specs.Segments.{IsIncrFile}
 use Rattle.chain_check.specs.Directory.{IsRowAsListed, is_listed, HasNoOther, HasForm, IsAsListed}
 use Rattle.chain_check.proofs.ForkFiles.{no_fork, whole_head, whole_pages}

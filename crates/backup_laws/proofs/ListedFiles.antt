@@ -17,9 +17,9 @@ use Rattle.lsn_core.proofs.AnyAll.{all_pieces, all_range}
 use Rattle.lsn_core.proofs.ForkOrder.{fork_cmp_total}
 use Rattle.lsn_core.proofs.StoreFiles.{all_files}
 use Rattle.rel_files.specs.Forks.{HasWholePages}
-use Rattle.base_backup.specs.Directory.{full_label, IsDirectory, IsFullBackup}
-use Rattle.base_backup.proofs.Listings.{count_fits}
-use Rattle.base_backup.proofs.Segments.{named_at}
+use Rattle.backup_sending.specs.Directory.{full_label, IsDirectory, IsFullBackup}
+use Rattle.backup_sending.proofs.Listings.{count_fits}
+use Rattle.backup_sending.proofs.Segments.{named_at}
 use Rattle.chain_files.proofs.Pages.{bytes_length}
 use Rattle.backup_laws.specs.Finished.{FinishedBackupsAreListed}
 use Rattle.backup_laws.proofs.ListedDirectories.{File, IsForkFileIn, directory_listed}

@@ -21,13 +21,13 @@ use Rattle.incr_file.specs.declared.plan.FilePlan.{FilePlan}
 use Rattle.incr_file.specs.declared.plan.FilePlan.TheVariants.{Whole, Incr}
 use Rattle.incr_file.specs.Laws.{PlannedHeadsAreWritten, WrittenHeadsAreRead}
 use Rattle.shared_store.specs.Copied.{listed_length}
-use Rattle.base_backup.specs.declared.basis.Basis.{Basis}
-use Rattle.base_backup.specs.Directory.{incr_label}
-use Rattle.base_backup.specs.Sent.{SegmentPlan, SentFile, AreListed, AreSent, IsCopyOf, IsSentAs, blocks_at, blocks_sent, file_of, front_bytes, is_known, is_part, segment_plan, sent_path}
-use Rattle.base_backup.proofs.Blocks.{for_length, for_sized}
-use Rattle.base_backup.proofs.Listings.{count_fits}
-use Rattle.base_backup.proofs.Planned.{blocks_rise}
-use Rattle.base_backup.proofs.Segments.{named_at}
+use Rattle.backup_sending.specs.declared.basis.Basis.{Basis}
+use Rattle.backup_sending.specs.Directory.{incr_label}
+use Rattle.backup_sending.specs.Sent.{SegmentPlan, SentFile, AreListed, AreSent, IsCopyOf, IsSentAs, blocks_at, blocks_sent, file_of, front_bytes, is_known, is_part, segment_plan, sent_path}
+use Rattle.backup_sending.proofs.Blocks.{for_length, for_sized}
+use Rattle.backup_sending.proofs.Listings.{count_fits}
+use Rattle.backup_sending.proofs.Planned.{blocks_rise}
+use Rattle.backup_sending.proofs.Segments.{named_at}
 use Rattle.chain_files.specs.Segments.{IsIncrFile}
 use Rattle.chain_files.proofs.Pages.{HaveSize, bytes_length}
 use Rattle.chain_check.specs.Directory.{IsAsListed}

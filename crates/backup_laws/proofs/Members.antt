@@ -13,7 +13,7 @@ use Rattle.manifest.specs.Reading.{ReadAnswers}
 use Rattle.manifest.specs.Text.{manifest_text}
 use Rattle.recovery.proofs.OneWal.{same_lsn}
 use Rattle.backup_files.specs.Directory.{manifest_name, listing_with}
-use Rattle.base_backup.specs.Directory.{IsFullBackup}
+use Rattle.backup_sending.specs.Directory.{IsFullBackup}
 use Rattle.backup_label.specs.Laws.{TextsHaveOneLabel}
 use Rattle.chain_laws.specs.Laws.{FullBackupsHoldTheirCopies}
 use Rattle.chain_check.specs.Laws.{ListedHaveForms}

@@ -6,11 +6,12 @@ use Rattle.lsn_core.specs.Files.{Files}
 use Rattle.vault.specs.Site.{Areas, IsStill}
 use Rattle.vault.specs.Lending.{Names, IsOneOf}
 use Rattle.history.specs.Entry.{Entry}
-use Rattle.crew.specs.declared.script.Line.{Line}
-use Rattle.crew.specs.declared.answer.Answer.{Answer}
-use Rattle.crew.specs.declared.answer.Stop.{Stop}
+use Rattle.scripts.specs.declared.script.Line.{Line}
+use Rattle.run_answers.specs.declared.answer.Answer.{Answer}
+use Rattle.run_answers.specs.declared.answer.Stop.{Stop}
 use Rattle.crew.specs.Backups.{area_asked, areas_asked}
-use Rattle.crew.specs.Run.{Basis, LineAnswer, Answered, stop_of, stops_with, is_not_run}
+use Rattle.crew.specs.Run.{Basis, LineAnswer, Answered}
+use Rattle.run_answers.specs.Stopping.{stop_of, stops_with, is_not_run}
 use Rattle.crew.proofs.Kept.{area_keeps}
 use Rattle.run_command.proofs.ToldLess.{one_front, one_back}
 use Rattle.backup_laws.specs.Chains.{AllTell, TellBehindLines}

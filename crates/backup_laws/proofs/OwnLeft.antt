@@ -38,7 +38,7 @@ use Rattle.crew.specs.Run.{IsHonestFor}
 use Rattle.run_command.specs.Run.{RunDone, HasFound, all_records, found_tip}
 use Rattle.run_command.proofs.OwnEntries.{AreOwn}
 use Rattle.command_line.specs.declared.options.InitOptions.{InitOptions}
-use Rattle.pgbackup_cli.specs.Init.{InitDoes, InitDone, HasFirstAlone, new_settings, init_areas, first_entry, new_tip}
+use Rattle.store_commands.specs.Init.{InitDoes, InitDone, HasFirstAlone, new_settings, init_areas, first_entry, new_tip}
 use Rattle.backup_laws.specs.Restores.{PastRun}
 use Rattle.backup_laws.specs.ChainRestores.{FoundOwn, RanOn, RanInTurn, RunsLeaveTheirOwn, NewStoresAreOwn, EndedWell, RanSince, RunsSinceInitAreInTurn}
 use Rattle.backup_laws.proofs.ChainRuns.{tidy_history}

@@ -24,8 +24,8 @@ use Rattle.recovery.specs.Replay.{IsRead, last_end}
 use Rattle.recovery.proofs.OneWal.{same_lsn}
 use Rattle.command_base.specs.Areas.{wal_name, output_name}
 use Rattle.command_base.proofs.Told.{some_told, at_told}
-use Rattle.pgbackup_cli.specs.declared.replay.ReplayReport.{ReplayReport}
-use Rattle.pgbackup_cli.specs.Replay.{ReplayDone, replay_areas, end_by}
+use Rattle.store_commands.specs.declared.replaying.ReplayReport.{ReplayReport}
+use Rattle.store_commands.specs.Replay.{ReplayDone, replay_areas, end_by}
 use Rattle.backup_laws.specs.Restores.{replay_end, IsWholeReplay, AreAlike, RestoresAreAsReplays}
 use Rattle.backup_restore.proofs.Rising.{reads_rise}
 use Rattle.backup_laws.proofs.Members.{Known, some_is}

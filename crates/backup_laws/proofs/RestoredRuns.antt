@@ -31,8 +31,8 @@ use Rattle.recovery.specs.Causes.{HasSettings}
 use Rattle.recovery.specs.Onward.{IsReadFrom, replayed_to, end_from, ending_by}
 use Rattle.recovery.specs.declared.reading.Beginning.TheVariants.{AtPlace}
 use Rattle.recovery.specs.declared.replaying.Replayed.{Replayed}
-use Rattle.shared_store.specs.Close.{HoldsRecords}
-use Rattle.base_backup.specs.Directory.{IsFullBackup}
+use Rattle.shared_store.specs.Records.{HoldsRecords}
+use Rattle.backup_sending.specs.Directory.{IsFullBackup}
 use Rattle.backup_restore.specs.Restored.{MakesOf, IsRestored}
 use Rattle.backup_restore.specs.Directories.{FilesHoldOneStore}
 use Rattle.chain_check.specs.Directory.{IsAsListed}
@@ -44,12 +44,12 @@ use Rattle.chain_laws.specs.Chain.{IsSoundChain}
 use Rattle.command_base.specs.Areas.{wal_name, output_name, backup_name}
 use Rattle.command_base.specs.Outside.{Outside}
 use Rattle.command_base.proofs.Told.{some_told, at_told}
-use Rattle.run_command.specs.declared.command.RunReport.{RunReport}
+use Rattle.run_answers.specs.declared.outcome.RunReport.{RunReport}
 use Rattle.run_command.specs.Run.{RunDone, HoldsRun, IsClosing, all_records, found_tip}
-use Rattle.pgbackup_cli.specs.declared.replay.ReplayReport.{ReplayReport}
-use Rattle.pgbackup_cli.specs.Replay.{end_by}
-use Rattle.pgbackup_cli.specs.Chain.{AreMembersIn, IsChainTo, IsOfChain, backup_areas, files_told}
-use Rattle.pgbackup_cli.specs.Restore.{RestoreSeen, RestoresChain, restore_seen, restored_areas}
+use Rattle.store_commands.specs.declared.replaying.ReplayReport.{ReplayReport}
+use Rattle.store_commands.specs.Replay.{end_by}
+use Rattle.chain_commands.specs.Chain.{AreMembersIn, IsChainTo, IsOfChain, backup_areas, files_told}
+use Rattle.chain_commands.specs.Restore.{RestoreSeen, RestoresChain, restore_seen, restored_areas}
 use Rattle.backup_laws.specs.Runs.{IsBackedUp, IsLastOfName, IsSoundBackup}
 use Rattle.backup_laws.specs.Restores.{HasRun, HasRestored, replay_end, IsWholeReplay, RunsAndRestoresAreReplays}
 use Rattle.backup_laws.proofs.ChainMembers.{members_listed, all_forms}

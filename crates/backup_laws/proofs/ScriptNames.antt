@@ -1,5 +1,5 @@
 -- The name of a backup that a script's line takes is one line.
-use Rattle.std.proofs.Common.{◌≡◌, ℕ, ◌+◌, zero, suc, Bool, true, false, cond, ◌&&◌, List, [], ◌∷◌, ◌++◌, drop, length, Option, Some, None, refl, sym, subst, ◌∙◌, ◌⊎◌, inl, inr}
+use Rattle.std.proofs.Common.{◌≡◌, ℕ, zero, suc, Bool, true, false, cond, ◌&&◌, List, [], ◌∷◌, drop, length, Option, Some, None, refl, sym, subst, ◌∙◌, ◌⊎◌, inl, inr}
 use Rattle.std.specs.Prelude.{◌==◌, codes, bytes_eq, nat_le, slice_get}
 use Rattle.std.specs.List.{AllByRecursion, list_all}
 use Rattle.std.specs.Option.{option_map}
@@ -8,18 +8,17 @@ use Rattle.byte_words.specs.Numbers.{◌>>=◌}
 use Rattle.lsn_core.specs.declared.lsn.Lsn.{Lsn}
 use Rattle.text_numbers.specs.Numbers.{number_of}
 use Rattle.backup_label.specs.Label.{HasNoLineEnd}
-use Rattle.crew.specs.declared.script.Command.{Command}
-use Rattle.crew.specs.declared.script.Command.TheVariants as command
-use Rattle.crew.specs.declared.order.Order.TheVariants.{Change}
-use Rattle.crew.specs.declared.script.Line.{Line}
-use Rattle.crew.specs.declared.script.Task.{Task}
-use Rattle.crew.specs.Backups.{backup_taken}
-use Rattle.crew.specs.Cuts.{is_name, is_name_byte, lines_of, words_of}
-use Rattle.crew.specs.Items.{items_in, fork_in, rel_in, block_in, shape_in, growth_count, flush_count}
-use Rattle.crew.specs.Meaning.{Says, Nothing, Worker, Does, meaning, only, two, three, are_two_names, words_say, worker_says, create_says, truncate_says, drop_says, change_says, grow_says, checkpoint_says, flush_says, summarise_says, full_says, incr_says}
-use Rattle.crew.specs.Script.{command_in, commands_from, tasks_of}
-use Rattle.crew.specs.Reasons.{workers_of}
-use Rattle.run_command.specs.declared.told.Told.{Told}
+use Rattle.scripts.specs.declared.script.Command.{Command}
+use Rattle.scripts.specs.declared.script.Command.TheVariants as command
+use Rattle.scripts.specs.declared.order.Order.TheVariants.{Change}
+use Rattle.scripts.specs.declared.script.Line.{Line}
+use Rattle.scripts.specs.declared.script.Task.{Task}
+use Rattle.scripts.specs.Named.{backup_taken}
+use Rattle.scripts.specs.Cuts.{is_name, is_name_byte, lines_of, words_of}
+use Rattle.scripts.specs.Items.{items_in, fork_in, rel_in, block_in, shape_in, growth_count, flush_count}
+use Rattle.scripts.specs.Meaning.{Says, Nothing, Worker, Does, meaning, only, two, three, are_two_names, words_say, worker_says, create_says, truncate_says, drop_says, change_says, grow_says, checkpoint_says, flush_says, summarise_says, full_says, incr_says}
+use Rattle.scripts.proofs.Drafts.{SaysSuch, such_drafted}
+use Rattle.run_answers.specs.declared.told.Told.{Told}
 use Rattle.run_command.specs.Run.{HasScript, tasks_told}
 use Rattle.backup_laws.specs.Runs.{IsBackedUp}
 use Rattle.backup_laws.specs.Chains.{IsIncremented}
@@ -46,11 +45,11 @@ name_free name is =
 -- ---- what a line says
 
 -- a command takes no backup, or one whose name is one line
+abbrev TakesOneLine : Command → Type 0
+TakesOneLine command = HasNoLineEnd (backup_taken command)
+
 abbrev IsOneLine : Option Says → Type 0
-IsOneLine None = Unit {0}
-IsOneLine (Some Nothing) = Unit {0}
-IsOneLine (Some (Worker name)) = Unit {0}
-IsOneLine (Some (Does command)) = HasNoLineEnd (backup_taken command)
+IsOneLine = SaysSuch TakesOneLine
 
 if_said : (test : Bool) (one other : Option Says) → (test ≡ true → IsOneLine one) → IsOneLine other → IsOneLine (cond test one other)
 if_said true one other is last = is refl
@@ -119,20 +118,6 @@ line_said (b ∷ bytes) = if_said (b == 35) (Some Nothing) (words_say (words_of 
 abbrev AreOneLine : List Line → Type 0
 AreOneLine lines = AllByRecursion (λ line. HasNoLineEnd (backup_taken line.command)) lines
 
-add_line : (n : ℕ) (o : Option Says) (lines : List Line) → IsOneLine o → AreOneLine lines → AreOneLine (command_in n o ++ lines)
-add_line n None lines is are = are
-add_line n (Some Nothing) lines is are = are
-add_line n (Some (Worker name)) lines is are = are
-add_line n (Some (Does command)) lines is are = (is, are)
-
-commands_free : (n : ℕ) (lines : List (List ℕ)) → AreOneLine (commands_from n lines)
-commands_free n [] = tt
-commands_free n (line ∷ lines) = add_line n (meaning line) (commands_from (n + 1) lines) (line_said line) (commands_free (n + 1) lines)
-
-tasks_free : (names : List (List ℕ)) (commands : List Line) → AreOneLine commands → AllByRecursion (λ t. AreOneLine t.lines) (tasks_of names commands)
-tasks_free [] commands are = tt
-tasks_free (name ∷ names) commands are = (are, tt)
-
 told_free : (told : List Told) (worker : ℕ) (by : Told) → AllByRecursion (λ t. AreOneLine t.lines) (tasks_told told) → slice_get told worker ≡ Some by → AreOneLine by.task.lines
 told_free [] worker by are there = absurd cc
 told_free (t ∷ told) zero by are there =
@@ -155,7 +140,7 @@ answered_name before left told script name start end is script_is answered = by 
     free : AllByRecursion (λ t. AreOneLine t.lines) (tasks_told told)
     free =
         subst (AllByRecursion (λ t. AreOneLine t.lines)) (sym (is ∙ script_is.script_is.says))
-        (tasks_free (workers_of (lines_of script_is.bytes)) (commands_from 1 (lines_of script_is.bytes)) (commands_free 1 (lines_of script_is.bytes)))
+        (such_drafted TakesOneLine line_said [] 1 (lines_of script_is.bytes) tt)
 
     by : IsBackedUp told name start end ⊎ IsIncremented told name start end → HasNoLineEnd name
     by (inl taken) =

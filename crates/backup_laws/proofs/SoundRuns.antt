@@ -23,10 +23,10 @@ use Rattle.journal.proofs.Stands.{lawful_orderly}
 use Rattle.shared_store.specs.Calls.{IsOfRun}
 use Rattle.shared_store.specs.Copied.{HasRedoPoint}
 use Rattle.shared_store.proofs.RedoPoints.{redo_runs}
-use Rattle.crew.specs.declared.answer.Answer.TheVariants.{Backup}
-use Rattle.base_backup.specs.Entries.{HasBackupAt}
-use Rattle.base_backup.proofs.Marks.{checkpoint_on, checkpoints_have_redo_points}
-use Rattle.base_backup.proofs.Sound.{backup_checkpoint, taken_on}
+use Rattle.run_answers.specs.declared.answer.Answer.TheVariants.{Backup}
+use Rattle.backup_sending.specs.Entries.{HasBackupAt}
+use Rattle.backup_sending.proofs.Marks.{checkpoint_on, checkpoints_have_redo_points}
+use Rattle.backup_sending.proofs.Sound.{backup_checkpoint, taken_on}
 use Rattle.crew.specs.Run.{Basis, HoldsBackup}
 use Rattle.run_command.specs.Run.{AreTold, run_basis}
 use Rattle.run_command.proofs.OwnEntries.{AreOwn, of_worker, written_own, parted}

@@ -10,16 +10,18 @@ use Rattle.history.specs.Entry.{Entry}
 use Rattle.shared_store.proofs.Kept.{some_back, some_on}
 use Rattle.backup_files.specs.Area.{TellAlike}
 use Rattle.backup_files.proofs.Manifests.{alike_same}
-use Rattle.base_backup.specs.declared.fault.BackupFault.TheVariants as backup
-use Rattle.base_backup.specs.declared.incr_fault.IncrFault.TheVariants as incr
+use Rattle.store_faults.specs.declared.backup_fault.BackupFault.TheVariants as backup
+use Rattle.store_faults.specs.declared.incr_fault.IncrFault.TheVariants as incr
 use Rattle.command_base.specs.Areas.{backup_name}
-use Rattle.crew.specs.declared.script.Command.{Command}
-use Rattle.crew.specs.declared.script.Command.TheVariants as command
-use Rattle.crew.specs.declared.script.Line.{Line}
-use Rattle.crew.specs.declared.answer.Answer.{Answer}
-use Rattle.crew.specs.declared.answer.Answer.TheVariants.{Accepted, Refused, Grown, Stopped, Redo, CheckpointRefused, Wrote, Published, CallFailed, Backup, BackupRefused, IncrRefused, NotRun}
-use Rattle.crew.specs.Backups.{area_asked, areas_asked, backup_taken}
-use Rattle.crew.specs.Run.{Basis, OnlyAt, OnlyAmong, LineAnswer, Answered, InOrder, is_not_run, stop_of, stops_with}
+use Rattle.scripts.specs.declared.script.Command.{Command}
+use Rattle.scripts.specs.declared.script.Command.TheVariants as command
+use Rattle.scripts.specs.declared.script.Line.{Line}
+use Rattle.run_answers.specs.declared.answer.Answer.{Answer}
+use Rattle.run_answers.specs.declared.answer.Answer.TheVariants.{Accepted, Refused, Grown, Stopped, Redo, CheckpointRefused, Wrote, Published, CallFailed, Backup, BackupRefused, IncrRefused, NotRun}
+use Rattle.crew.specs.Backups.{area_asked, areas_asked}
+use Rattle.scripts.specs.Named.{backup_taken}
+use Rattle.crew.specs.Run.{Basis, OnlyAt, OnlyAmong, LineAnswer, Answered, InOrder}
+use Rattle.run_answers.specs.Stopping.{is_not_run, stop_of, stops_with}
 use Rattle.crew.proofs.Two.{same_backup}
 use Rattle.run_command.specs.Run.{backups_asked, tasks_told}
 use Rattle.backup_laws.specs.Chains.{AllTell, TellBehindLines}

@@ -25,15 +25,16 @@ use Rattle.fuzzy_copies.specs.Orderly.{IsOrderly}
 use Rattle.fuzzy_copies.proofs.Repeats.{entries_rise}
 use Rattle.journal.specs.Lawful.{StandInPlace}
 use Rattle.journal.proofs.Stands.{stand_front}
-use Rattle.shared_store.specs.Close.{HoldsRecords}
-use Rattle.shared_store.specs.declared.found.BeginWhy.TheVariants as begin
+use Rattle.shared_store.specs.Records.{HoldsRecords}
+use Rattle.store_faults.specs.declared.begin_why.BeginWhy.TheVariants as begin
 use Rattle.command_base.specs.Areas.{wal_name}
 use Rattle.command_base.specs.Outside.{Outside}
 use Rattle.command_base.proofs.Told.{some_told, at_told}
-use Rattle.crew.specs.declared.script.Task.{Task}
-use Rattle.run_command.specs.declared.command.RunFault.TheVariants as run
-use Rattle.run_command.specs.declared.command.RunReport.{RunReport}
-use Rattle.run_command.specs.Run.{RunResult, AreTold, RunAnswer, others_asked, store_asks, RunDone, HasFound, all_records, found_tip}
+use Rattle.scripts.specs.declared.script.Task.{Task}
+use Rattle.run_answers.specs.declared.outcome.RunFault.TheVariants as run
+use Rattle.run_answers.specs.declared.outcome.RunReport.{RunReport}
+use Rattle.run_answers.specs.Telling.{RunResult}
+use Rattle.run_command.specs.Run.{AreTold, RunAnswer, others_asked, store_asks, RunDone, HasFound, all_records, found_tip}
 use Rattle.run_command.proofs.ToldLess.{one_back}
 use Rattle.run_command.proofs.OwnEntries.{held_read}
 use Rattle.backup_laws.specs.Restores.{GoesOnFrom, IsWholeTo, HasRun}

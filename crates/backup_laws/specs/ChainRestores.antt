@@ -8,12 +8,13 @@ use Rattle.vault.specs.Area.{Related}
 use Rattle.vault.specs.Lending.{Names}
 use Rattle.command_base.specs.Areas.{wal_name, sums_name, output_name, backup_name}
 use Rattle.command_base.specs.Outside.{Outside}
-use Rattle.run_command.specs.Run.{RunResult, AreTold, RunDoes}
+use Rattle.run_answers.specs.Telling.{RunResult}
+use Rattle.run_command.specs.Run.{AreTold, RunDoes}
 use Rattle.command_line.specs.declared.options.InitOptions.{InitOptions}
-use Rattle.pgbackup_cli.specs.Init.{InitDoes}
-use Rattle.pgbackup_cli.specs.declared.combining.CombineReport.{CombineReport}
-use Rattle.pgbackup_cli.specs.declared.replay.ReplayReport.{ReplayReport}
-use Rattle.pgbackup_cli.specs.Chain.{backup_areas, files_told}
+use Rattle.store_commands.specs.Init.{InitDoes}
+use Rattle.chain_commands.specs.declared.combining.CombineReport.{CombineReport}
+use Rattle.store_commands.specs.declared.replaying.ReplayReport.{ReplayReport}
+use Rattle.chain_commands.specs.Chain.{backup_areas, files_told}
 use Rattle.backup_laws.specs.Runs.{IsBackedUp}
 use Rattle.backup_laws.specs.Chains.{IsIncremented, TellsThroughout, FindsOwn}
 use Rattle.backup_laws.specs.Telling.{TellsAround}

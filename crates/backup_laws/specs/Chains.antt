@@ -11,19 +11,19 @@ use Rattle.history.specs.Entry.{Entry}
 use Rattle.history.specs.Whole.{entry_of}
 use Rattle.fuzzy_copies.specs.Covers.{AreTidy}
 use Rattle.manifest.specs.Listing.{Listing}
-use Rattle.base_backup.specs.Directory.{IsDirectory, IsFullBackup, incr_label}
-use Rattle.base_backup.specs.Prior.{HasListing}
+use Rattle.backup_sending.specs.Directory.{IsDirectory, IsFullBackup, incr_label}
+use Rattle.incr_backup.specs.Prior.{HasListing}
 use Rattle.shared_store.specs.Seen.{accepted_by}
 use Rattle.chain_laws.specs.Chain.{IsSoundChain}
 use Rattle.command_base.specs.Areas.{backup_name, sums_name}
-use Rattle.crew.specs.declared.script.Command.TheVariants.{Incr}
-use Rattle.crew.specs.declared.script.Line.{Line}
-use Rattle.crew.specs.declared.answer.Answer.{Answer}
-use Rattle.crew.specs.declared.answer.Answer.TheVariants.{Backup}
+use Rattle.scripts.specs.declared.script.Command.TheVariants.{Incr}
+use Rattle.scripts.specs.declared.script.Line.{Line}
+use Rattle.run_answers.specs.declared.answer.Answer.{Answer}
+use Rattle.run_answers.specs.declared.answer.Answer.TheVariants.{Backup}
 use Rattle.crew.specs.Backups.{areas_asked}
 use Rattle.crew.specs.Run.{Basis, Answered, IsHonestFor}
-use Rattle.run_command.specs.declared.told.Told.{Told}
-use Rattle.run_command.specs.declared.command.RunReport.{RunReport}
+use Rattle.run_answers.specs.declared.told.Told.{Told}
+use Rattle.run_answers.specs.declared.outcome.RunReport.{RunReport}
 use Rattle.run_command.specs.Run.{RunDone, AreTold, all_records, backups_asked, run_basis, tasks_told}
 use Rattle.backup_laws.specs.Runs.{IsBackedUp}
 

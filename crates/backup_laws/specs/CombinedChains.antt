@@ -11,9 +11,9 @@ use Rattle.chain_check.specs.declared.member.Member.{Member}
 use Rattle.chain_laws.specs.Chain.{IsSoundChain}
 use Rattle.command_base.specs.Areas.{backup_name}
 use Rattle.command_base.specs.Outside.{Outside}
-use Rattle.pgbackup_cli.specs.declared.combining.CombineReport.{CombineReport}
-use Rattle.pgbackup_cli.specs.Chain.{backup_areas, files_told}
-use Rattle.pgbackup_cli.specs.Combine.{CombineDoes}
+use Rattle.chain_commands.specs.declared.combining.CombineReport.{CombineReport}
+use Rattle.chain_commands.specs.Chain.{backup_areas, files_told}
+use Rattle.chain_commands.specs.Combine.{CombineDoes}
 
 -- `combine` ended well: of these directories, which stood under the members' names, it made this
 -- one

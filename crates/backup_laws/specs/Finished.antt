@@ -9,19 +9,19 @@ use Rattle.history.specs.Entry.{Entry}
 use Rattle.wal_summary.specs.Summary.{AreSorted}
 use Rattle.backup_label.specs.Label.{HasNoLineEnd}
 use Rattle.backup_files.specs.Directory.{listing_with}
-use Rattle.base_backup.specs.declared.basis.Basis.{Basis}
-use Rattle.base_backup.specs.Directory.{IsDirectory, IsFullBackup, full_label, incr_label}
-use Rattle.base_backup.specs.Sent.{SentFile, AreListed, AreSent, file_of}
+use Rattle.backup_sending.specs.declared.basis.Basis.{Basis}
+use Rattle.backup_sending.specs.Directory.{IsDirectory, IsFullBackup, full_label, incr_label}
+use Rattle.backup_sending.specs.Sent.{SentFile, AreListed, AreSent, file_of}
 use Rattle.chain_check.specs.Directory.{IsAsListed}
 use Rattle.chain_check.specs.Refusals.{IsOfFiles}
 use Rattle.chain_check.specs.declared.member.Member.{Member}
 use Rattle.manifest.specs.declared.listing.FileRow.{FileRow}
 use Rattle.command_base.specs.Areas.{backup_name, AreaIsDurable}
 use Rattle.command_base.specs.Outside.{Outside}
-use Rattle.run_command.specs.declared.command.RunReport.{RunReport}
+use Rattle.run_answers.specs.declared.outcome.RunReport.{RunReport}
 use Rattle.run_command.specs.Run.{RunDoes}
-use Rattle.pgbackup_cli.specs.Verify.{VerifyResult, VerifyDoes}
-use Rattle.pgbackup_cli.specs.declared.verify.VerifyFault.TheVariants as verify
+use Rattle.chain_commands.specs.Verify.{VerifyResult, VerifyDoes}
+use Rattle.chain_commands.specs.declared.verifying.VerifyFault.TheVariants as verify
 use Rattle.backup_laws.specs.Runs.{IsBackedUp}
 use Rattle.backup_laws.specs.Chains.{IsIncremented, TellsThroughout}
 

@@ -15,20 +15,20 @@ use Rattle.summary_store.specs.Kept.{AreKept, end_behind}
 use Rattle.summary_store.specs.Honest.{is_redo_start}
 use Rattle.summary_publish.specs.Entries.{first_start}
 use Rattle.summary_publish.specs.Published.{ArePublished, AdvanceAnswers, with_files}
-use Rattle.summary_publish.specs.declared.advancing.AdvanceFault.TheVariants as advance
+use Rattle.store_faults.specs.declared.advance_fault.AdvanceFault.TheVariants as advance
 use Rattle.shared_summaries.specs.Grown.{IsOldGap}
 use Rattle.shared_summaries.specs.Shelf.{states}
-use Rattle.base_backup.specs.Entries.{HasCheckpointAt}
-use Rattle.base_backup.specs.Incr.{IncrSite, Origin, IsPrior, IncrAnswers}
-use Rattle.base_backup.specs.declared.incr_fault.IncrFault.TheVariants.{Gap}
+use Rattle.backup_sending.specs.Entries.{HasCheckpointAt}
+use Rattle.incr_backup.specs.Incr.{IncrSite, Origin, IsPrior, IncrAnswers}
+use Rattle.store_faults.specs.declared.incr_fault.IncrFault.TheVariants.{Gap}
 use Rattle.command_base.specs.Areas.{backup_name, sums_name}
-use Rattle.crew.specs.declared.script.Command.TheVariants.{Incr}
-use Rattle.crew.specs.declared.script.Line.{Line}
-use Rattle.crew.specs.declared.answer.Answer.{Answer}
-use Rattle.crew.specs.declared.answer.Answer.TheVariants.{IncrRefused}
+use Rattle.scripts.specs.declared.script.Command.TheVariants.{Incr}
+use Rattle.scripts.specs.declared.script.Line.{Line}
+use Rattle.run_answers.specs.declared.answer.Answer.{Answer}
+use Rattle.run_answers.specs.declared.answer.Answer.TheVariants.{IncrRefused}
 use Rattle.crew.specs.Run.{IsPriorOf}
-use Rattle.run_command.specs.declared.told.Told.{Told}
-use Rattle.run_command.specs.declared.command.RunReport.{RunReport}
+use Rattle.run_answers.specs.declared.told.Told.{Told}
+use Rattle.run_answers.specs.declared.outcome.RunReport.{RunReport}
 use Rattle.run_command.specs.Run.{RunDone, AreTold}
 
 -- ---- what is kept

@@ -15,14 +15,14 @@ use Rattle.wal_reader.specs.Wal.{ReadsOn}
 use Rattle.history.specs.Pages.{page_count}
 use Rattle.history.specs.Whole.{whole}
 use Rattle.recovery.specs.Causes.{HasSettings}
-use Rattle.shared_store.specs.Close.{HoldsRecords}
+use Rattle.shared_store.specs.Records.{HoldsRecords}
 use Rattle.command_base.specs.Areas.{wal_name, output_name, backup_name}
 use Rattle.command_base.specs.Outside.{Outside}
-use Rattle.run_command.specs.declared.command.RunReport.{RunReport}
+use Rattle.run_answers.specs.declared.outcome.RunReport.{RunReport}
 use Rattle.run_command.specs.Run.{RunDoes, AreTold}
-use Rattle.pgbackup_cli.specs.declared.replay.ReplayReport.{ReplayReport}
-use Rattle.pgbackup_cli.specs.Replay.{ReplayDoes, end_by}
-use Rattle.pgbackup_cli.specs.Restore.{RestoreDoes}
+use Rattle.store_commands.specs.declared.replaying.ReplayReport.{ReplayReport}
+use Rattle.store_commands.specs.Replay.{ReplayDoes, end_by}
+use Rattle.chain_commands.specs.Restore.{RestoreDoes}
 use Rattle.backup_laws.specs.Runs.{IsBackedUp, IsLastOfName}
 
 -- `run` ran a script on a store whose areas tell their files, and closed the store: the WAL ends there

@@ -9,15 +9,15 @@ use Rattle.vault.specs.Lending.{IsNoneOf}
 use Rattle.wal_record.specs.declared.record.Record.{Record}
 use Rattle.history.specs.Whole.{entry_of}
 use Rattle.fuzzy_copies.specs.Sound.{IsSoundCopy}
-use Rattle.base_backup.specs.Directory.{IsFullBackup}
+use Rattle.backup_sending.specs.Directory.{IsFullBackup}
 use Rattle.command_base.specs.Areas.{backup_name, AreaIsDurable}
-use Rattle.crew.specs.declared.script.Command.TheVariants.{Full}
-use Rattle.crew.specs.declared.script.Line.{Line}
-use Rattle.crew.specs.declared.answer.Answer.{Answer}
-use Rattle.crew.specs.declared.answer.Answer.TheVariants.{Backup}
+use Rattle.scripts.specs.declared.script.Command.TheVariants.{Full}
+use Rattle.scripts.specs.declared.script.Line.{Line}
+use Rattle.run_answers.specs.declared.answer.Answer.{Answer}
+use Rattle.run_answers.specs.declared.answer.Answer.TheVariants.{Backup}
 use Rattle.crew.specs.Backups.{areas_asked}
-use Rattle.run_command.specs.declared.told.Told.{Told}
-use Rattle.run_command.specs.declared.command.RunReport.{RunReport}
+use Rattle.run_answers.specs.declared.told.Told.{Told}
+use Rattle.run_answers.specs.declared.outcome.RunReport.{RunReport}
 use Rattle.run_command.specs.Run.{RunDone, AreTold, all_records}
 
 -- a worker's line took a backup of this name, and was answered `backup START END`

@@ -1,13 +1,13 @@
 -- Where areas tell their files before a run and behind it, they tell them behind each of its lines.
 use Rattle.std.specs.Prelude.{◌≡◌, ◌≢◌, ℕ, List, [], ◌∷◌, slice_get, Some, IsSome}
 use Rattle.vault.specs.Site.{Areas}
-use Rattle.crew.specs.declared.script.Line.{Line}
-use Rattle.crew.specs.declared.answer.Answer.{Answer}
-use Rattle.crew.specs.declared.answer.Answer.TheVariants.{Backup, BackupRefused, IncrRefused}
-use Rattle.crew.specs.Backups.{backup_taken}
-use Rattle.crew.specs.Run.{backup_stop, incr_stop}
-use Rattle.run_command.specs.declared.told.Told.{Told}
-use Rattle.run_command.specs.declared.command.RunReport.{RunReport}
+use Rattle.scripts.specs.declared.script.Line.{Line}
+use Rattle.run_answers.specs.declared.answer.Answer.{Answer}
+use Rattle.run_answers.specs.declared.answer.Answer.TheVariants.{Backup, BackupRefused, IncrRefused}
+use Rattle.scripts.specs.Named.{backup_taken}
+use Rattle.run_answers.specs.Stopping.{backup_stop, incr_stop}
+use Rattle.run_answers.specs.declared.told.Told.{Told}
+use Rattle.run_answers.specs.declared.outcome.RunReport.{RunReport}
 use Rattle.run_command.specs.Run.{RunDone, AreTold, backups_asked, tasks_told}
 use Rattle.backup_laws.specs.Chains.{AllTell, SumsTold, TellsThroughout}
 

@@ -21,8 +21,6 @@ use Rattle.recovery.specs.declared.fault.RecoveryFault.{RecoveryFault}
 use Rattle.recovery.specs.declared.fault.RecoveryFault.TheVariants as wal
 use Rattle.command_base.specs.declared.status.Status.{Status}
 use Rattle.command_base.specs.declared.status.Status.TheVariants as status
-use Rattle.shared_store.specs.declared.found.BeginWhy.{BeginWhy}
-use Rattle.shared_store.specs.declared.found.BeginWhy.TheVariants as begin
 use Rattle.command_base.specs.Areas.{wal_name, area_name}
 
 -- texts behind each other
@@ -115,12 +113,6 @@ wal_text wal.NotInit = codes "43 NotInit"
 wal_text wal.Failed = area_text wal_name area.Failed
 wal_text wal.NoMemory = memory_text
 
--- no store can be begun
-abbrev pub begin_text : BeginWhy → List ℕ
-begin_text (begin.Wal why) = wal_text why
-begin_text (begin.Replay why) = wal_text why
-begin_text (begin.Data why) = store_text why
-
 -- the status of a fault
 abbrev pub area_status : AreaFault → Status
 area_status area.Failed = status.Device
@@ -139,11 +131,6 @@ wal_status (wal.Timeline name) = status.Refused
 wal_status wal.NotInit = status.Refused
 wal_status wal.Failed = status.Device
 wal_status wal.NoMemory = status.Memory
-
-abbrev pub begin_status : BeginWhy → Status
-begin_status (begin.Wal why) = wal_status why
-begin_status (begin.Replay why) = wal_status why
-begin_status (begin.Data why) = store_status why
 
 -- the number that the process ends with
 abbrev pub code_of : Status → ℕ

@@ -2,3 +2,4 @@ pub mod Areas
 pub mod Outside
 pub mod Faults
 pub mod Backups
+pub mod Decided

@@ -1,5 +1,5 @@
 -- What the program works on: the areas of a site, an input, a clock and a sink.
-use Rattle.std.specs.Prelude.{◌≡◌, ◌≤◌, ℕ, List, Option, None, Result, IsSome}
+use Rattle.std.specs.Prelude.{◌≡◌, ◌≤◌, ℕ, List, Option, None, Result, IfSome, IsSome}
 use Rattle.lsn_core.specs.declared.fault.AreaFault.{AreaFault}
 use Rattle.vault.specs.Site.{Areas}
 use Rattle.vault.specs.Stream.{Tells}
@@ -63,6 +63,11 @@ of_site_input sites sources site input =
 abbrev pub with_moment : Outside → Option ℕ → Outside
 with_moment o moment = record o { moment = moment }
 
+-- the site and the clock
+abbrev pub of_site_clock : {S V C : Type 0} → Sites S V → Clocks C → S → C → Outside
+of_site_clock sites clocks site clock =
+    record (of_site sites site) { moment = clocks.moment clock }
+
 -- all but the sink
 abbrev pub of_all : {S V I C : Type 0} → Sites S V → Sources I → Clocks C → S → I → C → Outside
 of_all sites sources clocks site input clock =
@@ -82,6 +87,10 @@ LeavesSite old new = (new.areas ≡ old.areas) × (new.take_faults ≡ old.take_
 abbrev pub Untakens : Type 1
 Untakens = TakeFault → Type 0
 
+-- no area wasn't handed out
+abbrev pub Never : Untakens
+Never fault = ⊥
+
 -- one of these areas wasn't handed out, and none changed
 abbrev pub IsUntaken : Names → Outside → Outside → TakeFault → Type 0
 IsUntaken names old new fault =
@@ -96,3 +105,7 @@ pub record AllTold (old : Outside) : Type 0 where
   pub files : (name : List ℕ) → IsSome (old.areas name).files
   pub left : IsSome old.left
   pub moment : IsSome old.moment
+
+-- this is the clock's moment
+abbrev pub IsMoment : Outside → ℕ → Type 0
+IsMoment old when = IfSome old.moment (λ told. when ≡ told)

@@ -5,8 +5,8 @@ ghost use Rattle.wal_archive.specs.declared.fault.Damage.TheVariants as damage;
 ghost use Rattle.recovery.specs.declared.fault.RecoveryFault.TheVariants as wal;
 ghost use Rattle.command_base.specs.Areas.{area_name};
 ghost use Rattle.command_base.specs.Faults.{joined, refused_line, area_text, store_text, full_text, take_text};
-ghost use Rattle.command_base.specs.Faults.{head_text, broken_text, content_text, placed, damage_text, wal_text, begin_text};
-ghost use Rattle.command_base.specs.Faults.{area_status, store_status, wal_status, begin_status};
+ghost use Rattle.command_base.specs.Faults.{head_text, broken_text, content_text, placed, damage_text, wal_text};
+ghost use Rattle.command_base.specs.Faults.{area_status, store_status, wal_status};
 
 use crate::status::Status;
 use lsn_core::{
@@ -14,7 +14,6 @@ use lsn_core::{
     segment_name,
 };
 use recovery::RecoveryFault;
-use shared_store::BeginWhy;
 use std::alloc::Global;
 use vault::TakeFault;
 use wal_archive::{Broken, Damage};
@@ -207,17 +206,6 @@ pub fn wal_text(alloc: Global, fault: RecoveryFault) -> Result<Text, NoMemory>
     }
 }
 
-/// No store can be begun.
-pub fn begin_text(alloc: Global, why: BeginWhy) -> Result<Text, NoMemory>
-    ensures { IfOk result (λ text. text ≡ begin_text why) }
-{
-    match why {
-        BeginWhy::Wal(fault) => wal_text(alloc, fault),
-        BeginWhy::Replay(fault) => wal_text(alloc, fault),
-        BeginWhy::Data(fault) => store_text(alloc, fault),
-    }
-}
-
 /// The status of a fault of an area.
 pub fn area_status(fault: AreaFault) -> Status
     ensures { result ≡ area_status fault }
@@ -251,16 +239,5 @@ pub fn store_status(fault: StoreFault) -> Status
     match fault {
         StoreFault::Failed(_) => Status::Device,
         StoreFault::NoMemory => Status::Memory,
-    }
-}
-
-/// The status of a store that can't be begun.
-pub fn begin_status(why: BeginWhy) -> Status
-    ensures { result ≡ begin_status why }
-{
-    match why {
-        BeginWhy::Wal(fault) => wal_status(fault),
-        BeginWhy::Replay(fault) => wal_status(fault),
-        BeginWhy::Data(fault) => store_status(fault),
     }
 }

@@ -5,8 +5,8 @@
 //! lines are those of its parts. Faults keep their causes: what a fault means is said by the crate
 //! that answers it, and by the command that passes it on.
 //!
-//! Left to others: the faults themselves (`wal_archive`, `recovery`, `shared_store`), how areas are
-//! lent (`vault`), and what each command does (`run_command`, `pgbackup_cli`).
+//! Left to others: the faults themselves (`wal_archive`, `recovery`), how areas are
+//! lent (`vault`), and what each command does (`run_command`, `store_commands`, `chain_commands`).
 #![tactic(auto)]
 
 mod backups;
@@ -21,8 +21,8 @@ pub use backups::{
 };
 pub use clear::{empty_area, is_clear};
 pub use faults::{
-    area_name, area_status, area_text, begin_status, begin_text, full_text, joined, refused_line,
-    store_status, store_text, take_text, wal_status, wal_text,
+    area_name, area_status, area_text, full_text, joined, refused_line, store_status, store_text,
+    take_text, wal_status, wal_text,
 };
 pub use names::{backup_name, is_backup_name, names_of, output_name};
 pub use status::Status;

@@ -1,7 +1,7 @@
 -- The members of a chain of backups, in the words of the command line (profile).
 use Rattle.std.specs.Prelude.{ℕ, Bool, List, length, nat_le, ◌&&◌}
 use Rattle.std.specs.List.{list_all}
-use Rattle.crew.specs.Cuts.{is_name}
+use Rattle.scripts.specs.Cuts.{is_name}
 use Rattle.command_line.specs.declared.members.MemberNames.{MemberNames}
 
 abbrev pub names_in : MemberNames → List (List ℕ)

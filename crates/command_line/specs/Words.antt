@@ -11,7 +11,7 @@ use Rattle.lsn_core.specs.declared.lsn.Lsn.{Lsn}
 use Rattle.lsn_core.specs.Segment.{IsSegmentMib, IsRelseg}
 use Rattle.clap.specs.Walk.{Row, Text, first_of, all_of}
 use Rattle.clap.specs.Simple.{subcommand_of}
-use Rattle.crew.specs.Cuts.{is_name}
+use Rattle.scripts.specs.Cuts.{is_name}
 use Rattle.command_line.specs.App.{app, is_taken}
 use Rattle.command_line.specs.declared.options.InitOptions.{InitOptions}
 use Rattle.command_line.specs.declared.words.Command.{Command}

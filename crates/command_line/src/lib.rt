@@ -5,8 +5,9 @@
 //! `specs/App.antt` writes out, doesn't take the words, or a value is none of its option's or of its
 //! word's (`specs/Options.antt`).
 //!
-//! Left to others: which characters a name has (`crew`), how numbers and LSNs are written
-//! (`text_numbers`, `lsn_core`), and what a command does (`pgbackup_cli`).
+//! Left to others: which characters a name has (`scripts`), how numbers and LSNs are written
+//! (`text_numbers`, `lsn_core`), and what a command does (`run_command`, `store_commands`,
+//! `chain_commands`).
 #![tactic(auto)]
 
 mod app;

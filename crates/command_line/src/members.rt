@@ -3,11 +3,11 @@
 ghost use Rattle.std.specs.Prelude.{◌≡◌, length, nat_lt, slice_get};
 ghost use Rattle.std.specs.List.{list_all};
 ghost use Rattle.std.specs.Option.{option_map};
-ghost use Rattle.crew.specs.Cuts.{is_name};
+ghost use Rattle.scripts.specs.Cuts.{is_name};
 ghost use Rattle.command_line.specs.Members.{names_in, are_members};
 
-use crew::is_name;
 use lsn_core::Text;
+use scripts::is_name;
 
 /// The names of the members of a chain of backups, the oldest one first.
 #[derive(Clone, Copy)]

@@ -20,8 +20,8 @@ use crate::options::{
     segment_given,
 };
 use clap::ArgMatches;
-use crew::is_name;
 use lsn_core::{Lsn, MOST_RELSEG, NoMemory, SegSize, Text};
+use scripts::is_name;
 use std::alloc::Global;
 use std::str;
 

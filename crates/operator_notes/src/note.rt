@@ -7,18 +7,16 @@ use crate::script::script_note;
 use crate::sums::{gap_note, incr_gap_note};
 use crate::usage::usage_of;
 use crate::wal::{early_note, wal_note};
-use base_backup::IncrFault;
+use chain_commands::{CombineFault, MembersFault, RestoreFault, VerifyFault};
+use command_answers::Answer;
 use command_base::{backup_name, output_name};
 use command_line::{Command as Words, command_of};
-use crew::{Answer as LineAnswer, Command, Stop};
 use lsn_core::{AreaFault, Lsn, NoMemory, Text};
-use pgbackup_cli::{
-    Answer, CombineFault, FollowFault, InitFault, MembersFault, ReplayFault, RestoreFault,
-    VerifyFault, WalsummaryFault,
-};
-use run_command::{RunFault, RunReport};
-use shared_store::BeginWhy;
+use run_answers::{Answer as LineAnswer, RunFault, RunReport, Stop};
+use scripts::Command;
 use std::alloc::Global;
+use store_commands::{FollowFault, InitFault, ReplayFault, WalsummaryFault};
+use store_faults::{BeginWhy, IncrFault};
 
 /// The lines for standard error: how the program is used, where the words aren't taken; where the
 /// command was refused, what was found and what to do next; none where it did what was asked. Each

@@ -1,8 +1,8 @@
 //! Notes on a script that isn't taken.
 
 use crate::lines::note;
-use crew::Why;
 use lsn_core::{NoMemory, Text};
+use scripts::Why;
 use std::alloc::Global;
 
 /// What is wrong with the line, and what to do about it.
@@ -25,12 +25,12 @@ fn texts_of(why: Why) -> (&'static [u8], &'static [u8]) {
             b"put a line \"worker NAME\" before it",
         ),
         Why::Twice => (
-            b"the name stands on an earlier line already",
-            b"give each worker a name of its own",
+            b"an earlier worker has this name, or names this backup",
+            b"give each worker a name of its own, and backups that no other worker names",
         ),
         Why::Many => (
-            b"a script has one worker so far",
-            b"put all commands behind the first worker's line",
+            b"a script has at most eight workers",
+            b"put its commands behind another worker's line",
         ),
     }
 }

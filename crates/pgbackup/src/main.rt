@@ -2,11 +2,13 @@
 //! areas, streams and clock, and ends with its status.
 #![tactic(auto)]
 
+use command_answers::Answer;
 use lsn_core::{NoMemory, Text};
 use operator_notes::note_of;
-use pgbackup_cli::{Answer, Status, answered};
+use pgbackup_cli::{Status, answered};
 use std::process::ExitCode;
 use std::sync::Wait;
+use std::thread::Threads;
 use std::{env, str};
 use vault_os::{OsClock, OsSink, OsSite, OsSource};
 
@@ -23,7 +25,7 @@ fn words_of(rt: &HostRuntime) -> Result<Vec<Text>, NoMemory> {
 }
 
 /// Does what the words of the command line ask. What waits for a lock does so by the handle `waits`.
-fn run_words(rt: &HostRuntime, waits: &impl Wait) -> Result<Status, NoMemory> {
+fn run_words(rt: &HostRuntime, waits: &(impl Threads + Wait + Sync)) -> Result<Status, NoMemory> {
     let words = words_of(rt)?;
     let mut site = OsSite::new(rt.clone()?);
     let mut input = OsSource::new(rt.clone()?);

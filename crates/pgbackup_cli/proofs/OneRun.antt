@@ -28,19 +28,20 @@ use Rattle.recovery.specs.Onward.{AllEndBy, ending_by}
 use Rattle.recovery.specs.Replay.{last_end, Reads, IsRead, IsReadWal}
 use Rattle.recovery.proofs.SoFar.{all_kept}
 use Rattle.recovery.proofs.OneWal.{same_lsn, one_wal}
-use Rattle.shared_store.specs.Begin.{BeginCause, MayComeFirst, MayComeLate, HasNoEntry}
-use Rattle.shared_store.specs.declared.found.BeginWhy.TheVariants as begin
-use Rattle.crew.specs.declared.script.Task.{Task}
-use Rattle.crew.specs.declared.why.Why.{Why}
-use Rattle.crew.specs.declared.why.ScriptFault.{ScriptFault}
-use Rattle.crew.specs.declared.why.ScriptFault.TheVariants as script_fault
-use Rattle.crew.specs.Script.{IsScript, IsRefusedAt}
-use Rattle.crew.specs.Reasons.{script_limit}
-use Rattle.crew.proofs.OneAnswer.{one_answer}
-use Rattle.run_command.specs.declared.command.RunReport.{RunReport}
-use Rattle.run_command.specs.declared.command.RunFault.{RunFault}
-use Rattle.run_command.specs.declared.command.RunFault.TheVariants as run
-use Rattle.run_command.specs.Run.{RunResult, HasFound, found_tip, RunDone, HasScript, HasRefusedLine, RunAnswer}
+use Rattle.store_areas.specs.Begin.{BeginCause, MayComeFirst, MayComeLate, HasNoEntry}
+use Rattle.store_faults.specs.declared.begin_why.BeginWhy.TheVariants as begin
+use Rattle.scripts.specs.declared.script.Task.{Task}
+use Rattle.scripts.specs.declared.why.Why.{Why}
+use Rattle.scripts.specs.declared.why.ScriptFault.{ScriptFault}
+use Rattle.scripts.specs.declared.why.ScriptFault.TheVariants as script_fault
+use Rattle.scripts.specs.Script.{IsScript, IsRefusedAt}
+use Rattle.scripts.specs.Reasons.{script_limit}
+use Rattle.scripts.proofs.OneAnswer.{one_answer}
+use Rattle.run_answers.specs.declared.outcome.RunReport.{RunReport}
+use Rattle.run_answers.specs.declared.outcome.RunFault.{RunFault}
+use Rattle.run_answers.specs.declared.outcome.RunFault.TheVariants as run
+use Rattle.run_answers.specs.Telling.{RunResult}
+use Rattle.run_command.specs.Run.{HasFound, found_tip, RunDone, HasScript, HasRefusedLine, RunAnswer, run_workers}
 use Rattle.run_command.specs.Input.{IsInput}
 use Rattle.command_base.specs.Areas.{wal_name}
 use Rattle.command_base.specs.Outside.{Outside}
@@ -210,14 +211,14 @@ refused_at n why = Err (script_fault.Line n why)
 same_script : (left now other : Option (List ℕ)) (whole : List ℕ) (script again : List Task) → left ≡ Some whole → HasScript left now script → HasScript left other again → script ≡ again
 unfolding script_of taken
 same_script left now other whole script again told first second =
-    let there : IsScript first.bytes again = subst (λ (bs : List ℕ). IsScript bs again) (sym (same_bytes left now other whole first.bytes second.bytes told first.input second.input)) second.script_is in
-    ap script_of (one_answer first.bytes (taken script) (taken again) first.script_is there tt tt)
+    let there : IsScript run_workers first.bytes again = subst (λ (bs : List ℕ). IsScript run_workers bs again) (sym (same_bytes left now other whole first.bytes second.bytes told first.input second.input)) second.script_is in
+    ap script_of (one_answer run_workers first.bytes (taken script) (taken again) first.script_is there tt tt)
 
 taken_or_refused : (left now other : Option (List ℕ)) (whole : List ℕ) (script : List Task) (n : ℕ) (why : Why) → left ≡ Some whole → HasScript left now script → HasRefusedLine left other n why → ⊥
 unfolding taken refused_at
 taken_or_refused left now other whole script n why told first second =
-    let there : IsRefusedAt first.bytes n why = subst (λ (bs : List ℕ). IsRefusedAt bs n why) (sym (same_bytes left now other whole first.bytes second.bytes told first.input second.input)) second.refused in
-    let e : taken script ≡ refused_at n why = one_answer first.bytes (taken script) (refused_at n why) first.script_is there tt tt in
+    let there : IsRefusedAt run_workers first.bytes n why = subst (λ (bs : List ℕ). IsRefusedAt run_workers bs n why) (sym (same_bytes left now other whole first.bytes second.bytes told first.input second.input)) second.refused in
+    let e : taken script ≡ refused_at n why = one_answer run_workers first.bytes (taken script) (refused_at n why) first.script_is there tt tt in
     absurd cc
 
 line_of : Result (List Task) ScriptFault → RunFault
@@ -231,8 +232,8 @@ refused_line n why = run.Script n why
 same_line : (left now other : Option (List ℕ)) (whole : List ℕ) (n m : ℕ) (why also : Why) → left ≡ Some whole → HasRefusedLine left now n why → HasRefusedLine left other m also → refused_line n why ≡ refused_line m also
 unfolding line_of refused_at refused_line
 same_line left now other whole n m why also told first second =
-    let there : IsRefusedAt first.bytes m also = subst (λ (bs : List ℕ). IsRefusedAt bs m also) (sym (same_bytes left now other whole first.bytes second.bytes told first.input second.input)) second.refused in
-    ap line_of (one_answer first.bytes (refused_at n why) (refused_at m also) first.refused there tt tt)
+    let there : IsRefusedAt run_workers first.bytes m also = subst (λ (bs : List ℕ). IsRefusedAt run_workers bs m also) (sym (same_bytes left now other whole first.bytes second.bytes told first.input second.input)) second.refused in
+    ap line_of (one_answer run_workers first.bytes (refused_at n why) (refused_at m also) first.refused there tt tt)
 
 -- ---- the whole
 

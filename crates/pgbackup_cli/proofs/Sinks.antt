@@ -1,6 +1,6 @@
 -- What a command does is nothing to a sink.
 use Rattle.std.proofs.Common.{ℕ, List, Option, Some, None}
-use Rattle.pgbackup_cli.specs.declared.answer.Answer.{Answer}
+use Rattle.command_answers.specs.declared.answer.Answer.{Answer}
 use Rattle.command_line.specs.Words.{Asked, Init, Run, Replay, Verify, Restore, Combine, Walsummary, Follow}
 use Rattle.command_base.specs.Outside.{Outside}
 use Rattle.pgbackup_cli.specs.Top.{DoesAsked}

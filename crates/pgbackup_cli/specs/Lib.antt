@@ -1,14 +1,3 @@
-pub mod Init
-pub mod Replay
-pub mod Directory
-pub mod Verify
-pub mod Link
-pub mod Chain
-pub mod Restore
-pub mod Combine
-pub mod Walsummary
 pub mod Top
 pub mod Laws
 pub mod Inner
-pub mod Follow
-pub mod Following

@@ -1,24 +1,23 @@
 -- What a run of the program is: one answer, and the outside, the lines and the status as it says. A
 -- command joins by its file, and by one row in each of these definitions.
-use Rattle.std.specs.Prelude.{◌≡◌, ◌⊎◌, ℕ, List, [], Option, Some, None, Result, Ok, Err, codes}
+use Rattle.std.specs.Prelude.{◌≡◌, ◌⊎◌, ℕ, List, Option, Some, None, Result}
 use Rattle.lsn_core.specs.declared.fault.AreaFault.{AreaFault}
-use Rattle.pgbackup_cli.specs.declared.answer.Answer.{Answer}
-use Rattle.pgbackup_cli.specs.declared.answer.Answer.TheVariants as answer
+use Rattle.command_answers.specs.declared.answer.Answer.{Answer}
+use Rattle.command_answers.specs.declared.answer.Answer.TheVariants as answer
 use Rattle.command_base.specs.declared.status.Status.{Status}
-use Rattle.command_base.specs.declared.status.Status.TheVariants as status
 use Rattle.command_line.specs.declared.options.InitOptions.{InitOptions}
 use Rattle.command_line.specs.Words.{Asked, Init, Run, Replay, Verify, Restore, Combine, Walsummary, Follow, asked}
-use Rattle.command_base.specs.Areas.{output_name}
 use Rattle.command_base.specs.Outside.{Outside, LeavesSite, Prints}
-use Rattle.command_base.specs.Faults.{refused_line, area_status}
-use Rattle.pgbackup_cli.specs.Init.{InitResult, InitDoes, init_text, init_status}
-use Rattle.run_command.specs.Run.{RunResult, RunDoes, run_text, run_status}
-use Rattle.pgbackup_cli.specs.Replay.{ReplayResult, ReplayDoes, replay_text, replay_status}
-use Rattle.pgbackup_cli.specs.Verify.{VerifyResult, VerifyDoes, verify_text, verify_status}
-use Rattle.pgbackup_cli.specs.Restore.{RestoreResult, RestoreDoes, restore_text, restore_status}
-use Rattle.pgbackup_cli.specs.Combine.{CombineResult, CombineDoes, combine_text, combine_status}
-use Rattle.pgbackup_cli.specs.Walsummary.{WalsummaryResult, WalsummaryDoes, walsummary_text, walsummary_status}
-use Rattle.pgbackup_cli.specs.Follow.{FollowResult, FollowDoes, follow_text, follow_status}
+use Rattle.store_commands.specs.Init.{InitResult, InitDoes}
+use Rattle.command_answers.specs.Telling.{text_of, status_of}
+use Rattle.run_answers.specs.Telling.{RunResult}
+use Rattle.run_command.specs.Run.{RunDoes}
+use Rattle.store_commands.specs.Replay.{ReplayResult, ReplayDoes}
+use Rattle.chain_commands.specs.Verify.{VerifyResult, VerifyDoes}
+use Rattle.chain_commands.specs.Restore.{RestoreResult, RestoreDoes}
+use Rattle.chain_commands.specs.Combine.{CombineResult, CombineDoes}
+use Rattle.store_commands.specs.Walsummary.{WalsummaryResult, WalsummaryDoes}
+use Rattle.store_commands.specs.Follow.{FollowResult, FollowDoes}
 
 -- what was asked was done, and this is the answer
 abbrev pub DoesAsked : Option Asked → Outside → Outside → Answer → Type 0
@@ -44,57 +43,6 @@ DoesAsked (Some (Follow mib relseg name)) old new came =
 abbrev pub Came : Option Asked → Outside → Outside → Answer → Type 0
 Came words old new came =
     DoesAsked words old new came ⊎ ((came ≡ answer.NoMemory) × LeavesSite old new)
-
--- the area of the output that is asked for
-abbrev pub output_asked : Option Asked → List ℕ
-output_asked (Some (Replay upto name)) = output_name name
-output_asked (Some (Restore upto out names)) = output_name out
-output_asked (Some (Follow mib relseg name)) = output_name name
-output_asked words = []
-
--- the name of the backup that is asked for
-abbrev pub backup_asked : Option Asked → List ℕ
-backup_asked (Some (Verify name)) = name
-backup_asked (Some (Combine out names)) = out
-backup_asked words = []
-
--- the names of the members that are asked for
-abbrev pub members_asked : Option Asked → List (List ℕ)
-members_asked (Some (Restore upto out names)) = names
-members_asked (Some (Combine out names)) = names
-members_asked words = []
-
--- the lines of an answer
-abbrev pub text_of : Option Asked → Answer → List ℕ
-text_of words answer.Usage = refused_line (codes "1 Usage")
-text_of words answer.NoMemory = refused_line (codes "61 NoMemory")
-text_of words (answer.Init r) = init_text r
-text_of words (answer.Run r) = run_text r
-text_of words (answer.Replay r) = replay_text (output_asked words) r
-text_of words (answer.Verify r) = verify_text (backup_asked words) r
-text_of words (answer.Restore r) = restore_text (members_asked words) (output_asked words) r
-text_of words (answer.Combine r) = combine_text (members_asked words) (backup_asked words) r
-text_of words (answer.Walsummary r) = walsummary_text r
-text_of words (answer.Follow r) = follow_text (output_asked words) r
-
--- the status of an answer
-abbrev pub answer_status : Answer → Status
-answer_status answer.Usage = status.Usage
-answer_status answer.NoMemory = status.Memory
-answer_status (answer.Init r) = init_status r
-answer_status (answer.Run r) = run_status r
-answer_status (answer.Replay r) = replay_status r
-answer_status (answer.Verify r) = verify_status r
-answer_status (answer.Restore r) = restore_status r
-answer_status (answer.Combine r) = combine_status r
-answer_status (answer.Walsummary r) = walsummary_status r
-answer_status (answer.Follow r) = follow_status r
-
--- the status of an answer and of its printing: a sink that fails gives Device whatever else
--- happened
-abbrev pub status_of : Answer → Result (Unit {0}) AreaFault → Status
-status_of came (Ok told) = answer_status came
-status_of came (Err why) = area_status why
 
 -- `run` and `follow` read the input
 abbrev pub ReadsInput : Option Asked → Type 0

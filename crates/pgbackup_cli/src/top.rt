@@ -5,28 +5,25 @@ ghost use Rattle.std.specs.Option.{option_map};
 ghost use Rattle.vault.specs.Site.{AllHome};
 ghost use Rattle.command_line.specs.Words.{asked, asks, HasRange};
 ghost use Rattle.command_base.specs.Outside.{outside, of_all};
-ghost use Rattle.pgbackup_cli.specs.Top.{DoesAsked, ReadsInput, ReadsClock, text_of, ComesTo, Ran};
+ghost use Rattle.command_answers.specs.Telling.{text_of};
+ghost use Rattle.pgbackup_cli.specs.Top.{DoesAsked, ReadsInput, ReadsClock, ComesTo, Ran};
 ghost use Rattle.pgbackup_cli.specs.Inner.{TellsIn};
 
-use crate::answer::{Answer, exit_status, text_of};
-use crate::combining::combine;
-use crate::follow::follow;
-use crate::init::init;
-use crate::replay::replay;
-use crate::restore::restore;
-use crate::verify::verify;
-use crate::walsummary::walsummary;
+use chain_commands::{combine, restore, verify};
+use command_answers::{Answer, exit_status, text_of};
 use command_base::Status;
 use command_line::{Command, MemberNames, command_of};
 use lsn_core::{AreaFault, Text};
 use run_command::run;
 use std::alloc::Global;
 use std::sync::Wait;
+use std::thread::Threads;
+use store_commands::{follow, init, replay, walsummary};
 use vault::{Clock, Sink, Site, Source, print};
 
 /// Does what a command asks.
 fn done<S: Site, I: Source, C: Clock>(
-    rt: &impl Wait,
+    rt: &(impl Threads + Wait + Sync),
     alloc: Global,
     command: &Command,
     site: &mut S,
@@ -65,7 +62,7 @@ fn done<S: Site, I: Source, C: Clock>(
 
 /// Does what a command asks. Where there is none, the words aren't taken.
 fn work<S: Site, I: Source, C: Clock>(
-    rt: &impl Wait,
+    rt: &(impl Threads + Wait + Sync),
     alloc: Global,
     command: &Option<Command>,
     site: &mut S,
@@ -104,7 +101,7 @@ fn tell<O: Sink>(
 
 /// Does what a command asks, prints its lines, and answers what it came to, and the exit status.
 fn carried_out<S: Site, I: Source, O: Sink, C: Clock>(
-    rt: &impl Wait,
+    rt: &(impl Threads + Wait + Sync),
     alloc: Global,
     command: &Option<Command>,
     site: &mut S,
@@ -131,7 +128,7 @@ fn carried_out<S: Site, I: Source, O: Sink, C: Clock>(
 /// Does what the words ask, prints its lines, and answers what it came to, and the exit status: for
 /// who has more to tell of it than these lines. All else is as `pgbackup` has it.
 pub fn answered<S: Site, I: Source, O: Sink, C: Clock>(
-    rt: &impl Wait,
+    rt: &(impl Threads + Wait + Sync),
     alloc: Global,
     words: &[Text],
     site: &mut S,
@@ -164,7 +161,7 @@ pub fn answered<S: Site, I: Source, O: Sink, C: Clock>(
 /// `run` and `follow` read the input, and only `run`, `combine` and `init` the clock, the last where
 /// no system identifier is given.
 pub fn pgbackup<S: Site, I: Source, O: Sink, C: Clock>(
-    rt: &impl Wait,
+    rt: &(impl Threads + Wait + Sync),
     alloc: Global,
     words: &[Text],
     site: &mut S,

@@ -1,0 +1,11 @@
+pub mod MemberAreas
+pub mod Members
+pub mod ChainAreas
+pub mod CombineLent
+pub mod RestoreLent
+pub mod RestoredOut
+pub mod CombinedOut
+pub mod OneVerify
+pub mod OneChain
+pub mod OneCombine
+pub mod OneRestore

@@ -1,5 +1,0 @@
-use Rattle.pgbackup_cli.proofs.OneWalsummary.{one_walsummary}
-use Rattle.pgbackup_cli.proofs.laws.walsummary_has_one_answer.Goals as goal
-
-pub returns : goal.returns
-returns c = one_walsummary c.summaries_are_read_again.ensures.read c.summaries_are_one.ensures.one

@@ -1,0 +1,9 @@
+pub mod NewWal
+pub mod ReplayCauses
+pub mod ReplayedOut
+pub mod FollowedOut
+pub mod Covered
+pub mod OneInit
+pub mod OneReplay
+pub mod OneFollow
+pub mod OneWalsummary
