@@ -1,0 +1,2 @@
+pub mod Neat
+pub mod Segments

@@ -1,0 +1,4 @@
+pub mod Survivors
+pub mod Inside
+pub mod Trimmed
+pub mod Trimming
