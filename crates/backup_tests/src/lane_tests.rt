@@ -1,6 +1,6 @@
 //! Directories with many small files, whose sums are taken side by side.
 
-use crate::dir_tests::told;
+use crate::dir_lines::told;
 use lsn_core::AreaFault;
 use std::alloc::Global;
 use std::test::Fail;

@@ -3,11 +3,12 @@
 
 ghost use Rattle.vault.specs.Site.{AllHome};
 
+use crate::calls::{Call, make_calls, make_calls_in_few_frames};
 use pgbackup_cli::Status;
 use std::alloc::Global;
 use std::sync::Wait;
+use std::thread::Threads;
 use test_areas::Wrong;
-use test_calls::{Call, make_calls, make_calls_in_few_frames};
 use vault::{MemSite, Site, read_in};
 
 /// The calls that make a store of one entry, and run a script on it.
@@ -21,7 +22,7 @@ fn calls_of<'a>(script: &'a str, printed: &'a str) -> [Call<'a>; 2] {
 
 /// Makes a store of one entry, and runs a script on it.
 fn run_anew<S: Site>(
-    rt: &impl Wait,
+    rt: &(impl Threads + Wait + Sync),
     alloc: Global,
     site: &mut S,
     script: &str,
@@ -164,7 +165,12 @@ wal 0/1022E0
 ];
 
 /// Runs a script on a store of its own, and on another one with few frames.
-fn runs(rt: &impl Wait, alloc: Global, script: &str, printed: &str) -> Result<(), Wrong> {
+fn runs(
+    rt: &(impl Threads + Wait + Sync),
+    alloc: Global,
+    script: &str,
+    printed: &str,
+) -> Result<(), Wrong> {
     let mut site = MemSite::new(alloc, &[])?;
     run_anew(rt, alloc, &mut site, script, printed)?;
     let mut few = MemSite::new(alloc, &[])?;
@@ -189,7 +195,11 @@ const PATCHED: (&[u8], &[u8]) = (
 static REPLAY: [Call; 1] = [("replay p", "", Status::Done, "replayed 0/1022E0 2 6\n")];
 
 /// The bytes of the init fork's file in the output.
-fn replayed<S: Site>(rt: &impl Wait, alloc: Global, site: &mut S) -> Result<Vec<u8>, Wrong>
+fn replayed<S: Site>(
+    rt: &(impl Threads + Wait + Sync),
+    alloc: Global,
+    site: &mut S,
+) -> Result<Vec<u8>, Wrong>
     requires { AllHome (S.areas site.old) }
 {
     make_calls(rt, alloc, site, &REPLAY)?;

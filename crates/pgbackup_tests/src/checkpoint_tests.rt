@@ -4,12 +4,13 @@
 
 ghost use Rattle.vault.specs.Site.{AllHome};
 
+use crate::calls::{Call, make_calls, make_calls_in_few_frames};
 use lsn_core::AreaFault;
 use pgbackup_cli::Status;
 use std::alloc::Global;
 use std::sync::Wait;
+use std::thread::Threads;
 use test_areas::{SiteStep, Wrong, take_site_steps};
-use test_calls::{Call, make_calls, make_calls_in_few_frames};
 use vault::{MemSite, Site, read_in};
 
 const INIT: &str = "init --segment-mib 1 --system-id 7";
@@ -151,7 +152,7 @@ fn calls_of<'a>(row: &Row<'a>) -> [Call<'a>; 3] {
 
 /// Makes a store of one entry, runs a script on it, and replays its WAL.
 pub(crate) fn run_anew<S: Site>(
-    rt: &impl Wait,
+    rt: &(impl Threads + Wait + Sync),
     alloc: Global,
     site: &mut S,
     row: &Row,
@@ -164,7 +165,7 @@ pub(crate) fn run_anew<S: Site>(
 
 /// The same with few frames.
 fn run_in_few_frames<S: Site>(
-    rt: &impl Wait,
+    rt: &(impl Threads + Wait + Sync),
     alloc: Global,
     site: &mut S,
     row: &Row,
@@ -176,13 +177,21 @@ fn run_in_few_frames<S: Site>(
 }
 
 /// The first over a site of its own.
-pub(crate) fn is_run(rt: &impl Wait, alloc: Global, row: &Row) -> Result<(), Wrong> {
+pub(crate) fn is_run(
+    rt: &(impl Threads + Wait + Sync),
+    alloc: Global,
+    row: &Row,
+) -> Result<(), Wrong> {
     let mut site = MemSite::new(alloc, &[])?;
     run_anew(rt, alloc, &mut site, row)
 }
 
 /// The second over a site of its own.
-fn is_run_in_few_frames(rt: &impl Wait, alloc: Global, row: &Row) -> Result<(), Wrong> {
+fn is_run_in_few_frames(
+    rt: &(impl Threads + Wait + Sync),
+    alloc: Global,
+    row: &Row,
+) -> Result<(), Wrong> {
     let mut site = MemSite::new(alloc, &[])?;
     run_in_few_frames(rt, alloc, &mut site, row)
 }

@@ -1,11 +1,11 @@
 //! Every kind of entry replayed. The WAL and the files that it makes are those of an independent
 //! implementation of the formats.
 
+use crate::calls::{Call, make_calls};
 use lsn_core::NoMemory;
 use pgbackup_cli::Status;
 use std::alloc::Global;
 use test_areas::{SEGMENT, SETTINGS, SiteStep, Wrong, take_site_steps};
-use test_calls::{Call, make_calls};
 use vault::MemSite;
 
 /// Segment 1 of a WAL with segments of 1 MiB and system identifier 7. Behind the shutdown checkpoint

@@ -1,34 +1,41 @@
-//! The tests of the program's stores, of its replay, and of its scripts and notes, through public
-//! calls alone; those of backups and of their chains stand in `chain_tests`. A crate with tests is
-//! proved twice, so they stand in crates of their own; those of the crates below stand in
-//! `base_tests`, `store_tests` and `backup_tests`.
+//! The tests of the program, through public calls alone: of runs with one worker and with several,
+//! of full backups and of chains, and of what it tells on standard error. A crate with tests is
+//! proved twice, so they stand in a crate of their own; those of the crates below stand in
+//! `base_tests`, `script_tests`, `restart_tests`, `store_tests` and `backup_tests`. Further ones,
+//! of all commands, of devices that fail, and of what happens while a backup is taken, stand in
+//! `further_tests/pgbackup_tests`, and run unproved.
 //!
 //! A test shows what no clause says: that a call succeeds where memory is there, and bytes and
 //! texts that come from an independent implementation of the formats. Each expected value comes
-//! from outside, never from the code that is tested.
+//! from outside, never from the code that is tested. What the tests share are calls of the program
+//! over a site in memory (`calls`).
 #![tactic(auto)]
 
 #[cfg(test)]
-mod archive_tests;
+mod calls;
+#[cfg(test)]
+mod chain_tests;
 #[cfg(test)]
 mod change_tests;
 #[cfg(test)]
+mod changes;
+#[cfg(test)]
 mod checkpoint_tests;
 #[cfg(test)]
-mod crew_tests;
+mod combine_tests;
 #[cfg(test)]
-mod drop_tests;
+mod full_tests;
 #[cfg(test)]
 mod kinds_tests;
 #[cfg(test)]
-mod limit_tests;
-#[cfg(test)]
 mod notes_tests;
 #[cfg(test)]
-mod replay_files_tests;
+mod outputs;
 #[cfg(test)]
-mod replay_tests;
+mod restore_tests;
 #[cfg(test)]
-mod run_faults_tests;
+mod verify_tests;
 #[cfg(test)]
-mod store_tests;
+mod words_tests;
+#[cfg(test)]
+mod workers_tests;

@@ -1,18 +1,18 @@
 //! What an operator is told on standard error: printed texts, which no clause speaks of.
 
+use crate::calls::words_in;
 use chain_check::{ChainFault, ChainRefusal, LinkFault, ManifestWhy, Refusal};
-use crew::Why;
+use chain_commands::{MembersFault, RestoreFault, VerifyFault};
+use command_answers::Answer;
 use lsn_core::{Lsn, NoMemory, SegSize, StoreArea, StoreFault, Text};
 use operator_notes::note_of;
-use pgbackup_cli::{
-    Answer, InitFault, MembersFault, ReplayFault, RestoreFault, VerifyFault, WalsummaryFault,
-};
 use recovery::RecoveryFault;
-use run_command::RunFault;
-use shared_store::BeginWhy;
+use run_answers::RunFault;
+use scripts::Why;
 use std::alloc::Global;
+use store_commands::{InitFault, ReplayFault, WalsummaryFault};
+use store_faults::BeginWhy;
 use test_areas::Wrong;
-use test_calls::words_in;
 use wal_archive::{Broken, Damage};
 
 /// What a command was refused for.

@@ -3,15 +3,21 @@
 //! commands, of writes and of checkpoints alone, from the steps that were taken before.
 
 ghost use Rattle.std.specs.Prelude.{◌≡◌, true, IsSome};
-ghost use Rattle.shared_store.specs.Begin.{AreNamed, AreStarts, IsStanding};
+ghost use Rattle.store_lifecycle.specs.Starts.{AreNamed, AreStarts};
+ghost use Rattle.store_areas.specs.Begin.{IsStanding};
 
-use crate::partition_tests::{Does, op_of};
+use crate::commands::{Does, op_of};
 use lsn_core::NoMemory;
-use shared_store::{Began, Found, InsertFault, OfCrew, Pass, Store, StoreAreas, begin, find};
+use shared_store::{OfCrew, Pass, Store};
 use std::alloc::Global;
 use std::marker::Brand;
 use std::sync::Wait;
+use store_areas::{Found, StoreAreas};
+use store_faults::InsertFault;
+use store_finding::find;
+use store_insertion::insert_command;
 use store_ledgers::Blanks;
+use store_lifecycle::{Began, begin};
 use test_areas::{NEW_WAL, SEGMENT, SETTINGS, Wrong};
 use vault::{MemVault, Vault};
 
@@ -72,7 +78,7 @@ fn answer<J: OfCrew, V: Vault>(
     call: Calls,
 ) -> Result<Told, Wrong> {
     match call {
-        Calls::Inserts(does) => match store.insert(rt, alloc, pass, &op_of(alloc, does)?) {
+        Calls::Inserts(does) => match insert_command(store, rt, alloc, pass, &op_of(alloc, does)?) {
             Ok(receipt) => Ok(Told::Accepted(receipt.number, receipt.seq)),
             Err(fault) => Ok(Told::Refused(fault)),
         },
@@ -127,7 +133,7 @@ fn on_found<J: OfCrew, V: Vault>(
 ) -> Result<Vec<Told>, Wrong>
     requires names { (found.opened.table ≡ J.table) × (found.opened.list ≡ J.found)
         × (found.settings ≡ J.settings) }
-    requires ledgers { AreNamed J.entries_named J.faults_named J.commands_named J.passes blanks }
+    requires ledgers { AreNamed J.entries_named J.faults_named J.made_named J.passes blanks }
     requires crew { (J.workers ≡ passes) × (J.passes ≡ J.workers) }
     requires starts { AreStarts V.Vault J.starts J.wal found }
     requires stands { IsStanding V.Vault found }
@@ -150,7 +156,7 @@ fn on_named<V: Vault>(
 ) -> Result<Vec<Told>, Wrong>
     requires entries { (blanks.entries0.parts ≡ 1) × (blanks.entries1.parts ≡ 1)
         × (blanks.entries2.parts ≡ 1) × (blanks.entries3.parts ≡ 1) }
-    requires commands { blanks.commands.parts ≡ passes }
+    requires made { blanks.made.parts ≡ passes }
     requires faults { (blanks.data0.parts ≡ passes) × (blanks.data1.parts ≡ passes)
         × (blanks.data2.parts ≡ passes) × (blanks.data3.parts ≡ passes)
         × (blanks.wal.parts ≡ passes) × (blanks.sums.parts ≡ passes) }

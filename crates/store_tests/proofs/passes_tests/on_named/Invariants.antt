@@ -15,7 +15,7 @@ abbrev pub ghosts-on_found-J-OfLedgers : goal.ghosts-on_found-J-OfLedgers
 ghosts-on_found-J-OfLedgers g a = record {
   entries_named = λ q. if q == 0 then a.blanks.entries0.name else (if q == 1 then a.blanks.entries1.name else (if q == 2 then a.blanks.entries2.name else a.blanks.entries3.name));
   faults_named = λ q. if q == 0 then a.blanks.data0.name else (if q == 1 then a.blanks.data1.name else (if q == 2 then a.blanks.data2.name else (if q == 3 then a.blanks.data3.name else (if q == 4 then a.blanks.wal.name else a.blanks.sums.name))));
-  commands_named = a.blanks.commands.name;
+  made_named = a.blanks.made.name;
   passes = a.passes;
 }
 

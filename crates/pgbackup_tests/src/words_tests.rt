@@ -1,0 +1,25 @@
+//! The words of `follow` that aren't taken.
+
+use crate::calls::{Call, make_calls};
+use pgbackup_cli::Status;
+use test_areas::Wrong;
+use vault::MemSite;
+
+const USAGE: &str = "refused 1 Usage\n";
+
+static UNTAKEN: [Call; 8] = [
+    ("follow", "", Status::Usage, USAGE),
+    ("follow P", "", Status::Usage, USAGE),
+    ("follow p q", "", Status::Usage, USAGE),
+    ("follow --relseg 131073 p", "", Status::Usage, USAGE),
+    ("follow --system-id 7 p", "", Status::Usage, USAGE),
+    ("follow --relseg 1 --relseg 2 p", "", Status::Usage, USAGE),
+    ("follow --relseg 1 p --relseg 2", "", Status::Usage, USAGE),
+    ("follow p --segment-mib", "", Status::Usage, USAGE),
+];
+
+#[test]
+fn words_are_not_taken(rt: HostRuntime) -> Result<(), Wrong> {
+    let mut site = MemSite::new(rt.alloc(), &[])?;
+    make_calls(&rt, rt.alloc(), &mut site, &UNTAKEN)
+}
