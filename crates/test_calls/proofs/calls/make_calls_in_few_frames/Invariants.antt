@@ -1,5 +1,0 @@
-use Rattle.vault.specs.Site.{AllHome}
-use Rattle.test_calls.proofs.calls.make_calls_in_few_frames.Given as goal
-
-abbrev pub invariant-loop-number : goal.invariant-loop-number
-invariant-loop-number g l = AllHome (g.S.Site.areas l.site)
