@@ -1,9 +1,10 @@
 # On a machine with the kit: `make try` shows the program on a sample script, unproved; `make demo` proves it first;
-# `make test` is the gate, and `make edits` tries the wrong bodies that the gate leaves out, or those of NAMES='..'.
+# `make test` is the gate, and `make edits` tries the wrong bodies that the gate leaves out, or those of NAMES='..';
+# `make further-tests` runs the tests that it leaves out, unproved, or those of the crates of NAMES='..'.
 PREFIX ?= /usr/local
 NAMES ?=
 
-.PHONY: build demo try test edits bench conformance install clean
+.PHONY: build demo try test edits further-tests bench conformance install clean
 
 build:
 	./demo/build
@@ -20,12 +21,17 @@ test:
 edits:
 	./edits/run $(NAMES)
 
+further-tests:
+	./further_tests/run $(NAMES)
+
 conformance: build
 	python3 conformance/run.py bin/pgbackup 500
 	python3 conformance/limits.py bin/pgbackup 1
 	python3 conformance/archives.py bin/pgbackup 500
 	python3 conformance/follows.py bin/pgbackup 500
 	python3 conformance/faults.py bin/pgbackup
+	python3 conformance/crews.py bin/pgbackup 100
+	python3 conformance/loops.py bin/pgbackup 1000
 	python3 conformance/backups.py bin/pgbackup 150
 	python3 conformance/restores.py bin/pgbackup 60
 	python3 conformance/summaries.py bin/pgbackup 100

@@ -1,10 +1,12 @@
 """Measures an open store of the program `run`: its commands, its checkpoint, its flushes, its memory, and its beginning.
 
-    python3 bench/store.py PROGRAM [ROUNDS [OLD]]
+    python3 bench/store.py PROGRAM [ROUNDS [OLD [WHAT..]]]
 
-OLD is the program of another checkout, which is measured beside this one, in turn; it need not know `--frames`. Prints
-the best time of each way over rounds, the rates, the ratio of a checkpoint to `dd` of the same bytes with one fsync,
-what each takes of the time of OLD, and the greatest peak memory beside what the frames may take.
+OLD is the program of another checkout, which is measured beside this one, in turn; it need not know `--frames`. WHAT
+names some of `puts`, `patches`, `growth`, `checkpoint`, `flushes`, `full` and `begin`. Prints the best time of each way
+over rounds, the rates, the ratio of a checkpoint to `dd` of the same bytes with one fsync, what each takes of the time
+of OLD, by the clock and of the processor, best and median, and the greatest peak memory beside what the frames may take.
+PART in the environment divides all counts, as for programs that are built with checks.
 """
 import os
 import shutil
@@ -13,20 +15,21 @@ import tempfile
 
 from wal import MIB, Best, timed
 
-PAGES = 20_000
-PATCHES = 50_000
+PART = int(os.environ.get("PART", "1"))
+PAGES = 20_000 // PART
+PATCHES = 50_000 // PART
 # A page without a hole, so that each put is a whole image; and 256 MiB of them.
 SHAPE = "8192,8192,7"
-BIG = 32_768
+BIG = 32_768 // PART // 4 * 4
 # Pages that a growth adds before as many are flushed.
-FLUSHED = (1_000, 4_000, 8_000, 16_000, BIG)
+FLUSHED = tuple(count // PART // 4 * 4 for count in (1_000, 4_000, 8_000, 16_000)) + (BIG,)
 # A full store has so many pages, in four forks, one of each partition.
-FULL = 65_536
+FULL = 65_536 // PART // 16 * 16
 # How many frames each partition has where none are asked for, and fewer; and what may be taken beside them.
 FRAMES = (4_096, 64)
 BESIDE = 24
 # So many flushes of four pages where nothing is to be written.
-IDLE = 20_000
+IDLE = 20_000 // PART
 
 
 def written(lines):
@@ -65,11 +68,11 @@ class Bench:
                     run(best, name + way, program)
         return best
 
-    def old_of(self, took):
+    def old_of(self, best):
         """What was taken of what the program of before takes, as a text."""
         if len(self.ways) == 1:
             return ""
-        return ", %.2f of before" % (took("now") / took("before"))
+        return ", %s before by the best, %s it by the median" % (best.ratio("now", "before"), best.medians("now", "before"))
 
     def commands(self, what, lines, count):
         """How many commands a second `run` accepts, of a script of these lines on an empty store."""
@@ -78,7 +81,7 @@ class Bench:
             took = best.seconds[way]
             print("%d %s, %s: %.2f s, %.0f commands/s, %.0f MiB of memory" %
                   (count, what, way, took, count / took, best.memory[way]))
-        print("%d %s: %.2f s%s" % (count, what, best.seconds["now"], self.old_of(best.seconds.get)))
+        print("%d %s: %.2f s%s" % (count, what, best.seconds["now"], self.old_of(best)))
 
     def checkpoint(self):
         """What a checkpoint of dirty pages takes, beside `dd` of the same bytes with one fsync.
@@ -171,7 +174,7 @@ class Bench:
             took = best.seconds[way]
             print("begin over %.0f MiB of pages, %s: %.2f s, %.2f of cp of the data area, %.0f MiB of memory" %
                   (BIG * 8192 / MIB, way, took, took / best.seconds["cp"], best.memory[way]))
-        print("begin: %.2f s%s" % (best.seconds["now"], self.old_of(best.seconds.get)))
+        print("begin: %.2f s%s" % (best.seconds["now"], self.old_of(best)))
 
 
 def timed_run(program):
@@ -187,18 +190,20 @@ def main():
     bench = Bench(program, rounds, old)
     folder = tempfile.mkdtemp(dir=os.getcwd())
     os.chdir(folder)
+    few = ["grow 5/16384@0 %d 8192,8192,0" % PAGES]
+    patches = ["change 5/16384@%d+%d:%016x" % (n * 7919 % PAGES, 24 + n % 8160, n) for n in range(PATCHES)]
+    parts = {
+        "puts": lambda: bench.commands(
+            "puts of new pages", ["change 5/16384@%d=%s" % (block, SHAPE) for block in range(PAGES)], PAGES),
+        "patches": lambda: bench.commands(
+            "small patches and %d pages that are grown first" % PAGES, few + patches, PAGES + PATCHES),
+        "growth": lambda: bench.commands("blocks grown", ["grow 5/16384@0 %d %s" % (BIG, SHAPE)], BIG),
+        "checkpoint": bench.checkpoint, "flushes": bench.flushes, "full": bench.full_store, "begin": bench.begin}
     try:
         for name in ("sums", "o"):
             os.mkdir(name)
-        bench.commands("puts of new pages", ["change 5/16384@%d=%s" % (block, SHAPE) for block in range(PAGES)], PAGES)
-        few = ["grow 5/16384@0 %d 8192,8192,0" % PAGES]
-        patches = ["change 5/16384@%d+%d:%016x" % (n * 7919 % PAGES, 24 + n % 8160, n) for n in range(PATCHES)]
-        bench.commands("small patches and %d pages that are grown first" % PAGES, few + patches, PAGES + PATCHES)
-        bench.commands("blocks grown", ["grow 5/16384@0 %d %s" % (BIG, SHAPE)], BIG)
-        bench.checkpoint()
-        bench.flushes()
-        bench.full_store()
-        bench.begin()
+        for part in sys.argv[4:] or parts:
+            parts[part]()
     finally:
         os.chdir("/")
         shutil.rmtree(folder)

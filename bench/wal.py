@@ -8,6 +8,7 @@ turns, by the clock and of the processor, their ratios, and the peak memory of t
 """
 import os
 import shutil
+import statistics
 import subprocess
 import sys
 import tempfile
@@ -50,10 +51,10 @@ def segments():
 
 
 class Best:
-    """The best times of each way, by the clock and of the processor, and the greatest memory."""
+    """The best times of each way, by the clock and of the processor, and the greatest memory; and all that was taken."""
 
     def __init__(self):
-        self.seconds, self.processor, self.memory = {}, {}, {}
+        self.seconds, self.processor, self.memory, self.all = {}, {}, {}, {}
 
     def times(self, *ways):
         """What these ways take together, as a text: by the clock and of the processor."""
@@ -63,6 +64,12 @@ class Best:
         """What a way takes of what others take together, as a text."""
         return "%.2f (%.2f) of" % tuple(took[way] / sum(took[other] for other in others) for took in self.both())
 
+    def medians(self, way, other):
+        """What a way takes of what another one takes by their medians, as a text."""
+        return "%.2f (%.2f) of" % tuple(
+            statistics.median(taken[of] for taken in self.all[way]) / statistics.median(taken[of] for taken in self.all[other])
+            for of in (0, 1))
+
     def both(self):
         return self.seconds, self.processor
 
@@ -71,6 +78,7 @@ class Best:
         self.seconds[way] = min(taken.seconds, self.seconds.get(way, taken.seconds))
         self.processor[way] = min(taken.processor, self.processor.get(way, taken.processor))
         self.memory[way] = max(taken.memory, self.memory.get(way, 0))
+        self.all.setdefault(way, []).append(taken)
         return taken.text
 
 

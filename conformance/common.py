@@ -6,6 +6,7 @@ import shutil
 import subprocess
 import sys
 import tempfile
+import threading
 
 ORACLE = os.environ.get("PGBACKUP_ORACLE", "")
 SEGMENT = "000000010000000000000001"
@@ -26,6 +27,42 @@ def program(path, words, script=b"", folder="."):
     """(status, lines) of one call of the program in this folder."""
     ran = subprocess.run([path] + words, input=script, cwd=folder, capture_output=True, check=False)
     return ran.returncode, ran.stdout.decode().splitlines()
+
+
+def standing(pid):
+    """What the threads of a process used of the processors, or None where one of them runs or is about to."""
+    used = []
+    for task in os.listdir("/proc/%d/task" % pid):
+        with open("/proc/%d/task/%s/stat" % (pid, task), encoding="ascii") as stat:
+            words = stat.read().rpartition(")")[2].split()
+        if words[0] in "RD":
+            return None
+        used.append((task, words[11], words[12]))
+    return sorted(used)
+
+
+def watched(path, words, script, folder=".", still=20):
+    """As `program`, and None where all its threads slept for so many seconds, so that none will wake another. It is
+    ended then. A machine with much to do makes a call long, and not that."""
+    process = subprocess.Popen([path] + words, cwd=folder, stdin=subprocess.PIPE, stdout=subprocess.PIPE,
+                               stderr=subprocess.DEVNULL)
+    told = []
+    reader = threading.Thread(target=lambda: told.append(process.communicate(script)[0]))
+    reader.start()
+    seen, since = None, 0
+    while reader.is_alive():
+        reader.join(1)
+        try:
+            now = standing(process.pid)
+        except OSError:
+            now = None
+        since = since + 1 if now is not None and now == seen else 0
+        seen = now
+        if since == still:
+            process.kill()
+            reader.join()
+            return None
+    return process.returncode, told[0].decode().splitlines()
 
 
 def files(folder):
@@ -54,7 +91,7 @@ def compare(one_run):
         folder = tempfile.mkdtemp()
         os.chdir(folder)
         for difference in one_run(path, random.Random("%d %d" % (seed, run))):
-            print("run %d: %s" % (run, difference))
+            print("run %d: %s" % (run, difference), flush=True)
             failed += 1
         os.chdir(home)
         shutil.rmtree(folder)
