@@ -5,4 +5,6 @@
 #![tactic(auto)]
 
 #[cfg(test)]
+mod drill_tests;
+#[cfg(test)]
 mod script_tests;

@@ -109,7 +109,7 @@ fn push_name(text: &mut String, name: &Text) -> Result<(), NoMemory> {
     Ok(())
 }
 
-fn command_text(alloc: Global, command: &Command) -> Result<String, NoMemory> {
+pub fn command_text(alloc: Global, command: &Command) -> Result<String, NoMemory> {
     match command {
         Command::Insert(order) => order_text(alloc, order),
         Command::Grow(at, count, shape) => grow_text(alloc, at, *count, *shape),

@@ -42,7 +42,7 @@ impl Model for OrderItems {
 
 impl OrderItems {
     /// These items. Takes no memory.
-    pub(crate) fn from_vec(list: Vec<OrderItem>) -> OrderItems
+    pub fn from_vec(list: Vec<OrderItem>) -> OrderItems
         ensures { result ≡ list.items }
     {
         OrderItems { list }

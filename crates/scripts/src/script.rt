@@ -91,7 +91,7 @@ impl Model for Lines {
 
 impl Lines {
     /// No commands.
-    pub(crate) fn new(alloc: Global) -> Lines
+    pub fn new(alloc: Global) -> Lines
         ensures { result ≡ [] }
     {
         Lines {
@@ -100,7 +100,7 @@ impl Lines {
     }
 
     /// One command more.
-    pub(crate) fn push(&mut self, line: Line) -> Result<(), NoMemory>
+    pub fn push(&mut self, line: Line) -> Result<(), NoMemory>
         ensures { OnOk result (self.new ≡ self.old ++ (line ∷ [])) }
     {
         self.items.push(line)?;
@@ -139,7 +139,7 @@ impl Model for Script {
 
 impl Script {
     /// The script of these workers. Takes no memory.
-    pub(crate) fn from_vec(workers: Vec<Task>) -> Script
+    pub fn from_vec(workers: Vec<Task>) -> Script
         ensures { result ≡ workers.items }
     {
         Script { workers }

@@ -1,0 +1,4 @@
+pub mod Draw
+pub mod Writer
+pub mod Drill
+pub mod Laws
