@@ -15,7 +15,7 @@ use Rattle.run_answers.specs.declared.outcome.RunReport.{RunReport}
 use Rattle.run_answers.specs.declared.outcome.RunFault.{RunFault}
 use Rattle.run_answers.specs.declared.outcome.RunFault.TheVariants as run
 use Rattle.run_answers.specs.Begin.{begin_text, begin_status}
-use Rattle.run_answers.specs.Report.{first_told, report_text}
+use Rattle.run_answers.specs.Report.{first_told, report_text, last_line}
 
 abbrev pub RunResult : Type 0
 RunResult = Result RunReport RunFault
@@ -35,6 +35,11 @@ run_fault_text (run.Begin why) = begin_text why
 abbrev pub run_text : RunResult → List ℕ
 run_text (Ok report) = report_text report
 run_text (Err fault) = refused_line (run_fault_text fault)
+
+-- the last of its lines
+abbrev pub last_text : RunResult → List ℕ
+last_text (Ok report) = last_line report
+last_text (Err fault) = refused_line (run_fault_text fault)
 
 -- the status of a run by how it ended: with the line by which a worker was stopped first; where none
 -- was, as closing the store did

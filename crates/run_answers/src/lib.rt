@@ -17,5 +17,5 @@ mod told;
 
 pub use answer::{Answer, Answers, Stop};
 pub use outcome::{RunFault, RunReport};
-pub use telling::{run_status, run_text};
+pub use telling::{last_text, run_status, run_text};
 pub use told::{Told, ToldTasks};

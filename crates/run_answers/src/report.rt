@@ -285,7 +285,7 @@ fn closed_line(alloc: Global, closed: &Result<Lsn, StoreFault>) -> Result<Text, 
 }
 
 /// The last line: by what a worker was stopped first; where none was, how closing the store ended.
-fn last_line(alloc: Global, report: &RunReport) -> Result<Text, NoMemory>
+pub fn last_line(alloc: Global, report: &RunReport) -> Result<Text, NoMemory>
     ensures { IfOk result (λ text. text ≡ last_line report.now) }
 {
     match report.told.stop() {

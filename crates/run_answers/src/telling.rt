@@ -2,13 +2,13 @@
 
 ghost use Rattle.std.specs.Prelude.{◌≡◌, IfOk};
 ghost use Rattle.run_answers.specs.Report.{first_told};
-ghost use Rattle.run_answers.specs.Telling.{script_text, run_fault_text, run_text};
+ghost use Rattle.run_answers.specs.Telling.{script_text, run_fault_text, run_text, last_text};
 ghost use Rattle.run_answers.specs.Telling.{stop_status, ending_status, run_status};
 
 use crate::answer::Stop;
 use crate::begin::{begin_status, begin_text};
 use crate::outcome::{RunFault, RunReport};
-use crate::report::report_text;
+use crate::report::{last_line, report_text};
 use command_base::{Status, area_status, area_text, joined, refused_line, store_status, take_text};
 use lsn_core::{NoMemory, Text};
 use scripts::{Why, why_text};
@@ -42,6 +42,16 @@ pub fn run_text(alloc: Global, came: &Result<RunReport, RunFault>) -> Result<Tex
 {
     match came {
         Ok(report) => report_text(alloc, report),
+        Err(fault) => refused_line(alloc, run_fault_text(alloc, fault)?.as_bytes()),
+    }
+}
+
+/// The last of the lines that `run` prints, which says how it ended.
+pub fn last_text(alloc: Global, came: &Result<RunReport, RunFault>) -> Result<Text, NoMemory>
+    ensures { IfOk result (λ text. text ≡ last_text came.now) }
+{
+    match came {
+        Ok(report) => last_line(alloc, report),
         Err(fault) => refused_line(alloc, run_fault_text(alloc, fault)?.as_bytes()),
     }
 }

@@ -15,12 +15,14 @@ use Rattle.lsn_core.specs.declared.fault.StoreFault.TheVariants as store
 use Rattle.store_areas.specs.Begin.{BeginCause, MayComeLate, DataFails, SameData, faults_of}
 use Rattle.scripts.specs.declared.script.Task.{Task}
 use Rattle.run_answers.specs.declared.outcome.RunReport.{RunReport}
+use Rattle.run_answers.specs.Telling.{RunResult}
 use Rattle.run_answers.specs.declared.outcome.RunFault.TheVariants as run
 use Rattle.command_base.specs.Areas.{wal_name, data_name, sums_name, Keeps}
+use Rattle.command_base.specs.Outside.{Outside, of_site}
 use Rattle.vault.specs.declared.lending.Held.{Held}
 use Rattle.crew.specs.Backups.{areas_of}
-use Rattle.run_command.specs.Run.{store_asks, backups_asked, others_asked, KeepAll, AreAsAt, tasks_told, DataAreaFails, CantBegin}
-use Rattle.run_command.specs.Inner.{IsRunOn, HasNotBegun, MayNotBegin, RunsScript}
+use Rattle.run_command.specs.Run.{store_asks, backups_asked, others_asked, KeepAll, AreAsAt, tasks_told, DataAreaFails, CantBegin, HasScript, RunOfScript, RunAnswer}
+use Rattle.run_command.specs.Inner.{IsRunOn, HasNotBegun, MayNotBegin, seen_at}
 use Rattle.run_command.proofs.StoreLent.{AreAt, RunBack, one_either, wal_files, wal_faults, rose_at}
 use Rattle.run_command.proofs.RunDone.{run_done}
 
@@ -96,16 +98,23 @@ cant_begin g script old new a b (begin.Data fault) others was at wal (inr memory
 -- ---- the answers
 
 pub ran_ok : {S V : Type 0} (s : Sites S V) (g : Vaults V) (when : ℕ) (script : List Task) (old new : S) (held kept : List (Held V)) (before sums : V) (a b : StoreAreas V) (report : RunReport) → RunBack s g script old new held kept before sums a b
-    → IsRunOn g when a b before sums held kept report → tasks_told report.told ≡ script → RunsScript s when script old new (Ok report)
-ran_ok s g when script old new held kept before sums a b report back ran same = λ left rest reads now moment behind has.
-    (same, has, run_done g when (s.areas old) (s.areas new) a b before sums held kept report back.was back.is back.before back.behind back.held_there back.kept_there ran)
+    → IsRunOn g when a b before sums held kept report → tasks_told report.told ≡ script → RunOfScript when script (of_site s old) (of_site s new) (Ok report)
+ran_ok s g when script old new held kept before sums a b report back ran same =
+    (same, run_done g when (s.areas old) (s.areas new) a b before sums held kept report back.was back.is back.before back.behind back.held_there back.kept_there ran)
 
 pub ran_err : {S V : Type 0} (s : Sites S V) (g : Vaults V) (when : ℕ) (script : List Task) (old new : S) (held kept : List (Held V)) (before sums : V) (a b : StoreAreas V) (why : BeginWhy) → RunBack s g script old new held kept before sums a b
-    → kept ≡ held → sums ≡ before → HasNotBegun g a b why → RunsScript s when script old new (Err (run.Begin why))
-ran_err s g when script old new held kept before sums a b why back same still un = λ left rest reads now moment behind has. (
-  has,
-  cant_begin g script (s.areas old) (s.areas new) a b why
-      (others_keep g script (s.areas old) (s.areas new) before sums (held_keep script (s.areas old) (s.areas new) (areas_of g held) (areas_of g kept) back.were back.after (ap (areas_of g) same)) back.before back.behind still) back.was back.is un.wal un.cause,
-)
+    → kept ≡ held → sums ≡ before → HasNotBegun g a b why → RunOfScript when script (of_site s old) (of_site s new) (Err (run.Begin why))
+ran_err s g when script old new held kept before sums a b why back same still un =
+    cant_begin g script (s.areas old) (s.areas new) a b why
+    (others_keep g script (s.areas old) (s.areas new) before sums (held_keep script (s.areas old) (s.areas new) (areas_of g held) (areas_of g kept) back.were back.after (ap (areas_of g) same)) back.before back.behind still) back.was back.is un.wal un.cause
 
--- ---- no script
+-- ---- the script of the input
+
+pub of_input : (when : ℕ) (script : List Task) (old new : Outside) (left rest : Option (List ℕ)) (reads now : ℕ) (before behind : Option ℕ) (r : RunResult) → HasScript left rest script → RunOfScript when script old new r
+    → RunAnswer when script (seen_at old left reads before) (seen_at new rest now behind) r
+of_input when script old new left rest reads now before behind (Ok report) has ran = (has, ran)
+of_input when script old new left rest reads now before behind (Err (run.Input why)) has ran = absurd ran
+of_input when script old new left rest reads now before behind (Err (run.Script line why)) has ran = absurd ran
+of_input when script old new left rest reads now before behind (Err run.NoMemory) has ran = ran
+of_input when script old new left rest reads now before behind (Err (run.Site fault)) has ran = (has, ran)
+of_input when script old new left rest reads now before behind (Err (run.Begin why)) has ran = (has, ran)

@@ -42,8 +42,7 @@ use Rattle.run_answers.specs.declared.outcome.RunFault.{RunFault}
 use Rattle.command_base.specs.Areas.{sums_name}
 use Rattle.command_base.specs.Outside.{Outside, of_site, with_input, with_moment}
 use Rattle.run_command.specs.Input.{IsInput}
-use Rattle.run_answers.specs.Telling.{RunResult}
-use Rattle.run_command.specs.Run.{HasScript, backups_asked, run_workers, store_asks, RunAnswer}
+use Rattle.run_command.specs.Run.{backups_asked, run_workers, store_asks, RunAnswer}
 
 -- ---- the input
 
@@ -114,10 +113,6 @@ TakesRun sites vaults names old new (Err fault) = NoneTaken sites names old new 
 -- whether the area of a store's WAL tells its files
 abbrev pub tell : {V : Type 0} → Vaults V → StoreAreas V → Bool
 tell vaults areas = is_some (vaults.files areas.wal)
-
--- no backup of a script is its own prior one
-abbrev pub NamePriors : List Task → Type 0
-NamePriors script = AllByRecursion (λ task. HaveOtherPriors task.lines) script
 
 -- ---- seats
 
@@ -388,12 +383,3 @@ RefusesScript sources old new fault =
     (when : ℕ) (script : List Task) (site : Outside) (before behind : Option ℕ)
     → RunAnswer when script (seen_at site (sources.left old) (sources.faults old) before)
     (seen_at site (sources.left new) (sources.faults new) behind) (Err fault)
-
--- why `run` comes to its answer with this script, whatever the input and the clock were
-abbrev pub RunsScript :
-    {S V : Type 0} → Sites S V → ℕ → List Task → S → S → RunResult → Type 0
-RunsScript sites when script old new r =
-    (left rest : Option (List ℕ)) (reads now : ℕ) (before behind : Option ℕ)
-    → HasScript left rest script
-    → RunAnswer when script (seen_at (of_site sites old) left reads before)
-    (seen_at (of_site sites new) rest now behind) r

@@ -1,6 +1,6 @@
 -- `run`: what running a script does, prints and ends with.
 use Rattle.std.specs.Prelude.{◌≡◌, ℕ, ◌+◌, ◌<◌, ◌≤◌, List, [], ◌∷◌, ◌++◌, map, length, slice_get, Option, Some, None, Result, Ok, Err, IsSome, IfSome, codes}
-use Rattle.std.specs.List.{All, flat_map}
+use Rattle.std.specs.List.{All, AllByRecursion, flat_map}
 use Rattle.std.specs.FinMap.{empty}
 use Rattle.std.specs.Fmt.{decimal}
 use Rattle.lsn_core.specs.Causes.{Rose}
@@ -34,6 +34,7 @@ use Rattle.scripts.specs.declared.script.Task.{Task}
 use Rattle.scripts.specs.declared.why.Why.{Why}
 use Rattle.scripts.specs.Reasons.{script_limit, why_bytes}
 use Rattle.scripts.specs.Script.{IsScript, IsRefusedAt}
+use Rattle.scripts.specs.Named.{HaveOtherPriors}
 use Rattle.scripts.specs.declared.script.Line.{Line}
 use Rattle.run_answers.specs.Telling.{RunResult}
 use Rattle.run_answers.specs.declared.answer.Stop.{Stop}
@@ -70,6 +71,10 @@ pub record HasRefusedLine (left now : Option (List ℕ)) (line : ℕ) (why : Why
   pub bytes : List ℕ
   pub input : IsInput bytes left now
   pub refused : IsRefusedAt run_workers bytes line why
+
+-- no backup of a script is its own prior one
+abbrev pub NamePriors : List Task → Type 0
+NamePriors script = AllByRecursion (λ task. HaveOtherPriors task.lines) script
 
 -- ---- what the run of a script comes to, over the areas of a store
 
@@ -249,7 +254,7 @@ pub record RunDone (when : ℕ) (old new : Areas) (report : RunReport) : Type 0 
   pub backups_failed : ToldBackupsFailed old new report.told
   pub honest : KeepsHonest (map entry_of found) history old new
 
--- ---- what `run` comes to
+-- ---- what running a script comes to
 
 -- no store was begun, and the areas of the backups and of summaries are as they were: its WAL can't be
 -- begun on, and all is as it was; or it was read, and can't be replayed into the data areas; or one of
@@ -268,21 +273,37 @@ CantBegin script old new (begin.Data why) =
     KeepAll (others_asked script) old new
     × Keeps (old wal_name) (new wal_name) × DataAreaFails old new why
 
--- why `run` of a script at a moment comes to its answer: it was run; or the input failed, a line is
--- refused, memory ran out, an area wasn't handed out, or no store can be begun
+-- why running a script at a moment comes to its answer, whether it was read or made: it was run; or
+-- memory ran out, an area wasn't handed out, or no store can be begun. No input is read
+abbrev pub RunOfScript : ℕ → List Task → Outside → Outside → RunResult → Type 0
+RunOfScript when script old new (Ok report) =
+    (tasks_told report.told ≡ script) × RunDone when old.areas new.areas report
+RunOfScript when script old new (Err (run.Input why)) = ⊥
+RunOfScript when script old new (Err (run.Script line why)) = ⊥
+RunOfScript when script old new (Err run.NoMemory) = LeavesSite old new
+RunOfScript when script old new (Err (run.Site fault)) =
+    IsUntaken (run_asks script) old new fault
+RunOfScript when script old new (Err (run.Begin why)) =
+    CantBegin script old.areas new.areas why
+
+-- ---- what `run` comes to
+
+-- why `run` of a script at a moment comes to its answer: the input failed, a line is refused, or memory
+-- ran out; or this is the script of the input, and running it comes to the answer
 abbrev pub RunAnswer : ℕ → List Task → Outside → Outside → RunResult → Type 0
 RunAnswer when script old new (Ok report) =
-    (tasks_told report.told ≡ script) × HasScript old.left new.left script
-    × RunDone when old.areas new.areas report
+    HasScript old.left new.left script × RunOfScript when script old new (Ok report)
 RunAnswer when script old new (Err (run.Input why)) =
     LeavesSite old new × AreaCause old.reads new.reads why
 RunAnswer when script old new (Err (run.Script line why)) =
     LeavesSite old new × HasRefusedLine old.left new.left line why
 RunAnswer when script old new (Err run.NoMemory) = LeavesSite old new
 RunAnswer when script old new (Err (run.Site fault)) =
-    HasScript old.left new.left script × IsUntaken (run_asks script) old new fault
+    HasScript old.left new.left script
+    × RunOfScript when script old new (Err (run.Site fault))
 RunAnswer when script old new (Err (run.Begin why)) =
-    HasScript old.left new.left script × CantBegin script old.areas new.areas why
+    HasScript old.left new.left script
+    × RunOfScript when script old new (Err (run.Begin why))
 
 -- `run`, of a script where the input has one, at the clock's moment. Of the input no more is taken
 -- than one byte more than a script may have

@@ -6,9 +6,9 @@ ghost use Rattle.scripts.specs.Apart.{AreApart};
 ghost use Rattle.scripts.specs.Reasons.{script_limit};
 ghost use Rattle.command_base.specs.Outside.{of_site, of_all, Works};
 ghost use Rattle.run_command.specs.Input.{TakesAtMost};
-ghost use Rattle.run_command.specs.Run.{HasScript, run_asks, RunDoes};
+ghost use Rattle.run_command.specs.Run.{HasScript, NamePriors, run_asks, RunDoes, RunOfScript};
 ghost use Rattle.run_command.specs.Run.{run_workers};
-ghost use Rattle.run_command.specs.Inner.{NamePriors, RefusesScript, RunsScript};
+ghost use Rattle.run_command.specs.Inner.{RefusesScript};
 
 use crate::input::read_input;
 use crate::lending::{give_others, give_store, run_names, take_run};
@@ -22,10 +22,13 @@ use std::sync::Wait;
 use std::thread::Threads;
 use vault::{Clock, Held, Site, Source};
 
-/// Runs a script on the store of a site with so many frames of each partition, at this moment. All
-/// memory that a refusal would need is taken before the areas are, and these are given back in any
-/// case.
-fn run_in<R: Threads + Wait + Sync, S: Site, G: Gate>(
+/// Runs a script, read or made, on the store of a site with so many frames of each partition, each
+/// worker in a thread of its own, with a gate that is called behind each of its steps, with no lock
+/// held. The moment is in seconds since 1970 (profile: before the year 10000). A script that was read
+/// meets what is asked of its tasks. All memory that a refusal would need is taken before the areas are,
+/// and these are given back in any case. It errs where there is no memory, an area isn't handed out or
+/// no store can be begun.
+pub fn run_script<R: Threads + Wait + Sync, S: Site, G: Gate>(
     rt: &R,
     alloc: Global,
     frames: u32,
@@ -40,7 +43,8 @@ fn run_in<R: Threads + Wait + Sync, S: Site, G: Gate>(
     requires priors { NamePriors script }
     requires home { AllHome (S.areas site.old) }
     ensures site { Works (run_asks script) (of_site S.Site site.old) (of_site S.Site site.new) }
-    ensures answer { RunsScript S.Site when script site.old site.new result }
+    ensures answer { RunOfScript when script (of_site S.Site site.old) (of_site S.Site site.new)
+        result }
 {
     let (work, backups) = work_of(alloc, script)?;
     let names = run_names(alloc, backups)?;
@@ -112,5 +116,5 @@ pub fn run_gated<R: Threads + Wait + Sync, S: Site, I: Source, C: Clock, G: Gate
 {
     let when = clock.now();
     let script = script_of(alloc, input)?;
-    run_in(rt, alloc, frames, script, when, site, gate)
+    run_script(rt, alloc, frames, script, when, site, gate)
 }

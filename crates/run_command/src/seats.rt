@@ -5,9 +5,9 @@ ghost use Rattle.std.specs.Prelude.{◌≡◌, ◌+◌, ◌<◌, ◌≤◌, ◌�
 ghost use Rattle.std.specs.List.{flat_map};
 ghost use Rattle.std.specs.Vec.{vec_len, vec_capacity};
 ghost use Rattle.scripts.specs.Named.{HaveOtherPriors};
-ghost use Rattle.run_command.specs.Run.{run_workers};
+ghost use Rattle.run_command.specs.Run.{NamePriors, run_workers};
 ghost use Rattle.run_command.specs.Inner.{AddsSeat, AreNamesFor, AreReady, AreSeated, HasPlaces, HasRoom};
-ghost use Rattle.run_command.specs.Inner.{IsReady, IsSeated, IsWork, NamePriors, SitOn, areas_counted};
+ghost use Rattle.run_command.specs.Inner.{IsReady, IsSeated, IsWork, SitOn, areas_counted};
 ghost use Rattle.run_command.specs.Inner.{areas_held, passes_for, passes_of, tasks_of, told_of};
 
 use crate::lending::{asked_areas, keep_names};

@@ -4,6 +4,7 @@ use Rattle.command_base.specs.Outside.{of_site, of_all}
 use Rattle.command_base.proofs.Decided.{err_as}
 use Rattle.command_base.proofs.Lent.{none_written}
 use Rattle.scripts.proofs.Priors.{scripts_fit}
+use Rattle.run_command.proofs.RunAnswers.{of_input}
 use Rattle.run_command.proofs.command.run_gated.Goals as goal
 
 pub returns-in_err-script-clause-does : goal.returns-in_err-script-clause-does
@@ -24,11 +25,12 @@ returns-clause-does g c = (
   c.now-when.result,
   _,
   c.now-when.ensures.moment,
-  c.run_in.ensures.site,
+  c.run_script.ensures.site,
   c.in_ok-script.ensures.later,
   c.in_ok-script.ensures.taken,
-  c.run_in.ensures.answer _ _ _ _ (g.C.Clock.moment c.args.clock.now) (g.C.Clock.moment c.now-when.new.self) c.in_ok-script.ensures.script,
+  of_input c.now-when.result c.in_ok-script.script (of_site g.S.Site c.args.site.now) (of_site g.S.Site c.run_script.new.site) (g.I.Source.left c.args.input.now) (g.I.Source.left c.script_of.new.input) (g.I.Source.faults c.args.input.now) (g.I.Source.faults c.script_of.new.input)
+      (g.C.Clock.moment c.args.clock.now) (g.C.Clock.moment c.now-when.new.self) c.run_script.result c.in_ok-script.ensures.script c.run_script.ensures.answer,
 )
 
-pub run_in-requires-clause-priors : goal.run_in-requires-clause-priors
-run_in-requires-clause-priors g c κs within = scripts_fit run_workers c.in_ok-script.ensures.script.bytes _ c.in_ok-script.ensures.script.script_is
+pub run_script-requires-clause-priors : goal.run_script-requires-clause-priors
+run_script-requires-clause-priors g c κs within = scripts_fit run_workers c.in_ok-script.ensures.script.bytes _ c.in_ok-script.ensures.script.script_is

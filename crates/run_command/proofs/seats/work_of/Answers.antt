@@ -3,7 +3,8 @@ use Rattle.std.proofs.Common.{◌≡◌, ◌∷◌, ◌++◌, [], List, length, 
 use Rattle.std.specs.Vec.Iter.{into_iter_items}
 use Rattle.scripts.specs.declared.script.Task.{Task}
 use Rattle.run_command.specs.declared.seats.Seat.{Seat}
-use Rattle.run_command.specs.Inner.{AreNamesFor, AreReady, NamePriors, tasks_of}
+use Rattle.run_command.specs.Inner.{AreNamesFor, AreReady, tasks_of}
+use Rattle.run_command.specs.Run.{NamePriors}
 use Rattle.run_command.proofs.Seated.{names_more, pushed, ready_more, tasks_more}
 use Rattle.run_command.proofs.seats.work_of.Goals as goal
 

@@ -1,6 +1,7 @@
 use Rattle.std.proofs.Common.{◌≡◌, ◌++◌, length}
 use Rattle.std.specs.Vec.Iter.{into_iter_items, into_iter_len}
-use Rattle.run_command.specs.Inner.{AreNamesFor, AreReady, NamePriors, tasks_of}
+use Rattle.run_command.specs.Inner.{AreNamesFor, AreReady, tasks_of}
+use Rattle.run_command.specs.Run.{NamePriors}
 use Rattle.run_command.proofs.seats.work_of.Given as goal
 
 -- the seats so far are those of the first tasks

@@ -5,8 +5,8 @@ use Rattle.vault.specs.Lending.{Names, names_of}
 use Rattle.command_base.specs.Outside.{of_site}
 use Rattle.run_answers.specs.declared.outcome.RunReport.{RunReport}
 use Rattle.run_answers.specs.declared.outcome.RunFault.TheVariants as run
-use Rattle.run_command.specs.Run.{tasks_told, RunAnswer}
-use Rattle.run_command.specs.Inner.{held_of, AreAsked, AreNamesFor, RunsOn, seen_at, tasks_of}
+use Rattle.run_command.specs.Run.{tasks_told, RunOfScript}
+use Rattle.run_command.specs.Inner.{held_of, AreAsked, AreNamesFor, RunsOn, tasks_of}
 use Rattle.run_command.proofs.Noted.{all_distinct, six_at_least}
 use Rattle.run_command.proofs.Seated.{asked_by}
 use Rattle.run_command.proofs.RunDone.{runs_fell}
@@ -14,7 +14,7 @@ use Rattle.run_command.proofs.StoreLent.{held_named, run_out, out_back, others_l
 use Rattle.run_command.proofs.RunAnswers.{ran_ok, ran_err}
 use Rattle.command_base.proofs.Decided.{err_as}
 use Rattle.vault.proofs.LentAreas.{out_front}
-use Rattle.run_command.proofs.command.run_in.Goals as goal
+use Rattle.run_command.proofs.command.run_script.Goals as goal
 
 pub take_run-requires-clause-distinct : goal.take_run-requires-clause-distinct
 take_run-requires-clause-distinct g c κs within = all_distinct c.args.script c.in_ok-names.names.items (asked_by c.args.script c.in_ok-work.work.seats.items c.in_ok-work.backups.items c.in_ok-names.names.items c.in_ok-work.ensures.script c.in_ok-work.ensures.names c.requires.apart c.in_ok-names.ensures)
@@ -43,12 +43,12 @@ give_others-requires-after_bounds g c κs within =
     c.give_store.ensures.gives.areas
 
 pub returns-in_err-held-clause-answer : goal.returns-in_err-held-clause-answer
-returns-in_err-held-clause-answer g c = λ left rest reads now before behind has.
+returns-in_err-held-clause-answer g c =
     let asked : AreAsked c.args.script c.in_ok-names.names.items = asked_by c.args.script c.in_ok-work.work.seats.items c.in_ok-work.backups.items c.in_ok-names.names.items c.in_ok-work.ensures.script c.in_ok-work.ensures.names c.requires.apart c.in_ok-names.ensures in
     let none = untaken g.S.Site g.S.Area.Vault c.args.script c.in_ok-names.names.items c.args.site.now c.take_run.new.site c.in_err-held.field-0.0 asked c.in_err-held.ensures.takes in
     err_as c.from_residual-in_err-held.result (run.Site c.in_err-held.field-0.0)
-    (RunAnswer c.args.when c.args.script (seen_at (of_site g.S.Site c.args.site.now) left reads before) (seen_at (of_site g.S.Site c.take_run.new.site) rest now behind))
-    c.from_residual-in_err-held.ensures.1 (has, none)
+    (RunOfScript c.args.when c.args.script (of_site g.S.Site c.args.site.now) (of_site g.S.Site c.take_run.new.site))
+    c.from_residual-in_err-held.ensures.1 none
 
 pub returns-in-Ok-clause-site : goal.returns-in-Ok-clause-site
 returns-in-Ok-clause-site g c =
