@@ -6,7 +6,7 @@ use Rattle.command_answers.specs.declared.answer.Answer.{Answer}
 use Rattle.command_answers.specs.declared.answer.Answer.TheVariants as answer
 use Rattle.command_base.specs.declared.status.Status.{Status}
 use Rattle.command_base.specs.declared.status.Status.TheVariants as status
-use Rattle.command_line.specs.Words.{Asked, Replay, Verify, Restore, Combine, Follow}
+use Rattle.command_line.specs.Words.{Asked, Replay, Verify, Restore, Combine, Follow, Drill}
 use Rattle.command_base.specs.Areas.{output_name}
 use Rattle.command_base.specs.Faults.{refused_line, area_status}
 use Rattle.store_commands.specs.Init.{init_text, init_status}
@@ -17,6 +17,7 @@ use Rattle.chain_commands.specs.Restore.{restore_text, restore_status}
 use Rattle.chain_commands.specs.Combine.{combine_text, combine_status}
 use Rattle.store_commands.specs.Walsummary.{walsummary_text, walsummary_status}
 use Rattle.store_commands.specs.Follow.{follow_text, follow_status}
+use Rattle.drill_command.specs.Telling.{drill_text, drill_status}
 
 -- the area of the output that is asked for
 abbrev pub output_asked : Option Asked → List ℕ
@@ -37,6 +38,11 @@ members_asked (Some (Restore upto out names)) = names
 members_asked (Some (Combine out names)) = names
 members_asked words = []
 
+-- the number of the drill that is asked for
+abbrev pub drill_asked : Option Asked → ℕ
+drill_asked (Some (Drill n)) = n
+drill_asked words = 0
+
 -- the lines of an answer
 abbrev pub text_of : Option Asked → Answer → List ℕ
 text_of words answer.Usage = refused_line (codes "1 Usage")
@@ -49,6 +55,7 @@ text_of words (answer.Restore r) = restore_text (members_asked words) (output_as
 text_of words (answer.Combine r) = combine_text (members_asked words) (backup_asked words) r
 text_of words (answer.Walsummary r) = walsummary_text r
 text_of words (answer.Follow r) = follow_text (output_asked words) r
+text_of words (answer.Drill r) = drill_text (drill_asked words) r
 
 -- the status of an answer
 abbrev pub answer_status : Answer → Status
@@ -62,6 +69,7 @@ answer_status (answer.Restore r) = restore_status r
 answer_status (answer.Combine r) = combine_status r
 answer_status (answer.Walsummary r) = walsummary_status r
 answer_status (answer.Follow r) = follow_status r
+answer_status (answer.Drill r) = drill_status r
 
 -- the status of an answer and of its printing: a sink that fails gives Device whatever else
 -- happened

@@ -4,8 +4,8 @@ ghost use Rattle.std.specs.Prelude.{◌≡◌, IfOk};
 ghost use Rattle.std.specs.Option.{option_map};
 ghost use Rattle.command_line.specs.Words.{asks};
 ghost use Rattle.command_line.specs.Members.{names_in};
-ghost use Rattle.command_answers.specs.Telling.{output_asked, backup_asked, members_asked, text_of};
-ghost use Rattle.command_answers.specs.Telling.{answer_status, status_of};
+ghost use Rattle.command_answers.specs.Telling.{output_asked, backup_asked, members_asked, drill_asked};
+ghost use Rattle.command_answers.specs.Telling.{text_of, answer_status, status_of};
 
 use chain_commands::{
     CombineFault, CombineReport, RestoreFault, VerifyFault, VerifyReport, combine_status,
@@ -13,6 +13,7 @@ use chain_commands::{
 };
 use command_base::{Status, area_status, output_name, refused_line};
 use command_line::{Command, MemberNames};
+use drill_command::{DrillFault, DrillReport, drill_status, drill_text};
 use lsn_core::{AreaFault, Lsn, NoMemory, Text};
 use run_answers::{RunFault, RunReport, run_status, run_text};
 use std::alloc::Global;
@@ -45,6 +46,8 @@ pub enum Answer {
     Walsummary(Result<Summary, WalsummaryFault>),
     /// The stream of a WAL was followed.
     Follow(Result<ReplayReport, FollowFault>),
+    /// A drill was done.
+    Drill(Result<DrillReport, DrillFault>),
 }
 
 /// The area of the output that a command asks for, empty where it asks for none.
@@ -59,7 +62,8 @@ fn output_asked(alloc: Global, command: &Option<Command>) -> Result<Text, NoMemo
             | Command::Run(_)
             | Command::Verify(_)
             | Command::Combine(_, _)
-            | Command::Walsummary(_, _),
+            | Command::Walsummary(_, _)
+            | Command::Drill(_),
         )
         | None => Ok(Text::from_vec(Vec::new(alloc))),
     }
@@ -77,7 +81,8 @@ fn backup_asked(command: &Option<Command>) -> &[u8]
             | Command::Replay(_, _)
             | Command::Restore(_, _, _)
             | Command::Walsummary(_, _)
-            | Command::Follow(_, _),
+            | Command::Follow(_, _)
+            | Command::Drill(_),
         )
         | None => b"",
     }
@@ -95,9 +100,30 @@ fn members_asked(command: &Option<Command>) -> MemberNames<'_>
             | Command::Replay(_, _)
             | Command::Verify(_)
             | Command::Walsummary(_, _)
-            | Command::Follow(_, _),
+            | Command::Follow(_, _)
+            | Command::Drill(_),
         )
         | None => MemberNames { names: &[] },
+    }
+}
+
+/// The number of the drill that a command asks for, 0 where it asks for none.
+fn drill_asked(command: &Option<Command>) -> u32
+    ensures { result ≡ drill_asked (option_map asks command.now) }
+{
+    match command {
+        Some(Command::Drill(n)) => *n,
+        Some(
+            Command::Init(_)
+            | Command::Run(_)
+            | Command::Replay(_, _)
+            | Command::Verify(_)
+            | Command::Restore(_, _, _)
+            | Command::Combine(_, _)
+            | Command::Walsummary(_, _)
+            | Command::Follow(_, _),
+        )
+        | None => 0,
     }
 }
 
@@ -121,6 +147,7 @@ pub fn text_of(alloc: Global, command: &Option<Command>, answer: &Answer) -> Res
         }
         Answer::Walsummary(came) => walsummary_text(alloc, came),
         Answer::Follow(came) => follow_text(alloc, output_asked(alloc, command)?.as_bytes(), came),
+        Answer::Drill(came) => drill_text(alloc, drill_asked(command), came),
     }
 }
 
@@ -138,6 +165,7 @@ fn answer_status(answer: &Answer) -> Status
         Answer::Combine(came) => combine_status(came),
         Answer::Walsummary(came) => walsummary_status(came),
         Answer::Follow(came) => follow_status(came),
+        Answer::Drill(came) => drill_status(came),
     }
 }
 

@@ -58,6 +58,9 @@ abbrev pub follow_app : App
 follow_app = command_with (codes "follow") (option_rule (codes "segment-mib")
     ∷ (option_rule (codes "relseg") ∷ (word_rule (codes "OUT") ∷ [])))
 
+abbrev pub drill_app : App
+drill_app = command_with (codes "drill") (word_rule (codes "N") ∷ [])
+
 -- a subcommand has to be named, and no request for help is taken
 abbrev pub top_app : App
 top_app = on_top (λ s. record s {
@@ -71,7 +74,7 @@ top_app = on_top (λ s. record s {
 abbrev pub app : App
 app = fold (λ a sub. with_subcommand a sub) top_app (init_app.top ∷ (run_app.top
     ∷ (replay_app.top ∷ (verify_app.top ∷ (restore_app.top ∷ (combine_app.top
-    ∷ (walsummary_app.top ∷ (follow_app.top ∷ []))))))))
+    ∷ (walsummary_app.top ∷ (follow_app.top ∷ (drill_app.top ∷ [])))))))))
 
 -- a command of `clap` is the one that is defined
 abbrev pub IsApp : App → Command → Type 0

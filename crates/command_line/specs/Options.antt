@@ -1,4 +1,4 @@
--- The options of `init`, of `run` and of `follow` (profile).
+-- The options of `init`, of `run` and of `follow`, and the number of `drill` (profile).
 use Rattle.std.specs.Prelude.{ℕ, ◌%◌, ◌^◌, ◌≤◌, IfSome, Bool, List, Option, Some, None, nat_le, nat_lt, ◌==◌, ◌&&◌, bytes_eq, if◌then◌else◌}
 use Rattle.std.specs.Option.{option_map}
 use Rattle.std.specs.Fmt.{decimal}
@@ -38,6 +38,10 @@ frames_value text =
 
 abbrev pub IsFrameCount : ℕ → Type 0
 IsFrameCount frames = (4 ≤ frames) × (frames ≤ 16384)
+
+-- the number of a drill, below 2^32
+abbrev pub drill_number : List ℕ → Option ℕ
+drill_number text = decimal_number text >>= λ n. if nat_lt n (2 ^ 32) then Some n else None
 
 -- the value of an option, where it is given; None where it is given and isn't in its range
 abbrev pub given : {A : Type 0} → (List ℕ → Option A) → Option (List ℕ) → Option (Option A)

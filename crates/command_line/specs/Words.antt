@@ -1,6 +1,6 @@
 -- What the words of the command line ask for (profile): they are taken exactly where each is text,
 -- the command of `clap` takes them, and each value is one of its option's or of its word's.
-use Rattle.std.specs.Prelude.{ℕ, ◌+◌, ◌*◌, ◌<◌, ◌≤◌, List, [], length, Option, Some, None, codes, bytes_eq, nat_lt, ◌&&◌, if◌then◌else◌}
+use Rattle.std.specs.Prelude.{ℕ, ◌+◌, ◌*◌, ◌^◌, ◌<◌, ◌≤◌, List, [], length, Option, Some, None, codes, bytes_eq, nat_lt, ◌&&◌, if◌then◌else◌}
 use Rattle.std.specs.List.{list_all}
 use Rattle.std.specs.Option.{unwrap_or}
 use Rattle.std.specs.Str.{is_utf8}
@@ -17,13 +17,14 @@ use Rattle.command_line.specs.declared.options.InitOptions.{InitOptions}
 use Rattle.command_line.specs.declared.words.Command.{Command}
 use Rattle.command_line.specs.declared.words.Command.TheVariants as command
 use Rattle.command_line.specs.Members.{are_members}
-use Rattle.command_line.specs.Options.{segment_value, relseg_value, decimal_number, frames_value, given, IsFrameCount, IsInRange}
+use Rattle.command_line.specs.Options.{segment_value, relseg_value, decimal_number, frames_value, drill_number, given, IsFrameCount, IsInRange}
 
 -- a new store, a script to be run with so many frames of each partition, a replay to an output of
 -- that name, up to a target where one is given, the check of the backup of a name, the chain of the
 -- backups of some names restored to an output of a name, up to a target where one is given, such a
--- chain combined to a backup of a name, the summary of a range of the WAL, or the stream of a WAL
--- with segments of so many MiB followed to an output of a name, so many blocks of a fork in each file
+-- chain combined to a backup of a name, the summary of a range of the WAL, the stream of a WAL with
+-- segments of so many MiB followed to an output of a name, so many blocks of a fork in each file, or
+-- the drill of a number
 pub data Asked : Type 0 where
   Init : InitOptions → Asked
   Run : ℕ → Asked
@@ -33,6 +34,7 @@ pub data Asked : Type 0 where
   Combine : List ℕ → List (List ℕ) → Asked
   Walsummary : Lsn → Lsn → Asked
   Follow : ℕ → ℕ → List ℕ → Asked
+  Drill : ℕ → Asked
 
 -- the word of an argument that has to be there
 abbrev pub word_of : Text → List Row → Text
@@ -123,6 +125,11 @@ follow_asked rows = do
   relseg ← given relseg_value (first_of (codes "relseg") rows)
   follow_to segment relseg (word_of (codes "OUT") rows)
 
+abbrev pub drill_asked : List Row → Option Asked
+drill_asked rows = do
+  n ← drill_number (word_of (codes "N") rows)
+  Some (Drill n)
+
 -- what the subcommand of this name asks
 abbrev pub asked_by : Text → List Row → Option Asked
 asked_by name rows =
@@ -133,7 +140,8 @@ asked_by name rows =
     else (if bytes_eq name (codes "restore") then restore_asked rows
     else (if bytes_eq name (codes "combine") then combine_asked rows
     else (if bytes_eq name (codes "walsummary") then walsummary_asked rows
-    else (if bytes_eq name (codes "follow") then follow_asked rows else None)))))))
+    else (if bytes_eq name (codes "follow") then follow_asked rows
+    else (if bytes_eq name (codes "drill") then drill_asked rows else None))))))))
 
 -- what words that are text ask
 abbrev pub texts_ask : List Text → Option Asked
@@ -156,6 +164,7 @@ asks (command.Restore upto out members) = Restore upto out members.items
 asks (command.Combine out members) = Combine out members.items
 asks (command.Walsummary from to) = Walsummary from to
 asks (command.Follow sizes name) = Follow sizes.segment sizes.relseg name
+asks (command.Drill n) = Drill n
 
 -- the options of a command are in their ranges, a range has a place, and a chain a member
 abbrev pub HasRange : Command → Type 0
@@ -167,3 +176,4 @@ HasRange (command.Restore upto out members) = 1 ≤ length members.items
 HasRange (command.Combine out members) = 1 ≤ length members.items
 HasRange (command.Walsummary from to) = from.0 < to.0
 HasRange (command.Follow sizes name) = IsSegmentMib sizes.segment × IsRelseg sizes.relseg
+HasRange (command.Drill n) = n < 2 ^ 32

@@ -5,7 +5,8 @@ ghost use Rattle.clap.specs.Walk.{rule_of};
 ghost use Rattle.clap.specs.Simple.{subcommand_of, subcommand_rows_of};
 ghost use Rattle.command_line.specs.App.{option_rule, word_rule, words_rule, IsApp};
 ghost use Rattle.command_line.specs.App.{init_app, run_app, replay_app, verify_app, restore_app};
-ghost use Rattle.command_line.specs.App.{combine_app, walsummary_app, follow_app, top_app, app, is_taken};
+ghost use Rattle.command_line.specs.App.{combine_app, walsummary_app, follow_app, drill_app};
+ghost use Rattle.command_line.specs.App.{top_app, app, is_taken};
 
 use clap::error::ErrorKind;
 use clap::{Arg, ArgMatches, Command};
@@ -99,6 +100,12 @@ fn follow_command<'a>(alloc: Global) -> Result<Command<'a>, AllocError>
         .arg(word(alloc, "OUT"))
 }
 
+fn drill_command<'a>(alloc: Global) -> Result<Command<'a>, AllocError>
+    ensures { IfOk result (IsApp drill_app) }
+{
+    Command::new(alloc, "drill").arg(word(alloc, "N"))
+}
+
 /// A subcommand has to be named, and no request for help is taken.
 fn top_command<'a>(alloc: Global) -> Command<'a>
     ensures { IsApp top_app result }
@@ -122,7 +129,8 @@ fn whole_command<'a>(alloc: Global) -> Result<Command<'a>, AllocError>
         .subcommand(restore_command(alloc)?)?
         .subcommand(combine_command(alloc)?)?
         .subcommand(walsummary_command(alloc)?)?
-        .subcommand(follow_command(alloc)?)
+        .subcommand(follow_command(alloc)?)?
+        .subcommand(drill_command(alloc)?)
 }
 
 /// What the command finds in the words. None exactly where it doesn't take them.

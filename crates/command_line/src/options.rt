@@ -3,7 +3,8 @@
 ghost use Rattle.std.specs.Prelude.{◌≡◌, ◌≤◌, IfSome};
 ghost use Rattle.std.specs.Option.{option_map};
 ghost use Rattle.lsn_core.specs.Segment.{IsSegmentMib, IsRelseg};
-ghost use Rattle.command_line.specs.Options.{decimal_number, segment_value, relseg_value, frames_value, given, IsFrameCount};
+ghost use Rattle.command_line.specs.Options.{decimal_number, segment_value, relseg_value, frames_value};
+ghost use Rattle.command_line.specs.Options.{drill_number, given, IsFrameCount};
 ghost use Rattle.command_line.specs.Words.{lsn_value};
 
 use lsn_core::{Lsn, MOST_RELSEG, SegSize, lsn_read};
@@ -67,6 +68,18 @@ fn frames_in(value: &[u8]) -> Option<u32>
     let frames = number_in(value)?;
     if 4 <= frames && frames <= 16384 {
         Some(frames as u32)
+    } else {
+        None
+    }
+}
+
+/// The number of a drill.
+pub(crate) fn drill_number_in(value: &[u8]) -> Option<u32>
+    ensures { result ≡ drill_number value.now }
+{
+    let number = number_in(value)?;
+    if number <= u64::from(u32::MAX) {
+        Some(number as u32)
     } else {
         None
     }

@@ -9,15 +9,15 @@ ghost use Rattle.clap.specs.Matches.{found_of};
 ghost use Rattle.lsn_core.specs.Segment.{IsSegmentMib, IsRelseg};
 ghost use Rattle.command_line.specs.Words.{init_asked, run_asked, replay_to, replay_asked, verify_name, verify_asked};
 ghost use Rattle.command_line.specs.Words.{restore_to, restore_asked, combine_to, combine_asked};
-ghost use Rattle.command_line.specs.Words.{walsummary_asked, follow_to, follow_asked};
+ghost use Rattle.command_line.specs.Words.{walsummary_asked, follow_to, follow_asked, drill_asked};
 ghost use Rattle.command_line.specs.Words.{asked_by, texts_ask, asked, asks, HasRange};
 
 use crate::app::taken;
 use crate::found::{option_in, word_in, words_in};
 use crate::members::are_members;
 use crate::options::{
-    FollowSizes, InitOptions, frames_given, lsn_given, lsn_in, number_given, relseg_given,
-    segment_given,
+    FollowSizes, InitOptions, drill_number_in, frames_given, lsn_given, lsn_in, number_given,
+    relseg_given, segment_given,
 };
 use clap::ArgMatches;
 use lsn_core::{Lsn, MOST_RELSEG, NoMemory, SegSize, Text};
@@ -50,6 +50,9 @@ pub enum Command {
     Walsummary(Lsn, Lsn),
     /// The WAL whose stream the input is, replayed by these sizes to an output of this name.
     Follow(FollowSizes, Text),
+    /// The drill of this number: a new store with a script made from it, a chain of backups, and
+    /// their restore.
+    Drill(u32),
 }
 
 fn init_of(found: &ArgMatches<'_>) -> Option<Command>
@@ -204,6 +207,14 @@ fn follow_of(alloc: Global, found: &ArgMatches<'_>) -> Result<Option<Command>, N
     }
 }
 
+fn drill_of(found: &ArgMatches<'_>) -> Option<Command>
+    ensures asked { option_map asks result ≡ drill_asked (rows_of (found_of found.now)) }
+    ensures range { IfSome result HasRange }
+{
+    let n = drill_number_in(word_in(found, "N").as_bytes())?;
+    Some(Command::Drill(n))
+}
+
 /// What the subcommand of this name asks.
 fn asked_by(alloc: Global, name: &str, found: &ArgMatches<'_>) -> Result<Option<Command>, NoMemory>
     ensures asked { IfOk result (λ command.
@@ -233,6 +244,9 @@ fn asked_by(alloc: Global, name: &str, found: &ArgMatches<'_>) -> Result<Option<
     }
     if name == "follow" {
         return follow_of(alloc, found);
+    }
+    if name == "drill" {
+        return Ok(drill_of(found));
     }
     Ok(None)
 }

@@ -9,8 +9,9 @@ use crate::usage::usage_of;
 use crate::wal::{early_note, wal_note};
 use chain_commands::{CombineFault, MembersFault, RestoreFault, VerifyFault};
 use command_answers::Answer;
-use command_base::{backup_name, output_name};
+use command_base::{backup_name, names_of, output_name};
 use command_line::{Command as Words, command_of};
+use drill_command::{DrillFault, Unclear};
 use lsn_core::{AreaFault, Lsn, NoMemory, Text};
 use run_answers::{Answer as LineAnswer, RunFault, RunReport, Stop};
 use scripts::Command;
@@ -34,13 +35,15 @@ pub fn note_of(alloc: Global, words: &[Text], answer: &Answer) -> Result<Text, N
         Answer::Combine(Err(fault)) => combine_note(alloc, names_in(alloc, words)?, fault),
         Answer::Walsummary(Err(fault)) => walsummary_note(alloc, fault),
         Answer::Follow(Err(fault)) => follow_note(alloc, name_in(alloc, words)?.as_bytes(), fault),
+        Answer::Drill(Err(fault)) => drill_note(alloc, fault),
         Answer::Init(Ok(_))
         | Answer::Replay(Ok(_))
         | Answer::Verify(Ok(_))
         | Answer::Restore(Ok(_))
         | Answer::Combine(Ok(_))
         | Answer::Walsummary(Ok(_))
-        | Answer::Follow(Ok(_)) => Ok(Text::from_vec(Vec::new(alloc))),
+        | Answer::Follow(Ok(_))
+        | Answer::Drill(Ok(_)) => Ok(Text::from_vec(Vec::new(alloc))),
     }
 }
 
@@ -56,6 +59,40 @@ fn init_note(alloc: Global, fault: &InitFault) -> Result<Text, NoMemory> {
         InitFault::Wal(why) => area_note(alloc, b"wal", *why),
         InitFault::Sums(why) => area_note(alloc, b"sums", *why),
     }
+}
+
+/// The areas that a drill needs empty aren't.
+fn unclear_note(alloc: Global, why: &Unclear) -> Result<Text, NoMemory> {
+    match why {
+        Unclear::NoMemory => memory_note(alloc),
+        Unclear::Unread(area, why) => area_note(alloc, area.as_bytes(), *why),
+        Unclear::Full(area) if area.as_bytes() == b"wal".as_slice() => {
+            init_note(alloc, &InitFault::AlreadyInit)
+        }
+        Unclear::Full(area) => not_empty_note(alloc, area.as_bytes()),
+    }
+}
+
+/// A drill was refused: as the part that was.
+fn drill_note(alloc: Global, fault: &DrillFault) -> Result<Text, NoMemory> {
+    match fault {
+        DrillFault::NoMemory => memory_note(alloc),
+        DrillFault::Area(why) => unclear_note(alloc, why),
+        DrillFault::Init(Err(fault)) => init_note(alloc, fault),
+        DrillFault::Run(Err(fault)) => run_note(alloc, fault),
+        DrillFault::Run(Ok(report)) => ending_note(alloc, report),
+        DrillFault::Restore(Err(fault)) => unrestored_note(alloc, fault),
+        DrillFault::Read(why) => area_note(alloc, b"o/drill", *why),
+        DrillFault::Init(Ok(_)) | DrillFault::Restore(Ok(_)) => {
+            Ok(Text::from_vec(Vec::new(alloc)))
+        }
+    }
+}
+
+/// The chain of a drill isn't restored.
+fn unrestored_note(alloc: Global, fault: &RestoreFault) -> Result<Text, NoMemory> {
+    let members = names_of(alloc, &[b"drill_0", b"drill_1", b"drill_2"])?;
+    restore_note(alloc, (Text::copied(alloc, b"drill")?, members), fault)
 }
 
 fn run_note(alloc: Global, fault: &RunFault) -> Result<Text, NoMemory> {

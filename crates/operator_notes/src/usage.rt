@@ -69,9 +69,16 @@ const FOLLOW: &[u8] = b"usage: pgbackup follow [--segment-mib M] [--relseg N] OU
   OUT: 1 to 32 of a to z, 0 to 9 and _
 ";
 
+const DRILL: &[u8] = b"usage: pgbackup drill N
+  makes a new store of segments of 1 MiB below the working directory, where nothing of one may be;
+  runs a script on it that is drawn from N, with four writers, one that flushes, and one that takes a
+  chain of three backups meanwhile; and restores that chain to o/drill
+  N: below 2^32
+";
+
 const HELP: &[u8] = b"usage: pgbackup help [COMMAND]
   prints how a command is used, or all of them: init, run, replay, verify, restore,
-  combine, walsummary, follow
+  combine, walsummary, follow, drill
 usage: pgbackup --version
   prints the program's name and version
 ";
@@ -104,6 +111,9 @@ fn command_usage(name: &[u8]) -> Option<&'static [u8]> {
     }
     if name == b"follow".as_slice() {
         return Some(FOLLOW);
+    }
+    if name == b"drill".as_slice() {
+        return Some(DRILL);
     }
     None
 }
@@ -144,6 +154,7 @@ fn all_usages(alloc: Global, before: &[&[u8]]) -> Result<Text, NoMemory> {
             COMBINE,
             WALSUMMARY,
             FOLLOW,
+            DRILL,
             HELP,
         ],
     )

@@ -265,11 +265,11 @@ read_or_unreplayed old new other files f g told first second own also =
 one_done : (old new other : Outside) (files : Files) (whole : List ℕ) (when then : ℕ) (script again : List Task) (a : RunReport) (f : RunFault) → (old.areas wal_name).files ≡ Some files → old.left ≡ Some whole → RunAnswer when script old new (Ok a) → RunAnswer then again old other (Err f)
     → IsOfOutside f → ⊥
 one_done old new other files whole when then script again a (run.Input why) told input first second own = own
-one_done old new other files whole when then script again a (run.Script n why) told input first second own = taken_or_refused old.left new.left other.left whole script n why input first.1 second.1
+one_done old new other files whole when then script again a (run.Script n why) told input first second own = taken_or_refused old.left new.left other.left whole script n why input first.0 second.1
 one_done old new other files whole when then script again a run.NoMemory told input first second own = own
 one_done old new other files whole when then script again a (run.Site fault) told input first second own = own
-one_done old new other files whole when then script again a (run.Begin (begin.Wal why)) told input first second own = done_or_refused old new other files when a why told first.2 second.1.1.1 own
-one_done old new other files whole when then script again a (run.Begin (begin.Replay why)) told input first second own = done_or_refused old new other files when a why told first.2 second.1.1.1.1 own
+one_done old new other files whole when then script again a (run.Begin (begin.Wal why)) told input first second own = done_or_refused old new other files when a why told first.1.1 second.1.1.1 own
+one_done old new other files whole when then script again a (run.Begin (begin.Replay why)) told input first second own = done_or_refused old new other files when a why told first.1.1 second.1.1.1.1 own
 one_done old new other files whole when then script again a (run.Begin (begin.Data why)) told input first second own = own
 
 -- two runs that were refused
@@ -308,8 +308,8 @@ both_refused old new other files whole when then script again (run.Begin (begin.
 
 begin_alike : (old new other : Outside) (files : Files) (whole : List ℕ) (when then : ℕ) (script again : List Task) (a b : RunResult) → (old.areas wal_name).files ≡ Some files → old.left ≡ Some whole → RunAnswer when script old new a → RunAnswer then again old other b → BeginAlike a b
 begin_alike old new other files whole when then script again (Ok a) (Ok b) told input first second = (
-  begun_alike (old.areas wal_name) files old new other when then a b refl told first.2 second.2,
-  first.0 ∙ (same_script old.left new.left other.left whole script again input first.1 second.1 ∙ sym second.0),
+  begun_alike (old.areas wal_name) files old new other when then a b refl told first.1.1 second.1.1,
+  first.1.0 ∙ (same_script old.left new.left other.left whole script again input first.0 second.0 ∙ sym second.1.0),
 )
 begin_alike old new other files whole when then script again (Ok a) (Err g) told input first second = one_done old new other files whole when then script again a g told input first second
 begin_alike old new other files whole when then script again (Err f) (Ok b) told input first second = one_done old other new files whole then when again script b f told input second first

@@ -6,7 +6,7 @@ use Rattle.command_answers.specs.declared.answer.Answer.{Answer}
 use Rattle.command_answers.specs.declared.answer.Answer.TheVariants as answer
 use Rattle.command_base.specs.declared.status.Status.{Status}
 use Rattle.command_line.specs.declared.options.InitOptions.{InitOptions}
-use Rattle.command_line.specs.Words.{Asked, Init, Run, Replay, Verify, Restore, Combine, Walsummary, Follow, asked}
+use Rattle.command_line.specs.Words.{Asked, Init, Run, Replay, Verify, Restore, Combine, Walsummary, Follow, Drill, asked}
 use Rattle.command_base.specs.Outside.{Outside, LeavesSite, Prints}
 use Rattle.store_commands.specs.Init.{InitResult, InitDoes}
 use Rattle.command_answers.specs.Telling.{text_of, status_of}
@@ -18,6 +18,7 @@ use Rattle.chain_commands.specs.Restore.{RestoreResult, RestoreDoes}
 use Rattle.chain_commands.specs.Combine.{CombineResult, CombineDoes}
 use Rattle.store_commands.specs.Walsummary.{WalsummaryResult, WalsummaryDoes}
 use Rattle.store_commands.specs.Follow.{FollowResult, FollowDoes}
+use Rattle.drill_command.specs.Drill.{DrillResult, DrillDoes}
 
 -- what was asked was done, and this is the answer
 abbrev pub DoesAsked : Option Asked → Outside → Outside → Answer → Type 0
@@ -38,6 +39,8 @@ DoesAsked (Some (Walsummary from to)) old new came =
     (r : WalsummaryResult) × (came ≡ answer.Walsummary r) × WalsummaryDoes from to old new r
 DoesAsked (Some (Follow mib relseg name)) old new came =
     (r : FollowResult) × (came ≡ answer.Follow r) × FollowDoes mib relseg name old new r
+DoesAsked (Some (Drill n)) old new came =
+    (r : DrillResult) × (came ≡ answer.Drill r) × DrillDoes n old new r
 
 -- it was done, or memory ran out while the words were read, and nothing was done
 abbrev pub Came : Option Asked → Outside → Outside → Answer → Type 0
@@ -50,11 +53,12 @@ ReadsInput words =
     ((frames : ℕ) × (words ≡ Some (Run frames)))
     ⊎ ((mib relseg : ℕ) × (name : List ℕ) × (words ≡ Some (Follow mib relseg name)))
 
--- `run` and `combine` read the clock, and `init`, where no system identifier is given
+-- `run`, `combine` and `drill` read the clock, and `init`, where no system identifier is given
 abbrev pub ReadsClock : Option Asked → Type 0
 ReadsClock words =
     ((frames : ℕ) × (words ≡ Some (Run frames)))
     ⊎ ((out : List ℕ) × (names : List (List ℕ)) × (words ≡ Some (Combine out names)))
+    ⊎ ((n : ℕ) × (words ≡ Some (Drill n)))
     ⊎ ((options : InitOptions) × (words ≡ Some (Init options)) × (options.system ≡ None))
 
 -- a run of the program on words that ask this, which comes to this answer, and ends so

@@ -13,6 +13,7 @@ use chain_commands::{combine, restore, verify};
 use command_answers::{Answer, exit_status, text_of};
 use command_base::Status;
 use command_line::{Command, MemberNames, command_of};
+use drill_command::drill;
 use lsn_core::{AreaFault, Text};
 use run_command::run;
 use std::alloc::Global;
@@ -57,6 +58,7 @@ fn done<S: Site, I: Source, C: Clock>(
         Command::Follow(sizes, name) => {
             Answer::Follow(follow(alloc, *sizes, name.as_bytes(), site, input))
         }
+        Command::Drill(n) => Answer::Drill(drill(rt, alloc, *n, site, clock)),
     }
 }
 
@@ -158,8 +160,8 @@ pub fn answered<S: Site, I: Source, O: Sink, C: Clock>(
 
 /// All that the program does: it takes the words of the command line, does what they ask over the
 /// areas of the site, prints its lines and answers the exit status. Every area is given back. Only
-/// `run` and `follow` read the input, and only `run`, `combine` and `init` the clock, the last where
-/// no system identifier is given.
+/// `run` and `follow` read the input, and only `run`, `combine`, `drill` and `init` the clock, the
+/// last where no system identifier is given.
 pub fn pgbackup<S: Site, I: Source, O: Sink, C: Clock>(
     rt: &(impl Threads + Wait + Sync),
     alloc: Global,

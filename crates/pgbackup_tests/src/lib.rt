@@ -1,5 +1,5 @@
 //! The tests of the program, through public calls alone: of runs with one worker and with several,
-//! of full backups and of chains, and of what it tells on standard error. A crate with tests is
+//! of full backups, of chains and of drills, and of what it tells on standard error. A crate with tests is
 //! proved twice, so they stand in a crate of their own; those of the crates below stand in
 //! `base_tests`, `script_tests`, `restart_tests`, `store_tests` and `backup_tests`. Further ones,
 //! of all commands, of devices that fail, and of what happens while a backup is taken, stand in
@@ -23,6 +23,8 @@ mod changes;
 mod checkpoint_tests;
 #[cfg(test)]
 mod combine_tests;
+#[cfg(test)]
+mod drill_tests;
 #[cfg(test)]
 mod full_tests;
 #[cfg(test)]

@@ -1,4 +1,4 @@
-//! The words of `follow` that aren't taken.
+//! Words of `follow` and of `drill` that aren't taken.
 
 use crate::calls::{Call, make_calls};
 use pgbackup_cli::Status;
@@ -7,7 +7,7 @@ use vault::MemSite;
 
 const USAGE: &str = "refused 1 Usage\n";
 
-static UNTAKEN: [Call; 8] = [
+static UNTAKEN: [Call; 15] = [
     ("follow", "", Status::Usage, USAGE),
     ("follow P", "", Status::Usage, USAGE),
     ("follow p q", "", Status::Usage, USAGE),
@@ -16,6 +16,13 @@ static UNTAKEN: [Call; 8] = [
     ("follow --relseg 1 --relseg 2 p", "", Status::Usage, USAGE),
     ("follow --relseg 1 p --relseg 2", "", Status::Usage, USAGE),
     ("follow p --segment-mib", "", Status::Usage, USAGE),
+    ("drill", "", Status::Usage, USAGE),
+    ("drill 01", "", Status::Usage, USAGE),
+    ("drill -1", "", Status::Usage, USAGE),
+    ("drill 4294967296", "", Status::Usage, USAGE),
+    ("drill 1 2", "", Status::Usage, USAGE),
+    ("drill --frames 4 1", "", Status::Usage, USAGE),
+    ("drill x", "", Status::Usage, USAGE),
 ];
 
 #[test]

@@ -1,7 +1,7 @@
 -- One subcommand after the other.
 use Rattle.std.proofs.lemmas.Result.{IfOk-weaker}
 use Rattle.clap.specs.Simple.{App, with_subcommand}
-use Rattle.command_line.specs.App.{top_app, init_app, run_app, replay_app, verify_app, restore_app, combine_app, walsummary_app, follow_app}
+use Rattle.command_line.specs.App.{top_app, init_app, run_app, replay_app, verify_app, restore_app, combine_app, walsummary_app, follow_app, drill_app}
 use Rattle.command_line.proofs.AppLemmas.{with_sub}
 use Rattle.command_line.proofs.app.whole_command.Goals as goal
 
@@ -26,6 +26,9 @@ six = with_subcommand five combine_app.top
 abbrev seven : App
 seven = with_subcommand six walsummary_app.top
 
+abbrev eight : App
+eight = with_subcommand seven follow_app.top
+
 pub returns : goal.returns
 returns c =
     let is_one = with_sub _ _ _ top_app init_app c.top_command.ensures c.in_ok-init_command.ensures c.in_ok-subcommand.ensures in
@@ -35,4 +38,5 @@ returns c =
     let is_five = with_sub _ _ _ four restore_app is_four c.in_ok-restore_command.ensures c.in_ok-subcommand-5.ensures in
     let is_six = with_sub _ _ _ five combine_app is_five c.in_ok-combine_command.ensures c.in_ok-subcommand-6.ensures in
     let is_seven = with_sub _ _ _ six walsummary_app is_six c.in_ok-walsummary_command.ensures c.in_ok-subcommand-7.ensures in
-    IfOk-weaker c.subcommand-8.result _ _ (λ r h. with_sub _ _ _ seven follow_app is_seven c.in_ok-follow_command.ensures h) c.subcommand-8.ensures
+    let is_eight = with_sub _ _ _ seven follow_app is_seven c.in_ok-follow_command.ensures c.in_ok-subcommand-8.ensures in
+    IfOk-weaker c.subcommand-9.result _ _ (λ r h. with_sub _ _ _ eight drill_app is_eight c.in_ok-drill_command.ensures h) c.subcommand-9.ensures
