@@ -4,9 +4,8 @@ use Rattle.lsn_core.specs.Files.{Files}
 use Rattle.std.specs.Prelude.{Ok, Err}
 use Rattle.lsn_core.specs.declared.lsn.Lsn.{Lsn}
 use Rattle.command_base.specs.Outside.{Outside}
-use Rattle.backup_label.specs.Label.{HasNoLineEnd}
 use Rattle.command_base.specs.Areas.{backup_name, AreaIsDurable}
-use Rattle.run_command.specs.Run.{AreTold, RunDone}
+use Rattle.run_command.specs.Run.{AreTold}
 use Rattle.chain_check.specs.Laws.{DirectoriesAreOneMember, ListedIsNotRefused}
 use Rattle.chain_check.specs.Refusals.{HasRefusal}
 use Rattle.command_base.proofs.Told.{at_told}
@@ -20,20 +19,13 @@ use Rattle.backup_laws.specs.Finished.{AnsweredBackupsAreListed, AnsweredBackups
 use Rattle.backup_laws.proofs.ChainRuns.{full_of_run, incr_of_run}
 use Rattle.backup_laws.proofs.ListedFiles.{finished_listed}
 use Rattle.backup_laws.proofs.ListedIncrements.{KnownOfHeads, increment_listed}
-use Rattle.backup_laws.proofs.ScriptNames.{answered_name}
 
 pub answered_listed : KnownOfHeads → AnsweredBackupsAreListed
-answered_listed known before left report does name start end tells answered = by answered
+answered_listed known when before left report done name start end tells line answered = by answered
   where
-    done : RunDone does.0 before.areas left.areas report
-    done = does.6.2
-
-    line : HasNoLineEnd name
-    line = answered_name before.left left.left report.told does.1 name start end does.6.0 does.6.1 answered
-
-    by : IsBackedUp report.told name start end ⊎ IsIncremented report.told name start end → (files : Files) × ((left.areas (backup_name name)).files ≡ Some files) × IsListedBackup name start end files × AreaIsDurable (left.areas (backup_name name))
+    by : IsBackedUp report.told name start end ⊎ IsIncremented report.told name start end → (files : Files) × ((left (backup_name name)).files ≡ Some files) × IsListedBackup name start end files × AreaIsDurable (left (backup_name name))
     by (inl taken) =
-        let is = full_of_run does.0 before.areas left.areas report done name start end taken tells in
+        let is = full_of_run when before left report done name start end taken tells in
         let b = is.backup in (
           is.files,
           is.told,
@@ -42,12 +34,12 @@ answered_listed known before left report does name start end tells answered = by
             named = refl;
             starts = refl;
             ends = refl;
-            listed = finished_listed done.settings name does.0 is.copy start is.checkpoint end is.count is.files b done.given.blocks.least line;
+            listed = finished_listed done.settings name when is.copy start is.checkpoint end is.count is.files b done.given.blocks.least line;
           },
           is.durable,
         )
     by (inr taken) =
-        let is = incr_of_run does.0 before.areas left.areas report done name start end taken tells in
+        let is = incr_of_run when before left report done name start end taken tells in
         let b = is.backup in (
           is.files,
           is.told,
@@ -56,7 +48,7 @@ answered_listed known before left report does name start end tells answered = by
             named = refl;
             starts = refl;
             ends = refl;
-            listed = increment_listed known (AreTold before.areas) done.settings name does.0 is.history start is.checkpoint is.prior end is.count is.files b done.given.blocks line;
+            listed = increment_listed known (AreTold before) done.settings name when is.history start is.checkpoint is.prior end is.count is.files b done.given.blocks line;
           },
           is.durable,
         )
@@ -81,6 +73,6 @@ verified known name start end files old new (Err (verify.Directory refusal)) is 
     known.listed files is.member refusal.fault of_files is.listed (at_told (old.areas (backup_name name)).files files (λ m. HasRefusal m refusal) told does.1.refused).0
 
 pub answered_verified : KnownOfHeads → KnownOfDirectories → AnsweredBackupsAreVerified
-answered_verified heads known before left old new report does name start end r tells answered same does_verify =
-    let is = answered_listed heads before left report does name start end tells answered in
+answered_verified heads known when before left old new report done name start end r tells line answered same does_verify =
+    let is = answered_listed heads when before left report done name start end tells line answered in
     verified known name start end is.0 old new r is.2 (same ∙ is.1) does_verify

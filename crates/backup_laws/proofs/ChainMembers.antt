@@ -42,14 +42,14 @@ first_listed (m ∷ older) newest [] listed = absurd listed
 first_listed older newest (f ∷ fs) listed = (f, fs, refl)
 
 -- the first of those that are told, and the others
-record IsSplit (first : Option Files) (rest : List (Option Files)) (chain : List Files) : Type 0 where
-  file : Files
-  files : List Files
-  is : first ≡ Some file
-  told : all_told rest ≡ Some files
-  all : chain ≡ file ∷ files
+pub record IsSplit (first : Option Files) (rest : List (Option Files)) (chain : List Files) : Type 0 where
+  pub file : Files
+  pub files : List Files
+  pub is : first ≡ Some file
+  pub told : all_told rest ≡ Some files
+  pub all : chain ≡ file ∷ files
 
-split_told : (first : Option Files) (rest : List (Option Files)) (chain : List Files) → all_told (first ∷ rest) ≡ Some chain → IsSplit first rest chain
+pub split_told : (first : Option Files) (rest : List (Option Files)) (chain : List Files) → all_told (first ∷ rest) ≡ Some chain → IsSplit first rest chain
 split_told None rest chain e = absurd cc
 split_told (Some f) rest chain e = by (all_told rest) refl e
   where

@@ -12,6 +12,7 @@ use Rattle.history.specs.Entry.{Entry}
 use Rattle.history.specs.Whole.{entry_of}
 use Rattle.history.specs.Written.{wal_of, tip_of}
 use Rattle.journal.specs.Lawful.{IsLawful}
+use Rattle.chain_check.specs.Chain.{IsAccepted}
 use Rattle.chain_check.specs.Directory.{IsAsListed}
 use Rattle.chain_check.specs.declared.member.Member.{Member}
 use Rattle.chain_laws.specs.Chain.{IsSoundChain}
@@ -22,7 +23,7 @@ use Rattle.backup_laws.specs.Runs.{IsBackedUp}
 use Rattle.backup_laws.specs.Chains.{IsIncremented, IsSoundFull, IsSoundIncrement}
 use Rattle.backup_laws.specs.Finished.{full_member}
 use Rattle.backup_laws.specs.Restores.{HasRun, PastRun}
-use Rattle.backup_laws.specs.ChainRestores.{RanOn, RanInTurn, IsTakenBy, IsTakenByOne, IsCompletedBackup, CompletedChainsAreReplays}
+use Rattle.backup_laws.specs.ChainRestores.{RanOn, RanInTurn, Combining, IsTakenBy, IsTakenByOne, IsCompletedBackup, CompletedChainsAreReplays}
 use Rattle.backup_laws.proofs.Members.{Known, some_is}
 use Rattle.backup_laws.proofs.ChainMembers.{AllListed, first_listed, members_listed, TellsIncrement, incr_told}
 use Rattle.backup_laws.proofs.ChainRuns.{KnownOfChains, fulls_sound, incrs_extend, runs_keep, backups_begin}
@@ -31,7 +32,6 @@ use Rattle.backup_laws.proofs.CompletedChains.{completed_so_far}
 use Rattle.backup_laws.proofs.ListedFiles.{finished_listed}
 use Rattle.backup_laws.proofs.OwnPlaces.{own_place, ends_later}
 use Rattle.backup_laws.proofs.RestoredRuns.{same_told, chain_restored}
-use Rattle.backup_laws.proofs.ScriptNames.{answered_name}
 use Rattle.backup_laws.proofs.WalsLeft.{grown, IsWalOf, entries_both, run_leaves, first_leaves}
 use Rattle.backup_laws.proofs.SoundSoFar.{IsAlong, IsSoundFirst, IsSoundOwn, IsSoundSoFar, ExtendsSound, last_places, sound_on, along_to, both_so_far}
 
@@ -43,10 +43,10 @@ renamed files m name l = record { manifest = l.manifest; rows = l.rows; label_ro
 
 module _ (known : Known) (chains : KnownOfChains) (combining : KnownOfCombining) (run : PastRun) (on : RanOn run) where
   abbrev when : ℕ
-  when = on.ran.does.0
+  when = on.ran.when
 
   abbrev done : RunDone when run.before.areas run.left.areas run.report
-  done = on.ran.does.6.2
+  done = on.ran.done
 
   abbrev s : StoreSettings
   s = done.settings
@@ -101,20 +101,16 @@ module _ (known : Known) (chains : KnownOfChains) (combining : KnownOfCombining)
         },
       )
 
-  -- the name of each is one line
-  name_line : {f : Files} (is : IsTakenBy run f) → HasNoLineEnd is.name
-  name_line is = answered_name run.before.left run.left.left run.report.told on.ran.does.1 is.name is.start is.end on.ran.does.6.0 on.ran.does.6.1 is.answered
-
   kind_of : (f : Files) (m : Member) (is : IsTakenBy run f) → IsAsListed f m → IsBackedUp run.report.told is.name is.start is.end ⊎ IsIncremented run.report.told is.name is.start is.end → (m.label.start ≡ is.start) × (IsSoundFirst s.relseg h f m ⊎ ExtendsSound s.relseg h f m)
   kind_of f m is listed (inl taken) =
       let stands = fulls_sound chains when run.before.areas run.left.areas run.report done is.name is.start is.end taken on.tells in
       let same : stands.0 ≡ f = some_is stands.0 f (sym stands.1 ∙ is.left) in
-      let own = full_own is.name is.start is.end f m (name_line is) listed (subst (IsSoundFull s when h is.name is.start is.end) same stands.2) in
+      let own = full_own is.name is.start is.end f m is.line listed (subst (IsSoundFull s when h is.name is.start is.end) same stands.2) in
       (own.0, inl own.1)
   kind_of f m is listed (inr taken) =
       let stands = incrs_extend chains when run.before.areas run.left.areas run.report done is.name is.start is.end taken on.tells on.finds in
       let same : stands.2 ≡ f = some_is stands.2 f (sym stands.3 ∙ is.left) in
-      let own = incr_own is.name is.start is.end stands.0 f m (name_line is) listed (subst (λ (g : Files). IsSoundIncrement s when h is.name is.start is.end stands.0 g) same stands.4) in
+      let own = incr_own is.name is.start is.end stands.0 f m is.line listed (subst (λ (g : Files). IsSoundIncrement s when h is.name is.start is.end stands.0 g) same stands.4) in
       (own.0, inr own.1)
 
   own_of : (f : Files) (m : Member) → IsTakenBy run f → IsAsListed f m → IsOwn f m
@@ -149,8 +145,8 @@ record HaveTakenSound (run : PastRun) (earlier : List PastRun) : Type 0 where
 module _ (known : Known) (chains : KnownOfChains) (combining : KnownOfCombining) where
   taken_sound : (run : PastRun) (earlier : List PastRun) → RanInTurn run earlier → HaveTakenSound run earlier
   taken_sound run [] on =
-      let when : ℕ = on.ran.does.0 in
-      let d : RunDone when run.before.areas run.left.areas run.report = on.ran.does.6.2 in
+      let when : ℕ = on.ran.when in
+      let d : RunDone when run.before.areas run.left.areas run.report = on.ran.done in
       let s : StoreSettings = d.settings in
       let all : List Record = all_records s d.found d.history in
       let leaves = first_leaves when run.before run.left run.report run.end d on.ran in
@@ -171,8 +167,8 @@ module _ (known : Known) (chains : KnownOfChains) (combining : KnownOfCombining)
       }
   taken_sound run (prior ∷ earlier) on =
       let ran : HasRun run.before run.left run.report run.end = on.0.ran in
-      let when : ℕ = ran.does.0 in
-      let d : RunDone when run.before.areas run.left.areas run.report = ran.does.6.2 in
+      let when : ℕ = ran.when in
+      let d : RunDone when run.before.areas run.left.areas run.report = ran.done in
       let was : HaveTakenSound prior earlier = taken_sound prior earlier on.2 in
       let s : StoreSettings = was.settings in
       let all : List Record = d.found ++ wal_of s.segment d.history in
@@ -202,31 +198,54 @@ module _ (known : Known) (chains : KnownOfChains) (combining : KnownOfCombining)
         ];
       }
 
-  -- ---- the law
+-- ---- chains of them
 
+-- a chain of completed backups, as the directories of members that are accepted, is sound for the WAL
+-- that a run left, from where its newest member starts to where that ends
+pub record IsSoundTo (run : PastRun) (chain : List Files) (newest : Member) : Type 0 where
+  pub settings : StoreSettings
+  pub size : IsSegmentMib settings.segment
+  pub records : List Record
+  pub wal : IsWalOf settings records (run.left.areas wal_name).files run.end
+  pub sound : IsSoundChain settings.relseg (map entry_of records) chain newest.label.start.0 newest.manifest.end
+
+module _ (known : Known) (chains : KnownOfChains) (combining : KnownOfCombining) where
   -- with no directory behind it
   whole : (relseg : ℕ) (history : List Entry) (chain : List Files) (start : Lsn) (end : ℕ) (from : Lsn) (to : ℕ) (members : List Member) → IsSoundChain relseg history chain from.0 to → AllListed [] members → last_places from to members ≡ (start, end) → IsSoundChain relseg history chain start.0 end
   whole relseg history chain start end from to [] sound listed ends =
       subst (λ (p : Lsn × ℕ). IsSoundChain relseg history chain p.0.0 p.1) ends sound
   whole relseg history chain start end from to (m ∷ members) sound listed ends = absurd listed
 
-  pub chains_restored : CompletedChainsAreReplays
-  chains_restored latest earlier combinings names chain last old new end out upto report ran goes ends stand completed restored =
-      let so : HaveTakenSound latest earlier = taken_sound latest earlier ran in
+  pub completed_sound : (latest : PastRun) (earlier : List PastRun) (combinings : List Combining) (chain : List Files) (older : List Member) (newest : Member) → RanInTurn latest earlier → AllByRecursion (IsCompletedBackup (latest ∷ earlier) combinings) chain → AllListed chain (older ++ (newest ∷ [])) → IsAccepted (older ++ (newest ∷ []))
+      → IsSoundTo latest chain newest
+  completed_sound latest earlier combinings chain older newest ran completed listed accepted =
+      let so : HaveTakenSound latest earlier = taken_sound known chains combining latest earlier ran in
       let s : StoreSettings = so.settings in
       let history : List Entry = map entry_of so.records in
-      let of = restored.does.1 in
-      let newest : Member = of.newest in
-      let members : List Member = of.chain.older ++ (newest ∷ []) in
-      let told : files_told (backup_areas names old.areas) ≡ Some chain = same_told names old last restored.backups ∙ stand in
-      let listed : AllListed chain members = members_listed names (backup_areas names old.areas) members chain of.chain.are told in
-      let parts = first_listed of.chain.older newest chain listed in
+      let members : List Member = older ++ (newest ∷ []) in
+      let parts = first_listed older newest chain listed in
       let so_far : IsSoundSoFar s.relseg history chain =
       subst (IsSoundSoFar s.relseg history) (sym parts.2)
       (completed_so_far combining s.relseg so.blocks history (latest ∷ earlier) so.sound combinings parts.0 parts.1 (subst (AllByRecursion (IsCompletedBackup (latest ∷ earlier) combinings)) parts.2 completed)) in
       let all : AllListed (chain ++ []) (members ++ []) = subst (λ (fs : List Files). AllListed fs (members ++ [])) (sym (append-nil chain)) (subst (AllListed chain) (sym (append-nil members)) listed) in
-      let a : IsAlong s.relseg history chain [] (newest.label.start, newest.manifest.end) = along_to s.relseg history chain [] of.chain.older newest [] so_far all of.chain.accepted.chain tt in
-      let sound : IsSoundChain s.relseg history chain newest.label.start.0 newest.manifest.end = whole s.relseg history chain newest.label.start newest.manifest.end a.start a.end a.members a.sound a.listed a.ends in
+      let a : IsAlong s.relseg history chain [] (newest.label.start, newest.manifest.end) = along_to s.relseg history chain [] older newest [] so_far all accepted.chain tt in
+      record {
+        settings = s;
+        size = so.size;
+        records = so.records;
+        wal = so.wal;
+        sound = whole s.relseg history chain newest.label.start newest.manifest.end a.start a.end a.members a.sound a.listed a.ends;
+      }
+
+  -- ---- the law
+
+  pub chains_restored : CompletedChainsAreReplays
+  chains_restored latest earlier combinings names chain last old new end out upto report ran goes ends stand completed restored =
+      let of = restored.does.1 in
+      let newest : Member = of.newest in
+      let told : files_told (backup_areas names old.areas) ≡ Some chain = same_told names old last restored.backups ∙ stand in
+      let listed : AllListed chain (of.chain.older ++ (newest ∷ [])) = members_listed names (backup_areas names old.areas) (of.chain.older ++ (newest ∷ [])) chain of.chain.are told in
+      let so : IsSoundTo latest chain newest = completed_sound latest earlier combinings chain of.chain.older newest ran completed listed of.chain.accepted in
       let given : IfSome (last.areas wal_name).files (λ m. IsSettingsOf m of.holds.settings) = subst (λ (o : Option Files). IfSome o (λ m. IsSettingsOf m of.holds.settings)) restored.wal of.holds.given.given in
-      chain_restored known s so.records last old new end newest.label.start (record { 0 = newest.manifest.end }) names out upto report chain so.size
-      (grown s so.records (latest.left.areas wal_name).files (last.areas wal_name).files latest.end end of.holds.settings so.wal goes ends given) stand sound restored (refl, refl)
+      chain_restored known so.settings so.records last old new end newest.label.start (record { 0 = newest.manifest.end }) names out upto report chain so.size
+      (grown so.settings so.records (latest.left.areas wal_name).files (last.areas wal_name).files latest.end end of.holds.settings so.wal goes ends given) stand so.sound restored (refl, refl)

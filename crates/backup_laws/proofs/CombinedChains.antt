@@ -39,7 +39,7 @@ pub record HasNewest (chain : List Files) (newest : Member) : Type 0 where
   pub ends : EndsWith chain files
   pub listed : IsAsListed files newest
 
-newest_listed : (chain : List Files) (older : List Member) (newest : Member) → AllListed chain (older ++ (newest ∷ [])) → HasNewest chain newest
+pub newest_listed : (chain : List Files) (older : List Member) (newest : Member) → AllListed chain (older ++ (newest ∷ [])) → HasNewest chain newest
 newest_listed [] [] newest listed = absurd listed
 newest_listed [] (m ∷ older) newest listed = absurd listed
 newest_listed (f ∷ []) [] newest listed = record { files = f; ends = ([], refl); listed = listed.0 }

@@ -15,8 +15,8 @@ use Rattle.backup_laws.proofs.RestoredRuns.{restored_over, run_backed}
 module _ (known : Known) where
   pub later_restored : LaterRestoresAreReplays
   later_restored before left last old new run end top start stop name out upto report taken ran is_last goes ends same restored =
-      let when : ℕ = ran.does.0 in
-      let done : RunDone when before.areas left.areas run = ran.does.6.2 in
+      let when : ℕ = ran.when in
+      let done : RunDone when before.areas left.areas run = ran.done in
       let s : StoreSettings = done.settings in
       let records : List Record = all_records s done.found done.history in
       let first = first_leaves when before left run end done ran in

@@ -26,3 +26,16 @@ pub mod ChainRestored
 pub mod Gaps
 pub mod GapsOfRuns
 pub mod AnsweredBackups
+pub mod NotRefused
+pub mod TakenMembers
+pub mod DoneCommands
+pub mod SoundWals
+pub mod DoneRuns
+pub mod ReadPaths
+pub mod ListablePaths
+pub mod DoneCombines
+pub mod DoneRestores
+pub mod DrillLines
+pub mod DrillScripts
+pub mod DrillStops
+pub mod Drilled

@@ -111,11 +111,11 @@ honest_read mib found own files some logged honest = λ name bytes sum there nam
 
 pub own_left : RunsLeaveTheirOwn
 own_left run next ran on wal sums finds =
-    let d : RunDone ran.does.0 run.before.areas run.left.areas run.report = ran.does.6.2 in
-    let n : RunDone on.does.0 next.before.areas next.left.areas next.report = on.does.6.2 in
+    let d : RunDone ran.when run.before.areas run.left.areas run.report = ran.done in
+    let n : RunDone on.when next.before.areas next.left.areas next.report = on.done in
     let s : StoreSettings = d.settings in
     let all : List Record = all_records s d.found d.history in
-    let w : IsWalOf s all (run.left.areas wal_name).files run.end = (first_leaves ran.does.0 run.before run.left run.report run.end d ran).0 in
+    let w : IsWalOf s all (run.left.areas wal_name).files run.end = (first_leaves ran.when run.before run.left run.report run.end d ran).0 in
     let told : (next.before.areas wal_name).files ≡ Some w.files = wal ∙ w.told in
     let given : IsSettingsOf w.files n.settings = settings_in n.settings (next.before.areas wal_name).files w.files told n.given in
     let one : n.settings ≡ s = w.settings n.settings given in
@@ -147,7 +147,7 @@ none_honest entries files none = λ name bytes sum there named is.
 
 pub new_own : NewStoresAreOwn
 new_own options old new end next on did wal sums =
-    let n : RunDone on.does.0 next.before.areas next.left.areas next.report = on.does.6.2 in
+    let n : RunDone on.when next.before.areas next.left.areas next.report = on.done in
     let s : StoreSettings = new_settings options did.1.0 in
     let made : InitDone s (init_areas old) (init_areas new) end = did.1.2 in
     let there = some_told (next.before.areas wal_name).files (on.told wal_name (inl refl)) in
@@ -185,7 +185,7 @@ module _ (options : InitOptions) (old made : Outside) (end : Lsn) (did : InitDoe
       let well : EndedWell run = ended_of run earlier since in
       record {
         ran = well.ran;
-        tells = runs_tell well.ran.does.0 run.before.areas run.left.areas run.report well.ran.does.6.2 well.ran.told well.tells;
+        tells = runs_tell well.ran.when run.before.areas run.left.areas run.report well.ran.done well.ran.told well.tells;
         finds = own_since run earlier since;
       }
 

@@ -119,7 +119,7 @@ ends_before : (reached : Bool) (f : Found) → (if reached then End else f) ≡ 
 ends_before true f ends = inl refl
 ends_before false f ends = inr ends
 
-given_there : (s : StoreSettings) (files : Files) (upto : Option Lsn) (set : Bool) (tip : Tip) (r : Record) → found_on s files upto set tip ≡ Gives r → found_at s set tip files ≡ Gives r
+pub given_there : (s : StoreSettings) (files : Files) (upto : Option Lsn) (set : Bool) (tip : Tip) (r : Record) → found_on s files upto set tip ≡ Gives r → found_at s set tip files ≡ Gives r
 given_there s files None set tip r gives = gives
 given_there s files (Some target) set tip r gives = gives_before (nat_le target.0 tip.end) (found_at s set tip files) r gives
 

@@ -239,8 +239,8 @@ run_backed when before left run end start stop name done taken ran last =
 module _ (known : Known) where
   pub runs_restored : RunsAndRestoresAreReplays
   runs_restored before left old new run end start stop name out upto report taken ran last restored =
-      let when : ℕ = ran.does.0 in
-      let done : RunDone when before.areas left.areas run = ran.does.6.2 in
+      let when : ℕ = ran.when in
+      let done : RunDone when before.areas left.areas run = ran.done in
       let grown = run_grown when before left run end done ran in
       restored_over known done.settings when (all_records done.settings done.found done.history) left old new end start stop name out upto report done.given.blocks grown.1 grown.0
       (run_backed when before left run end start stop name done taken ran last) restored

@@ -22,6 +22,7 @@ use Rattle.run_answers.specs.declared.told.Told.{Told}
 use Rattle.run_command.specs.Run.{HasScript, tasks_told}
 use Rattle.backup_laws.specs.Runs.{IsBackedUp}
 use Rattle.backup_laws.specs.Chains.{IsIncremented}
+use Rattle.backup_laws.specs.Finished.{AnsweredNamesAreLines}
 
 -- ---- names
 
@@ -134,7 +135,7 @@ line_free (l ∷ lines) zero line behind are at =
 line_free (l ∷ lines) (suc n) line behind are at = line_free lines n line behind are.1 at
 
 -- the name of a backup that a run answered is one line
-pub answered_name : (before left : Option (List ℕ)) (told : List Told) (script : List Task) (name : List ℕ) (start end : Lsn) → tasks_told told ≡ script → HasScript before left script → IsBackedUp told name start end ⊎ IsIncremented told name start end → HasNoLineEnd name
+answered_name : (before left : Option (List ℕ)) (told : List Told) (script : List Task) (name : List ℕ) (start end : Lsn) → tasks_told told ≡ script → HasScript before left script → IsBackedUp told name start end ⊎ IsIncremented told name start end → HasNoLineEnd name
 answered_name before left told script name start end is script_is answered = by answered
   where
     free : AllByRecursion (λ t. AreOneLine t.lines) (tasks_told told)
@@ -149,3 +150,7 @@ answered_name before left told script name start end is script_is answered = by 
     by (inr taken) =
         subst (λ (c : Command). HasNoLineEnd (backup_taken c)) taken.takes
         (line_free taken.by.task.lines taken.number taken.line taken.behind (told_free told taken.worker taken.by free taken.there) taken.lines)
+
+pub names_are_lines : AnsweredNamesAreLines
+names_are_lines before left report name start end does answered =
+    answered_name before.left left.left report.told does.1 name start end does.6.1.0 does.6.0 answered

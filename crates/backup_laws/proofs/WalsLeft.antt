@@ -37,8 +37,8 @@ use Rattle.run_answers.specs.Telling.{RunResult}
 use Rattle.run_command.specs.Run.{AreTold, RunAnswer, others_asked, store_asks, RunDone, HasFound, all_records, found_tip}
 use Rattle.run_command.proofs.ToldLess.{one_back}
 use Rattle.run_command.proofs.OwnEntries.{held_read}
-use Rattle.backup_laws.specs.Restores.{GoesOnFrom, IsWholeTo, HasRun}
-use Rattle.backup_laws.specs.ChainRestores.{RunsLeaveWholeWals, RunsGoOn}
+use Rattle.backup_laws.specs.Restores.{GoesOnFrom, IsWholeTo, HasRun, RunsOfInputsAreRuns}
+use Rattle.backup_laws.specs.ChainRestores.{RunsLeaveWholeWals, RunsGoOn, RunsOfScriptsGoOn}
 use Rattle.backup_laws.proofs.Reading.{read_front, none_behind, end_stops, records_rise, split}
 use Rattle.backup_laws.proofs.OwnPlaces.{ends_later, read_tip}
 use Rattle.backup_laws.proofs.RestoredRuns.{HasGrown, related_told, related_some, settings_in, run_left, some_first}
@@ -119,8 +119,8 @@ first_leaves when before left run end done ran =
 -- the WAL that a run left is whole
 pub wals_whole : RunsLeaveWholeWals
 wals_whole run ran =
-    let d : RunDone ran.does.0 run.before.areas run.left.areas run.report = ran.does.6.2 in
-    let w = (first_leaves ran.does.0 run.before run.left run.report run.end d ran).0 in
+    let d : RunDone ran.when run.before.areas run.left.areas run.report = ran.done in
+    let w = (first_leaves ran.when run.before run.left run.report run.end d ran).0 in
     let all : List Record = all_records d.settings d.found d.history in
     subst (λ (o : Option Files). IfSome o (IsWholeTo run.end)) (sym w.told) (λ t is. (all, subst (λ (x : StoreSettings). HoldsRecords x all run.end.0 w.files) (sym (w.settings t is)) w.held))
 
@@ -194,15 +194,29 @@ stayed old new same = subst (λ (o : Option Files). Related GoesOnFrom old o) (s
 wal_of_areas : (old new : Areas) → new ≡ old → (new wal_name).files ≡ (old wal_name).files
 wal_of_areas old new same = ap (λ (areas : Areas). (areas wal_name).files) same
 
+pub scripts_go_on : RunsOfScriptsGoOn
+scripts_go_on when script before left (Ok report) told ran = done_on when before left report told ran.1
+scripts_go_on when script before left (Err (run.Input why)) told ran = absurd ran
+scripts_go_on when script before left (Err (run.Script line why)) told ran = absurd ran
+scripts_go_on when script before left (Err run.NoMemory) told ran = stayed _ _ (wal_of_areas before.areas left.areas ran.0)
+scripts_go_on when script before left (Err (run.Site fault)) told ran = stayed _ _ (wal_of_areas before.areas left.areas ran.0)
+scripts_go_on when script before left (Err (run.Begin (begin.Wal why))) told ran = stayed _ _ (ran.0 wal_name (one_back wal_name (others_asked script) store_asks (inl refl)))
+scripts_go_on when script before left (Err (run.Begin (begin.Replay why))) told ran = stayed _ _ ran.1.0
+scripts_go_on when script before left (Err (run.Begin (begin.Data why))) told ran = stayed _ _ ran.1
+
 answer_on : (when : ℕ) (script : List Task) (before left : Outside) (came : RunResult) → AreTold before.areas → RunAnswer when script before left came → Related GoesOnFrom (before.areas wal_name).files (left.areas wal_name).files
-answer_on when script before left (Ok report) told answer = done_on when before left report told answer.2
+answer_on when script before left (Ok report) told answer = scripts_go_on when script before left (Ok report) told answer.1
 answer_on when script before left (Err (run.Input why)) told answer = stayed _ _ (wal_of_areas before.areas left.areas answer.0.0)
 answer_on when script before left (Err (run.Script line why)) told answer = stayed _ _ (wal_of_areas before.areas left.areas answer.0.0)
 answer_on when script before left (Err run.NoMemory) told answer = stayed _ _ (wal_of_areas before.areas left.areas answer.0)
-answer_on when script before left (Err (run.Site fault)) told answer = stayed _ _ (wal_of_areas before.areas left.areas answer.1.0)
-answer_on when script before left (Err (run.Begin (begin.Wal why))) told answer = stayed _ _ (answer.1.0 wal_name (one_back wal_name (others_asked script) store_asks (inl refl)))
-answer_on when script before left (Err (run.Begin (begin.Replay why))) told answer = stayed _ _ answer.1.1.0
-answer_on when script before left (Err (run.Begin (begin.Data why))) told answer = stayed _ _ answer.1.1
+answer_on when script before left (Err (run.Site fault)) told answer = scripts_go_on when script before left (Err (run.Site fault)) told answer.1
+answer_on when script before left (Err (run.Begin why)) told answer = scripts_go_on when script before left (Err (run.Begin why)) told answer.1
 
 pub runs_go_on : RunsGoOn
 runs_go_on before left came told does = answer_on does.0 does.1 before left came told does.6
+
+-- ---- the script of an input
+
+pub inputs_run : RunsOfInputsAreRuns
+inputs_run before left report end told does closed =
+    record { told = told; when = does.0; done = does.6.1.1; closed = closed }

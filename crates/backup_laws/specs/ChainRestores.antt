@@ -6,10 +6,12 @@ use Rattle.lsn_core.specs.Files.{Files}
 use Rattle.lsn_core.specs.declared.lsn.Lsn.{Lsn}
 use Rattle.vault.specs.Area.{Related}
 use Rattle.vault.specs.Lending.{Names}
+use Rattle.backup_label.specs.Label.{HasNoLineEnd}
 use Rattle.command_base.specs.Areas.{wal_name, sums_name, output_name, backup_name}
 use Rattle.command_base.specs.Outside.{Outside}
+use Rattle.scripts.specs.declared.script.Task.{Task}
 use Rattle.run_answers.specs.Telling.{RunResult}
-use Rattle.run_command.specs.Run.{AreTold, RunDoes}
+use Rattle.run_command.specs.Run.{AreTold, RunDoes, RunOfScript}
 use Rattle.command_line.specs.declared.options.InitOptions.{InitOptions}
 use Rattle.store_commands.specs.Init.{InitDoes}
 use Rattle.chain_commands.specs.declared.combining.CombineReport.{CombineReport}
@@ -27,13 +29,13 @@ use Rattle.backup_laws.specs.Restores.{HasRun, HasRestored, PastRun, GoesOnFrom,
 abbrev pub FoundOwn :
     (run : PastRun) → HasRun run.before run.left run.report run.end → Type 0
 FoundOwn run ran =
-    FindsOwn ran.does.0 run.before.areas run.left.areas run.report ran.does.6.2
+    FindsOwn ran.when run.before.areas run.left.areas run.report ran.done
 
 -- a run was done over areas that tell their files all the while, on what this program's own runs
 -- leave
 pub record RanOn (run : PastRun) : Type 0 where
   pub ran : HasRun run.before run.left run.report run.end
-  pub tells : TellsThroughout ran.does.0 run.before.areas run.left.areas run.report ran.does.6.2
+  pub tells : TellsThroughout ran.when run.before.areas run.left.areas run.report ran.done
   pub finds : FoundOwn run ran
 
 -- so were a run and the earlier ones, the latest first, each over a WAL that goes on from what the
@@ -47,9 +49,11 @@ RanInTurn run (prior ∷ earlier) =
 
 -- ---- completed backups
 
--- files are the directory of a backup that a run answered, full or incremental, as the run left it
+-- files are the directory of a backup that a run answered, full or incremental, as the run left it,
+-- under a name that ends no line, as each name of a script that was read
 pub record IsTakenBy (run : PastRun) (files : Files) : Type 0 where
   pub name : List ℕ
+  pub line : HasNoLineEnd name
   pub start : Lsn
   pub end : Lsn
   pub answered : IsBackedUp run.report.told name start end
@@ -113,6 +117,13 @@ abbrev pub RunsGoOn : Type 0
 RunsGoOn =
     (before left : Outside) (came : RunResult)
     → AreTold before.areas → RunDoes before left came
+    → Related GoesOnFrom (before.areas wal_name).files (left.areas wal_name).files
+
+-- so does the WAL of a script that was made
+abbrev pub RunsOfScriptsGoOn : Type 0
+RunsOfScriptsGoOn =
+    (when : ℕ) (script : List Task) (before left : Outside) (came : RunResult)
+    → AreTold before.areas → RunOfScript when script before left came
     → Related GoesOnFrom (before.areas wal_name).files (left.areas wal_name).files
 
 -- what a run finds is this program's own, where the one before it found so and closed its store, and

@@ -5,6 +5,7 @@ use Rattle.lsn_core.specs.Segment.{StoreSettings, IsRelseg}
 use Rattle.lsn_core.specs.Store.{Store}
 use Rattle.lsn_core.specs.declared.ids.ForkLen.{ForkLen}
 use Rattle.lsn_core.specs.declared.lsn.Lsn.{Lsn}
+use Rattle.vault.specs.Site.{Areas}
 use Rattle.history.specs.Entry.{Entry}
 use Rattle.wal_summary.specs.Summary.{AreSorted}
 use Rattle.backup_label.specs.Label.{HasNoLineEnd}
@@ -19,7 +20,7 @@ use Rattle.manifest.specs.declared.listing.FileRow.{FileRow}
 use Rattle.command_base.specs.Areas.{backup_name, AreaIsDurable}
 use Rattle.command_base.specs.Outside.{Outside}
 use Rattle.run_answers.specs.declared.outcome.RunReport.{RunReport}
-use Rattle.run_command.specs.Run.{RunDoes}
+use Rattle.run_command.specs.Run.{RunDoes, RunDone}
 use Rattle.chain_commands.specs.Verify.{VerifyResult, VerifyDoes}
 use Rattle.chain_commands.specs.declared.verifying.VerifyFault.TheVariants as verify
 use Rattle.backup_laws.specs.Runs.{IsBackedUp}
@@ -100,15 +101,24 @@ pub record IsListedBackup (name : List ℕ) (start end : Lsn) (files : Files) : 
   pub listed : IsAsListed files member
 
 -- where the areas that a run asks for tell their files all the while, each backup that it answered,
--- full or incremental, is one when the run ends, durably, however it ends
+-- full or incremental, under a name that ends no line, is one when the run ends, durably, however it
+-- ends
 abbrev pub AnsweredBackupsAreListed : Type 0
 AnsweredBackupsAreListed =
-    (before left : Outside) (report : RunReport) (does : RunDoes before left (Ok report))
+    (when : ℕ) (before left : Areas) (report : RunReport) (run : RunDone when before left report)
     (name : List ℕ) (start end : Lsn)
-    → TellsThroughout does.0 before.areas left.areas report does.6.2
+    → TellsThroughout when before left report run → HasNoLineEnd name
     → IsBackedUp report.told name start end ⊎ IsIncremented report.told name start end
-    → (files : Files) × ((left.areas (backup_name name)).files ≡ Some files)
-    × IsListedBackup name start end files × AreaIsDurable (left.areas (backup_name name))
+    → (files : Files) × ((left (backup_name name)).files ≡ Some files)
+    × IsListedBackup name start end files × AreaIsDurable (left (backup_name name))
+
+-- such is the name of each backup that `run` answered on the script of its input
+abbrev pub AnsweredNamesAreLines : Type 0
+AnsweredNamesAreLines =
+    (before left : Outside) (report : RunReport) (name : List ℕ) (start end : Lsn)
+    → RunDoes before left (Ok report)
+    → IsBackedUp report.told name start end ⊎ IsIncremented report.told name start end
+    → HasNoLineEnd name
 
 -- `verify` took a backup, and told its range; or the area wasn't handed out, its device failed or
 -- memory ran out. It refused it for nothing that the files decide
@@ -120,9 +130,9 @@ IsVerified start end (Err (verify.Directory refusal)) = IsOfFiles refusal.fault 
 -- so `verify` takes it, of the files that the run left
 abbrev pub AnsweredBackupsAreVerified : Type 0
 AnsweredBackupsAreVerified =
-    (before left old new : Outside) (report : RunReport) (does : RunDoes before left (Ok report))
-    (name : List ℕ) (start end : Lsn) (r : VerifyResult)
-    → TellsThroughout does.0 before.areas left.areas report does.6.2
+    (when : ℕ) (before left : Areas) (old new : Outside) (report : RunReport)
+    (run : RunDone when before left report) (name : List ℕ) (start end : Lsn) (r : VerifyResult)
+    → TellsThroughout when before left report run → HasNoLineEnd name
     → IsBackedUp report.told name start end ⊎ IsIncremented report.told name start end
-    → (old.areas (backup_name name)).files ≡ (left.areas (backup_name name)).files
+    → (old.areas (backup_name name)).files ≡ (left (backup_name name)).files
     → VerifyDoes name old new r → IsVerified start end r

@@ -5,4 +5,7 @@ pub mod Telling
 pub mod Restores
 pub mod CombinedChains
 pub mod ChainRestores
+pub mod Drills
 pub mod Gaps
+pub mod Success
+pub mod RestoreSuccess

@@ -19,17 +19,26 @@ use Rattle.shared_store.specs.Records.{HoldsRecords}
 use Rattle.command_base.specs.Areas.{wal_name, output_name, backup_name}
 use Rattle.command_base.specs.Outside.{Outside}
 use Rattle.run_answers.specs.declared.outcome.RunReport.{RunReport}
-use Rattle.run_command.specs.Run.{RunDoes, AreTold}
+use Rattle.run_command.specs.Run.{RunDoes, RunDone, AreTold}
 use Rattle.store_commands.specs.declared.replaying.ReplayReport.{ReplayReport}
 use Rattle.store_commands.specs.Replay.{ReplayDoes, end_by}
 use Rattle.chain_commands.specs.Restore.{RestoreDoes}
 use Rattle.backup_laws.specs.Runs.{IsBackedUp, IsLastOfName}
 
--- `run` ran a script on a store whose areas tell their files, and closed the store: the WAL ends there
+-- a script was run, at a moment, on a store whose areas tell their files, and the store was closed: the
+-- WAL ends there. Whether the script was read or made is open
 pub record HasRun (before left : Outside) (report : RunReport) (end : Lsn) : Type 0 where
   pub told : AreTold before.areas
-  pub does : RunDoes before left (Ok report)
+  pub when : ℕ
+  pub done : RunDone when before.areas left.areas report
   pub closed : report.closed ≡ Ok end
+
+-- where `run` ran the script of its input so, it was run so
+abbrev pub RunsOfInputsAreRuns : Type 0
+RunsOfInputsAreRuns =
+    (before left : Outside) (report : RunReport) (end : Lsn)
+    → AreTold before.areas → RunDoes before left (Ok report) → report.closed ≡ Ok end
+    → HasRun before left report end
 
 -- a run that was done so
 pub record PastRun : Type 0 where

@@ -2,18 +2,21 @@
 
 ghost use Rattle.backup_laws.specs.Finished.{FinishedBackupsAreListed, FinishedIncrementsAreListed};
 ghost use Rattle.backup_laws.specs.Finished.{AnsweredBackupsAreListed, AnsweredBackupsAreVerified};
+ghost use Rattle.backup_laws.specs.Finished.{AnsweredNamesAreLines};
 ghost use Rattle.backup_laws.specs.Gaps.{FilesKeepOneList, PublishedAreKept, GapsAreOld};
 ghost use Rattle.backup_laws.specs.Gaps.{AnswersAreCovered, RefusedGapsAreOld, GapsOfRunsAreOld};
 ghost use Rattle.backup_laws.specs.Runs.{BackupsOfRunsAreSound};
 ghost use Rattle.backup_laws.specs.Chains.{FullBackupsOfRunsAreSound, IncrementsOfRunsExtendChains};
 ghost use Rattle.backup_laws.specs.Chains.{RunsKeepChainsSound};
 ghost use Rattle.backup_laws.specs.Restores.{RunsAndRestoresAreReplays, RestoresAreAsReplays};
-ghost use Rattle.backup_laws.specs.Restores.{LaterRestoresAreReplays};
+ghost use Rattle.backup_laws.specs.Restores.{LaterRestoresAreReplays, RunsOfInputsAreRuns};
 ghost use Rattle.backup_laws.specs.ChainRestores.{CompletedChainsAreReplays, RunsLeaveWholeWals};
-ghost use Rattle.backup_laws.specs.ChainRestores.{RunsGoOn, RunsLeaveTheirOwn, NewStoresAreOwn};
+ghost use Rattle.backup_laws.specs.ChainRestores.{RunsGoOn, RunsOfScriptsGoOn};
+ghost use Rattle.backup_laws.specs.ChainRestores.{RunsLeaveTheirOwn, NewStoresAreOwn};
 ghost use Rattle.backup_laws.specs.ChainRestores.{RunsSinceInitAreInTurn};
 ghost use Rattle.backup_laws.specs.Telling.{RunsTellThroughout};
 ghost use Rattle.backup_laws.specs.CombinedChains.{CombinedChainsStaySound};
+ghost use Rattle.backup_laws.specs.Drills.{DrillsAreReplays, DrillsTakeTheirBackups};
 
 use backup_label::labels_are_read_in_one_way;
 use backup_restore::directories_hold_one_store;
@@ -124,6 +127,27 @@ pub fn completed_chains_are_replays()
     chains_are_sound_alike();
 }
 
+/// What `drill` restored with status 0 is what a replay of its whole WAL makes: `o/drill` holds just
+/// the files of that store, and the numbers of forks and pages and the sum that are told are those of
+/// these files. Nothing is asked of directories: the run took all three backups, since the restore
+/// took them, and the area of a backup that was refused has no manifest. All that is asked is that the
+/// areas tell their files before the drill, and those of its backups behind it.
+pub fn drills_are_replays()
+    ensures replays { DrillsAreReplays }
+    ensures backups { DrillsTakeTheirBackups }
+{
+    // known: the same of each chain of completed backups
+    completed_chains_are_replays();
+}
+
+/// These laws speak of each script that was run, whether it was read or made, over areas that tell
+/// their files. So they speak of `run`, of the script of its input; and the name of each backup that it
+/// answered is one line, as they ask of a name.
+pub fn runs_of_inputs_are_runs()
+    ensures run { RunsOfInputsAreRuns }
+    ensures lines { AnsweredNamesAreLines }
+{}
+
 /// What such chains ask of a run, earlier ones leave to it, where nothing else wrote `wal` and
 /// `sums`. The WAL is whole as a run left it that closed its store. Whatever a run came to, stopped
 /// or failed, the WAL goes on from what it found. And what a run finds is this program's own where
@@ -134,6 +158,7 @@ pub fn completed_chains_are_replays()
 pub fn runs_leave_their_own()
     ensures whole { RunsLeaveWholeWals }
     ensures on { RunsGoOn }
+    ensures made { RunsOfScriptsGoOn }
     ensures own { RunsLeaveTheirOwn }
     ensures first { NewStoresAreOwn }
     ensures all { RunsSinceInitAreInTurn }

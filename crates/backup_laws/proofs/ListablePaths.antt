@@ -1,0 +1,159 @@
+-- A manifest can list what a directory that is as listed is combined to, where its files' names are text.
+use Rattle.std.proofs.Common.{◌≡◌, ◌≢◌, ℕ, Bool, true, false, cond, not, List, [], ◌∷◌, map, Some, None, refl, sym, ap, ap₂, subst, ◌∙◌, ◌⊎◌, inl, inr}
+use Rattle.std.specs.Str.{IsUtf8, is_utf8, bytes_eq}
+use Rattle.std.specs.List.{AllByRecursion, IsDistinct}
+use Rattle.std.specs.FinMap.{get}
+use Rattle.std.specs.Cmp.Lexicographic.{nat_list_cmp_total}
+use Rattle.std.proofs.lemmas.Bool.{false_from_ne_true}
+use Rattle.std.proofs.lemmas.Cmp.{eq_by_cmp_equiv}
+use Rattle.std.proofs.lemmas.Str.{IsUtf8-from_is_utf8, is_utf8-from_IsUtf8}
+use Rattle.lsn_core.specs.Files.{Files}
+use Rattle.lsn_core.specs.Names.{fork_path_bytes}
+use Rattle.lsn_core.specs.declared.ids.ForkId.{ForkId}
+use Rattle.lsn_core.proofs.ForkPaths.{one_place}
+use Rattle.lsn_core.proofs.StoreFiles.{same_name, names_tie}
+use Rattle.manifest.specs.Shape.{is_path}
+use Rattle.manifest.specs.declared.listing.FileRow.{FileRow}
+use Rattle.backup_files.specs.Directory.{manifest_name}
+use Rattle.backup_sending.proofs.Texts.{path_text, good_path}
+use Rattle.chain_check.specs.Directory.{IsRowAsListed, IsForkFile, HasForm, IsAsListed}
+use Rattle.chain_check.specs.declared.member.Member.{Member}
+use Rattle.combine.specs.Calls.{IsPathFor, ArePathsFor, CannotList}
+use Rattle.combine.specs.Combined.{other_rows}
+use Rattle.backup_laws.specs.Success.{HaveTextNames}
+use Rattle.backup_laws.proofs.ReadPaths.{path_in, manifest_is_read}
+
+-- ---- what is or isn't so
+
+both_ways : (b : Bool) → b ≡ true → b ≡ false → ⊥
+both_ways b is isnt = (let never : true ≡ false = sym is ∙ isnt in cc)
+
+-- what can't fail in either case can't fail
+either : (A : Type 0) → (A ⊎ (A → ⊥) → ⊥) → ⊥
+either A fails = fails (inr (λ a. fails (inl a)))
+
+stays : (b : Bool) → (b ≡ false → ⊥) → b ≡ true
+stays true never = refl
+stays false never = absurd (never refl)
+
+-- ---- one row
+
+-- the row's file is there under a name that is a path of text, and an incremental one without a plain one
+record IsGood (files : Files) (row : FileRow) : Type 0 where
+  bytes : List ℕ
+  there : get files row.path ≡ Some bytes
+  alone : (f : IsForkFile row.path true) → get files (fork_path_bytes f.fork f.seg false) ≡ None
+  text : IsUtf8 row.path
+  good : is_path row.path ≡ true
+
+all_good : (files : Files) (rows : List FileRow) → HaveTextNames files → AllByRecursion (IsRowAsListed files) rows → AllByRecursion (HasForm files) rows → AllByRecursion (λ path. is_path path ≡ true) (map path_in rows) → AllByRecursion (IsGood files) rows
+all_good files [] names listed forms paths = tt
+all_good files (row ∷ rows) names listed forms paths = (
+  record {
+    bytes = listed.0.bytes;
+    there = listed.0.there;
+    alone = forms.0.alone;
+    text = names row.path listed.0.bytes listed.0.there;
+    good = paths.0;
+  },
+  all_good files rows names listed.1 forms.1 paths.1,
+)
+
+-- what stands for it has a path of text
+text_for : (files : Files) (row : FileRow) (path : List ℕ) → IsGood files row → IsPathFor row.path path → IsUtf8 path × (is_path path ≡ true)
+text_for files row path is for = (
+  IsUtf8-from_is_utf8 path (stays (is_utf8 path) (λ no. either (IsForkFile row.path true) (λ x. elim x [
+    | inl f ↦ both_ways (is_utf8 path) (is_utf8-from_IsUtf8 path (subst IsUtf8 (sym (for.plain f)) (path_text f.fork f.seg false f.named))) no
+    | inr none ↦ both_ways (is_utf8 path) (is_utf8-from_IsUtf8 path (subst IsUtf8 (sym (for.kept none)) is.text)) no
+  ]))),
+  stays (is_path path) (λ no. either (IsForkFile row.path true) (λ x. elim x [
+    | inl f ↦ both_ways (is_path path) (ap is_path (for.plain f) ∙ good_path f.fork f.seg false f.named) no
+    | inr none ↦ both_ways (is_path path) (ap is_path (for.kept none) ∙ is.good) no
+  ])),
+)
+
+-- ---- two rows
+
+gone_or_there : (files : Files) (gone there bytes : List ℕ) → gone ≡ there → get files gone ≡ None → get files there ≡ Some bytes → ⊥
+gone_or_there files gone there bytes same none some = (let never : None ≡ Some bytes = sym none ∙ (ap (λ (path : List ℕ). get files path) same ∙ some) in cc)
+
+-- what stands for one has another path than what stands for another
+apart : (files : Files) (r q : FileRow) (p o : List ℕ) → IsGood files r → IsGood files q → r.path ≢ q.path → IsPathFor r.path p → IsPathFor q.path o → p ≢ o
+apart files r q p o a b differ for to same =
+    either (IsForkFile r.path true) (λ x.
+    either (IsForkFile q.path true) (λ y.
+    elim x [
+      | inl f ↦ elim y [
+        | inl g ↦ (let one = one_place f.fork g.fork f.seg g.seg false false f.named g.named (sym (for.plain f) ∙ (same ∙ to.plain g)) in differ (f.spelled ∙ (ap₂ (λ (k : ForkId) (n : ℕ). fork_path_bytes k n true) one.0 one.1.0 ∙ sym g.spelled)))
+        | inr plain ↦ gone_or_there files (fork_path_bytes f.fork f.seg false) q.path b.bytes (sym (for.plain f) ∙ (same ∙ to.kept plain)) (a.alone f) b.there
+      ]
+      | inr none ↦ elim y [
+        | inl g ↦ gone_or_there files (fork_path_bytes g.fork g.seg false) r.path a.bytes (sym (to.plain g) ∙ (sym same ∙ for.kept none)) (b.alone g) a.there
+        | inr plain ↦ differ (sym (for.kept none) ∙ (same ∙ to.kept plain))
+      ]
+    ]))
+
+-- ---- all rows
+
+abbrev Apart : List FileRow → Type 0
+Apart [] = Unit {0}
+Apart (r ∷ rows) = AllByRecursion (λ q. r.path ≢ q.path) rows × Apart rows
+
+each_apart : (r : FileRow) (rows : List FileRow) → AllByRecursion (λ path. same_name r.path path ≡ false) (map path_in rows) → AllByRecursion (λ q. r.path ≢ q.path) rows
+each_apart r [] all = tt
+each_apart r (q ∷ rows) all = (
+  λ same. both_ways (same_name r.path q.path) (subst (λ (path : List ℕ). same_name r.path path ≡ true) same ((eq_by_cmp_equiv nat_list_cmp_total).refl r.path)) all.0,
+  each_apart r rows all.1,
+)
+
+are_apart : (rows : List FileRow) → IsDistinct same_name (map path_in rows) → Apart rows
+unfolding IsDistinct
+are_apart [] distinct = tt
+are_apart (r ∷ rows) distinct = (each_apart r rows distinct.0, are_apart rows distinct.1)
+
+keep : (P : FileRow → Type 0) (b : Bool) (r : FileRow) (rows : List FileRow) → P r → AllByRecursion P rows → AllByRecursion P (cond b (r ∷ rows) rows)
+keep P true r rows is all = (is, all)
+keep P false r rows is all = all
+
+keep_all : (P : FileRow → Type 0) (rows : List FileRow) → AllByRecursion P rows → AllByRecursion P (other_rows rows)
+keep_all P [] all = tt
+keep_all P (r ∷ rows) all = keep P (not (bytes_eq r.path manifest_name)) r (other_rows rows) all.0 (keep_all P rows all.1)
+
+keep_one : (b : Bool) (r : FileRow) (rows : List FileRow) → AllByRecursion (λ q. r.path ≢ q.path) rows → Apart rows → Apart (cond b (r ∷ rows) rows)
+keep_one true r rows all more = (all, more)
+keep_one false r rows all more = more
+
+keep_apart : (rows : List FileRow) → Apart rows → Apart (other_rows rows)
+keep_apart [] all = tt
+keep_apart (r ∷ rows) all = keep_one (not (bytes_eq r.path manifest_name)) r (other_rows rows) (keep_all (λ q. r.path ≢ q.path) rows all.0) (keep_apart rows all.1)
+
+all_texts : (files : Files) (rows : List FileRow) (paths : List (List ℕ)) → AllByRecursion (IsGood files) rows → ArePathsFor rows paths → AllByRecursion (λ path. IsUtf8 path × (is_path path ≡ true)) paths
+all_texts files [] paths good for = subst (AllByRecursion (λ path. IsUtf8 path × (is_path path ≡ true))) (sym for) tt
+all_texts files (r ∷ rows) paths good for =
+    subst (AllByRecursion (λ path. IsUtf8 path × (is_path path ≡ true))) (sym for.2) (text_for files r for.0 good.0 for.3, all_texts files rows for.1 good.1 for.4)
+
+others_apart : (files : Files) (r : FileRow) (p : List ℕ) (rows : List FileRow) (paths : List (List ℕ)) → IsGood files r → AllByRecursion (IsGood files) rows → AllByRecursion (λ q. r.path ≢ q.path) rows → IsPathFor r.path p → ArePathsFor rows paths → AllByRecursion (λ path. same_name p path ≡ false) paths
+others_apart files r p [] paths is good differ for are = subst (AllByRecursion (λ path. same_name p path ≡ false)) (sym are) tt
+others_apart files r p (q ∷ rows) paths is good differ for are =
+    subst (AllByRecursion (λ path. same_name p path ≡ false)) (sym are.2)
+    (false_from_ne_true (same_name p are.0) (λ same. apart files r q p are.0 is good.0 differ.0 for are.3 (names_tie p are.0 same)), others_apart files r p rows are.1 is good.1 differ.1 for are.4)
+
+all_distinct : (files : Files) (rows : List FileRow) (paths : List (List ℕ)) → AllByRecursion (IsGood files) rows → Apart rows → ArePathsFor rows paths → IsDistinct same_name paths
+unfolding IsDistinct
+all_distinct files [] paths good differ for = subst (λ (ps : List (List ℕ)). IsDistinct same_name ps) (sym for) tt
+all_distinct files (r ∷ rows) paths good differ for =
+    subst (λ (ps : List (List ℕ)). IsDistinct same_name ps) (sym for.2) (others_apart files r for.0 rows for.1 good.0 good.1 differ.0 for.3 for.4, all_distinct files rows for.1 good.1 differ.1 for.4)
+
+-- ---- the whole
+
+pub never_unlisted : (files : Files) (m : Member) → IsAsListed files m → HaveTextNames files → CannotList m.manifest → ⊥
+never_unlisted files m is names cannot =
+    let read = manifest_is_read files m.manifest is.manifest in
+    let all : List FileRow = m.manifest.files in
+    let good : AllByRecursion (IsGood files) (other_rows all) = keep_all (IsGood files) all (all_good files all names is.rows is.forms read.paths) in
+    cannot.2 (record {
+      system = read.system;
+      rises = read.rises;
+      texts = all_texts files (other_rows all) cannot.0 good cannot.1;
+      distinct = all_distinct files (other_rows all) cannot.0 good (keep_apart all (are_apart all read.distinct)) cannot.1;
+    })
