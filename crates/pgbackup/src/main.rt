@@ -6,6 +6,8 @@ use command_answers::Answer;
 use lsn_core::{NoMemory, Text};
 use operator_notes::note_of;
 use pgbackup_cli::{Status, answered};
+use progress::{Progress, is_wanted};
+use std::io::IsTerminal;
 use std::process::ExitCode;
 use std::sync::Wait;
 use std::thread::Threads;
@@ -24,10 +26,22 @@ fn words_of(rt: &HostRuntime) -> Result<Vec<Text>, NoMemory> {
     Ok(words)
 }
 
+/// The variable of the environment that says whether areas tell how far they have come.
+const PROGRESS: &str = "PGBACKUP_PROGRESS";
+
+/// What makes areas tell on standard error how far they have come, where that is wanted.
+fn progress_of(rt: &HostRuntime) -> Option<Progress> {
+    let word = env::var(rt, PROGRESS).ok();
+    if !is_wanted(word.as_deref(), rt.stderr().is_terminal()) {
+        return None;
+    }
+    Progress::new(rt.clone().ok()?)
+}
+
 /// Does what the words of the command line ask. What waits for a lock does so by the handle `waits`.
 fn run_words(rt: &HostRuntime, waits: &(impl Threads + Wait + Sync)) -> Result<Status, NoMemory> {
     let words = words_of(rt)?;
-    let mut site = OsSite::new(rt.clone()?);
+    let mut site = OsSite::new(rt.clone()?, progress_of(rt));
     let mut input = OsSource::new(rt.clone()?);
     let mut out = OsSink::new(rt.clone()?);
     let mut clock = OsClock::new(rt.clone()?);

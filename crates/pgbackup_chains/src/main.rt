@@ -45,7 +45,7 @@ fn say(rt: &HostRuntime, outcome: Outcome, said: Option<&str>) {
 
 fn run_words(rt: &HostRuntime) -> Result<Outcome, NoMemory> {
     let words = words_of(rt)?;
-    let mut site = OsSite::new(rt.clone()?);
+    let mut site = OsSite::new(rt.clone()?, None);
     let mut out = OsSink::new(rt.clone()?);
     let outcome = show_chains(rt.alloc(), &words, &mut site, &mut out);
     say(rt, outcome, site.said().or(out.said()));

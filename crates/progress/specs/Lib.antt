@@ -1,0 +1,4 @@
+pub mod Choice
+pub mod Line
+pub mod Moved
+pub mod Pace
