@@ -1,0 +1,2 @@
+pub mod Priors
+pub mod Answers

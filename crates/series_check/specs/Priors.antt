@@ -1,0 +1,20 @@
+-- The prior that the label of a backup names.
+use Rattle.std.specs.Prelude.{ℕ, List, [], ◌∷◌, Option, None}
+use Rattle.lsn_core.specs.declared.lsn.Lsn.{Lsn}
+use Rattle.chain_check.specs.declared.member.Member.{Member}
+use Rattle.merge_laws.specs.Series.{label_with_prior}
+
+-- a member whose label names another one
+abbrev pub with_prior : Member → Option (Lsn × ℕ) → Member
+with_prior m prior =
+    record { name = m.name; label = label_with_prior m.label prior; manifest = m.manifest }
+
+-- that of the first of some members
+abbrev pub first_prior : List Member → Option (Lsn × ℕ)
+first_prior [] = None
+first_prior (first ∷ later) = first.label.prior
+
+-- the members with another one
+abbrev pub with_first_prior : List Member → Option (Lsn × ℕ) → List Member
+with_first_prior [] prior = []
+with_first_prior (first ∷ later) prior = with_prior first prior ∷ later

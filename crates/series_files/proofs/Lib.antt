@@ -1,0 +1,5 @@
+mod Marked
+mod Listed
+mod Counted
+mod ByPaths
+mod Asked

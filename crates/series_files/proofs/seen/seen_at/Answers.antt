@@ -1,0 +1,16 @@
+-- One member's form.
+use Rattle.std.proofs.Common.{rules, refl}
+use Rattle.chain_files.proofs.Told.{reads_set, fails_here}
+use Rattle.series_files.proofs.seen.seen_at.Goals as goal
+
+pub returns-in-Ok-clause-reads : goal.returns-in-Ok-clause-reads
+returns-in-Ok-clause-reads g c =
+    reads_set g.V.Vault c.args.areas.now c.args.place c.index-areas-place.result _ c.requires.place refl c.seen_in.ensures.reads
+
+pub returns-in-Err-clause-reads : goal.returns-in-Err-clause-reads
+returns-in-Err-clause-reads g c =
+    reads_set g.V.Vault c.args.areas.now c.args.place c.index-areas-place.result _ c.requires.place refl c.seen_in.ensures.reads
+
+pub returns-in-Err-clause-cause : goal.returns-in-Err-clause-cause
+returns-in-Err-clause-cause g c =
+    fails_here g.V.Vault c.args.areas.now c.args.place c.index-areas-place.result _ _ c.requires.place refl (λ failed. c.in-Err.ensures.cause.failed (search rules))
