@@ -3,3 +3,10 @@ pub mod Started
 pub mod Names
 pub mod Trimmed
 pub mod TrimCalls
+pub mod Upto
+pub mod Filled
+pub mod Neatened
+pub mod Settled
+pub mod Redone
+pub mod Back
+pub mod Ends

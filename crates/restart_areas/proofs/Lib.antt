@@ -1,0 +1,4 @@
+pub mod Among
+pub mod Plain
+pub mod Shown
+pub mod Counted
