@@ -32,6 +32,8 @@ conformance: build
 	python3 conformance/faults.py bin/pgbackup
 	python3 conformance/crews.py bin/pgbackup 100
 	python3 conformance/loops.py bin/pgbackup 1000
+	python3 conformance/drills.py bin/pgbackup 64
+	python3 conformance/words.py bin/pgbackup 500
 	python3 conformance/backups.py bin/pgbackup 150
 	python3 conformance/restores.py bin/pgbackup 60
 	python3 conformance/summaries.py bin/pgbackup 100
