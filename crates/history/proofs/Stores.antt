@@ -8,7 +8,7 @@ use Rattle.std.proofs.Math.ListN.{get_or-eq_default}
 use Rattle.std.proofs.lemmas.List.{append-nil, set-get_or, length-replicate}
 use Rattle.std.proofs.lemmas.Option.{get_or_from_slice_get, slice_get-get_or}
 use Rattle.std.proofs.lemmas.Bool.{cases_lt, and_parts, eq-eqb}
-use Rattle.byte_words.specs.Numbers.{◌>>=◌}
+use Rattle.lsn_core.specs.byte_words.Numbers.{◌>>=◌}
 use Rattle.lsn_core.specs.Relation.{Relation}
 use Rattle.lsn_core.specs.declared.ids.ForkId.{ForkId}
 use Rattle.lsn_core.specs.declared.ids.BlockId.{BlockId}

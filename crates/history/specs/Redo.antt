@@ -1,6 +1,6 @@
 -- Replay over pages that may be newer than the entries.
 use Rattle.std.specs.Prelude.{◌≡◌, ℕ, ◌<◌, ◌≤◌, ◌^◌, List, [], ◌∷◌, map, Option, Some, None, nat_lt, if◌then◌else◌}
-use Rattle.byte_words.specs.Numbers.{◌>>=◌}
+use Rattle.lsn_core.specs.byte_words.Numbers.{◌>>=◌}
 use Rattle.lsn_core.specs.declared.ids.BlockId.{BlockId}
 use Rattle.lsn_core.specs.Store.{Store}
 use Rattle.pg_page.specs.Header.{lsn_of}

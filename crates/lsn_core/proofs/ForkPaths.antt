@@ -4,9 +4,9 @@ use Rattle.std.specs.Fmt.{decimal}
 use Rattle.std.proofs.lemmas.Bool.{ne_eqb}
 use Rattle.std.proofs.lemmas.List.{append_cancel_left}
 use Rattle.std.proofs.lemmas.Fmt.{decimal_injective, decimal_nonempty}
-use Rattle.text_numbers.proofs.Decimal.{decimal_is_digits}
-use Rattle.text_numbers.specs.Numbers.{IsFront, HasNoFront}
-use Rattle.text_numbers.proofs.DecimalFront.{digit_count, counted, front_once, is_front}
+use Rattle.lsn_core.proofs.text_numbers.Decimal.{decimal_is_digits}
+use Rattle.lsn_core.specs.text_numbers.Numbers.{IsFront, HasNoFront}
+use Rattle.lsn_core.proofs.text_numbers.DecimalFront.{digit_count, counted, front_once, is_front}
 use Rattle.lsn_core.specs.declared.ids.ForkKind.{ForkKind}
 use Rattle.lsn_core.specs.declared.ids.ForkKind.TheVariants.{Main, Init}
 use Rattle.lsn_core.specs.declared.ids.ForkId.{ForkId}

@@ -4,10 +4,10 @@ use Rattle.std.specs.Char.{is_ascii_hexdigit}
 use Rattle.std.specs.Fmt.{digits}
 use Rattle.std.specs.Str.Parse.{digits_value}
 use Rattle.std.proofs.lemmas.Bool.{and_parts, and_from, le-leb, cond-true, ne_eqb}
-use Rattle.byte_words.specs.Cuts.{cut_at}
-use Rattle.byte_words.proofs.Cutting.{Lacks, cut_again, cut_whole, front_of, back_of}
-use Rattle.text_numbers.specs.Numbers.{is_hex_number, hex_number_of, all_hex_digits}
-use Rattle.text_numbers.proofs.EightDigits.{hex_text}
+use Rattle.lsn_core.specs.byte_words.Cuts.{cut_at}
+use Rattle.lsn_core.proofs.byte_words.Cutting.{Lacks, cut_again, cut_whole, front_of, back_of}
+use Rattle.lsn_core.specs.text_numbers.Numbers.{is_hex_number, hex_number_of, all_hex_digits}
+use Rattle.lsn_core.proofs.text_numbers.EightDigits.{hex_text}
 use Rattle.lsn_core.specs.Names.{lsn_bytes, IsLsnText}
 
 never_some : {A : Type 0} (x : A) → None ≡ Some x → ⊥

@@ -3,8 +3,8 @@ use Rattle.std.proofs.Common.{◌≡◌, ℕ, ◌+◌, ◌*◌, ◌/◌, ◌%◌
 use Rattle.std.specs.Fmt.{digits}
 use Rattle.std.proofs.lemmas.List.{append-nil}
 use Rattle.std.proofs.Math.Nat.{div-lt_iff_lt-mul, mod-lt, div-le_self, div-add-mod'}
-use Rattle.text_numbers.specs.Numbers.{eight_digits, HasNoEight}
-use Rattle.text_numbers.proofs.EightDigits.{eight_once}
+use Rattle.lsn_core.specs.text_numbers.Numbers.{eight_digits, HasNoEight}
+use Rattle.lsn_core.proofs.text_numbers.EightDigits.{eight_once}
 use Rattle.lsn_core.specs.Segment.{segment_bytes}
 use Rattle.lsn_core.specs.Names.{per_group, number_groups, segment_name_bytes, segment_file_bytes, HasSegmentName, NamesNoSegment}
 

@@ -10,8 +10,8 @@ use Rattle.std.proofs.lemmas.Bool.{cases_lt, lt-ltb, le-ltb, eq-eqb}
 use Rattle.std.proofs.lemmas.List.{length-append}
 use Rattle.std.proofs.lemmas.Nat.{div-add-mod'}
 use Rattle.std.proofs.Math.Nat.{pow-succ', mod-lt, mod-le, div-le_self, le-div_iff_mul-le, mul-le-mul_right}
-use Rattle.text_numbers.proofs.EightDigits.{eight_are_last, length-eight_digits}
-use Rattle.text_numbers.specs.Numbers.{eight_digits}
+use Rattle.lsn_core.proofs.text_numbers.EightDigits.{eight_are_last, length-eight_digits}
+use Rattle.lsn_core.specs.text_numbers.Numbers.{eight_digits}
 use Rattle.lsn_core.specs.Segment.{segment_bytes}
 use Rattle.lsn_core.specs.Names.{per_group, segment_name_bytes}
 use Rattle.lsn_core.specs.Laws.{NamesRise}

@@ -10,3 +10,5 @@ pub mod Blocks
 pub mod Shown
 pub mod Causes
 pub mod Laws
+pub mod byte_words
+pub mod text_numbers

@@ -2,12 +2,12 @@
 use Rattle.std.specs.Prelude.{◌≡◌, ℕ, ◌+◌, ◌*◌, ◌/◌, ◌%◌, ◌^◌, ◌<◌, ◌≤◌, Bool, true, false, List, [], ◌∷◌, ◌++◌, codes, ◌==◌, if◌then◌else◌}
 use Rattle.std.specs.Fmt.{digits, decimal}
 use Rattle.std.specs.Str.Parse.{digits_value}
-use Rattle.text_numbers.specs.Numbers.{is_hex_number}
+use Rattle.lsn_core.specs.text_numbers.Numbers.{is_hex_number}
 use Rattle.lsn_core.specs.declared.ids.ForkKind.{ForkKind}
 use Rattle.lsn_core.specs.declared.ids.ForkKind.TheVariants.{Main, Init}
 use Rattle.lsn_core.specs.declared.ids.ForkId.{ForkId}
 use Rattle.lsn_core.specs.Segment.{segment_bytes}
-pub use Rattle.text_numbers.specs.Numbers.{eight_digits}
+pub use Rattle.lsn_core.specs.text_numbers.Numbers.{eight_digits}
 
 -- an LSN as PostgreSQL prints it (pg_lsn type)
 abbrev pub lsn_bytes : ℕ → List ℕ

@@ -8,10 +8,14 @@
 //! how everything is named. The trait `Pages` is a store behind calls that may fail; an
 //! implementation may tell which store it shows, or nothing.
 //!
-//! Left to others: the digits in names (`text_numbers`), areas of files and their failures
-//! (`vault`), what the pages hold (`pg_page`), and what the WAL does to a store (`history`).
+//! Two modules have definitions of their own, for all crates: `byte_words`, lists of bytes with
+//! the numbers in them, and `text_numbers`, the digits of numbers in texts and names.
+//!
+//! Left to others: areas of files and their failures (`vault`), what the pages hold (`pg_page`),
+//! and what the WAL does to a store (`history`).
 #![tactic(auto)]
 
+pub mod byte_words;
 mod fault;
 mod ids;
 mod laws;
@@ -22,6 +26,7 @@ mod paths;
 mod segment;
 mod sizes;
 mod text;
+pub mod text_numbers;
 
 pub use fault::{AreaFault, MarkFault, NoMemory, Side, StoreArea, StoreFault};
 pub use ids::{BlockId, ForkId, ForkKind, ForkLen, Rel};

@@ -3,12 +3,12 @@
 ghost use Rattle.std.specs.Prelude.{◌≡◌, ℕ, IfOk, IfSome, IfNone};
 ghost use Rattle.lsn_core.specs.Names.{lsn_bytes, IsLsnText};
 
+use crate::byte_words::cut_at;
 use crate::fault::NoMemory;
 use crate::text::Text;
-use byte_words::cut_at;
+use crate::text_numbers::hex_digits_in;
 use std::alloc::Global;
 use std::marker::Model;
-use text_numbers::hex_digits_in;
 
 /// A log sequence number: a byte position in the WAL (PostgreSQL manual, pg_lsn type).
 #[derive(Clone, Copy, Debug, PartialEq, Eq, PartialOrd, Ord)]

@@ -8,8 +8,8 @@ use crate::ids::{ForkId, ForkKind};
 use crate::lsn::Lsn;
 use crate::segment::SegSize;
 use crate::text::Text;
+use crate::text_numbers::eight_digits_front;
 use std::alloc::Global;
-use text_numbers::eight_digits_front;
 
 /// The number of the segment that has a place; the first place of segment 1 is the size of one.
 pub fn segment_of(at: Lsn, size: SegSize) -> u64

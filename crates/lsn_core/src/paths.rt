@@ -1,13 +1,13 @@
 //! The forks that paths name.
 
 ghost use Rattle.std.specs.Prelude.{◌≡◌, ◌<◌, ◌^◌, ◌++◌, false, IfSome, IfNone};
-ghost use Rattle.text_numbers.specs.Numbers.{IsFront, HasNoFront};
+ghost use Rattle.lsn_core.specs.text_numbers.Numbers.{IsFront, HasNoFront};
 ghost use Rattle.lsn_core.specs.Names.{segment_suffix, file_prefix, file_tail, plain_name, file_name, fork_path_bytes, IsNamed, NamesNoFork};
 ghost use Rattle.lsn_core.specs.PathParts.{IsNoSuffix, IsNoTail, IsNoPlainName, HasNoPrefix, IsNoFileName, in_database, IsInNoDatabase};
 
+use crate::byte_words::behind_prefix;
 use crate::ids::{ForkId, ForkKind, Rel};
-use byte_words::behind_prefix;
-use text_numbers::{decimal_front, decimal_in};
+use crate::text_numbers::{decimal_front, decimal_in};
 
 /// The number below 2^32 at the front, and what stands behind it. None exactly where there is none.
 fn number_front(text: &[u8]) -> Option<(u32, &[u8])>

@@ -9,9 +9,9 @@ use Rattle.shared_store.specs.Seen.{Seen, SharesStay, TakesFault, with_fault}
 use Rattle.shared_store.proofs.Booked.{one_stays}
 use Rattle.shared_store.specs.Shared.{TakesFaults}
 use Rattle.shared_store.specs.Locked.{HasRisen}
-use Rattle.summary_publish.specs.Published.{LooksOn, PublishCause, PublishTakes, AdvanceTakes}
-use Rattle.summary_publish.proofs.Adding.{stays_same}
-use Rattle.summary_publish.proofs.Later.{prefix_self}
+use Rattle.shared_summaries.specs.summary_publish.Published.{LooksOn, PublishCause, PublishTakes, AdvanceTakes}
+use Rattle.shared_summaries.proofs.summary_publish.Adding.{stays_same}
+use Rattle.shared_summaries.proofs.summary_publish.Later.{prefix_self}
 use Rattle.store_faults.specs.declared.advance_fault.AdvanceFault.{AdvanceFault}
 use Rattle.store_faults.specs.declared.advance_fault.AdvanceFault.TheVariants.{Gap, Store}
 use Rattle.shared_summaries.specs.Shelf.{TakesAdvanceFaults}

@@ -17,16 +17,16 @@ use Rattle.wal_summary.specs.Kept.{covers, is_covered}
 use Rattle.summary_file.specs.File.{IsFileOf, summary_bytes}
 use Rattle.summary_file.specs.Name.{summary_name_bytes}
 use Rattle.summary_store.specs.Kept.{IsSummaryIn, AreKept, end_behind}
-use Rattle.summary_publish.specs.Entries.{first_start}
-use Rattle.summary_publish.specs.Published.{IsNext, AreNext, IsWhole, with_file, with_files}
-use Rattle.summary_publish.specs.Partly.{MayWriteSummary, LeavesSome, MayAdvance}
+use Rattle.shared_summaries.specs.summary_publish.Entries.{first_start}
+use Rattle.shared_summaries.specs.summary_publish.Published.{IsNext, AreNext, IsWhole, with_file, with_files}
+use Rattle.shared_summaries.specs.summary_publish.Partly.{MayWriteSummary, LeavesSome, MayAdvance}
 use Rattle.shared_summaries.specs.Grown.{AreBehind, HasGrown, IsOldGap}
 use Rattle.shared_summaries.specs.Laws.{RunsBeginGrown, PublishingGrows, GapsAreOld}
-use Rattle.summary_publish.proofs.Ranges.{past_redo}
-use Rattle.summary_publish.specs.Torn.{HasFront}
-use Rattle.summary_publish.proofs.Torn.{front_of}
-use Rattle.summary_publish.proofs.Adding.{end_append}
-use Rattle.summary_publish.proofs.KeptFiles.{kept_once, kept_one, kept_beside, all_below, next_kept, end_from}
+use Rattle.shared_summaries.proofs.summary_publish.Ranges.{past_redo}
+use Rattle.shared_summaries.specs.summary_publish.Torn.{HasFront}
+use Rattle.shared_summaries.proofs.summary_publish.Torn.{front_of}
+use Rattle.shared_summaries.proofs.summary_publish.Adding.{end_append}
+use Rattle.shared_summaries.proofs.summary_publish.KeptFiles.{kept_once, kept_one, kept_beside, all_below, next_kept, end_from}
 use Rattle.summary_file.proofs.Ranges.{one_range}
 
 -- ---- names

@@ -6,20 +6,20 @@ use Rattle.vault.specs.Area.{Related}
 use Rattle.vault.specs.Site.{state_in}
 use Rattle.vault.specs.declared.area.Vault.{Ghosts}
 use Rattle.history.specs.Entry.{Entry}
-use Rattle.fuzzy_copies.specs.Orderly.{IsOrderly}
+use Rattle.history.specs.fuzzy_copies.Orderly.{IsOrderly}
 use Rattle.wal_summary.specs.declared.summary.Summary.{Summary}
 use Rattle.summary_store.specs.Kept.{AreKept}
 use Rattle.summary_store.specs.Honest.{IsHonest}
 use Rattle.shared_store.specs.Locked.{RunsOn}
-use Rattle.summary_publish.specs.Entries.{first_start}
-use Rattle.summary_publish.specs.Published.{Advances, AdvancesTo, AdvanceAnswers}
-use Rattle.summary_publish.specs.Partly.{MayPublish, MayAdvance, AdvancesPartly}
-use Rattle.summary_publish.specs.True.{IsTrue}
+use Rattle.shared_summaries.specs.summary_publish.Entries.{first_start}
+use Rattle.shared_summaries.specs.summary_publish.Published.{Advances, AdvancesTo, AdvanceAnswers}
+use Rattle.shared_summaries.specs.summary_publish.Partly.{MayPublish, MayAdvance, AdvancesPartly}
+use Rattle.shared_summaries.specs.summary_publish.True.{IsTrue}
 use Rattle.store_faults.specs.declared.advance_fault.AdvanceFault.{AdvanceFault}
 use Rattle.store_faults.specs.declared.advance_fault.AdvanceFault.TheVariants.{Gap, Store}
-use Rattle.summary_publish.proofs.Since.{runs_begin_true, true_is_honest, true_stays, publishing_keeps_true, crew_sums_up}
-use Rattle.summary_publish.proofs.Later.{prefix_self, prefix_trans}
-use Rattle.summary_publish.proofs.Ranges.{orderly_front}
+use Rattle.shared_summaries.proofs.summary_publish.Since.{runs_begin_true, true_is_honest, true_stays, publishing_keeps_true, crew_sums_up}
+use Rattle.shared_summaries.proofs.summary_publish.Later.{prefix_self, prefix_trans}
+use Rattle.shared_summaries.proofs.summary_publish.Ranges.{orderly_front}
 use Rattle.shared_summaries.specs.Grown.{HasGrown}
 use Rattle.shared_summaries.specs.Shelf.{IsTrueFor, HasGrownFor, AreShelved, states, HasPublished, HasCovered}
 use Rattle.shared_summaries.specs.Laws.{AnswersSumUp, CrewsKeepHonest}

@@ -10,8 +10,8 @@ use Rattle.history.specs.Entry.{Entry}
 use Rattle.journal.specs.Lawful.{IsLawful}
 use Rattle.shared_store.specs.Seen.{Seen, Booked, with_fault}
 use Rattle.shared_store.specs.Locked.{RunsOn, HasRisen}
-use Rattle.summary_publish.specs.Published.{GoesOnFrom}
-use Rattle.summary_publish.specs.declared.known.Known.{Known}
+use Rattle.shared_summaries.specs.summary_publish.Published.{GoesOnFrom}
+use Rattle.shared_summaries.specs.declared.summary_publish.known.Known.{Known}
 use Rattle.store_faults.specs.declared.advance_fault.AdvanceFault.{AdvanceFault}
 use Rattle.store_faults.specs.declared.advance_fault.AdvanceFault.TheVariants.{Gap, Store}
 use Rattle.shared_summaries.specs.Shelf.{AreShelved}

@@ -4,16 +4,16 @@ use Rattle.std.specs.List.{list_any}
 use mathlib.Core.List.{IsPrefix}
 use Rattle.lsn_core.specs.Files.{Files}
 use Rattle.history.specs.Entry.{Entry}
-use Rattle.fuzzy_copies.specs.Orderly.{IsOrderly}
-use Rattle.fuzzy_copies.specs.Summary.{summary_of}
+use Rattle.history.specs.fuzzy_copies.Orderly.{IsOrderly}
+use Rattle.history.specs.fuzzy_copies.Summary.{summary_of}
 use Rattle.wal_summary.specs.declared.summary.Summary.{Summary}
 use Rattle.wal_summary.specs.Summary.{IsSummary}
 use Rattle.wal_summary.specs.Kept.{IsCovering, IsGap}
 use Rattle.summary_store.specs.Kept.{AreKept, end_behind}
 use Rattle.summary_store.specs.Honest.{is_redo_start, IsHonest}
-use Rattle.summary_publish.specs.Entries.{first_start}
-use Rattle.summary_publish.specs.Published.{ArePublished, with_files}
-use Rattle.summary_publish.specs.Partly.{MayAdvance}
+use Rattle.shared_summaries.specs.summary_publish.Entries.{first_start}
+use Rattle.shared_summaries.specs.summary_publish.Published.{ArePublished, with_files}
+use Rattle.shared_summaries.specs.summary_publish.Partly.{MayAdvance}
 use Rattle.shared_summaries.specs.Grown.{HasGrown, IsOldGap}
 use Rattle.shared_summaries.specs.Shelf.{IsTrueFor, AreShelved}
 

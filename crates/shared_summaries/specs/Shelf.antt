@@ -4,14 +4,14 @@ use Rattle.lsn_core.specs.Files.{Files}
 use Rattle.vault.specs.Site.{AreaState}
 use Rattle.vault.specs.declared.area.Vault.{Ghosts}
 use Rattle.history.specs.Entry.{Entry}
-use Rattle.fuzzy_copies.specs.Orderly.{IsOrderly}
+use Rattle.history.specs.fuzzy_copies.Orderly.{IsOrderly}
 use Rattle.wal_summary.specs.declared.summary.Summary.{Summary}
 use Rattle.summary_store.specs.Kept.{AreKept}
 use Rattle.summary_store.specs.Honest.{IsHonest}
 use Rattle.shared_store.specs.Seen.{Seen, TakesFault}
-use Rattle.summary_publish.specs.Entries.{first_start}
-use Rattle.summary_publish.specs.Published.{Advances, AdvanceAnswers}
-use Rattle.summary_publish.specs.True.{IsTrue}
+use Rattle.shared_summaries.specs.summary_publish.Entries.{first_start}
+use Rattle.shared_summaries.specs.summary_publish.Published.{Advances, AdvanceAnswers}
+use Rattle.shared_summaries.specs.summary_publish.True.{IsTrue}
 use Rattle.store_faults.specs.declared.advance_fault.AdvanceFault.{AdvanceFault}
 use Rattle.store_faults.specs.declared.advance_fault.AdvanceFault.TheVariants.{Gap, Store}
 use Rattle.shared_summaries.specs.Grown.{HasGrown}

@@ -4,10 +4,11 @@ ghost use Rattle.std.specs.Prelude.{◌≡◌, ◌<◌, true, IfOk, box_value};
 ghost use Rattle.journal.specs.Lawful.{IsLawful};
 ghost use Rattle.shared_store.specs.Locked.{HasRisen};
 ghost use Rattle.shared_store.specs.Shared.{TakesFaults};
-ghost use Rattle.summary_publish.specs.Published.{LooksOn};
+ghost use Rattle.shared_summaries.specs.summary_publish.Published.{LooksOn};
 ghost use Rattle.shared_summaries.specs.Shelf.{AreShelved, HasPublished, HasCovered, TakesAdvanceFaults};
 
 use crate::kept::Kept;
+use crate::summary_publish::{Known, first_start};
 use lsn_core::{Lsn, StoreFault};
 use shared_store::{OfCrew, Pass, Store};
 use std::alloc::Global;
@@ -16,7 +17,6 @@ use std::sync::ledger::Book;
 use std::sync::{Mutex, Wait};
 use store_faults::AdvanceFault;
 use store_ledgers::AreaFaults;
-use summary_publish::{Known, first_start};
 use vault::Vault;
 use wal_summary::Summary;
 
@@ -57,7 +57,7 @@ impl<J: OfCrew, V: Vault> Summaries<J, V> {
         }
     }
 
-    /// Publishes under the lock what `summary_publish::advance` publishes of all that the pass sees
+    /// Publishes under the lock what `crate::summary_publish::advance` publishes of all that the pass sees
     /// then, and says how many summaries that were. Memory as there.
     pub fn advance(
         &self,

@@ -4,8 +4,8 @@ use Rattle.std.specs.List.{range_with_len}
 use Rattle.std.proofs.lemmas.Bool.{cases_lt, lt-ltb, le-ltb, cond-true, cond-false}
 use Rattle.std.proofs.lemmas.List.{ext_get_or, get_or-drop, get_or-take, get_or_append_left, get_or-append_right, get_or-replicate, get_or_past, length-take, length-drop, length-append, length-replicate, map-append}
 use Rattle.std.proofs.lemmas.List.FromFn.{length-map-range_with_len, get_or-map-range_with_len}
-use Rattle.byte_words.specs.Numbers.{aligned}
-use Rattle.byte_words.specs.Pieces.{zero_filled}
+use Rattle.lsn_core.specs.byte_words.Numbers.{aligned}
+use Rattle.lsn_core.specs.byte_words.Pieces.{zero_filled}
 use Rattle.wal_pages.specs.Places.{place, flat_before, head_size, IsBehindHead, page_of, stop_of}
 use Rattle.wal_pages.specs.Heads.{page_head}
 use Rattle.wal_pages.specs.Laws.{StandsIn}

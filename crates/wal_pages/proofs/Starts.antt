@@ -1,7 +1,7 @@
 -- Where entries start and end, and that numbers rise with places.
 use Rattle.std.proofs.Common.{◌≡◌, ℕ, ◌+◌, ◌-◌, ◌%◌, ◌<◌, ◌≤◌, min, sym, ap, subst, ◌∙◌, arith, inl, inr}
 use Rattle.std.proofs.lemmas.Bool.{cases_lt}
-use Rattle.byte_words.specs.Numbers.{aligned}
+use Rattle.lsn_core.specs.byte_words.Numbers.{aligned}
 use Rattle.wal_pages.specs.Places.{place, flat_before, head_size, IsBehindHead, page_of, start_after, stop_of, end_of}
 use Rattle.wal_pages.specs.Laws.{IsStart}
 use Rattle.wal_pages.proofs.Splits.{flat_on, flat_head, flat_place, place_behind, place_flat, place_rises, place_le, place_after, place_eight, page_passed, head_same, head_behind, head_bounds, head_eight}

@@ -2,7 +2,7 @@
 use Rattle.std.proofs.Common.{◌≡◌, ℕ, ◌+◌, ◌/◌, ◌%◌, ◌^◌, ◌<◌, ◌≤◌, Bool, true, false, cond, eqb, length, Some, None, refl, sym, ap, ◌∙◌, arith}
 use Rattle.std.specs.Prelude.{nat_lt, ◌==◌, ◌&&◌}
 use Rattle.std.proofs.lemmas.Bool.{eq-eqb}
-use Rattle.byte_words.specs.Numbers.{u16_in, u32_in, u64_in}
+use Rattle.lsn_core.specs.byte_words.Numbers.{u16_in, u32_in, u64_in}
 use Rattle.lsn_core.specs.Segment.{segment_bytes}
 use Rattle.wal_pages.specs.Places.{head_size}
 use Rattle.wal_pages.specs.Heads.{is_first_page, head_flags, long_part, head_bytes, page_head, info_fits, long_fault, first_fault, head_fault}

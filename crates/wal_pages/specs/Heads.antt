@@ -2,7 +2,7 @@
 -- a WAL of segments of mib MiB with a system identifier.
 use Rattle.std.specs.Prelude.{ℕ, ◌+◌, ◌%◌, ◌/◌, List, [], ◌++◌, Option, Some, None, nat_lt, ◌==◌, ◌&&◌, Bool, not, if◌then◌else◌}
 use Rattle.std.specs.Int.{w16, w32, w64, to_le_bytes}
-use Rattle.byte_words.specs.Numbers.{u16_in, u32_in, u64_in}
+use Rattle.lsn_core.specs.byte_words.Numbers.{u16_in, u32_in, u64_in}
 use Rattle.lsn_core.specs.Segment.{segment_bytes}
 use Rattle.lsn_core.specs.Sizes.{page_size, page_magic}
 use Rattle.wal_pages.specs.declared.heads.HeadFault.{HeadFault}

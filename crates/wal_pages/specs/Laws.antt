@@ -1,6 +1,6 @@
 -- What holds of places, heads and cut entries, for every segment size.
 use Rattle.std.specs.Prelude.{◌≡◌, ℕ, ◌+◌, ◌-◌, ◌%◌, ◌^◌, ◌<◌, ◌≤◌, List, length, get_or, Some, None}
-use Rattle.byte_words.specs.Numbers.{aligned}
+use Rattle.lsn_core.specs.byte_words.Numbers.{aligned}
 use Rattle.wal_pages.specs.Places.{place, flat_before, IsBehindHead, start_after, end_of}
 use Rattle.wal_pages.specs.Heads.{page_head, head_fault}
 use Rattle.wal_pages.specs.Spread.{spread}

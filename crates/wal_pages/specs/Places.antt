@@ -1,7 +1,7 @@
 -- Where the bytes of entries stand in the WAL (PostgreSQL manual, WAL Internals). Flat bytes are
 -- those that are no page head; they are numbered from 0. Segments are mib MiB.
 use Rattle.std.specs.Prelude.{ℕ, ◌+◌, ◌-◌, ◌*◌, ◌/◌, ◌%◌, ◌≤◌, nat_lt, if◌then◌else◌}
-use Rattle.byte_words.specs.Numbers.{aligned}
+use Rattle.lsn_core.specs.byte_words.Numbers.{aligned}
 use Rattle.lsn_core.specs.Segment.{segment_bytes}
 use Rattle.lsn_core.specs.Sizes.{page_size, short_head, long_head}
 

@@ -1,7 +1,7 @@
 //! The bytes of an entry, cut over pages: with the heads between them and zeros behind.
 
 ghost use Rattle.std.specs.Prelude.{◌≡◌, ◌+◌, ◌-◌, ◌%◌, ◌^◌, ◌<◌, ◌≤◌, ◌++◌, length, take, drop, IfOk, OnOk};
-ghost use Rattle.byte_words.specs.Pieces.{zero_filled};
+ghost use Rattle.lsn_core.specs.byte_words.Pieces.{zero_filled};
 ghost use Rattle.lsn_core.specs.Sizes.{page_size};
 ghost use Rattle.wal_pages.specs.Places.{flat_before, head_size, page_of, IsBehindHead, end_of};
 ghost use Rattle.wal_pages.specs.Heads.{head_flags, long_part, long_bytes, page_head};
@@ -9,7 +9,7 @@ ghost use Rattle.wal_pages.specs.Spread.{still_to_come, spread_from, spread};
 
 use crate::heads::is_first_page;
 use crate::places::{flat_before, head_size};
-use byte_words::behind;
+use lsn_core::byte_words::behind;
 use lsn_core::{PAGE, PAGE_MAGIC, SegSize, Settings};
 use std::alloc::{AllocError, Global};
 

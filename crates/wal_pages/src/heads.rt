@@ -4,7 +4,7 @@ ghost use Rattle.std.specs.Prelude.{◌≡◌, ◌≤◌, true, length, IsTrue, 
 ghost use Rattle.wal_pages.specs.Places.{head_size};
 ghost use Rattle.wal_pages.specs.Heads.{is_first_page, bit, info_fits, long_fault, size_fault, first_fault, head_fault};
 
-use byte_words::{u16_in, u32_in, u64_in};
+use lsn_core::byte_words::{u16_in, u32_in, u64_in};
 use lsn_core::{PAGE, PAGE_MAGIC, SegSize};
 
 /// Why the head of a WAL page refuses, in the order of the tests.

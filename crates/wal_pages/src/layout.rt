@@ -10,7 +10,7 @@ ghost use Rattle.wal_pages.specs.Spread.{spread};
 use crate::cutting::spread_pages;
 use crate::heads::{HeadFault, head_fault};
 use crate::places::{flat_before, head_size, place};
-use byte_words::aligned;
+use lsn_core::byte_words::aligned;
 use lsn_core::{Lsn, NoMemory, Settings};
 use std::alloc::Global;
 use std::marker::Model;

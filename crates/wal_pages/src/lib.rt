@@ -7,8 +7,10 @@
 //! bytes of an entry, and `laws` says that each of the entry's bytes stands there at its place.
 //! `check_head` gives the first test that a head doesn't pass.
 //!
-//! Left to others: what the bytes of an entry are (`wal_record`), and which bytes an area of
-//! files holds (`wal_archive`).
+//! The module `wal_heads` reads the head of an entry: its header and what it announces.
+//!
+//! Left to others: what an entry says and how it is written (`wal_record`), and which bytes an area
+//! of files holds (`wal_archive`).
 #![tactic(auto)]
 
 mod cutting;
@@ -16,6 +18,7 @@ mod heads;
 mod laws;
 mod layout;
 mod places;
+pub mod wal_heads;
 
 pub use heads::{HeadFault, head_fault, is_first_page};
 pub use laws::{

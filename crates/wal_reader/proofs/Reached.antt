@@ -1,6 +1,6 @@
 -- Ends that entries reach: behind the end before, and within the room of the WAL.
 use Rattle.std.proofs.Common.{◌≡◌, ℕ, zero, suc, ◌+◌, ◌-◌, ◌*◌, ◌%◌, ◌^◌, ◌<◌, ◌≤◌, ◌||◌, ◌==◌, Bool, true, false, if◌then◌else◌, sym, ap, subst, ◌∙◌, arith, inr}
-use Rattle.byte_words.specs.Numbers.{aligned}
+use Rattle.lsn_core.specs.byte_words.Numbers.{aligned}
 use Rattle.lsn_core.specs.Segment.{IsSegmentMib, segment_bytes}
 use Rattle.lsn_core.specs.Tip.{Tip}
 use Rattle.wal_pages.specs.Places.{place, flat_before, start_after, end_of}

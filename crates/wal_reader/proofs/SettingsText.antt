@@ -6,10 +6,10 @@ use Rattle.std.specs.Option.{option_map}
 use Rattle.std.proofs.lemmas.Bool.{ne_eqb, eqb-true}
 use Rattle.std.proofs.lemmas.List.{take_all, length-append, append_cancel_left, length-take}
 use Rattle.std.proofs.lemmas.Fmt.{decimal_injective, length-decimal-le}
-use Rattle.byte_words.specs.Cuts.{cut_at}
-use Rattle.byte_words.proofs.Cutting.{Lacks, front_of, back_of, cut_again, cut_whole}
-use Rattle.text_numbers.specs.Numbers.{all_digits}
-use Rattle.text_numbers.proofs.Decimal.{tells, decimal_is_digits}
+use Rattle.lsn_core.specs.byte_words.Cuts.{cut_at}
+use Rattle.lsn_core.proofs.byte_words.Cutting.{Lacks, front_of, back_of, cut_again, cut_whole}
+use Rattle.lsn_core.specs.text_numbers.Numbers.{all_digits}
+use Rattle.lsn_core.proofs.text_numbers.Decimal.{tells, decimal_is_digits}
 use Rattle.lsn_core.specs.Segment.{IsSegmentMib, IsRelseg}
 use Rattle.wal_reader.specs.Settings.{settings_text, IsSettingsText, GivesSettings, IsDamagedText}
 use Rattle.wal_reader.specs.Inside.{HasNoLine, HasNoNumbers, TellsNumbers}

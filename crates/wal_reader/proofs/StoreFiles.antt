@@ -7,8 +7,8 @@ use Rattle.std.proofs.lemmas.Bool.{and_from, eq-eqb}
 use Rattle.std.proofs.lemmas.Cmp.{eq_by_cmp_equiv}
 use Rattle.std.proofs.lemmas.List.Folds.{list_any_at, list_all-append}
 use Rattle.std.proofs.Math.Nat.{div-lt_iff_lt-mul, mod-lt, div-le_self}
-use Rattle.text_numbers.specs.Numbers.{all_upper_digits}
-use Rattle.text_numbers.proofs.EightDigits.{eight_upper}
+use Rattle.lsn_core.specs.text_numbers.Numbers.{all_upper_digits}
+use Rattle.lsn_core.proofs.text_numbers.EightDigits.{eight_upper}
 use Rattle.lsn_core.specs.Files.{Files}
 use Rattle.lsn_core.specs.Names.{per_group, segment_name_bytes, segment_file_bytes, HasSegmentName}
 use Rattle.lsn_core.specs.Segment.{IsSegmentMib, IsRelseg, StoreSettings, segment_bytes}

@@ -3,8 +3,8 @@ use Rattle.std.proofs.Common.{◌≡◌, ℕ, ◌+◌, ◌/◌, ◌%◌, ◌^◌
 use Rattle.std.proofs.lemmas.Bool.{ne_eqb, eqb-false, cases_lt}
 use Rattle.std.proofs.lemmas.List.{length-append, get_or_default}
 use Rattle.std.proofs.Math.Nat.{div-lt_iff_lt-mul, mod-lt, div-le_self}
-use Rattle.text_numbers.specs.Numbers.{eight_digits}
-use Rattle.text_numbers.proofs.EightDigits.{length-eight_digits}
+use Rattle.lsn_core.specs.text_numbers.Numbers.{eight_digits}
+use Rattle.lsn_core.proofs.text_numbers.EightDigits.{length-eight_digits}
 use Rattle.lsn_core.specs.Segment.{IsSegmentMib, segment_bytes}
 use Rattle.lsn_core.specs.Names.{per_group, segment_file_bytes, HasSegmentName}
 use Rattle.lsn_core.proofs.SegmentNames.{name_of_first, one_segment}

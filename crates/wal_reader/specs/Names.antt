@@ -1,6 +1,6 @@
 -- The names of the files of a WAL (WAL Internals): whether there is a WAL, and of which timeline.
 use Rattle.std.specs.Prelude.{◌≡◌, ◌≢◌, ℕ, ◌<◌, Bool, List, [], length, get_or, ◌==◌, ◌&&◌}
-use Rattle.text_numbers.specs.Numbers.{all_upper_digits}
+use Rattle.lsn_core.specs.text_numbers.Numbers.{all_upper_digits}
 use Rattle.lsn_core.specs.Names.{HasSegmentName, segment_file_bytes}
 
 -- 24 upper-case hexadecimal digits

@@ -4,7 +4,7 @@ use Rattle.std.specs.Prelude.{◌≡◌, ℕ, ◌≤◌, Bool, true, false, Opti
 use Rattle.std.specs.Fmt.{decimal}
 use Rattle.std.specs.List.{list_any}
 use Rattle.std.specs.FinMap.{get, keys}
-use Rattle.byte_words.specs.Numbers.{u64_in}
+use Rattle.lsn_core.specs.byte_words.Numbers.{u64_in}
 use Rattle.lsn_core.specs.Files.{Files}
 use Rattle.lsn_core.specs.Names.{segment_name_bytes}
 use Rattle.lsn_core.specs.Segment.{IsSegmentMib, IsRelseg, StoreSettings}

@@ -6,7 +6,7 @@ ghost use Rattle.vault.specs.Frame.{OnlyReads};
 ghost use Rattle.lsn_core.specs.Sizes.{page_size};
 ghost use Rattle.wal_reader.specs.Inside.{IsFileFront, IsFrontIfThere, IsFrontRead};
 
-use byte_words::zeros;
+use lsn_core::byte_words::zeros;
 use lsn_core::{AreaFault, PAGE};
 use std::alloc::Global;
 use vault::Vault;

@@ -10,12 +10,13 @@
 //! are then. A caller that goes through the archive keeps `ReadsOn`; `proofs/Passing.antt` leads
 //! from it to `IsWal` at the end and to `IsDamaged` at damage. A cursor is made from the settings
 //! of the WAL (`specs/Settings.antt`), which `read_settings` takes from the names of the files,
-//! the file `settings` and the first page of the first segment.
+//! the file `settings` and the first page of the first segment. The module `wal_pieces` gives so
+//! many entries at once from a place on.
 //!
-//! Left to others: how an entry is written (`wal_record`), where its bytes stand (`wal_pages`), the
-//! reading rules and the reading of bytes (`wal_archive`), the names of segment files and their
-//! size (`lsn_core`), the area and its failures (`vault`), and what the entries do to a store
-//! (`history`). Nothing here changes an area.
+//! Left to others: how an entry is written (`wal_record`), where its bytes stand (`wal_pages`),
+//! the reading rules and the reading of bytes (`wal_archive`), the names of segment files and
+//! their size (`lsn_core`), the area and its failures (`vault`), and what the entries do to a
+//! store (`history`). Nothing here changes an area.
 #![tactic(auto)]
 
 mod cursor;
@@ -26,6 +27,7 @@ mod laws;
 mod names;
 mod settings;
 mod step;
+pub mod wal_pieces;
 
 pub use cursor::WalCursor;
 pub use fault::WalFault;

@@ -2,7 +2,7 @@
 
 ghost use Rattle.std.specs.Prelude.{◌≡◌, ◌≤◌, ◌↔◌, IsTrue, IfSome, IfNone, get_or, length};
 ghost use Rattle.std.specs.List.{list_any};
-ghost use Rattle.text_numbers.specs.Numbers.{all_upper_digits};
+ghost use Rattle.lsn_core.specs.text_numbers.Numbers.{all_upper_digits};
 ghost use Rattle.lsn_core.specs.Sizes.{most_segments};
 ghost use Rattle.wal_reader.specs.Names.{is_wal_name, IsOtherTimeline, IsFirstOther, HasNoOther};
 ghost use Rattle.wal_reader.specs.Settings.{IsLeastOf};

@@ -13,10 +13,10 @@ ghost use Rattle.wal_reader.specs.Inside.{TellsSettings, TellsSystem};
 use crate::fault::WalFault;
 use crate::front::{front, front_if_there};
 use crate::names::{has_wal_name, least_segment, other_timeline};
-use byte_words::{behind_prefix, cut_at, u64_in};
+use lsn_core::byte_words::{behind_prefix, cut_at, u64_in};
+use lsn_core::text_numbers::decimal_in;
 use lsn_core::{AreaFault, MOST_RELSEG, NoMemory, SegSize, Settings, Text, segment_name};
 use std::alloc::Global;
-use text_numbers::decimal_in;
 use vault::Vault;
 
 /// The name of the file of settings (profile).

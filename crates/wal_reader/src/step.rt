@@ -2,7 +2,7 @@
 
 ghost use Rattle.std.specs.Prelude.{◌≡◌, ◌≤◌, ◌^◌, true, false, length};
 ghost use Rattle.vault.specs.Frame.{OnlyReads};
-ghost use Rattle.wal_heads.specs.Header.{most_total};
+ghost use Rattle.wal_pages.specs.wal_heads.Header.{most_total};
 ghost use Rattle.wal_reader.specs.Wal.{tip_at};
 ghost use Rattle.wal_reader.specs.Cursor.{IsReached, CanStep};
 ghost use Rattle.wal_reader.specs.Inside.{is_in_room, fault_at, JudgeAnswer};

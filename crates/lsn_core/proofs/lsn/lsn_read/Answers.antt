@@ -1,5 +1,5 @@
 use Rattle.std.proofs.Common.{ℕ, Some, sym, ap, ◌∙◌}
-use Rattle.byte_words.proofs.Cutting.{none_anyway}
+use Rattle.lsn_core.proofs.byte_words.Cutting.{none_anyway}
 use Rattle.lsn_core.proofs.LsnTexts.{not_cut, not_high, not_low, is_lsn}
 use Rattle.lsn_core.proofs.lsn.lsn_read.Goals as goal
 

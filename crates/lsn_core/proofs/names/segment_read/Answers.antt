@@ -1,7 +1,7 @@
 -- The three groups are those of one segment.
 use Rattle.std.proofs.Common.{ℕ, List, length, ◌==◌, ◌/◌, sym, ap, arith}
 use Rattle.std.proofs.lemmas.Bool.{both_ways}
-use Rattle.byte_words.proofs.Cutting.{none_anyway}
+use Rattle.lsn_core.proofs.byte_words.Cutting.{none_anyway}
 use Rattle.lsn_core.proofs.SegmentNames.{no_high, no_low, no_number}
 use Rattle.lsn_core.proofs.names.segment_read.Goals as goal
 use Rattle.lsn_core.proofs.names.segment_read.Goals.{then-not-is_empty-via-then-not-is_empty, then-not-is_empty-via-else-not-is_empty+then-from-per_group}

@@ -1,4 +1,4 @@
-use Rattle.byte_words.proofs.Cutting.{none_anyway}
+use Rattle.lsn_core.proofs.byte_words.Cutting.{none_anyway}
 use Rattle.lsn_core.proofs.ForkPaths.{no_folder}
 use Rattle.lsn_core.proofs.paths.database_in.Goals as goal
 

@@ -1,4 +1,4 @@
-use Rattle.byte_words.proofs.Cutting.{none_anyway}
+use Rattle.lsn_core.proofs.byte_words.Cutting.{none_anyway}
 use Rattle.lsn_core.proofs.ForkPaths.{no_file_name}
 use Rattle.lsn_core.proofs.paths.file_name_in.Goals as goal
 

@@ -1,7 +1,7 @@
 -- What no part of a path names, no fork has as its path.
 use Rattle.std.proofs.Common.{false, refl}
 use Rattle.std.proofs.lemmas.Bool.{both_ways}
-use Rattle.byte_words.proofs.Cutting.{none_anyway}
+use Rattle.lsn_core.proofs.byte_words.Cutting.{none_anyway}
 use Rattle.lsn_core.proofs.ForkPaths.{no_name, no_relation}
 use Rattle.lsn_core.proofs.paths.path_fork.Goals as goal
 

@@ -3,10 +3,10 @@ use mathlib.Core.List.{IsPrefix}
 use Rattle.journal.specs.Lawful.{IsLawful}
 use Rattle.shared_store.specs.Locked.{RunsOn}
 use Rattle.shared_store.specs.Shared.{TakesFaults}
-use Rattle.summary_publish.specs.Published.{LooksOn, GoesOnFrom}
-use Rattle.summary_publish.proofs.Going.{goes_later}
-use Rattle.summary_publish.proofs.Adding.{looks_on}
-use Rattle.summary_publish.proofs.Later.{prefix_trans}
+use Rattle.shared_summaries.specs.summary_publish.Published.{LooksOn, GoesOnFrom}
+use Rattle.shared_summaries.proofs.summary_publish.Going.{goes_later}
+use Rattle.shared_summaries.proofs.summary_publish.Adding.{looks_on}
+use Rattle.shared_summaries.proofs.summary_publish.Later.{prefix_trans}
 use Rattle.shared_summaries.specs.Shelf.{AreShelved, HasPublished}
 use Rattle.shared_summaries.specs.Inside.{HasBooked, fault_of}
 use Rattle.shared_summaries.proofs.Shelves.{begins_so, shelved_on, published_so}

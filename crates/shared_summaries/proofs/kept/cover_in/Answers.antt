@@ -2,10 +2,10 @@ use Rattle.std.proofs.Common.{◌≡◌, true, subst, sym, ◌∙◌}
 use mathlib.Core.List.{IsPrefix}
 use Rattle.journal.specs.Lawful.{IsLawful}
 use Rattle.shared_store.specs.Locked.{RunsOn}
-use Rattle.summary_publish.specs.Published.{LooksOn, GoesOnFrom}
-use Rattle.summary_publish.proofs.Going.{goes_later}
-use Rattle.summary_publish.proofs.Adding.{looks_on}
-use Rattle.summary_publish.proofs.Later.{prefix_trans}
+use Rattle.shared_summaries.specs.summary_publish.Published.{LooksOn, GoesOnFrom}
+use Rattle.shared_summaries.proofs.summary_publish.Going.{goes_later}
+use Rattle.shared_summaries.proofs.summary_publish.Adding.{looks_on}
+use Rattle.shared_summaries.proofs.summary_publish.Later.{prefix_trans}
 use Rattle.shared_summaries.specs.Shelf.{AreShelved, HasCovered, TakesAdvanceFaults}
 use Rattle.shared_summaries.specs.Inside.{HasBooked, advance_fault}
 use Rattle.shared_summaries.proofs.Shelves.{begins_so, shelved_on, covered_so}

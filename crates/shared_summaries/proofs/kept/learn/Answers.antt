@@ -2,7 +2,7 @@ use Rattle.std.proofs.Common.{◌≡◌, true, ap, subst, sym, ◌∙◌}
 use mathlib.Core.List.{IsPrefix}
 use Rattle.journal.specs.Lawful.{IsLawful}
 use Rattle.shared_store.specs.Locked.{RunsOn}
-use Rattle.summary_publish.proofs.Adding.{stays_same}
+use Rattle.shared_summaries.proofs.summary_publish.Adding.{stays_same}
 use Rattle.shared_summaries.proofs.kept.learn.Goals as goal
 
 pub learn-requires-clause-grown : goal.learn-requires-clause-grown

@@ -1,6 +1,6 @@
 -- The buffer, cut to what was read, is the file's beginning.
 use Rattle.std.proofs.Common.{◌≡◌, length, take, sym, ap, ◌∙◌}
-use Rattle.byte_words.specs.Told.{when_told}
+use Rattle.lsn_core.specs.byte_words.Told.{when_told}
 use Rattle.vault.specs.Area.{bytes_of}
 use Rattle.wal_reader.proofs.Fronts.{kept}
 use Rattle.wal_reader.proofs.front.front.Goals as goal

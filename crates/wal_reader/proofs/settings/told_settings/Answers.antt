@@ -2,7 +2,7 @@
 use Rattle.std.proofs.Common.{◌≡◌, Some, None, codes, take, ap, ◌∙◌}
 use Rattle.std.specs.FinMap.{get}
 use Rattle.std.specs.Option.{option_map}
-use Rattle.byte_words.specs.Told.{when_told}
+use Rattle.lsn_core.specs.byte_words.Told.{when_told}
 use Rattle.wal_reader.specs.Inside.{TellsNumbers}
 use Rattle.wal_reader.proofs.SettingsText.{told_by, told_absent}
 use Rattle.wal_reader.proofs.settings.told_settings.Goals as goal

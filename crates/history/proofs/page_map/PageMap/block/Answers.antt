@@ -1,7 +1,7 @@
 use Rattle.std.proofs.Common.{Option, Some, None, sym, ap, ◌∙◌}
 use Rattle.std.specs.Prelude.{slice_get}
 use Rattle.lsn_core.specs.Store.{Store, ForkPages}
-use Rattle.byte_words.specs.Numbers.{◌>>=◌}
+use Rattle.lsn_core.specs.byte_words.Numbers.{◌>>=◌}
 use Rattle.lsn_core.specs.Blocks.{block_of}
 use Rattle.history.proofs.StoreMap.{get_found}
 use Rattle.history.proofs.page_map.PageMap.block.Goals as goal

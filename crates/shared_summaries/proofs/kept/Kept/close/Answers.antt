@@ -1,6 +1,6 @@
 use Rattle.std.proofs.Common.{◌≡◌, true, box_value, sym, subst}
 use Rattle.shared_store.specs.Locked.{HasRisen}
-use Rattle.summary_publish.proofs.Adding.{stays_same}
+use Rattle.shared_summaries.proofs.summary_publish.Adding.{stays_same}
 use Rattle.shared_summaries.specs.Shelf.{AreShelved}
 use Rattle.shared_summaries.proofs.Shelves.{begins_so, shelved_later}
 use Rattle.shared_summaries.proofs.kept.Kept.close.Goals as goal

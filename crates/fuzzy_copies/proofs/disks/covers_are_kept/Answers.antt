@@ -1,8 +1,0 @@
-use Rattle.fuzzy_copies.proofs.Covering.{added, writes}
-use Rattle.fuzzy_copies.proofs.disks.covers_are_kept.Goals as goal
-
-pub returns-clause-added : goal.returns-clause-added
-returns-clause-added c = added
-
-pub returns-clause-written : goal.returns-clause-written
-returns-clause-written c = writes

@@ -1,8 +1,0 @@
-use Rattle.fuzzy_copies.proofs.Restored.{sound_restored, taken_restored}
-use Rattle.fuzzy_copies.proofs.laws.copies_are_restored.Goals as goal
-
-pub returns-clause-sound : goal.returns-clause-sound
-returns-clause-sound c = sound_restored
-
-pub returns-clause-taken : goal.returns-clause-taken
-returns-clause-taken c = taken_restored

@@ -1,8 +1,0 @@
-use Rattle.partitions.proofs.Folds.{others_leave, passed_over}
-use Rattle.partitions.proofs.laws.other_entries_leave_parts.Goals as goal
-
-pub returns-clause-left : goal.returns-clause-left
-returns-clause-left c = others_leave
-
-pub returns-clause-passed : goal.returns-clause-passed
-returns-clause-passed c = passed_over

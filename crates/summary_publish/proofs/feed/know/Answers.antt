@@ -1,6 +1,0 @@
-use Rattle.std.proofs.Common.{◌≡◌, true}
-use Rattle.summary_publish.proofs.OfStore.{orderly_now}
-use Rattle.summary_publish.proofs.feed.know.Goals as goal
-
-pub returns : goal.returns
-returns g c = orderly_now (g.J.OfStore.tells ≡ true) g.J.OfCrew.settings.segment c.args.pass.now.list c.know.ensures.lawful
