@@ -1,11 +1,10 @@
 -- What the files of a combined backup hold.
-use Rattle.std.proofs.Common.{◌≡◌, ℕ, ◌^◌, ◌<◌, Bool, true, false, cond, List, [], ◌∷◌, ◌++◌, length, take, Option, Some, None, IfSome, Result, IfOk, refl, sym, ap, subst, ◌∙◌, arith}
+use Rattle.std.proofs.Common.{◌≡◌, ℕ, Bool, true, false, cond, List, [], ◌∷◌, ◌++◌, length, take, Option, Some, None, IfSome, Result, IfOk, refl, sym, ap, subst, ◌∙◌, arith}
 use Rattle.std.specs.Prelude.{slice_get}
 use Rattle.std.specs.Str.{bytes_eq}
 use Rattle.std.proofs.lemmas.List.{length-append}
-use Rattle.byte_words.specs.Told.{when_told}
-use Rattle.byte_words.specs.Numbers.{◌>>=◌}
-use Rattle.sha2.specs.Sha256.{sha256}
+use Rattle.lsn_core.specs.byte_words.Told.{when_told}
+use Rattle.lsn_core.specs.byte_words.Numbers.{◌>>=◌}
 use Rattle.lsn_core.specs.Files.{Files}
 use Rattle.lsn_core.specs.Names.{fork_path_bytes, IsNamed}
 use Rattle.lsn_core.specs.declared.ids.ForkId.{ForkId}
@@ -14,9 +13,7 @@ use Rattle.vault.specs.Area.{bytes_of}
 use Rattle.vault.specs.declared.area.Vault.{Ghosts}
 use Rattle.vault.specs.declared.lending.Held.{Held}
 use Rattle.incr_file.specs.Form.{pages_bytes}
-use Rattle.manifest.specs.declared.listing.FileRow.{FileRow}
 use Rattle.backup_files.specs.Directory.{label_name}
-use Rattle.backup_files.specs.Rows.{row_with}
 use Rattle.backup_files.proofs.Passed.{ok_more}
 use Rattle.chain_check.specs.Directory.{IsForkFile}
 use Rattle.chain_check.proofs.ForkFiles.{fork_file}
@@ -24,14 +21,16 @@ use Rattle.chain_files.specs.Segments.{chain_segments, AllHaveForms}
 use Rattle.chain_files.specs.Sources.{OfChain}
 use Rattle.chain_files.specs.Told.{chain_told, told_at}
 use Rattle.chain_files.proofs.Told.{member_told, members_told}
-use Rattle.combine.specs.Combined.{EndsWith, first_lines, kept_bytes}
-use Rattle.combine.specs.Inside.{Holds, IsContent, IsContentOf, IsLast, IsMade, IsTarget, PutsFile}
-use Rattle.combine.specs.declared.fault.CombineFault.{CombineFault}
-use Rattle.combine.specs.declared.growing.Growing.{Growing}
-use Rattle.combine.specs.declared.targets.Target.{Target}
+use Rattle.directory_files.specs.Labels.{first_lines}
+use Rattle.combine.specs.Combined.{EndsWith, kept_bytes}
+use Rattle.combine.specs.Inside.{IsContent, IsContentOf, IsLast, IsTarget}
+use Rattle.directory_files.specs.Written.{IsMade}
+use Rattle.directory_files.specs.declared.fault.WriteFault.{WriteFault}
+use Rattle.directory_files.specs.declared.growing.Growing.{Growing}
+use Rattle.directory_files.specs.declared.targets.Target.{Target}
 
 -- what a file holds is also said otherwise
-pub made_more : (P Q : List ℕ → Type 0) (path to : List ℕ) (old new : Option Files) (r : Result Growing CombineFault) → path ≡ to → ((bytes : List ℕ) → P bytes → Q bytes) → IfOk r (IsMade P path old new) → IfOk r (IsMade Q to old new)
+pub made_more : (P Q : List ℕ → Type 0) (path to : List ℕ) (old new : Option Files) (r : Result Growing WriteFault) → path ≡ to → ((bytes : List ℕ) → P bytes → Q bytes) → IfOk r (IsMade P path old new) → IfOk r (IsMade Q to old new)
 made_more P Q path to old new r same more made =
     subst (λ (p : List ℕ). IfOk r (IsMade Q p old new)) same
     (ok_more r (IsMade P path old new) (IsMade Q path old new) (λ file is. record { bytes = is.bytes; holds = is.holds; content = more is.bytes is.content; stands = is.stands }) made)
@@ -52,7 +51,7 @@ at_end [] x = refl
 at_end (y ∷ xs) x = at_end xs x
 
 -- the last place's area tells the last directory
-last_told : {V : Type 0} (g : Ghosts V) (areas : List (Held V)) (places : List ℕ) (place : ℕ) (chain : List Files) (newest : Files) → IsLast places place → chain_told g areas places ≡ Some chain → EndsWith chain newest → told_at g areas place ≡ Some newest
+pub last_told : {V : Type 0} (g : Ghosts V) (areas : List (Held V)) (places : List ℕ) (place : ℕ) (chain : List Files) (newest : Files) → IsLast places place → chain_told g areas places ≡ Some chain → EndsWith chain newest → told_at g areas place ≡ Some newest
 last_told g areas places place chain newest last told ends =
     let k = length last.0 in
     let here : slice_get places k ≡ Some place = ap (λ (l : List ℕ). slice_get l k) last.1 ∙ at_end last.0 place in
@@ -61,7 +60,7 @@ last_told g areas places place chain newest last told ends =
     sym (ap (λ (o : Option ℕ). o >>= told_at g areas) here) ∙ (sym (member_told g areas places chain k told) ∙ there)
 
 -- where all is told
-when_all : {A : Type 0} (o : Option A) (P : A → Type 0) → ((x : A) → o ≡ Some x → P x) → IfSome o P
+pub when_all : {A : Type 0} (o : Option A) (P : A → Type 0) → ((x : A) → o ≡ Some x → P x) → IfSome o P
 when_all None P step = tt
 when_all (Some x) P step = step x refl
 
@@ -90,19 +89,3 @@ rebuilt_content told target bytes fork seg named spelled rebuilt =
       kept = λ none. absurd (none (fork_file fork seg named spelled));
     })
     rebuilt
-
--- ---- a file that was put
-
-pub file_put : (told : Option (List Files)) (target : Target) (modified path sum : List ℕ) (size : ℕ) (old new : Option Files) (before rows : List FileRow) (row : FileRow) (file : Growing) → IsMade (IsContent told target) target.to old new file → size ≡ file.size → size < 2 ^ 64
-    → ((bytes : List ℕ) → Holds file bytes → sum ≡ sha256 bytes) → path ≡ target.to → row ≡ row_with path size modified sum → rows ≡ before ++ (row ∷ []) → PutsFile told target modified old new before rows
-file_put told target modified path sum size old new before rows row file made size_is small sum_is path_is row_is grown =
-    let long : size ≡ length made.bytes = size_is ∙ made.holds.0 in
-    record {
-      bytes = made.bytes;
-      fits = omega (arith, long, small);
-      content = made.content;
-      stands = made.stands;
-      listed =
-          grown ∙ ap (λ (r : FileRow). before ++ (r ∷ []))
-          (row_is ∙ (ap (λ (x : List ℕ). row_with x size modified sum) path_is ∙ (ap (λ (n : ℕ). row_with target.to n modified sum) long ∙ ap (λ (x : List ℕ). row_with target.to (length made.bytes) modified x) (sum_is made.bytes made.holds))));
-    }

@@ -5,9 +5,9 @@ use Rattle.std.specs.List.{AllByRecursion, list_any}
 use Rattle.lsn_core.specs.declared.lsn.Lsn.{Lsn}
 use Rattle.backup_label.specs.Label.{LabelLine, Start, Checkpoint, Method, From, Time, Name, Timeline, PriorStart, PriorTimeline, full_lines, prior_lines, label_lines, key_of, ValueSays, HasNoLineEnd, IsKeyLine, Lines, LineOf, IsLabel}
 use Rattle.backup_label.specs.declared.label.Label.{Label}
-use Rattle.combine.specs.Combined.{first_lines}
+use Rattle.directory_files.specs.Labels.{first_lines}
 use Rattle.combine.specs.Laws.{full_label}
-use Rattle.combine.proofs.Standing.{neither}
+use Rattle.directory_files.proofs.Standing.{neither}
 
 -- ---- one line
 

@@ -19,13 +19,16 @@ use Rattle.chain_check.specs.Directory.{HasManifest, IsRowAsListed, is_listed, H
 use Rattle.chain_check.specs.Chain.{IsOnOneTimeline, AreLinked, IsAccepted}
 use Rattle.chain_check.specs.declared.member.Member.{Member}
 use Rattle.chain_check.proofs.ForkFiles.{fork_file}
-use Rattle.combine.specs.Combined.{IsCombined, first_lines, kept_bytes, other_rows, relisted}
+use Rattle.directory_files.specs.Labels.{first_lines}
+use Rattle.combine.specs.Combined.{IsCombined, IsCombinedFile, kept_bytes, other_rows, relisted}
 use Rattle.combine.specs.Laws.{CombinedIsAsListed, FullMembersAreChains, full_label}
-use Rattle.combine.proofs.Among.{Among, of_all, all_among, all_of_map, File, name_of}
+use Rattle.directory_files.specs.Relisted.{File, Rule}
+use Rattle.directory_files.proofs.Among.{Among, of_all, all_among, all_of_map, name_of}
+use Rattle.directory_files.proofs.Standing.{fork_unlike, label_apart, same_path, neither, none_if, other_row, is_other, file_for, put_in, stands_in, all_listed, all_made}
 use Rattle.combine.proofs.FullLabels.{full_text}
 use Rattle.combine.proofs.SameSegments.{kept_whole}
 use Rattle.chain_files.proofs.Pages.{HaveSize, chain_sized, bytes_length}
-use Rattle.combine.proofs.Standing.{fork_unlike, label_apart, same_path, neither, none_if, row_at, none_listed, other_row, is_other, file_for, put_in, stands_in, no_part, found_in, all_listed, all_made}
+use Rattle.combine.proofs.Standing.{row_at, none_listed, no_part, found_in}
 
 -- a remainder that can't be other than none is none
 none_left : (n : ℕ) → ((n ≡ 0 → ⊥) → ⊥) → n ≡ 0
@@ -36,6 +39,9 @@ never_true : (b : Bool) → b ≡ true → b ≡ false → ⊥
 never_true b t f = let never : true ≡ false = sym t ∙ f in cc
 
 module _ (chain : List Files) (newest : Files) (member : Member) (when count : ℕ) (out : Files) (listed : IsAsListed newest member) (is : IsCombined chain newest member.manifest when count out) where
+  abbrev rule : Rule
+  rule = IsCombinedFile chain newest
+
   -- ---- the rows
 
   row_listed : (file : File) → Among file is.files → IsRowAsListed out (row_of is.modified file)
@@ -48,7 +54,7 @@ module _ (chain : List Files) (newest : Files) (member : Member) (when count : �
 
   pub rows_listed : AllByRecursion (IsRowAsListed out) is.rows
   rows_listed =
-      all_listed chain newest member when count out is (IsRowAsListed out)
+      all_listed rule member.manifest when count out is (IsRowAsListed out)
       (all_map (row_of is.modified) (IsRowAsListed out) is.files (all_among (λ f. IsRowAsListed out (row_of is.modified f)) is.files row_listed))
 
   -- a file that was put is listed
@@ -57,7 +63,7 @@ module _ (chain : List Files) (newest : Files) (member : Member) (when count : �
       elim (is_listed is.rows file.0) as (λ b. is_listed is.rows file.0 ≡ b → b ≡ true) [
         | true ↦ λ e. refl
         | false ↦ λ e.
-            let none = all_made chain newest member when count out is (λ row. bytes_eq row.path file.0 ≡ false) (none_listed is.rows file.0 e) in
+            let none = all_made rule member.manifest when count out is (λ row. bytes_eq row.path file.0 ≡ false) (none_listed is.rows file.0 e) in
             let other = of_all (λ (f : File). bytes_eq f.0 file.0 ≡ false) file is.files (all_of_map (row_of is.modified) (λ row. bytes_eq row.path file.0 ≡ false) is.files none) among in
             absurd (never_true (bytes_eq file.0 file.0) (same_path file.0 file.0 refl) other)
       ] refl
@@ -68,7 +74,7 @@ module _ (chain : List Files) (newest : Files) (member : Member) (when count : �
       let rest = neither (starts_with nat_eq path (codes "pg_wal/")) (is_listed is.rows path) first.1 in
       none_if (get out path) (λ bytes there.
       let apart : path ≢ manifest_name = λ m. never_true (bytes_eq path manifest_name) (same_path path manifest_name m) first.0 in
-      never_true (is_listed is.rows path) (put_listed (path, bytes) (put_in chain newest member when count out is path bytes apart there)) rest.1)
+      never_true (is_listed is.rows path) (put_listed (path, bytes) (put_in rule member.manifest when count out is path bytes apart there)) rest.1)
 
   -- ---- the label
 
@@ -77,7 +83,7 @@ module _ (chain : List Files) (newest : Files) (member : Member) (when count : �
       let rows = member.manifest.files in
       let row = row_at rows label_name listed.label_row in
       let other = other_row rows row.0 row.1 (λ m. label_apart (sym row.2 ∙ m)) in
-      let file = file_for chain newest (other_rows rows) is.files row.0 is.stand other in
+      let file = file_for rule (other_rows rows) is.files row.0 is.stand other in
       let plain : IsForkFile row.0.path true → ⊥ = λ f. fork_unlike f.fork f.seg true (sym f.spelled ∙ row.2) in
       let same : file.0 ≡ (label_name, kept_bytes newest label_name) = file.2.kept plain ∙ ap (λ (p : List ℕ). (p, kept_bytes newest p)) row.2 in
       subst (λ (f : File). Among f is.files) same file.1
@@ -104,7 +110,7 @@ module _ (chain : List Files) (newest : Files) (member : Member) (when count : �
 
   plain_whole : (file : File) → Among file is.files → IsForkFile file.0 false → length file.1 % 8192 ≡ 0
   plain_whole file among plain = none_left (length file.1 % 8192) (λ never.
-      let row = stands_in chain newest member when count out is file among in
+      let row = stands_in rule member.manifest when count out is file among in
       let here = (is_other member.manifest.files row.0 row.1).0 in
       let there = of_all (IsRowAsListed newest) row.0 member.manifest.files listed.rows here in
       let form = of_all (HasForm newest) row.0 member.manifest.files listed.forms here in
@@ -127,7 +133,7 @@ module _ (chain : List Files) (newest : Files) (member : Member) (when count : �
 
   pub rows_formed : AllByRecursion (HasForm out) is.rows
   rows_formed =
-      all_listed chain newest member when count out is (HasForm out)
+      all_listed rule member.manifest when count out is (HasForm out)
       (all_map (row_of is.modified) (HasForm out) is.files (all_among (λ f. HasForm out (row_of is.modified f)) is.files file_form))
 
   -- ---- the manifest

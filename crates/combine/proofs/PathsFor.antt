@@ -14,8 +14,10 @@ use Rattle.chain_check.specs.Directory.{IsForkFile}
 use Rattle.chain_check.proofs.ForkFiles.{fork_file, one_form, one_plain}
 use Rattle.combine.specs.Calls.{IsPathFor, ArePathsFor}
 use Rattle.combine.specs.Combined.{other_rows}
-use Rattle.combine.specs.Inside.{AreTargets, IsTarget, to_of}
-use Rattle.combine.specs.declared.targets.Target.{Target}
+use Rattle.directory_files.specs.Written.{to_of}
+use Rattle.directory_files.specs.declared.targets.Target.{Target}
+use Rattle.directory_files.proofs.Directories.{AreOthers}
+use Rattle.combine.specs.Inside.{AreTargets, IsTarget}
 
 -- ---- whether a file is incremental
 
@@ -67,6 +69,11 @@ each_target [] targets are = subst (AllByRecursion (λ t. IsTarget t.from t)) (s
 each_target (row ∷ rows) targets are =
     subst (AllByRecursion (λ t. IsTarget t.from t)) (sym are.2)
     (subst (λ (path : List ℕ). IsTarget path are.0) (sym are.3.from) are.3, each_target rows are.1 are.4)
+
+-- none of them is the manifest
+pub are_others : (targets : List Target) → AllByRecursion (λ t. IsTarget t.from t) targets → AreOthers targets
+are_others [] all = tt
+are_others (target ∷ targets) all = (all.0.other, are_others targets all.1)
 
 -- the paths of files that stand for those of rows are known
 pub paths_known : (rows : List FileRow) (targets : List Target) (paths : List (List ℕ)) → AreTargets rows targets → ArePathsFor rows paths → paths ≡ map to_of targets

@@ -26,7 +26,7 @@ pub newest_has : (chain : List Files) (newest : Files) → EndsWith chain newest
 newest_has chain newest ends forms = all_last HasForms ends.0 newest (subst AllHaveForms ends.1 forms)
 
 -- the forms of a file, the newest one first
-forms_are : (chain : List Files) (newest : Files) (fork : ForkId) (seg : ℕ) (ends : EndsWith chain newest) → forms_of chain fork seg ≡ form_of fork seg newest ∷ map (form_of fork seg) (reverse ends.0)
+pub forms_are : (chain : List Files) (newest : Files) (fork : ForkId) (seg : ℕ) (ends : EndsWith chain newest) → forms_of chain fork seg ≡ form_of fork seg newest ∷ map (form_of fork seg) (reverse ends.0)
 forms_are chain newest fork seg ends = ap (map (form_of fork seg)) (ap reverse ends.1 ∙ reverse-append ends.0 (newest ∷ []))
 
 -- ---- how many pages there are
@@ -35,7 +35,7 @@ below_all : (most : ℕ) (blocks : List ℕ) → All (λ block. block < most) bl
 below_all most [] all = omega arith
 below_all most (b ∷ blocks) all = omega (arith, All-head (λ block. block < most) b blocks all, below_all most blocks (All-tail (λ block. block < most) b blocks all))
 
-few_blocks : (head : IncrHead) → IsHead head → rebuilt_length head ≤ 131072
+pub few_blocks : (head : IncrHead) → IsHead head → rebuilt_length head ≤ 131072
 few_blocks head is = omega (arith, is.length_fits, below_all 131072 head.blocks is.blocks_fit)
 
 abbrev Rebuilds : List Files → ForkId → ℕ → Type 0
@@ -47,7 +47,7 @@ by_part chain newest fork seg bytes older is e =
     let long : length pages ≡ rebuilt_length (head_in bytes) = length-map _ _ ∙ length-range_with_len 0 (rebuilt_length (head_in bytes)) in
     (pages, ap pages_in_chain e, omega (arith, long, few_blocks (head_in bytes) is))
 
-found : (o : Option (List ℕ)) → o ≢ None → (bytes : List ℕ) × (o ≡ Some bytes)
+pub found : (o : Option (List ℕ)) → o ≢ None → (bytes : List ℕ) × (o ≡ Some bytes)
 found None some = absurd (some refl)
 found (Some bytes) some = (bytes, refl)
 

@@ -15,11 +15,14 @@ use Rattle.chain_files.specs.Segments.{form_of, chain_segments}
 use Rattle.chain_check.specs.Directory.{IsForkFile, IsRowAsListed, IsAsListed}
 use Rattle.chain_check.specs.declared.member.Member.{Member}
 use Rattle.chain_check.proofs.ForkFiles.{fork_file, one_form}
-use Rattle.combine.specs.Combined.{EndsWith, IsCombined, first_lines, kept_bytes, other_rows}
+use Rattle.directory_files.specs.Labels.{first_lines}
+use Rattle.combine.specs.Combined.{EndsWith, IsCombined, IsCombinedFile, kept_bytes, other_rows}
 use Rattle.combine.specs.Laws.{CombinedHoldsTheSame}
-use Rattle.combine.proofs.Among.{of_all, File, name_of}
+use Rattle.directory_files.specs.Relisted.{File, Rule}
+use Rattle.directory_files.proofs.Among.{of_all, name_of}
+use Rattle.directory_files.proofs.Standing.{HasFile, fork_apart, fork_unlike, other_path, none_if, never_both, other_row, is_other, file_for, stands_in, put_in}
 use Rattle.chain_files.proofs.Pages.{HaveSize, chain_sized, pages_again}
-use Rattle.combine.proofs.Standing.{HasFile, fork_apart, fork_unlike, other_path, none_if, never_both, other_row, is_other, file_for, stands_in, put_in, found_in, no_part_in, fork_row}
+use Rattle.combine.proofs.Standing.{found_in, no_part_in, fork_row}
 
 -- what another file than the label keeps
 pub kept_whole : (newest : Files) (path : List ℕ) → path ≢ label_name → kept_bytes newest path ≡ bytes_of newest path
@@ -33,13 +36,16 @@ module _ (chain : List Files) (newest : Files) (member : Member) (when count : �
   abbrev plain : List ℕ
   plain = fork_path_bytes fork seg false
 
+  abbrev rule : Rule
+  rule = IsCombinedFile chain newest
+
   -- the file that stands for that of the fork
-  file_of : (incr : Bool) (bytes : List ℕ) → get newest (fork_path_bytes fork seg incr) ≡ Some bytes → HasFile chain newest (fork_path_bytes fork seg incr) is.files
+  file_of : (incr : Bool) (bytes : List ℕ) → get newest (fork_path_bytes fork seg incr) ≡ Some bytes → HasFile rule (fork_path_bytes fork seg incr) is.files
   file_of incr bytes e =
       let path = fork_path_bytes fork seg incr in
       let row = fork_row newest member fork seg incr bytes listed e in
       let other = other_row member.manifest.files row.0 row.1 (λ m. fork_apart fork seg incr (sym row.2 ∙ m)) in
-      subst (λ (p : List ℕ). HasFile chain newest p is.files) row.2 (file_for chain newest (other_rows member.manifest.files) is.files row.0 is.stand other)
+      subst (λ (p : List ℕ). HasFile rule p is.files) row.2 (file_for rule (other_rows member.manifest.files) is.files row.0 is.stand other)
 
   -- an incremental one is rebuilt
   record IsPut : Type 0 where
@@ -69,7 +75,7 @@ module _ (chain : List Files) (newest : Files) (member : Member) (when count : �
   -- and where there is none, none is put
   none_put : get newest part ≡ None → get newest plain ≡ None → get out plain ≡ None
   none_put no_part no_plain = none_if (get out plain) (λ bytes e.
-      let row = stands_in chain newest member when count out is (plain, bytes) (put_in chain newest member when count out is plain bytes (fork_apart fork seg false) e) in
+      let row = stands_in rule member.manifest when count out is (plain, bytes) (put_in rule member.manifest when count out is plain bytes (fork_apart fork seg false) e) in
       let there = of_all (IsRowAsListed newest) row.0 member.manifest.files listed.rows (is_other member.manifest.files row.0 row.1).0 in
       let other : IsForkFile row.0.path true → ⊥ = λ f.
       (let same = one_place f.fork fork f.seg seg false false f.named named (sym (ap name_of (row.2.rebuilt f).2)) in

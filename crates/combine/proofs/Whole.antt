@@ -3,7 +3,7 @@ use Rattle.std.proofs.Common.{◌≡◌, ◌≢◌, ℕ, Bool, true, false, cond
 use Rattle.std.specs.Str.{bytes_eq}
 use Rattle.std.specs.List.{AllByRecursion}
 use Rattle.std.specs.FinMap.{get}
-use Rattle.byte_words.specs.Told.{when_told}
+use Rattle.lsn_core.specs.byte_words.Told.{when_told}
 use Rattle.lsn_core.specs.Files.{Files}
 use Rattle.vault.specs.declared.area.Vault.{Ghosts}
 use Rattle.vault.specs.declared.lending.Held.{Held}
@@ -15,9 +15,10 @@ use Rattle.chain_check.specs.declared.member.Member.{Member}
 use Rattle.chain_files.specs.Segments.{AllHaveForms}
 use Rattle.chain_files.specs.Told.{chain_told}
 use Rattle.combine.specs.Combined.{EndsWith, IsCombined, other_rows}
-use Rattle.combine.specs.Calls.{CanList, CannotList, Combines}
+use Rattle.directory_files.specs.Written.{CanList}
+use Rattle.directory_files.specs.declared.targets.Target.{Target}
+use Rattle.combine.specs.Calls.{CannotList, Combines}
 use Rattle.combine.specs.Inside.{CanPut, HasFiles, PutsAll}
-use Rattle.combine.specs.declared.targets.Target.{Target}
 use Rattle.combine.proofs.PathsFor.{paths_known}
 
 -- ---- the rows of a directory
@@ -30,7 +31,7 @@ kept_row newest true row rows here rest = (here, rest)
 kept_row newest false row rows here rest = rest
 
 -- the files of its rows are there
-has_files : (newest : Files) (rows : List FileRow) → AllByRecursion (IsRowAsListed newest) rows → HasFiles newest (other_rows rows)
+pub has_files : (newest : Files) (rows : List FileRow) → AllByRecursion (IsRowAsListed newest) rows → HasFiles newest (other_rows rows)
 has_files newest [] all = tt
 has_files newest (row ∷ rows) all = kept_row newest (not (bytes_eq row.path manifest_name)) row (other_rows rows) (there (get newest row.path) all.0.bytes all.0.there) (has_files newest rows all.1)
 

@@ -1,9 +1,5 @@
 -- What combining a chain of backups answers and leaves.
-use Rattle.std.specs.Prelude.{◌≡◌, ◌≢◌, ◌<◌, ◌⊎◌, ℕ, true, false, List, [], ◌∷◌, IfSome, IsSome}
-use Rattle.std.specs.Str.{IsUtf8}
-use Rattle.std.specs.List.{AllByRecursion, IsDistinct}
-use Rattle.std.specs.Ordering.{nat_cmp, eq_by_cmp}
-use Rattle.std.specs.Cmp.Lexicographic.{slice_cmp}
+use Rattle.std.specs.Prelude.{◌≡◌, ◌≢◌, ◌⊎◌, ℕ, true, false, List, [], ◌∷◌, IfSome}
 use Rattle.std.specs.FinMap.{empty}
 use Rattle.lsn_core.specs.Causes.{Rose}
 use Rattle.lsn_core.specs.Files.{Files}
@@ -11,13 +7,13 @@ use Rattle.lsn_core.specs.Names.{fork_path_bytes}
 use Rattle.vault.specs.declared.area.Vault.{Ghosts}
 use Rattle.vault.specs.declared.lending.Held.{Held}
 use Rattle.manifest.specs.Listing.{Listing}
-use Rattle.manifest.specs.Shape.{is_path}
 use Rattle.manifest.specs.declared.listing.FileRow.{FileRow}
 use Rattle.backup_files.specs.Area.{HoldsNothing, HoldsSomething, KeepsManifest, RoseTwice}
 use Rattle.chain_check.specs.Directory.{IsAsListed, IsForkFile}
 use Rattle.chain_check.specs.declared.member.Member.{Member}
 use Rattle.chain_files.specs.Sources.{OfChain}
 use Rattle.chain_files.specs.Told.{chain_told, faults_at}
+use Rattle.directory_files.specs.Written.{CanList}
 use Rattle.combine.specs.Combined.{EndsWith, IsCombined, other_rows}
 use Rattle.combine.specs.declared.fault.CombineFault.{CombineFault}
 use Rattle.combine.specs.declared.fault.CombineFault.TheVariants.{NotEmpty, Unlisted, MemberFailed, OutFailed, NoMemory}
@@ -43,13 +39,6 @@ ArePathsFor [] paths = paths ≡ []
 ArePathsFor (row ∷ rows) paths =
     (path : List ℕ) × (more : List (List ℕ)) × (paths ≡ path ∷ more)
     × IsPathFor row.path path × ArePathsFor rows more
-
--- a manifest can list files of these paths, and the rest that another manifest tells
-pub record CanList (m : Listing) (paths : List (List ℕ)) : Type 0 where
-  pub system : IsSome m.system
-  pub rises : m.start < m.end
-  pub texts : AllByRecursion (λ path. IsUtf8 path × (is_path path ≡ true)) paths
-  pub distinct : IsDistinct (eq_by_cmp (slice_cmp nat_cmp)) paths
 
 -- no manifest can list what a member is combined to
 abbrev pub CannotList : Listing → Type 0

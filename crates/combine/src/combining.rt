@@ -10,12 +10,11 @@ ghost use Rattle.combine.specs.Calls.{Combines, CombineCause, KeepsOut, KeepsFul
 
 use crate::fault::CombineFault;
 use crate::files::put_files;
-use crate::listable::can_list;
-use crate::targets::{Target, targets_of};
-use crate::text::relisted_text;
+use crate::targets::targets_of;
 use backup_files::{is_empty, publish};
 use backup_label::time_text;
 use chain_check::Member;
+use directory_files::{Target, can_list, relisted_text};
 use manifest::Manifest;
 use std::alloc::Global;
 use vault::{Held, Vault};

@@ -2,9 +2,10 @@
 
 ghost use Rattle.combine.specs.declared.fault.CombineFault.TheVariants as fault;
 ghost use Rattle.std.specs.Prelude.{◌≡◌};
-ghost use Rattle.combine.specs.Inside.{area_fault, member_fault};
+ghost use Rattle.combine.specs.Inside.{area_fault, member_fault, write_fault};
 
 use chain_files::MemberFault;
+use directory_files::WriteFault;
 use lsn_core::{AreaFault, NoMemory};
 use std::alloc::{AllocError, AllocFailed};
 
@@ -43,6 +44,18 @@ impl From<MemberFault> for CombineFault {
         match fault.why {
             AreaFault::Failed => CombineFault::MemberFailed(fault.area),
             AreaFault::NoMemory => CombineFault::NoMemory,
+        }
+    }
+}
+
+impl From<WriteFault> for CombineFault {
+    ghost from_gives = { λ e f. f ≡ write_fault e };
+
+    fn from(fault: WriteFault) -> Self {
+        match fault {
+            WriteFault::MemberFailed(place) => CombineFault::MemberFailed(place),
+            WriteFault::OutFailed => CombineFault::OutFailed,
+            WriteFault::NoMemory => CombineFault::NoMemory,
         }
     }
 }

@@ -7,15 +7,14 @@ ghost use Rattle.std.specs.Cmp.Lexicographic.{slice_cmp};
 ghost use Rattle.backup_files.specs.Directory.{manifest_name};
 ghost use Rattle.backup_files.specs.Area.{HoldsNothing, Lacks, SparesManifest};
 ghost use Rattle.chain_files.specs.Told.{chain_told, told_at, ArePlaces, AllOnlyRead};
+ghost use Rattle.directory_files.specs.Faults.{WriteCause};
+ghost use Rattle.directory_files.specs.Written.{IsMade, PutsFile, PutsFiles, to_of};
 ghost use Rattle.combine.specs.Combined.{kept_bytes};
-ghost use Rattle.combine.specs.Inside.{IsContent, IsLast, IsMade, IsTarget, PutsFile, PutsFiles, WorkCause, to_of};
+ghost use Rattle.combine.specs.Inside.{IsContent, IsLast, IsTarget};
 
-use crate::copying::{copy_file, copy_label};
-use crate::fault::CombineFault;
-use crate::growing::Growing;
-use crate::rebuilding::rebuild_file;
-use crate::targets::{Target, incremental};
-use backup_files::file_row;
+use crate::label::copy_label;
+use crate::targets::incremental;
+use directory_files::{Growing, Target, WriteFault, copy_file, list_file, rebuild_file};
 use lsn_core::Text;
 use manifest::FileRow;
 use std::alloc::Global;
@@ -32,7 +31,7 @@ fn keep_file<V: Vault>(
     path: &[u8],
     out: &mut V,
     buffer: &mut [u8; 65536],
-) -> Result<Growing, CombineFault>
+) -> Result<Growing, WriteFault>
     requires place { place < length areas.old }
     requires other { path.now ≢ manifest_name }
     requires missing { Lacks (V.files out.old) path.now }
@@ -40,7 +39,7 @@ fn keep_file<V: Vault>(
         bytes ≡ kept_bytes m path.now)) path.now (V.files out.old) (V.files out.new)) }
     ensures reads { AllOnlyRead V.Vault areas.old areas.new }
     ensures spares { SparesManifest V.Vault out.old out.new }
-    ensures cause { IfErr result (WorkCause V.Vault areas.old out.old areas.new out.new) }
+    ensures cause { IfErr result (WriteCause V.Vault areas.old out.old areas.new out.new) }
 {
     if path == LABEL {
         return copy_label(alloc, areas, place, path, out);
@@ -57,7 +56,7 @@ fn combine_file<V: Vault>(
     target: &Target,
     out: &mut V,
     buffer: &mut [u8; 65536],
-) -> Result<Growing, CombineFault>
+) -> Result<Growing, WriteFault>
     requires places { ArePlaces (length areas.old) places.now }
     requires last { IsLast places.now place }
     requires target { IsTarget target.now.from target.now }
@@ -67,7 +66,7 @@ fn combine_file<V: Vault>(
         target.now.to (V.files out.old) (V.files out.new)) }
     ensures reads { AllOnlyRead V.Vault areas.old areas.new }
     ensures spares { SparesManifest V.Vault out.old out.new }
-    ensures cause { IfErr result (WorkCause V.Vault areas.old out.old areas.new out.new) }
+    ensures cause { IfErr result (WriteCause V.Vault areas.old out.old areas.new out.new) }
 {
     let to = target.to.as_bytes();
     match incremental(target.from.as_bytes()) {
@@ -87,22 +86,20 @@ fn put_file<V: Vault>(
     buffer: &mut [u8; 65536],
     modified: &Text,
     rows: &mut Vec<FileRow>,
-) -> Result<(), CombineFault>
+) -> Result<(), WriteFault>
     requires places { ArePlaces (length areas.old) places.now }
     requires last { IsLast places.now place }
     requires target { IsTarget target.now.from target.now }
     requires missing { Lacks (V.files out.old) target.now.to }
-    ensures put { OnOk result (PutsFile (chain_told V.Vault areas.old places.now) target.now
+    ensures put { OnOk result (PutsFile
+        (IsContent (chain_told V.Vault areas.old places.now) target.now) target.now.to
         modified.now (V.files out.old) (V.files out.new) rows.old.items rows.new.items) }
     ensures reads { AllOnlyRead V.Vault areas.old areas.new }
     ensures spares { SparesManifest V.Vault out.old out.new }
-    ensures cause { IfErr result (WorkCause V.Vault areas.old out.old areas.new out.new) }
+    ensures cause { IfErr result (WriteCause V.Vault areas.old out.old areas.new out.new) }
 {
     let file = combine_file(alloc, areas, places, place, target, out, buffer)?;
-    let size = file.size();
-    let sum = file.sum();
-    let path = Text::copied(alloc, target.to.as_bytes())?;
-    rows.push(file_row(alloc, path, size, modified, &sum)?)?;
+    list_file(alloc, target.to.as_bytes(), file, modified, rows)?;
     Ok(())
 }
 
@@ -120,18 +117,18 @@ pub(crate) fn put_files<V: Vault>(
     targets: &[Target],
     out: &mut V,
     modified: &Text,
-) -> Result<Vec<FileRow>, CombineFault>
+) -> Result<Vec<FileRow>, WriteFault>
     requires places { ArePlaces (length areas.old) places.now }
     requires last { IsLast places.now place }
     requires targets { AllByRecursion (λ t. IsTarget t.from t) targets.now }
     requires distinct { IsDistinct (eq_by_cmp (slice_cmp nat_cmp)) (map to_of targets.now) }
     requires empty { HoldsNothing (V.files out.old) }
     ensures put { IfOk result (λ rows.
-        PutsFiles (chain_told V.Vault areas.old places.now) targets.now
+        PutsFiles (IsContent (chain_told V.Vault areas.old places.now)) targets.now
         modified.now (V.files out.new) rows.items) }
     ensures reads { AllOnlyRead V.Vault areas.old areas.new }
     ensures spares { SparesManifest V.Vault out.old out.new }
-    ensures cause { IfErr result (WorkCause V.Vault areas.old out.old areas.new out.new) }
+    ensures cause { IfErr result (WriteCause V.Vault areas.old out.old areas.new out.new) }
 {
     let mut rows = Vec::new(alloc);
     let mut buffer = zeros();

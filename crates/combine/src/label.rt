@@ -1,30 +1,38 @@
 //! The label of a combined backup.
 
-ghost use Rattle.std.specs.Prelude.{◌≡◌, ◌==◌, if◌then◌else◌, IfOk};
-ghost use Rattle.combine.specs.Combined.{first_lines};
+ghost use Rattle.std.specs.Prelude.{◌≡◌, ◌≢◌, ◌<◌, length, IfOk, IfErr, IfSome};
+ghost use Rattle.vault.specs.Area.{bytes_of};
+ghost use Rattle.backup_files.specs.Directory.{manifest_name};
+ghost use Rattle.backup_files.specs.Area.{Lacks, SparesManifest};
+ghost use Rattle.chain_files.specs.Told.{told_at, AllOnlyRead};
+ghost use Rattle.directory_files.specs.Faults.{WriteCause};
+ghost use Rattle.directory_files.specs.Written.{IsMade};
+ghost use Rattle.directory_files.specs.Labels.{first_lines};
 
-use lsn_core::NoMemory;
+use directory_files::{Growing, WriteFault, full_end, whole_at};
 use std::alloc::Global;
+use vault::{Held, Vault};
 
-/// How many lines each label has; an incremental backup's has two more behind them.
-const FULL_LINES: u32 = 7;
-
-/// How many lines a byte ends.
-fn lines_ended(byte: u8) -> u32
-    ensures { result ≡ (if byte == 10 then 1 else 0) }
+/// Writes the lines that each label has of the label in the area of this place.
+pub(crate) fn copy_label<V: Vault>(
+    alloc: Global,
+    areas: &mut [Held<V>],
+    place: u32,
+    path: &[u8],
+    out: &mut V,
+) -> Result<Growing, WriteFault>
+    requires place { place < length areas.old }
+    requires other { path.now ≢ manifest_name }
+    requires missing { Lacks (V.files out.old) path.now }
+    ensures made { IfOk result (IsMade (λ bytes. IfSome (told_at V.Vault areas.old place) (λ m.
+        bytes ≡ first_lines 7 (bytes_of m path.now)))
+        path.now (V.files out.old) (V.files out.new)) }
+    ensures reads { AllOnlyRead V.Vault areas.old areas.new }
+    ensures spares { SparesManifest V.Vault out.old out.new }
+    ensures cause { IfErr result (WriteCause V.Vault areas.old out.old areas.new out.new) }
 {
-    if byte == b'\n' { 1 } else { 0 }
-}
-
-/// The lines of a label that each backup has.
-pub(crate) fn full_lines(alloc: Global, text: &[u8]) -> Result<Vec<u8>, NoMemory>
-    ensures { IfOk result (λ lines. lines.items ≡ first_lines 7 text.now) }
-{
-    let mut left = FULL_LINES;
-    let mut at = 0;
-    while left > 0 && at < text.len() {
-        left -= lines_ended(text[at]);
-        at += 1;
-    }
-    Ok(text[..at].to_vec(alloc)?)
+    let text = whole_at(alloc, areas, place, path)?;
+    let mut file = Growing::begin(out, path)?;
+    file.add(out, path, &text[..full_end(&text)])?;
+    Ok(file)
 }

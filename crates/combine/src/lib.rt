@@ -4,27 +4,23 @@
 //! rebuilt where it is incremental, the label without the lines of an incremental backup, and a
 //! manifest of its own, which is written last. `specs/Combined.antt` says what a chain is combined to,
 //! `specs/Calls.antt` what the call answers and what stands after each refusal. The members' areas are
-//! lent, and two members may have one. Each file is read in pieces of 64 KiB, written and summed in one
-//! pass; only the label is held whole, and of an incremental file where its pages stand. `laws` say
-//! that the directory stands for the same segment files as the chain, and is a chain of one.
+//! lent, and two members may have one. Only the label is held whole, and of an incremental file where
+//! its pages stand. `laws` say that the directory stands for the same segment files as the chain, and is
+//! a chain of one.
 //!
 //! Left to others: whether the chain is one (`chain_check`), where the pages of a file stand
-//! (`chain_files`), and the rows and the writing of the manifest (`backup_files`).
+//! (`chain_files`), how files are written and listed (`directory_files`), and the writing of the
+//! manifest (`backup_files`).
 #![tactic(auto)]
 
 mod combining;
-mod copying;
 mod fault;
 mod files;
-mod growing;
 mod label;
 mod laws;
-mod listable;
-mod reading;
-mod rebuilding;
 mod targets;
-mod text;
 
 pub use combining::combine;
 pub use fault::CombineFault;
 pub use laws::{combined_directories_are_chains, combined_directories_hold_the_same};
+pub use targets::incremental;

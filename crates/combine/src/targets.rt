@@ -9,20 +9,14 @@ ghost use Rattle.combine.specs.Combined.{other_rows};
 ghost use Rattle.combine.specs.Inside.{AreTargets, IsTarget};
 
 use backup_files::MANIFEST;
+use directory_files::Target;
 use lsn_core::{ForkId, NoMemory, Text, fork_path, path_fork};
 use manifest::FileRow;
 use std::alloc::Global;
 
-/// A file of the newest member, and the path of the file that stands for it.
-#[derive(Debug, Drop)]
-pub(crate) struct Target {
-    pub(crate) from: Text,
-    pub(crate) to: Text,
-}
-
 /// The fork and the segment of the incremental file that has this path. None exactly where no fork has
 /// it.
-pub(crate) fn incremental(path: &[u8]) -> Option<(ForkId, u32)>
+pub fn incremental(path: &[u8]) -> Option<(ForkId, u32)>
     ensures found { IfSome result (λ x. path.now ≡ fork_path_bytes x.0 x.1 true) }
     ensures named { IfSome result (λ x. IsNamed x.0 x.1) }
     ensures none { IfNone result (IsForkFile path.now true → ⊥) }

@@ -5,7 +5,7 @@ use Rattle.chain_files.proofs.Told.{reads_refl}
 use Rattle.combine.specs.Combined.{other_rows}
 use Rattle.combine.specs.Calls.{CannotList, Combines, LeavesManifest}
 use Rattle.combine.specs.Inside.{PutsAll}
-use Rattle.combine.specs.declared.targets.Target.{Target}
+use Rattle.directory_files.specs.declared.targets.Target.{Target}
 use Rattle.combine.proofs.Left.{leaves_behind}
 use Rattle.combine.proofs.PathsFor.{counted}
 use Rattle.combine.proofs.Whole.{combines, never_unlisted, on_ok}

@@ -1,8 +1,8 @@
 use Rattle.std.proofs.Common.{rules, ◌≡◌, false, List, map, sym, subst}
-use Rattle.combine.specs.Calls.{CanList}
+use Rattle.directory_files.specs.Written.{CanList, to_of}
 use Rattle.combine.specs.Combined.{other_rows}
-use Rattle.combine.specs.Inside.{AreTargets, to_of}
-use Rattle.combine.specs.declared.targets.Target.{Target}
+use Rattle.combine.specs.Inside.{AreTargets}
+use Rattle.directory_files.specs.declared.targets.Target.{Target}
 use Rattle.backup_files.specs.Area.{HoldsNothing}
 use Rattle.combine.proofs.PathsFor.{paths_for, refuted}
 use Rattle.combine.proofs.combining.targets_for.Goals as goal

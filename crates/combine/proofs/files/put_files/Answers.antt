@@ -4,10 +4,11 @@ use Rattle.lsn_core.specs.Files.{Files}
 use Rattle.backup_files.proofs.Kept.{spares_on, spares_still}
 use Rattle.chain_files.specs.Told.{chain_told}
 use Rattle.chain_files.proofs.Told.{places_kept, reads_refl, reads_told, reads_trans}
-use Rattle.combine.specs.Inside.{IsTarget, PutsFile}
-use Rattle.combine.specs.declared.targets.Target.{Target}
-use Rattle.combine.proofs.Failed.{work_failed}
-use Rattle.combine.proofs.Puts.{next_lacks, put_begun, put_further, put_whole}
+use Rattle.directory_files.specs.Written.{PutsFile}
+use Rattle.combine.specs.Inside.{IsContent, IsTarget}
+use Rattle.directory_files.specs.declared.targets.Target.{Target}
+use Rattle.directory_files.proofs.Failed.{write_failed}
+use Rattle.directory_files.proofs.Puts.{next_lacks, put_begun, put_further, put_whole}
 use Rattle.combine.proofs.files.put_files.Goals as goal
 
 pub loop-target-init : goal.loop-target-init
@@ -16,7 +17,7 @@ loop-target-init g c = record {
   targets = c.requires.targets;
   reads = reads_refl g.V.Vault c.args.areas.now;
   spares = spares_still g.V.Vault c.args.out.now;
-  far = put_begun (chain_told g.V.Vault c.args.areas.now c.args.places.now) c.args.targets.now c.args.modified.now (g.V.Vault.files c.args.out.now) c.new-rows.result.items c.requires.distinct c.requires.empty c.new-rows.ensures.items;
+  far = put_begun (IsContent (chain_told g.V.Vault c.args.areas.now c.args.places.now)) c.args.targets.now c.args.modified.now (g.V.Vault.files c.args.out.now) c.new-rows.result.items c.requires.distinct c.requires.empty c.new-rows.ensures.items;
 }
 
 pub put_file-requires-clause-places : goal.put_file-requires-clause-places
@@ -29,7 +30,7 @@ put_file-requires-clause-target g c = λ κs lives.
 
 pub put_file-requires-clause-missing : goal.put_file-requires-clause-missing
 put_file-requires-clause-missing g c = λ κs lives.
-    next_lacks (chain_told g.V.Vault c.args.areas.now c.args.places.now) c.args.targets.now c.loop-target.left.now c.in-Some.behind.now c.in-Some.target.now c.args.modified.now (g.V.Vault.files c.loop-target.out) c.loop-target.rows.items c.in-Some.ensures.cases.0
+    next_lacks (IsContent (chain_told g.V.Vault c.args.areas.now c.args.places.now)) c.args.targets.now c.loop-target.left.now c.in-Some.behind.now c.in-Some.target.now c.args.modified.now (g.V.Vault.files c.loop-target.out) c.loop-target.rows.items c.in-Some.ensures.cases.0
     c.loop-target.invariant.far
 
 pub loop-target-preserved : goal.loop-target-preserved
@@ -41,9 +42,9 @@ loop-target-preserved g c =
       targets = all.1;
       reads = reads_trans g.V.Vault c.args.areas.now c.loop-target.areas c.put_file.new.areas c.loop-target.invariant.reads c.put_file.ensures.reads;
       spares = spares_on g.V.Vault c.args.out.now c.loop-target.out c.put_file.new.out c.loop-target.invariant.spares c.put_file.ensures.spares;
-      far = put_further told c.args.targets.now c.loop-target.left.now c.in-Some.behind.now c.in-Some.target.now c.args.modified.now (g.V.Vault.files c.loop-target.out) (g.V.Vault.files c.put_file.new.out) c.loop-target.rows.items c.put_file.new.rows.items
+      far = put_further (IsContent told) c.args.targets.now c.loop-target.left.now c.in-Some.behind.now c.in-Some.target.now c.args.modified.now (g.V.Vault.files c.loop-target.out) (g.V.Vault.files c.put_file.new.out) c.loop-target.rows.items c.put_file.new.rows.items
           c.in-Some.ensures.cases.0 c.loop-target.invariant.far
-          (subst (λ (o : Option (List Files)). PutsFile o c.in-Some.target.now c.args.modified.now (g.V.Vault.files c.loop-target.out) (g.V.Vault.files c.put_file.new.out) c.loop-target.rows.items c.put_file.new.rows.items)
+          (subst (λ (o : Option (List Files)). PutsFile (IsContent o c.in-Some.target.now) c.in-Some.target.now.to c.args.modified.now (g.V.Vault.files c.loop-target.out) (g.V.Vault.files c.put_file.new.out) c.loop-target.rows.items c.put_file.new.rows.items)
           (reads_told g.V.Vault c.args.areas.now c.loop-target.areas c.loop-target.invariant.reads c.args.places.now) c.in_ok-put_file.ensures.put);
     }
 
@@ -55,9 +56,9 @@ returns-in_err-put_file-clause-spares g c = spares_on g.V.Vault c.args.out.now c
 
 pub returns-in_err-put_file-clause-cause : goal.returns-in_err-put_file-clause-cause
 returns-in_err-put_file-clause-cause g c =
-    work_failed g.V.Vault c.args.areas.now c.loop-target.areas c.put_file.new.areas c.args.out.now c.loop-target.out c.put_file.new.out c.from_residual.result c.in_err-put_file.field-0.0 c.from_residual.ensures.1 c.loop-target.invariant.reads
+    write_failed g.V.Vault c.args.areas.now c.loop-target.areas c.put_file.new.areas c.args.out.now c.loop-target.out c.put_file.new.out c.from_residual.result c.in_err-put_file.field-0.0 c.from_residual.ensures.1 c.loop-target.invariant.reads
     c.loop-target.invariant.spares.faults c.in_err-put_file.ensures.cause
 
 pub returns-clause-put : goal.returns-clause-put
 returns-clause-put g c =
-    put_whole (chain_told g.V.Vault c.args.areas.now c.args.places.now) c.args.targets.now c.loop-target.left.now c.args.modified.now (g.V.Vault.files c.loop-target.out) c.loop-target.rows.items c.in_default.ensures.cases c.loop-target.invariant.far
+    put_whole (IsContent (chain_told g.V.Vault c.args.areas.now c.args.places.now)) c.args.targets.now c.loop-target.left.now c.args.modified.now (g.V.Vault.files c.loop-target.out) c.loop-target.rows.items c.in_default.ensures.cases c.loop-target.invariant.far

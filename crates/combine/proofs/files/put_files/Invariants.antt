@@ -2,8 +2,8 @@ use Rattle.std.proofs.Common.{length}
 use Rattle.std.specs.List.{AllByRecursion}
 use Rattle.backup_files.specs.Area.{SparesManifest}
 use Rattle.chain_files.specs.Told.{chain_told, ArePlaces, AllOnlyRead}
-use Rattle.combine.specs.Inside.{IsTarget}
-use Rattle.combine.proofs.Puts.{PutSoFar}
+use Rattle.directory_files.proofs.Puts.{PutSoFar}
+use Rattle.combine.specs.Inside.{IsContent, IsTarget}
 use Rattle.combine.proofs.files.put_files.Given as goal
 
 -- all files but those that are left were put
@@ -13,7 +13,7 @@ invariant-loop-target g l = record {
   targets : AllByRecursion (λ t. IsTarget t.from t) l.left;
   reads : AllOnlyRead g.V.Vault l.fn.areas l.areas;
   spares : SparesManifest g.V.Vault l.fn.out l.out;
-  far : PutSoFar (chain_told g.V.Vault l.fn.areas l.places) l.targets l.left l.modified (g.V.Vault.files l.out) l.rows.items;
+  far : PutSoFar (IsContent (chain_told g.V.Vault l.fn.areas l.places)) l.targets l.left l.modified (g.V.Vault.files l.out) l.rows.items;
 }
 
 abbrev pub decreases-loop-target : goal.decreases-loop-target

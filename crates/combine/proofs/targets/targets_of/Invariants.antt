@@ -1,7 +1,7 @@
 use Rattle.std.proofs.Common.{◌++◌, List, length}
 use Rattle.combine.specs.Combined.{other_rows}
 use Rattle.combine.specs.Inside.{AreTargets}
-use Rattle.combine.specs.declared.targets.Target.{Target}
+use Rattle.directory_files.specs.declared.targets.Target.{Target}
 use Rattle.combine.proofs.targets.targets_of.Given as goal
 
 -- with those of the rows that are left they are those of all

@@ -1,0 +1,4 @@
+pub mod Relisted
+pub mod Faults
+pub mod Written
+pub mod Labels
