@@ -6,9 +6,10 @@ use Rattle.std.specs.List.{AllByRecursion, list_any}
 use Rattle.lsn_core.specs.declared.lsn.Lsn.{Lsn}
 use Rattle.backup_label.specs.Label.{LabelLine, Start, Checkpoint, Method, From, Time, Name, Timeline, PriorStart, PriorTimeline, full_lines, prior_lines, label_lines, key_of, ValueSays, HasNoLineEnd, IsKeyLine, Lines, LineOf, IsLabel}
 use Rattle.backup_label.specs.declared.label.Label.{Label}
-use Rattle.merge_laws.specs.Merged.{first_lines, lines_behind, merged_label}
-use Rattle.merge_laws.specs.Series.{label_with_prior}
-use Rattle.merge_laws.proofs.Standing.{neither}
+use Rattle.directory_files.specs.Labels.{first_lines, lines_behind}
+use Rattle.merge_laws.specs.Merged.{merged_label}
+use Rattle.series_check.specs.Priors.{label_with_prior}
+use Rattle.directory_files.proofs.Standing.{neither}
 
 -- ---- one line
 

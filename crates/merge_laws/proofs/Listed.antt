@@ -28,7 +28,7 @@ use Rattle.incr_file.specs.Laws.{WrittenHeadsAreRead}
 use Rattle.incr_file.specs.Form.{Form, Absent, Plain, Part, form_in, part_in, pages_bytes}
 use Rattle.chain_files.specs.Segments.{IsIncrFile, HasForms, form_of, forms_of}
 use Rattle.std.proofs.lemmas.List.{length-append}
-use Rattle.byte_words.specs.Numbers.{u32_in}
+use Rattle.lsn_core.specs.byte_words.Numbers.{u32_in}
 use Rattle.incr_file.specs.Head.{head_magic}
 use Rattle.merged_forms.specs.Laws.{HasHead}
 use Rattle.merge_laws.proofs.HeadSizes.{length-head_bytes}
@@ -39,13 +39,16 @@ use Rattle.chain_check.specs.Directory.{HasManifest, IsRowAsListed, is_listed, H
 use Rattle.chain_check.specs.declared.member.Member.{Member}
 use Rattle.chain_check.proofs.ForkFiles.{fork_file, one_form}
 use Rattle.merged_forms.specs.Merged.{merged_form}
-use Rattle.merge_laws.specs.Relisted.{File, IsRelisted, other_rows, relisted}
+use Rattle.directory_files.specs.Relisted.{File, IsRelisted, other_rows, relisted}
 use Rattle.merge_laws.specs.Merged.{IsFileOf, kept_bytes, merged_label, IsMergedFile, IsMerged}
-use Rattle.merge_laws.specs.Series.{last_member, label_with_prior, merged_member, AreAsListed, IsIncremental}
+use Rattle.series_check.specs.Series.{IsIncremental}
+use Rattle.series_check.specs.Priors.{label_with_prior}
+use Rattle.merge_laws.specs.Members.{last_member, merged_member, AreAsListed}
 use Rattle.merge_laws.specs.Laws.{IsMergedOf, MergedIsAsListed}
-use Rattle.merge_laws.proofs.Among.{Among, of_all, all_among, all_of_map, name_of}
+use Rattle.directory_files.proofs.Among.{Among, of_all, all_among, all_of_map, name_of}
 use Rattle.merge_laws.proofs.Labels.{merged_text}
-use Rattle.merge_laws.proofs.Standing.{fork_apart, fork_unlike, label_apart, same_path, neither, none_if, never_both, row_at, none_listed, other_row, is_other, file_for, put_in, stands_in, found_in, all_listed, all_made, fork_row}
+use Rattle.directory_files.proofs.Standing.{fork_apart, fork_unlike, label_apart, same_path, neither, none_if, never_both, other_row, is_other, file_for, put_in, stands_in, found_in, all_listed, all_made}
+use Rattle.merge_laws.proofs.ListedRows.{row_at, none_listed, fork_row}
 use Rattle.merge_laws.proofs.Same.{Facts, spares, kept_whole, last_listed, merged_is, merged_sized, merged_counted, part_decides, plain_decides, alone_if}
 
 never_true : (b : Bool) → b ≡ true → b ≡ false → ⊥

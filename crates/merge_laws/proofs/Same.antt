@@ -26,12 +26,13 @@ use Rattle.chain_check.specs.declared.member.Member.{Member}
 use Rattle.chain_check.proofs.ForkFiles.{fork_file, one_form}
 use Rattle.merged_forms.specs.Merged.{rests_on_plain, least_length, merged_blocks, merged_part, merged_form, HasNoGap}
 use Rattle.merged_forms.specs.Laws.{AreAlike, HasHead, MergedStandsForSeries as MergedForms, MergedHeadsAreWritten}
-use Rattle.merge_laws.specs.Relisted.{File, IsRelisted, other_rows}
+use Rattle.directory_files.specs.Relisted.{File, IsRelisted, other_rows}
 use Rattle.merge_laws.specs.Merged.{IsFileOf, kept_bytes, merged_label, IsMergedFile, IsMerged}
-use Rattle.merge_laws.specs.Series.{last_member, AreAsListed}
+use Rattle.merge_laws.specs.Members.{last_member, AreAsListed}
 use Rattle.merge_laws.specs.Laws.{IsMergedOf, MergedStandsForSeries}
-use Rattle.merge_laws.proofs.Among.{Among, of_all, name_of}
-use Rattle.merge_laws.proofs.Standing.{SparesManifest, fork_apart, fork_unlike, other_path, none_if, never_both, other_row, is_other, file_for, put_in, stands_in, found_in, fork_row}
+use Rattle.directory_files.proofs.Among.{Among, of_all, name_of}
+use Rattle.directory_files.proofs.Standing.{NamesOthers, fork_apart, fork_unlike, other_path, none_if, never_both, other_row, is_other, file_for, put_in, stands_in, found_in}
+use Rattle.merge_laws.proofs.ListedRows.{fork_row}
 use Rattle.merge_laws.proofs.Sized.{IsSized, each_sized, by_place, forms_sized}
 use Rattle.merge_laws.proofs.NoGaps.{forms_last, forms_behind, no_gap, series_heads}
 
@@ -47,7 +48,7 @@ path_of_form fork seg (Plain pages) file is = (false, ap name_of is)
 path_of_form fork seg (Part head pages) file is = (true, ap name_of is)
 
 -- no file has the manifest's name
-pub spares : (series : List Files) (first newest : Files) → SparesManifest (IsMergedFile series first newest)
+pub spares : (series : List Files) (first newest : Files) → NamesOthers (IsMergedFile series first newest)
 spares series first newest path file apart is e =
     let plain : IsForkFile path true → ⊥ = λ f.
     (let at = path_of_form f.fork f.seg (merged_form (forms_of series f.fork f.seg)) file (is.merged f) in
@@ -112,7 +113,7 @@ module _ (written : WrittenFilesAreRead) (series before : List Files) (first new
   front : forms_of series fork seg ≡ form_of fork seg newest ∷ forms_of before fork seg
   front = ap (λ (l : List Files). forms_of l fork seg) ends ∙ forms_last fork seg before newest
 
-  apart_all : SparesManifest (IsMergedFile series first newest)
+  apart_all : NamesOthers (IsMergedFile series first newest)
   apart_all = spares series first newest
 
   -- the file that stands for that of the fork

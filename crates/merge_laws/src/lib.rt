@@ -1,11 +1,12 @@
 //! What a series of consecutive incremental backups is merged to, and that the merged backup stands
 //! for the series.
 //!
-//! `specs/Relisted.antt` says what a directory is whose files stand for listed ones, `specs/Merged.antt`
-//! which files those are of a series, `specs/Series.antt` which series are accepted, and which member of
+//! `specs/Merged.antt` says which files stand for those of a series, `specs/Members.antt` which member of
 //! a chain the merged backup is.
 //!
-//! Left to others: what one file stands for (`merged_forms`), and what writes such a directory.
+//! Left to others: which series are accepted (`series_check`), what one file stands for
+//! (`merged_forms`), what a directory is whose files stand for listed ones, and what writes it
+//! (`directory_files`).
 #![tactic(auto)]
 
 ghost use Rattle.merge_laws.specs.Laws.{MergedStandsForSeries, MergedIsAsListed};

@@ -2,7 +2,7 @@
 use Rattle.std.specs.Prelude.{ℕ, ◌||◌, min, Bool, true, false, List, [], ◌∷◌, ◌++◌, map, nat_le, Option, Some, None, if◌then◌else◌}
 use Rattle.std.specs.List.{filter, range_with_len}
 use Rattle.std.specs.Option.{unwrap_or, is_some}
-use Rattle.byte_words.specs.Pieces.{zero_page}
+use Rattle.lsn_core.specs.byte_words.Pieces.{zero_page}
 use Rattle.incr_file.specs.declared.head.IncrHead.{IncrHead}
 use Rattle.incr_file.specs.Head.{head_with, head_bytes}
 use Rattle.incr_file.specs.Form.{Form, Absent, Plain, Part, pages_bytes, block_in_chain, rebuilt_length, rebuilt_pages}

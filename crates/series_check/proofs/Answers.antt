@@ -1,12 +1,12 @@
 -- The answer on a series, by that on the chain in which its first member has no prior.
-use Rattle.std.proofs.Common.{◌≡◌, ◌≤◌, List, [], ◌∷◌, length, get_or, Option, None, Result, Ok, Err, refl, sym, ◌∙◌, arith, inl, inr}
+use Rattle.std.proofs.Common.{◌≡◌, ◌≢◌, ◌≤◌, ℕ, List, [], ◌∷◌, length, get_or, Option, Some, None, Result, Ok, Err, refl, sym, ap, ◌∙◌, arith, inl, inr, ◌⊎◌}
 use Rattle.chain_check.specs.Chain.{IsAccepted, IsChainRefused, first_fault, most_members}
 use Rattle.chain_check.specs.Laws.{ChainAnswer, AcceptedIsNotRefused, ChainRefusalsAreOne}
 use Rattle.chain_check.specs.declared.member.Member.{Member}
 use Rattle.chain_check.specs.declared.chain.ChainRefusal.{ChainRefusal}
 use Rattle.chain_check.specs.declared.link.LinkFault.{LinkFault}
-use Rattle.merge_laws.specs.Series.{IsSeriesAccepted, series_fault, IsSeriesRefused}
-use Rattle.series_check.specs.Answers.{SeriesAnswer}
+use Rattle.chain_check.specs.declared.link.LinkFault.TheVariants.{NoMemory}
+use Rattle.series_check.specs.Series.{IsIncremental, IsSeriesAccepted, series_fault, IsSeriesRefused, SeriesAnswer}
 use Rattle.series_check.specs.Priors.{with_prior, first_prior, with_first_prior}
 use Rattle.series_check.proofs.First.{some_none, one_value, incremental_is, incremental_none, full_is, full_none}
 use Rattle.series_check.proofs.Later.{are_linked, are_linked_back, unlinked, unlinked_back}

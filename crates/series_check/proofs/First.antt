@@ -1,15 +1,15 @@
 -- The first member of a series, as one of a chain without its prior.
-use Rattle.std.proofs.Common.{eqb-true, ◌≡◌, ℕ, ◌==◌, Bool, true, false, not, cond, List, [], ◌∷◌, Option, Some, None, refl, sym, ap, ◌∙◌}
+use Rattle.std.proofs.Common.{eqb-true, ◌≡◌, ◌≤◌, ℕ, ◌+◌, ◌==◌, Bool, true, false, not, cond, List, [], ◌∷◌, Option, Some, None, refl, sym, ap, ◌∙◌, arith}
 use Rattle.std.specs.List.{AllByRecursion, find}
 use Rattle.std.specs.Option.{option_map, option_or}
 use Rattle.std.proofs.lemmas.Bool.{eq-eqb}
 use Rattle.std.proofs.lemmas.Option.{none-some}
 use Rattle.lsn_core.specs.declared.lsn.Lsn.{Lsn}
-use Rattle.chain_check.specs.Chain.{timelines_of, IsFirst, timeline_fault, first_fault}
+use Rattle.chain_check.specs.Chain.{timelines_of, prior_timelines, IsOnOneTimeline, IsFirst, timeline_fault, first_fault}
 use Rattle.chain_check.specs.declared.member.Member.{Member}
 use Rattle.chain_check.specs.declared.link.LinkFault.{LinkFault}
 use Rattle.chain_check.specs.declared.link.LinkFault.TheVariants.{TimelineDiffers}
-use Rattle.merge_laws.specs.Series.{IsIncremental, full_fault, series_fault}
+use Rattle.series_check.specs.Series.{IsIncremental, full_fault, series_fault}
 use Rattle.series_check.specs.Priors.{with_prior}
 
 -- ---- faults in turn

@@ -1,5 +1,5 @@
 -- Later members are judged alike, whatever prior the first member names.
-use Rattle.std.proofs.Common.{◌≡◌, ℕ, List, [], ◌∷◌, Option, Some, None, refl, sym, ap, ◌∙◌, inl, inr}
+use Rattle.std.proofs.Common.{◌≡◌, ℕ, ◌+◌, List, [], ◌∷◌, Option, Some, None, refl, sym, ap, ◌∙◌, inl, inr}
 use Rattle.std.specs.Option.{option_or}
 use Rattle.lsn_core.specs.declared.lsn.Lsn.{Lsn}
 use Rattle.chain_check.specs.Chain.{IsLinked, AreLinked, timeline_fault, named_fault, label_fault, RefusesLater, IsFirstUnlinked}

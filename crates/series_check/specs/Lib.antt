@@ -1,2 +1,2 @@
+pub mod Series
 pub mod Priors
-pub mod Answers

@@ -1,6 +1,6 @@
 //! Laws of the check: each is the contract of a function that changes nothing.
 
-ghost use Rattle.series_check.specs.Answers.{AcceptedSeriesIsNotRefused, SeriesRefusalsAreOne};
+ghost use Rattle.series_check.specs.Series.{AcceptedSeriesIsNotRefused, SeriesRefusalsAreOne};
 
 use chain_check::chains_have_one_answer;
 

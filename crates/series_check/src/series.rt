@@ -1,8 +1,7 @@
 //! Series of incremental backups.
 
-ghost use Rattle.std.specs.Prelude.{◌≡◌, ◌≤◌, length};
-ghost use Rattle.merge_laws.specs.Series.{series_fault};
-ghost use Rattle.series_check.specs.Answers.{SeriesAnswer};
+ghost use Rattle.std.specs.Prelude.{◌≡◌, ◌≤◌, length, None as Nothing};
+ghost use Rattle.series_check.specs.Series.{SeriesAnswer, series_fault};
 ghost use Rattle.series_check.specs.Priors.{first_prior, with_first_prior};
 
 use backup_label::Label;

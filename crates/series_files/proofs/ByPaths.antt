@@ -2,7 +2,7 @@
 use Rattle.std.proofs.Common.{◌≡◌, ℕ, true, false, List, [], length, Option, Some, None, IfSome, Result, Ok, Err, IfOk, refl, sym, subst, ◌∙◌}
 use Rattle.std.specs.FinMap.{get}
 use Rattle.std.specs.Option.{option_map, unwrap_or}
-use Rattle.byte_words.specs.Told.{when_both_told}
+use Rattle.lsn_core.specs.byte_words.Told.{when_both_told}
 use Rattle.lsn_core.specs.Files.{Files}
 use Rattle.lsn_core.specs.Names.{fork_path_bytes, IsNamed}
 use Rattle.lsn_core.specs.declared.ids.ForkId.{ForkId}

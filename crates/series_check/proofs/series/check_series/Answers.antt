@@ -1,7 +1,7 @@
 use Rattle.std.proofs.Common.{rules, ◌≡◌, None, List, subst, sym, ◌∙◌, arith}
 use Rattle.chain_check.specs.Laws.{ChainAnswer}
 use Rattle.chain_check.specs.declared.member.Member.{Member}
-use Rattle.series_check.proofs.Answers.{first_none, series_answer}
+use Rattle.series_check.proofs.Answers.{FirstFault, first_none, series_answer}
 use Rattle.series_check.proofs.series.check_series.Goals as goal
 
 pub returns-clause-answer : goal.returns-clause-answer

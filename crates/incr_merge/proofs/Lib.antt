@@ -1,0 +1,7 @@
+mod PartFiles
+mod Paths
+mod Kept
+mod Contents
+mod Forms
+mod Directories
+mod Whole

@@ -1,0 +1,129 @@
+//! The whole of merging.
+
+ghost use Rattle.std.specs.Prelude.{◌≡◌, ◌≤◌, ℕ, length, IfOk, IfErr, OnOk, OnErr};
+ghost use Rattle.backup_files.specs.Area.{EndsSynced, HoldsNothing};
+ghost use Rattle.chain_files.specs.Told.{chain_told, ArePlaces, AllOnlyRead};
+ghost use Rattle.vault.specs.Frame.{OnlyReads};
+ghost use Rattle.combine.specs.Calls.{KeepsOut, KeepsFull, LeavesManifest};
+ghost use Rattle.directory_files.specs.Relisted.{other_rows};
+ghost use Rattle.combine.specs.Inside.{WorkCause};
+ghost use Rattle.incr_merge.specs.Inside.{CanPut, PutsAll};
+ghost use Rattle.incr_merge.specs.Calls.{CanMerge, Merges, MergeCause};
+
+use crate::files::put_files;
+use crate::targets::targets_of;
+use backup_files::{is_empty, publish};
+use backup_label::time_text;
+use chain_check::Member;
+use combine::CombineFault;
+use directory_files::{Target, can_list, relisted_text};
+use manifest::Manifest;
+use std::alloc::Global;
+use vault::{Held, Vault};
+
+/// The files that stand for those of a member, where its output is empty and a manifest can list them.
+fn targets_for<V: Vault>(
+    alloc: Global,
+    areas: &mut [Held<V>],
+    places: &[u32],
+    m: &Manifest,
+    out: &mut V,
+) -> Result<Vec<Target>, CombineFault>
+    requires { ArePlaces (length areas.old) places.now }
+    ensures targets { IfOk result (λ targets. CanPut (chain_told V.Vault areas.old places.now)
+        m.now (V.files out.old) targets.items) }
+    ensures reads { AllOnlyRead V.Vault areas.old areas.new }
+    ensures quiet { OnlyReads V.Vault out.old out.new }
+    ensures cause { IfErr result (MergeCause V.Vault places.now m.now areas.old out.old
+        areas.new out.new) }
+{
+    if !is_empty(alloc, out)? {
+        return Err(CombineFault::NotEmpty);
+    }
+    let targets = targets_of(alloc, areas, places, &m.files)?;
+    if !can_list(alloc, m, &targets)? {
+        return Err(CombineFault::Unlisted);
+    }
+    Ok(targets)
+}
+
+/// Writes the files that stand for those of the newest member and then the manifest, and says how many
+/// files this lists.
+fn put_all<V: Vault>(
+    alloc: Global,
+    areas: &mut [Held<V>],
+    places: &[u32],
+    m: &Manifest,
+    targets: &[Target],
+    out: &mut V,
+    when: u64,
+) -> Result<u64, CombineFault>
+    requires places { ArePlaces (length areas.old) places.now }
+    requires some { 1 ≤ length places.now }
+    requires when { when ≤ 253402207199 }
+    requires can { CanPut (chain_told V.Vault areas.old places.now) m.now (V.files out.old)
+        targets.now }
+    ensures counted { IfOk result (λ count. count ≡ length targets.now) }
+    ensures put { IfOk result (λ count.
+        PutsAll V.Vault places.now m.now when areas.old out.new count) }
+    ensures synced { OnOk result (EndsSynced V.Vault out.new) }
+    ensures reads { AllOnlyRead V.Vault areas.old areas.new }
+    ensures left { IfErr result (LeavesManifest V.Vault
+        ((count : ℕ) × PutsAll V.Vault places.now m.now when areas.old out.new count)
+        out.old out.new) }
+    ensures later { V.faults out.old ≤ V.faults out.new }
+    ensures cause { IfErr result (WorkCause V.Vault areas.old out.old areas.new out.new) }
+{
+    let modified = time_text(alloc, when, b"GMT")?;
+    let rows = put_files(alloc, areas, places, targets, out, &modified)?;
+    let count = rows.len() as u64;
+    let text = relisted_text(alloc, m, rows)?;
+    publish(out, &text)?;
+    Ok(count)
+}
+
+/// Merges a series of consecutive incremental backups into one that may stand for it in a chain, of
+/// which `places` says for each member, the oldest one first, which of the areas is its own, into an
+/// output that holds no file, at a moment in seconds since 1970 UTC. `newest` is the last member, as its
+/// directory was found to be; the series was accepted. Each file that it lists is written in the order
+/// of its rows: an incremental one rebuilt under its plain path where an older member has it plain, and
+/// else with the blocks that the members have and the least truncation length; the label with the
+/// oldest member's prior, any other byte for byte; then a manifest of version 2 behind a sync, which a
+/// sync follows, with SHA-256 sums, the moment, and the newest member's system identifier and range of
+/// the WAL. The answer is how many files that lists.
+///
+/// Errs with `NotEmpty` exactly where the output holds a file, with `Unlisted` where no manifest can
+/// list what the series is merged to, otherwise with what the areas' calls answer. After a refusal the
+/// output has no manifest, unless the manifest's removal failed too (the order: profile).
+pub fn merge_incr<V: Vault>(
+    alloc: Global,
+    areas: &mut [Held<V>],
+    places: &[u32],
+    newest: &Member,
+    out: &mut V,
+    when: u64,
+) -> Result<u64, CombineFault>
+    requires places { ArePlaces (length areas.old) places.now }
+    requires some { 1 ≤ length places.now }
+    requires when { when ≤ 253402207199 }
+    ensures merged { IfOk result (λ count.
+        Merges V.Vault places.now newest.now when areas.old out.new count) }
+    ensures synced { OnOk result (EndsSynced V.Vault out.new) }
+    ensures counted { IfOk result (λ count.
+        count ≡ length (other_rows newest.now.manifest.files)) }
+    ensures listable { OnOk result (CanMerge V.Vault places.now newest.now.manifest areas.old) }
+    ensures empty { OnOk result (HoldsNothing (V.files out.old)) }
+    ensures reads { AllOnlyRead V.Vault areas.old areas.new }
+    ensures kept { IfErr result (KeepsOut V.Vault out.old out.new) }
+    ensures full { OnErr result (KeepsFull V.Vault out.old out.new) }
+    ensures manifest { IfErr result (LeavesManifest V.Vault
+        ((count : ℕ) × Merges V.Vault places.now newest.now when areas.old out.new count)
+        out.old out.new) }
+    ensures later { V.faults out.old ≤ V.faults out.new }
+    ensures cause { IfErr result (MergeCause V.Vault places.now newest.now.manifest areas.old
+        out.old
+        areas.new out.new) }
+{
+    let targets = targets_for(alloc, areas, places, &newest.manifest, out)?;
+    put_all(alloc, areas, places, &newest.manifest, &targets, out, when)
+}
