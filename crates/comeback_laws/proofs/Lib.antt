@@ -1,0 +1,4 @@
+pub mod Tallies
+pub mod Survived
+pub mod Wholes
+pub mod Back

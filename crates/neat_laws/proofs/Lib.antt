@@ -1,0 +1,4 @@
+pub mod Grown
+pub mod Stored
+pub mod Held
+pub mod Kept
