@@ -9,7 +9,7 @@ use Rattle.vault.specs.declared.area.Vault.{Ghosts}
 use Rattle.vault.specs.declared.lending.Held.{Held}
 use Rattle.vault.specs.Lending.{Names}
 use Rattle.vault.specs.Site.{AreaState}
-use Rattle.chain_check.specs.Chain.{most_members, IsAccepted}
+use Rattle.chain_check.specs.Chain.{most_members}
 use Rattle.chain_check.specs.Directory.{IsAsListed}
 use Rattle.chain_check.specs.Refusals.{HasRefusal, DirAnswer, RefusesRisen}
 use Rattle.chain_check.specs.declared.fault.ChainFault.TheVariants.{Failed}
@@ -17,7 +17,7 @@ use Rattle.chain_check.specs.declared.member.Member.{Member}
 use Rattle.chain_check.specs.declared.refusal.Refusal.{Refusal}
 use Rattle.chain_files.specs.Told.{AllOnlyRead, ArePlaces}
 use Rattle.chain_files.proofs.Told.{reads_told_at, reads_faults, told_here, faults_here, faults_set}
-use Rattle.chain_commands.specs.Chain.{IsMemberIn, AreMembersIn, IsChainTo, IsFirstRefused}
+use Rattle.chain_commands.specs.Chain.{IsMemberIn, AreMembersIn, IsFirstRefused}
 use Rattle.chain_commands.specs.Verify.{DirectoryRefused}
 use Rattle.chain_commands.specs.Inner.{area_at, areas_at, AnswersMember}
 use Rattle.chain_commands.proofs.MemberAreas.{take_one}
@@ -136,12 +136,3 @@ module _ {V : Type 0} (g : Ghosts V) where
   past_all names places old members at each past are =
       subst (λ (ns : Names). AreMembersIn ns (areas_at g old places) members) (take_all at names past)
       (subst (λ (xs : List AreaState). AreMembersIn (take at names) xs members) (take_all at (areas_at g old places) (omega (arith, past, each, length-map places (area_at g old)))) are)
-
--- ---- the newest
-
-pub newest_of : (names : Names) (areas : List AreaState) (members older : List Member) (newest : Member) → members ≡ older ++ newest ∷ [] → AreMembersIn names areas members → IsAccepted members → IsChainTo names areas newest
-newest_of names areas members older newest is are accepted = record {
-  older = older;
-  are = subst (λ (ms : List Member). AreMembersIn names areas ms) is are;
-  accepted = subst (λ (ms : List Member). IsAccepted ms) is accepted;
-}

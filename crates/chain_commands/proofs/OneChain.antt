@@ -1,12 +1,12 @@
--- What is found of a chain's members has one answer.
+-- What is found of the members of a chain, or of a series, has one answer.
 use Rattle.std.proofs.Common.{◌≡◌, ◌≢◌, ℕ, zero, suc, ◌<◌, ◌≤◌, ◌⊎◌, inl, inr, true, List, [], ◌∷◌, ◌++◌, length, map, take, Option, Some, IsSome, refl, sym, ap, subst, ◌∙◌, arith}
 use Rattle.std.specs.Prelude.{slice_get}
 use Rattle.lsn_core.specs.Files.{Files}
 use Rattle.vault.specs.Lending.{Names}
 use Rattle.vault.specs.Site.{AreaState, Areas}
-use Rattle.chain_check.specs.Chain.{most_members, IsAccepted, IsChainRefused}
+use Rattle.chain_check.specs.Chain.{most_members}
 use Rattle.chain_check.specs.Directory.{IsAsListed}
-use Rattle.chain_check.specs.Laws.{DirectoriesAreOneMember, ListedIsNotRefused, RefusalsAreOne, AcceptedIsNotRefused, ChainRefusalsAreOne, ListedHaveForms}
+use Rattle.chain_check.specs.Laws.{DirectoriesAreOneMember, ListedIsNotRefused, RefusalsAreOne, ListedHaveForms}
 use Rattle.chain_check.specs.Refusals.{HasRefusal, IsOfFiles}
 use Rattle.chain_check.specs.declared.chain.ChainRefusal.{ChainRefusal}
 use Rattle.chain_check.specs.declared.link.LinkFault.{LinkFault}
@@ -17,9 +17,11 @@ use Rattle.chain_files.specs.Segments.{AllHaveForms}
 use Rattle.chain_files.specs.Told.{all_told}
 use Rattle.command_base.specs.Areas.{backup_name}
 use Rattle.command_base.proofs.Told.{some_told, at_told}
+use Rattle.chain_commands.specs.declared.chain.Joining.{Joining}
+use Rattle.chain_commands.specs.declared.chain.Joining.TheVariants as join
 use Rattle.chain_commands.specs.declared.chain.MembersFault.{MembersFault}
 use Rattle.chain_commands.specs.declared.chain.MembersFault.TheVariants as members
-use Rattle.chain_commands.specs.Chain.{backup_areas, files_told, AreMembersIn, IsChainTo, MembersRefused, too_many, members_status}
+use Rattle.chain_commands.specs.Chain.{backup_areas, files_told, AreMembersIn, IsAcceptedAs, IsRefusedAs, IsJoinedTo, MembersRefusedAs, too_many, members_status}
 use Rattle.chain_commands.specs.Link.{link_status}
 use Rattle.command_base.specs.Decided.{is_decided}
 use Rattle.chain_commands.proofs.OneVerify.{of_directory}
@@ -151,7 +153,14 @@ less_or (suc p) (suc q) = elim (less_or p q) [
   ])
 ]
 
--- ---- what an answer says of the members, where an accepted chain is gone on with
+-- ---- what an answer says of the members, where those that are accepted are gone on with
+
+-- accepted members aren't refused, and others are refused for one fault of one member
+abbrev pub AcceptedAsIsNotRefused : Joining → Type 0
+AcceptedAsIsNotRefused joining = (ms : List Member) (refusal : ChainRefusal) → IsAcceptedAs joining ms → IsRefusedAs joining ms refusal → ⊥
+
+abbrev pub RefusalsAsAreOne : Joining → Type 0
+RefusalsAsAreOne joining = (ms : List Member) (refusal other : ChainRefusal) → IsRefusedAs joining ms refusal → IsRefusedAs joining ms other → refusal ≡ other
 
 -- what is decided has its cause
 pub of_link : (why : LinkFault) → is_decided (link_status why) ≡ true → why ≢ link.NoMemory
@@ -165,7 +174,7 @@ of_link (link.WrongPrior have expected) own = λ e. absurd cc
 of_link (link.Overlap start end) own = λ e. absurd cc
 of_link (link.NoPriorFile path) own = λ e. absurd cc
 
-module _ {T : Type 0} (by : MembersFault → T) (Then : Member → T → Type 0) (names : Names) (files : List Files) where
+module _ (joining : Joining) {T : Type 0} (by : MembersFault → T) (Then : Member → T → Type 0) (names : Names) (files : List Files) where
   pub record IsRefusedAt (a : T) : Type 0 where
     place : ℕ
     refusal : Refusal
@@ -178,14 +187,14 @@ module _ {T : Type 0} (by : MembersFault → T) (Then : Member → T → Type 0)
     is : a ≡ by (members.Directory place refusal)
 
   pub record GoesOn (ms : List Member) (a : T) : Type 0 where
-    accepted : IsAccepted ms
+    accepted : IsAcceptedAs joining ms
     older : List Member
     newest : Member
     last : ms ≡ older ++ newest ∷ []
     then : Then newest a
 
   abbrev pub IsNone : List Member → T → Type 0
-  IsNone ms a = (refusal : ChainRefusal) × (IsChainRefused ms refusal × (a ≡ by (members.Link refusal)))
+  IsNone ms a = (refusal : ChainRefusal) × (IsRefusedAs joining ms refusal × (a ≡ by (members.Link refusal)))
 
   pub record HasMembers (a : T) : Type 0 where
     members : List Member
@@ -195,7 +204,7 @@ module _ {T : Type 0} (by : MembersFault → T) (Then : Member → T → Type 0)
   abbrev pub Members : T → Type 0
   Members a = ((most_members < length names) × (a ≡ by (members.Link too_many))) ⊎ ((length names ≤ most_members) × (IsRefusedAt a ⊎ HasMembers a))
 
-  module _ (one_member : DirectoriesAreOneMember) (not_refused : ListedIsNotRefused) (one_refusal : RefusalsAreOne) (not_none : AcceptedIsNotRefused) (one_none : ChainRefusalsAreOne) where
+  module _ (one_member : DirectoriesAreOneMember) (not_refused : ListedIsNotRefused) (one_refusal : RefusalsAreOne) (not_none : AcceptedAsIsNotRefused joining) (one_none : RefusalsAsAreOne joining) where
     not_both : (a b : T) → IsRefusedAt a → HasMembers b → ⊥
     not_both a b x y =
         let listed = listed_at names files y.members x.place x.at y.are x.there in
@@ -238,7 +247,7 @@ module _ {T : Type 0} (by : MembersFault → T) (Then : Member → T → Type 0)
         (λ u v. either_way a b u.1 v.1 (same_refused a b) (not_both a b) (λ s t. not_both b a s t) (λ s t. same_members a b s t (one s.members s.are)))
 
   module _ (areas new : List AreaState) (told : AreTold areas files) where
-    pub refused_course : (fault : MembersFault) → MembersRefused names areas new fault → is_decided (members_status fault) ≡ true → Members (by fault)
+    pub refused_course : (fault : MembersFault) → MembersRefusedAs joining names areas new fault → is_decided (members_status fault) ≡ true → Members (by fault)
     refused_course (members.Directory place refusal) is own =
         let at = told_at areas files place is.was told is.there in
         inr (
@@ -261,7 +270,7 @@ module _ {T : Type 0} (by : MembersFault → T) (Then : Member → T → Type 0)
     ]
     refused_course members.NoMemory is own = absurd cc
 
-    pub chain_course : (a : T) (newest : Member) → IsChainTo names areas newest → length names ≤ most_members → Then newest a → Members a
+    pub chain_course : (a : T) (newest : Member) → IsJoinedTo joining names areas newest → length names ≤ most_members → Then newest a → Members a
     chain_course a newest chain few then = inr (
       few,
       inr (record {
@@ -279,7 +288,11 @@ members_count (n ∷ names) [] ms are = absurd are
 members_count (n ∷ names) (a ∷ areas) [] are = absurd are
 members_count (n ∷ names) (a ∷ areas) (m ∷ ms) are = ap suc (members_count names areas ms are.1)
 
--- an accepted chain has few members
-pub chain_few : (names : Names) (areas : List AreaState) (newest : Member) → IsChainTo names areas newest → length names ≤ most_members
-chain_few names areas newest chain =
-    (let few = chain.accepted.few in omega (arith, few, members_count names areas (chain.older ++ newest ∷ []) chain.are))
+-- accepted members are few
+few_of : (joining : Joining) (ms : List Member) → IsAcceptedAs joining ms → length ms ≤ most_members
+few_of join.Chain ms accepted = accepted.few
+few_of join.Series ms accepted = accepted.few
+
+pub chain_few : (joining : Joining) (names : Names) (areas : List AreaState) (newest : Member) → IsJoinedTo joining names areas newest → length names ≤ most_members
+chain_few joining names areas newest chain =
+    (let few = few_of joining (chain.older ++ newest ∷ []) chain.accepted in omega (arith, few, members_count names areas (chain.older ++ newest ∷ []) chain.are))

@@ -35,6 +35,7 @@ use Rattle.command_base.proofs.Told.{some_told, at_told}
 use Rattle.store_commands.specs.declared.replaying.ReplayReport.{ReplayReport}
 use Rattle.chain_commands.specs.declared.restoring.RestoreFault.TheVariants as restore
 use Rattle.chain_commands.specs.declared.chain.MembersFault.{MembersFault}
+use Rattle.chain_commands.specs.declared.chain.Joining.TheVariants as join
 use Rattle.chain_commands.specs.Chain.{IsOfChain}
 use Rattle.chain_commands.specs.Restore.{RestoreSeen, RestoreResult, RestoresChain, ReadsPast, IsEarly, IsLate, IsNotEmpty, IsUnredone, RestoreAnswer, restored_areas, restore_seen, restore_asks, restore_status}
 use Rattle.store_commands.specs.Inner.{reported}
@@ -126,7 +127,7 @@ module _ (upto : Option Lsn) (names : Names) (old : RestoreSeen) (wal : Files) (
   Aims m a = IsBefore m a ⊎ (IsLate upto m × Fills m a)
 
   abbrev Course : RestoreResult → Type 0
-  Course a = Members refused_by Aims names files a
+  Course a = Members join.Chain refused_by Aims names files a
 
   -- ---- two of them are the same
 
@@ -185,7 +186,7 @@ module _ (upto : Option Lsn) (names : Names) (old : RestoreSeen) (wal : Files) (
 
     one_course : ListedHaveForms → DirectoriesAreOneMember → ListedIsNotRefused → RefusalsAreOne → AcceptedIsNotRefused → ChainRefusalsAreOne → RestoresEndAlike → (a b : RestoreResult) → Course a → Course b → a ≡ b
     one_course law one_member not_refused one_refusal not_none one_none alike a b x y =
-        one_answer refused_by Aims names files one_member not_refused one_refusal not_none one_none a b (λ ms are m. one_aim alike (have_forms law names files ms are) m a b) x y
+        one_answer join.Chain refused_by Aims names files one_member not_refused one_refusal not_none one_none a b (λ ms are m. one_aim alike (have_forms law names files ms are) m a b) x y
 
     -- ---- and each answer says so
 
@@ -304,13 +305,13 @@ module _ (upto : Option Lsn) (names : Names) (old : RestoreSeen) (wal : Files) (
     -- of the chain that the members are
     chain_of : (P : Member → Type 0) (a : RestoreResult) (of : IsOfChain names old.members P) → Aims of.newest a → Course a
     chain_of P a of aims =
-        chain_course refused_by Aims names files old.members old.members told.members_are a of.newest of.chain (chain_few names old.members of.newest of.chain) aims
+        chain_course join.Chain refused_by Aims names files old.members old.members told.members_are a of.newest of.chain (chain_few join.Chain names old.members of.newest of.chain) aims
 
     course : (Untaken : TakeFault → Type 0) (new : RestoreSeen) (a : RestoreResult) → RestoreAnswer upto names Untaken old new a → is_decided (restore_status a) ≡ true → Course a
     unfolding refused_by
     course Untaken new (Ok report) answer own = chain_of (RestoresChain upto old new report) (Ok report) answer (restored new answer.newest report answer.holds)
     course Untaken new (Err (restore.Site fault)) answer own = absurd (undecided fault.why own)
-    course Untaken new (Err (restore.Members fault)) answer own = refused_course refused_by Aims names files old.members new.members told.members_are fault answer.0 own
+    course Untaken new (Err (restore.Members fault)) answer own = refused_course join.Chain refused_by Aims names files old.members new.members told.members_are fault answer.0 own
     course Untaken new (Err (restore.Early target end)) answer own = chain_of (IsEarly upto old.wal old.out target end) (Err (restore.Early target end)) answer.0 (early target end answer.0.newest answer.0.holds)
     course Untaken new (Err restore.NotEmpty) answer own =
         chain_of (IsNotEmpty upto old.out) (Err restore.NotEmpty) answer.0 (inr (answer.0.holds.late, inl (answer.0.holds.full, refl)))

@@ -1,11 +1,11 @@
 -- What private functions answer to those that call them. None of it stands in the contract of a
 -- public call.
-use Rattle.std.specs.Prelude.{◌≡◌, ℕ, ◌-◌, ◌<◌, ◌≤◌, ◌⊎◌, ◌==◌, List, [], ◌∷◌, ◌++◌, length, map, slice_get, Option, Some, None, Result, Ok, Err, IfSome}
+use Rattle.std.specs.Prelude.{◌≡◌, ℕ, ◌-◌, ◌<◌, ◌≤◌, ◌⊎◌, ◌==◌, List, [], ◌∷◌, ◌++◌, length, map, slice_get, Option, Some, None, Result, Ok, Err, IfSome, ◌≢◌}
 use Rattle.std.specs.Global.{Vec}
 use Rattle.std.specs.List.{position}
 use Rattle.std.specs.Option.{option_map, unwrap_or}
 use Rattle.std.specs.FinMap.{empty}
-use Rattle.byte_words.specs.Numbers.{◌>>=◌}
+use Rattle.lsn_core.specs.byte_words.Numbers.{◌>>=◌}
 use Rattle.lsn_core.specs.declared.lsn.Lsn.{Lsn}
 use Rattle.lsn_core.specs.Segment.{StoreSettings}
 use Rattle.lsn_core.specs.declared.fault.AreaFault.TheVariants.{Failed, NoMemory}
@@ -15,12 +15,16 @@ use Rattle.vault.specs.Frame.{IsDurable}
 use Rattle.vault.specs.Stops.{Event}
 use Rattle.vault.specs.Lending.{Names, AreDistinct, IsNoneOf}
 use Rattle.vault.specs.Site.{AreaState, at_home, state_in}
+use Rattle.manifest.specs.Listing.{Listing}
 use Rattle.recovery.specs.declared.replaying.Replayed.{Replayed}
 use Rattle.recovery.specs.Causes.{CauseOf, HasSettings}
-use Rattle.chain_check.specs.Chain.{IsAccepted}
+use Rattle.chain_check.specs.declared.chain.ChainRefusal.{ChainRefusal}
+use Rattle.chain_check.specs.declared.link.LinkFault.TheVariants as link
 use Rattle.chain_check.specs.declared.member.Member.{Member}
 use Rattle.chain_check.specs.declared.refusal.Refusal.{Refusal}
-use Rattle.chain_files.specs.Told.{told_at, faults_at}
+use Rattle.chain_files.specs.Told.{told_at, faults_at, chain_told}
+use Rattle.combine.specs.Calls.{Combines, CombineCause}
+use Rattle.incr_merge.specs.Calls.{Merges, MergeCause}
 use Rattle.combine.specs.declared.fault.CombineFault.{CombineFault as Uncombined}
 use Rattle.combine.specs.declared.fault.CombineFault.TheVariants as uncombined
 use Rattle.backup_restore.specs.declared.fault.RestoreFault.{RestoreFault as Unrestored}
@@ -31,12 +35,14 @@ use Rattle.command_base.specs.Areas.{AreaCause, AreaFails, IsClear, IsFull, back
 use Rattle.command_base.specs.Outside.{Never}
 use Rattle.store_commands.specs.Inner.{reported}
 use Rattle.chain_commands.specs.Verify.{VerifyResult, VerifyAnswer, DirectoryRefused}
+use Rattle.chain_commands.specs.declared.chain.Joining.{Joining}
+use Rattle.chain_commands.specs.declared.chain.Joining.TheVariants as join
 use Rattle.chain_commands.specs.declared.chain.MemberAreas.{MemberAreas}
 use Rattle.chain_commands.specs.declared.chain.MembersFault.{MembersFault}
 use Rattle.chain_commands.specs.declared.combining.CombineFault.{CombineFault}
 use Rattle.chain_commands.specs.declared.combining.CombineFault.TheVariants as combine
-use Rattle.chain_commands.specs.Combine.{CombineSeen, CombineResult, CombineAnswer}
-use Rattle.chain_commands.specs.Chain.{IsMemberIn, AreMembersIn, IsChainTo, MembersRefused}
+use Rattle.chain_commands.specs.Chain.{IsMemberIn, AreMembersIn, IsAcceptedAs, IsRefusedAs, IsJoinedTo, IsChainTo, MembersRefusedAs}
+use Rattle.chain_commands.specs.Joined.{CombineSeen, CombineResult, IsListable, JoinAnswer}
 use Rattle.chain_commands.specs.Restore.{RestoreSeen, RestoreResult, RestoreAnswer, IsLate, EndsAt, ReadsPast, reading_causes_from}
 
 -- ---- `verify`
@@ -94,35 +100,43 @@ AnswersMember vaults name place areas now (Ok member) =
 AnswersMember vaults name place areas now (Err refusal) =
     DirectoryRefused (area_at vaults areas place) (area_at vaults now place) refusal
 
--- why members are refused, in the areas of these places
-abbrev pub RefusesMembers : {V : Type 0} → Vaults V → Names → List ℕ → List (Held V) → List (Held V)
-    → MembersFault → Type 0
-RefusesMembers vaults names places areas now fault =
-    MembersRefused names (areas_at vaults areas places) (areas_at vaults now places) fault
+-- why members are refused as a chain, or as a series, in the areas of these places
+abbrev pub RefusesMembers : {V : Type 0} → Vaults V → Joining → Names → List ℕ
+    → List (Held V) → List (Held V) → MembersFault → Type 0
+RefusesMembers vaults joining names places areas now fault =
+    MembersRefusedAs joining names (areas_at vaults areas places) (areas_at vaults now places)
+    fault
 
--- the members, or why they are refused
+-- the members, or why they are refused as either
 abbrev pub AnswersMembers : {V : Type 0} → Vaults V → Names → List ℕ → List (Held V) → List (Held V)
     → Result (Vec Member) MembersFault → Type 0
 AnswersMembers vaults names places areas now (Ok members) =
     AreMembersIn names (areas_at vaults areas places) members.items
 AnswersMembers vaults names places areas now (Err fault) =
-    RefusesMembers vaults names places areas now fault
+    (joining : Joining) → RefusesMembers vaults joining names places areas now fault
 
--- the same of members that make a chain
-abbrev pub AnswersChain : {V : Type 0} → Vaults V → Names → List ℕ → List (Held V) → List (Held V)
-    → Result (Vec Member) MembersFault → Type 0
-AnswersChain vaults names places areas now (Ok members) =
-    AreMembersIn names (areas_at vaults areas places) members.items × IsAccepted members.items
-AnswersChain vaults names places areas now (Err fault) =
-    RefusesMembers vaults names places areas now fault
+-- some members are accepted as a chain, or as a series, or are refused
+abbrev pub AnswersJoined : Joining → List Member → Result (Unit {0}) ChainRefusal → Type 0
+AnswersJoined joining members (Ok done) = IsAcceptedAs joining members
+AnswersJoined joining members (Err refusal) =
+    refusal.why ≢ link.NoMemory → IsRefusedAs joining members refusal
 
--- and of the newest of them
-abbrev pub AnswersNewest : {V : Type 0} → Vaults V → Names → List ℕ → List (Held V) → List (Held V)
-    → Result Member MembersFault → Type 0
-AnswersNewest vaults names places areas now (Ok newest) =
-    IsChainTo names (areas_at vaults areas places) newest
-AnswersNewest vaults names places areas now (Err fault) =
-    RefusesMembers vaults names places areas now fault
+-- the members, which are accepted so, or why they are refused
+abbrev pub AnswersChain : {V : Type 0} → Vaults V → Joining → Names → List ℕ
+    → List (Held V) → List (Held V) → Result (Vec Member) MembersFault → Type 0
+AnswersChain vaults joining names places areas now (Ok members) =
+    AreMembersIn names (areas_at vaults areas places) members.items
+    × IsAcceptedAs joining members.items
+AnswersChain vaults joining names places areas now (Err fault) =
+    RefusesMembers vaults joining names places areas now fault
+
+-- and the newest of them
+abbrev pub AnswersNewest : {V : Type 0} → Vaults V → Joining → Names → List ℕ
+    → List (Held V) → List (Held V) → Result Member MembersFault → Type 0
+AnswersNewest vaults joining names places areas now (Ok newest) =
+    IsJoinedTo joining names (areas_at vaults areas places) newest
+AnswersNewest vaults joining names places areas now (Err fault) =
+    RefusesMembers vaults joining names places areas now fault
 
 -- ---- `restore`
 
@@ -212,7 +226,7 @@ EndsRestore vaults places (Err (unrestored.Wal f)) old new (Err (restore.Out why
     AreaCause (vaults.faults old) (vaults.faults new) why
 EndsRestore vaults places came old new result = ⊥
 
--- ---- `combine`
+-- ---- `combine` and `merge-incr`
 
 abbrev pub combine_seen_in : {V : Type 0} → Vaults V → List ℕ → List (Held V) → V → CombineSeen
 combine_seen_in vaults places areas out = record {
@@ -220,14 +234,34 @@ combine_seen_in vaults places areas out = record {
   out = state_in vaults out;
 }
 
--- why `combine` comes to its answer over the areas of the members and of the output
-abbrev pub AnswersCombine : {V : Type 0} → Vaults V → ℕ → Names → List ℕ
+-- the output is what a chain was combined to, or a series was merged to
+abbrev pub Joins : {V : Type 0} → Vaults V → Joining → List ℕ → Member → ℕ
+    → List (Held V) → V → ℕ → Type 0
+Joins vaults join.Chain places newest when areas out count =
+    Combines vaults places newest when areas out count
+Joins vaults join.Series places newest when areas out count =
+    Merges vaults places newest when areas out count
+
+-- why it wasn't
+abbrev pub JoinCause : {V : Type 0} → Vaults V → Joining → List ℕ → Listing
+    → List (Held V) → V → List (Held V) → V → Uncombined → Type 0
+JoinCause vaults join.Chain places m areas out areas_now out_now why =
+    CombineCause vaults m areas out areas_now out_now why
+JoinCause vaults join.Series places m areas out areas_now out_now why =
+    MergeCause vaults places m areas out areas_now out_now why
+
+-- a manifest can list it
+abbrev pub ListsJoined : {V : Type 0} → Vaults V → Joining → List ℕ → Listing → List (Held V) → Type 0
+ListsJoined vaults joining places m areas = IsListable joining (chain_told vaults areas places) m
+
+-- why joining comes to its answer over the areas of the members and of the output
+abbrev pub AnswersJoin : {V : Type 0} → Vaults V → Joining → ℕ → Names → List ℕ
     → List (Held V) → V → List (Held V) → V → CombineResult → Type 0
-AnswersCombine vaults when names places areas out areas_now out_now r =
-    CombineAnswer when names Never (combine_seen_in vaults places areas out)
+AnswersJoin vaults joining when names places areas out areas_now out_now r =
+    JoinAnswer joining when names Never (combine_seen_in vaults places areas out)
     (combine_seen_in vaults places areas_now out_now) r
 
--- why members with areas of these places aren't combined
+-- why members with areas of these places aren't joined
 abbrev pub combine_fault : List ℕ → Uncombined → CombineFault
 combine_fault places uncombined.NotEmpty = combine.NotEmpty
 combine_fault places uncombined.Unlisted = combine.Unlisted (length places - 1)

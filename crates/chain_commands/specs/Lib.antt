@@ -2,7 +2,9 @@ pub mod Directory
 pub mod Link
 pub mod Verify
 pub mod Chain
+pub mod Joined
 pub mod Combine
+pub mod Merge
 pub mod Restore
 pub mod Laws
 pub mod Inner

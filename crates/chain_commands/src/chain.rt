@@ -1,5 +1,5 @@
-//! The chain of backups that a command is given by the names of its members: their areas, and what
-//! their directories are.
+//! The chain of backups, or the series of incremental ones, that a command is given by the names of
+//! its members: their areas, and what their directories are.
 
 ghost use Rattle.std.specs.Prelude.{◌≡◌, ◌≤◌, ◌<◌, ◌==◌, length, bytes_eq, IfOk, OnOk, IfErr, IfSome};
 ghost use Rattle.std.specs.List.{position};
@@ -9,7 +9,7 @@ ghost use Rattle.command_line.specs.Members.{names_in};
 ghost use Rattle.chain_commands.specs.declared.chain.MembersFault.TheVariants as members;
 ghost use Rattle.chain_commands.specs.Chain.{too_many, name_at, members_fault_text, members_status};
 ghost use Rattle.chain_commands.specs.Inner.{PlacesArea, AreMemberAreas, AnswersMember, AnswersMembers};
-ghost use Rattle.chain_commands.specs.Inner.{AnswersChain, AnswersNewest, member_of};
+ghost use Rattle.chain_commands.specs.Inner.{AnswersJoined, AnswersChain, AnswersNewest, member_of};
 
 use crate::directory::{directory_status, directory_text};
 use crate::link::{link_status, link_text};
@@ -17,16 +17,26 @@ use chain_check::{ChainRefusal, LinkFault, MOST_MEMBERS, Member, Refusal, check_
 use command_base::{Status, backup_name, joined};
 use command_line::MemberNames;
 use lsn_core::{NoMemory, Text};
+use series_check::check_series;
 use std::alloc::{AllocFailed, Global};
 use vault::{Held, Vault};
 
-/// Why the members of a chain aren't taken.
+/// What the members have to be.
+#[derive(Clone, Copy, Debug, PartialEq, Eq)]
+pub enum Joining {
+    /// A full backup, and incremental ones over it.
+    Chain,
+    /// Consecutive incremental backups.
+    Series,
+}
+
+/// Why the members of a chain, or of a series, aren't taken.
 #[derive(Debug, Drop)]
 pub enum MembersFault {
     /// The directory of the member of this place, from 0, isn't as its manifest lists it, its area
     /// failed, or memory ran out.
     Directory(u32, Refusal),
-    /// The members make no chain, or memory ran out.
+    /// The members make no chain, or no series, or memory ran out.
     Link(ChainRefusal),
     /// Memory ran out.
     NoMemory,
@@ -49,7 +59,7 @@ pub struct MemberAreas {
     pub places: Vec<u32>,
 }
 
-/// Refuses a chain of more members than one may have.
+/// Refuses more members than a chain or a series may have.
 pub fn check_count(names: &MemberNames<'_>) -> Result<(), MembersFault>
     ensures few { OnOk result (length (names_in names.now) ≤ most_members) }
     ensures many { IfErr result (λ why.
@@ -144,9 +154,22 @@ fn members_at<V: Vault>(
     Ok(members)
 }
 
-/// The same members where they make a chain that is accepted.
+/// Judges members, the oldest one first, as they have to be; they stay as they were.
+fn check_joined(alloc: Global, joining: Joining, members: &mut [Member]) -> Result<(), ChainRefusal>
+    requires { 1 ≤ length members.old }
+    ensures answer { AnswersJoined joining members.old result }
+    ensures kept { members.new ≡ members.old }
+{
+    match joining {
+        Joining::Chain => check_chain(alloc, members),
+        Joining::Series => check_series(alloc, members),
+    }
+}
+
+/// The same members where they are accepted.
 fn chain_at<V: Vault>(
     alloc: Global,
+    joining: Joining,
     areas: &mut [Held<V>],
     places: &[u32],
     names: &MemberNames<'_>,
@@ -155,20 +178,21 @@ fn chain_at<V: Vault>(
     requires each { length (names_in names.now) ≡ length places.now }
     requires some { 1 ≤ length places.now }
     requires few { length places.now ≤ most_members }
-    ensures answer { AnswersChain V.Vault (names_in names.now) places.now
+    ensures answer { AnswersChain V.Vault joining (names_in names.now) places.now
         areas.old areas.new result }
     ensures reads { AllOnlyRead V.Vault areas.old areas.new }
 {
-    let members = members_at(alloc, areas, places, names)?;
-    match check_chain(alloc, &members) {
+    let mut members = members_at(alloc, areas, places, names)?;
+    match check_joined(alloc, joining, &mut members) {
         Ok(()) => Ok(members),
         Err(refusal) => Err(MembersFault::Link(refusal)),
     }
 }
 
-/// The newest of these members, which make a chain that is accepted.
+/// The newest of these members, which are accepted.
 pub fn newest_at<V: Vault>(
     alloc: Global,
+    joining: Joining,
     areas: &mut [Held<V>],
     places: &[u32],
     names: &MemberNames<'_>,
@@ -177,11 +201,11 @@ pub fn newest_at<V: Vault>(
     requires each { length (names_in names.now) ≡ length places.now }
     requires some { 1 ≤ length places.now }
     requires few { length places.now ≤ most_members }
-    ensures answer { AnswersNewest V.Vault (names_in names.now) places.now
+    ensures answer { AnswersNewest V.Vault joining (names_in names.now) places.now
         areas.old areas.new result }
     ensures reads { AllOnlyRead V.Vault areas.old areas.new }
 {
-    let mut members = chain_at(alloc, areas, places, names)?;
+    let mut members = chain_at(alloc, joining, areas, places, names)?;
     match members.pop() {
         Some(newest) => Ok(newest),
         None => unreachable!(),

@@ -17,7 +17,7 @@ ghost use Rattle.chain_commands.specs.Inner.{AnswersPlace, AnswersReady, Answers
 ghost use Rattle.chain_commands.specs.Inner.{AreOwnPlaces, AreMemberAreas, EndsRestore, AnswersRestore};
 
 use crate::chain::{
-    MemberAreas, MembersFault, areas_of, check_count, member_of, members_fault_text,
+    Joining, MemberAreas, MembersFault, areas_of, check_count, member_of, members_fault_text,
     members_status, name_at, newest_at,
 };
 use crate::lending::last_of;
@@ -170,7 +170,7 @@ fn prepare<V: Vault>(
     ensures out { V.files out.new ≡ V.files out.old }
     ensures out_later { V.faults out.old ≤ V.faults out.new }
 {
-    let newest = newest_at(alloc, areas, places, names)?;
+    let newest = newest_at(alloc, Joining::Chain, areas, places, names)?;
     let settings = prepare_newest(alloc, wal, out, &newest, upto)?;
     Ok((newest, settings))
 }

@@ -29,7 +29,7 @@ pub returns-in-Err-clause-reads : goal.returns-in-Err-clause-reads
 returns-in-Err-clause-reads g c = reads_trans g.V.Vault c.args.areas.now c.loop-name.areas c.member_at.new.areas c.loop-name.invariant.read c.member_at.ensures.reads
 
 pub returns-in-Err-clause-answer : goal.returns-in-Err-clause-answer
-returns-in-Err-clause-answer g c =
+returns-in-Err-clause-answer g c joining =
     let less : c.loop-name.at < length c.args.places.now = (let within = get_within (names_in c.args.names.now) c.loop-name.at c.in-Some.name.now (sym c.in-Some.ensures) in omega (arith, within, c.requires.each)) in
     first_refused g.V.Vault (names_in c.args.names.now) c.args.places.now c.args.areas.now c.loop-name.areas c.member_at.new.areas c.loop-name.members.items c.loop-name.at _ c.in-Err.refusal
     (omega (arith, c.requires.each, c.requires.few)) (placed_at c.args.places.now c.loop-name.at 0 less) c.loop-name.invariant.read c.loop-name.invariant.found c.in-Err.ensures.answer

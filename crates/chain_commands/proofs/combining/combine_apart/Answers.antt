@@ -4,7 +4,7 @@ use Rattle.command_base.specs.Outside.{of_site}
 use Rattle.command_line.specs.Members.{names_in}
 use Rattle.command_base.proofs.Decided.{err_as}
 use Rattle.chain_commands.specs.declared.combining.CombineFault.TheVariants as combine
-use Rattle.chain_commands.specs.Combine.{CombineResult, CombineRan}
+use Rattle.chain_commands.specs.Joined.{CombineResult, JoinRan}
 use Rattle.chain_commands.proofs.ChainAreas.{with_output, counted, lends, taken_as, rest_out, members_out_of}
 use Rattle.chain_commands.proofs.CombineLent.{combine_untaken, combine_done}
 use Rattle.chain_commands.proofs.combining.combine_apart.Goals as goal
@@ -16,8 +16,8 @@ take_all-requires-clause-distinct g c κs within =
 pub returns-in_err-held-clause-ran : goal.returns-in_err-held-clause-ran
 returns-in_err-held-clause-ran g c =
     err_as c.from_residual-in_err-held.result (combine.Site c.in_err-held.field-0.0)
-    (λ (r : CombineResult). CombineRan c.args.when (names_in c.args.members.now) c.args.out (of_site g.S.Site c.args.site.now) (of_site g.S.Site c.take_all.new.site) r) c.from_residual-in_err-held.ensures.1
-    (combine_untaken g.S.Site c.args.when (names_in c.args.members.now) c.args.out c.args.areas c.push.new.self.items c.args.site.now c.take_all.new.site c.in_err-held.field-0.0 c.requires.areas c.in_ok-push.ensures.items c.requires.home c.in_err-held.ensures.takes).1
+    (λ (r : CombineResult). JoinRan c.args.joining c.args.when (names_in c.args.members.now) c.args.out (of_site g.S.Site c.args.site.now) (of_site g.S.Site c.take_all.new.site) r) c.from_residual-in_err-held.ensures.1
+    (combine_untaken g.S.Site c.args.joining c.args.when (names_in c.args.members.now) c.args.out c.args.areas c.push.new.self.items c.args.site.now c.take_all.new.site c.in_err-held.field-0.0 c.requires.areas c.in_ok-push.ensures.items c.requires.home c.in_err-held.ensures.takes).1
 
 pub combine_areas-answer-requires-clause-own : goal.combine_areas-answer-requires-clause-own
 combine_areas-answer-requires-clause-own g c κs within =
@@ -58,12 +58,12 @@ give_all-requires-after_bounds g c κs within =
 
 pub returns-clause-site : goal.returns-clause-site
 returns-clause-site g c =
-    (combine_done g.S.Site g.S.Area.Vault c.args.when (names_in c.args.members.now) c.args.out c.args.areas c.push.new.self.items c.args.site.now c.take_all.new.site c.give_one.new.site c.give_all.new.site c.in_ok-held.held.items c.last_of-out.new.held.items c.deref_mut.result.now c.combine_areas-answer.new.areas _ c.deref.result.now c.last_of-out.new.held.len
+    (combine_done g.S.Site g.S.Area.Vault c.args.joining c.args.when (names_in c.args.members.now) c.args.out c.args.areas c.push.new.self.items c.args.site.now c.take_all.new.site c.give_one.new.site c.give_all.new.site c.in_ok-held.held.items c.last_of-out.new.held.items c.deref_mut.result.now c.combine_areas-answer.new.areas _ c.deref.result.now c.last_of-out.new.held.len
     c.last_of-out.result (record { name = c.last_of-out.result.name; area = c.combine_areas-answer.new.out }) c.combine_areas-answer.result c.requires.areas c.in_ok-push.ensures.items c.last_of-out.ensures c.requires.home c.in_ok-held.ensures.takes c.deref_mut.ensures.value c.deref.ensures.value c.last_of-out.new.held.ok.0
     c.combine_areas-answer.ensures.areas refl refl c.combine_areas-answer.ensures.later c.give_one.ensures.gives c.give_all.ensures.gives c.combine_areas-answer.ensures.answer).0
 
 pub returns-clause-ran : goal.returns-clause-ran
 returns-clause-ran g c =
-    (combine_done g.S.Site g.S.Area.Vault c.args.when (names_in c.args.members.now) c.args.out c.args.areas c.push.new.self.items c.args.site.now c.take_all.new.site c.give_one.new.site c.give_all.new.site c.in_ok-held.held.items c.last_of-out.new.held.items c.deref_mut.result.now c.combine_areas-answer.new.areas _ c.deref.result.now c.last_of-out.new.held.len
+    (combine_done g.S.Site g.S.Area.Vault c.args.joining c.args.when (names_in c.args.members.now) c.args.out c.args.areas c.push.new.self.items c.args.site.now c.take_all.new.site c.give_one.new.site c.give_all.new.site c.in_ok-held.held.items c.last_of-out.new.held.items c.deref_mut.result.now c.combine_areas-answer.new.areas _ c.deref.result.now c.last_of-out.new.held.len
     c.last_of-out.result (record { name = c.last_of-out.result.name; area = c.combine_areas-answer.new.out }) c.combine_areas-answer.result c.requires.areas c.in_ok-push.ensures.items c.last_of-out.ensures c.requires.home c.in_ok-held.ensures.takes c.deref_mut.ensures.value c.deref.ensures.value c.last_of-out.new.held.ok.0
     c.combine_areas-answer.ensures.areas refl refl c.combine_areas-answer.ensures.later c.give_one.ensures.gives c.give_all.ensures.gives c.combine_areas-answer.ensures.answer).1
