@@ -5,7 +5,7 @@ use Rattle.std.specs.Str.Parse.{digits_value}
 use Rattle.std.proofs.lemmas.Bool.Decides.{Decides-ltb}
 use Rattle.std.proofs.lemmas.Slice.Eq.{bytes_eq-Decides}
 use Rattle.std.proofs.lemmas.Fmt.{digits_value-decimal}
-use Rattle.text_numbers.proofs.Decimal.{own}
+use Rattle.lsn_core.proofs.text_numbers.Decimal.{own}
 use Rattle.command_line.specs.Options.{decimal_number}
 
 picks_none : (a b : Bool) (n : ℕ) → (a ≡ true → b ≡ true → ⊥) → None ≡ (if a && b then Some n else None)

@@ -50,6 +50,10 @@ abbrev pub combine_app : App
 combine_app = command_with (codes "combine")
     (word_rule (codes "OUT") ∷ (words_rule (codes "MEMBER") ∷ []))
 
+abbrev pub merge_app : App
+merge_app = command_with (codes "merge-incr")
+    (word_rule (codes "OUT") ∷ (words_rule (codes "MEMBER") ∷ []))
+
 abbrev pub walsummary_app : App
 walsummary_app = command_with (codes "walsummary")
     (word_rule (codes "FROM") ∷ (word_rule (codes "TO") ∷ []))
@@ -60,6 +64,9 @@ follow_app = command_with (codes "follow") (option_rule (codes "segment-mib")
 
 abbrev pub drill_app : App
 drill_app = command_with (codes "drill") (word_rule (codes "N") ∷ [])
+
+abbrev pub restart_app : App
+restart_app = new_app (codes "restart")
 
 -- a subcommand has to be named, and no request for help is taken
 abbrev pub top_app : App
@@ -74,7 +81,8 @@ top_app = on_top (λ s. record s {
 abbrev pub app : App
 app = fold (λ a sub. with_subcommand a sub) top_app (init_app.top ∷ (run_app.top
     ∷ (replay_app.top ∷ (verify_app.top ∷ (restore_app.top ∷ (combine_app.top
-    ∷ (walsummary_app.top ∷ (follow_app.top ∷ (drill_app.top ∷ [])))))))))
+    ∷ (merge_app.top ∷ (walsummary_app.top ∷ (follow_app.top ∷ (drill_app.top
+    ∷ (restart_app.top ∷ [])))))))))))
 
 -- a command of `clap` is the one that is defined
 abbrev pub IsApp : App → Command → Type 0

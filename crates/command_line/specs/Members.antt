@@ -10,3 +10,7 @@ names_in members = members.names.now
 -- there is one at least, and each is a name
 abbrev pub are_members : List (List ℕ) → Bool
 are_members names = nat_le 1 (length names) && list_all is_name names
+
+-- there are two at least, and each is a name
+abbrev pub are_series : List (List ℕ) → Bool
+are_series names = nat_le 2 (length names) && list_all is_name names

@@ -4,9 +4,9 @@ use Rattle.std.specs.Prelude.{ℕ, ◌+◌, ◌*◌, ◌^◌, ◌<◌, ◌≤◌
 use Rattle.std.specs.List.{list_all}
 use Rattle.std.specs.Option.{unwrap_or}
 use Rattle.std.specs.Str.{is_utf8}
-use Rattle.byte_words.specs.Numbers.{◌>>=◌}
-use Rattle.byte_words.specs.Cuts.{cut_at}
-use Rattle.text_numbers.specs.Numbers.{hex_number_of}
+use Rattle.lsn_core.specs.byte_words.Numbers.{◌>>=◌}
+use Rattle.lsn_core.specs.byte_words.Cuts.{cut_at}
+use Rattle.lsn_core.specs.text_numbers.Numbers.{hex_number_of}
 use Rattle.lsn_core.specs.declared.lsn.Lsn.{Lsn}
 use Rattle.lsn_core.specs.Segment.{IsSegmentMib, IsRelseg}
 use Rattle.clap.specs.Walk.{Row, Text, first_of, all_of}
@@ -16,15 +16,15 @@ use Rattle.command_line.specs.App.{app, is_taken}
 use Rattle.command_line.specs.declared.options.InitOptions.{InitOptions}
 use Rattle.command_line.specs.declared.words.Command.{Command}
 use Rattle.command_line.specs.declared.words.Command.TheVariants as command
-use Rattle.command_line.specs.Members.{are_members}
+use Rattle.command_line.specs.Members.{are_members, are_series}
 use Rattle.command_line.specs.Options.{segment_value, relseg_value, decimal_number, frames_value, drill_number, given, IsFrameCount, IsInRange}
 
 -- a new store, a script to be run with so many frames of each partition, a replay to an output of
 -- that name, up to a target where one is given, the check of the backup of a name, the chain of the
 -- backups of some names restored to an output of a name, up to a target where one is given, such a
--- chain combined to a backup of a name, the summary of a range of the WAL, the stream of a WAL with
--- segments of so many MiB followed to an output of a name, so many blocks of a fork in each file, or
--- the drill of a number
+-- chain combined to a backup of a name, a series of incremental ones merged to one, the summary of a
+-- range of the WAL, the stream of a WAL with segments of so many MiB followed to an output of a name,
+-- so many blocks of a fork in each file, the drill of a number, or the store brought back after a stop
 pub data Asked : Type 0 where
   Init : InitOptions → Asked
   Run : ℕ → Asked
@@ -32,9 +32,11 @@ pub data Asked : Type 0 where
   Verify : List ℕ → Asked
   Restore : Option Lsn → List ℕ → List (List ℕ) → Asked
   Combine : List ℕ → List (List ℕ) → Asked
+  Merge : List ℕ → List (List ℕ) → Asked
   Walsummary : Lsn → Lsn → Asked
   Follow : ℕ → ℕ → List ℕ → Asked
   Drill : ℕ → Asked
+  Restart : Asked
 
 -- the word of an argument that has to be there
 abbrev pub word_of : Text → List Row → Text
@@ -102,6 +104,14 @@ combine_to out members =
 abbrev pub combine_asked : List Row → Option Asked
 combine_asked rows = combine_to (word_of (codes "OUT") rows) (words_of (codes "MEMBER") rows)
 
+-- a series has two members at least
+abbrev pub merge_to : List ℕ → List (List ℕ) → Option Asked
+merge_to out members =
+    if is_name out && are_series members then Some (Merge out members) else None
+
+abbrev pub merge_asked : List Row → Option Asked
+merge_asked rows = merge_to (word_of (codes "OUT") rows) (words_of (codes "MEMBER") rows)
+
 -- a range has a place at least
 abbrev pub walsummary_of : Lsn → Lsn → Option Asked
 walsummary_of from to = if nat_lt from.0 to.0 then Some (Walsummary from to) else None
@@ -139,9 +149,11 @@ asked_by name rows =
     else (if bytes_eq name (codes "verify") then verify_asked rows
     else (if bytes_eq name (codes "restore") then restore_asked rows
     else (if bytes_eq name (codes "combine") then combine_asked rows
+    else (if bytes_eq name (codes "merge-incr") then merge_asked rows
     else (if bytes_eq name (codes "walsummary") then walsummary_asked rows
     else (if bytes_eq name (codes "follow") then follow_asked rows
-    else (if bytes_eq name (codes "drill") then drill_asked rows else None))))))))
+    else (if bytes_eq name (codes "drill") then drill_asked rows
+    else (if bytes_eq name (codes "restart") then Some Restart else None))))))))))
 
 -- what words that are text ask
 abbrev pub texts_ask : List Text → Option Asked
@@ -162,11 +174,13 @@ asks (command.Replay upto name) = Replay upto name
 asks (command.Verify name) = Verify name
 asks (command.Restore upto out members) = Restore upto out members.items
 asks (command.Combine out members) = Combine out members.items
+asks (command.Merge out members) = Merge out members.items
 asks (command.Walsummary from to) = Walsummary from to
 asks (command.Follow sizes name) = Follow sizes.segment sizes.relseg name
 asks (command.Drill n) = Drill n
+asks command.Restart = Restart
 
--- the options of a command are in their ranges, a range has a place, and a chain a member
+-- the options of a command are in their ranges, a range has a place, a chain a member, and a series two
 abbrev pub HasRange : Command → Type 0
 HasRange (command.Init options) = IsInRange options
 HasRange (command.Run frames) = IsFrameCount frames
@@ -174,6 +188,8 @@ HasRange (command.Replay upto name) = Unit {0}
 HasRange (command.Verify name) = Unit {0}
 HasRange (command.Restore upto out members) = 1 ≤ length members.items
 HasRange (command.Combine out members) = 1 ≤ length members.items
+HasRange (command.Merge out members) = 2 ≤ length members.items
 HasRange (command.Walsummary from to) = from.0 < to.0
 HasRange (command.Follow sizes name) = IsSegmentMib sizes.segment × IsRelseg sizes.relseg
 HasRange (command.Drill n) = n < 2 ^ 32
+HasRange command.Restart = Unit {0}

@@ -5,7 +5,8 @@ ghost use Rattle.clap.specs.Walk.{rule_of};
 ghost use Rattle.clap.specs.Simple.{subcommand_of, subcommand_rows_of};
 ghost use Rattle.command_line.specs.App.{option_rule, word_rule, words_rule, IsApp};
 ghost use Rattle.command_line.specs.App.{init_app, run_app, replay_app, verify_app, restore_app};
-ghost use Rattle.command_line.specs.App.{combine_app, walsummary_app, follow_app, drill_app};
+ghost use Rattle.command_line.specs.App.{combine_app, merge_app, walsummary_app, follow_app, drill_app};
+ghost use Rattle.command_line.specs.App.{restart_app};
 ghost use Rattle.command_line.specs.App.{top_app, app, is_taken};
 
 use clap::error::ErrorKind;
@@ -83,6 +84,14 @@ fn combine_command<'a>(alloc: Global) -> Result<Command<'a>, AllocError>
         .arg(words(alloc, "MEMBER"))
 }
 
+fn merge_command<'a>(alloc: Global) -> Result<Command<'a>, AllocError>
+    ensures { IfOk result (IsApp merge_app) }
+{
+    Command::new(alloc, "merge-incr")
+        .arg(word(alloc, "OUT"))?
+        .arg(words(alloc, "MEMBER"))
+}
+
 fn walsummary_command<'a>(alloc: Global) -> Result<Command<'a>, AllocError>
     ensures { IfOk result (IsApp walsummary_app) }
 {
@@ -104,6 +113,12 @@ fn drill_command<'a>(alloc: Global) -> Result<Command<'a>, AllocError>
     ensures { IfOk result (IsApp drill_app) }
 {
     Command::new(alloc, "drill").arg(word(alloc, "N"))
+}
+
+fn restart_command<'a>(alloc: Global) -> Command<'a>
+    ensures { IsApp restart_app result }
+{
+    Command::new(alloc, "restart")
 }
 
 /// A subcommand has to be named, and no request for help is taken.
@@ -128,9 +143,11 @@ fn whole_command<'a>(alloc: Global) -> Result<Command<'a>, AllocError>
         .subcommand(verify_command(alloc)?)?
         .subcommand(restore_command(alloc)?)?
         .subcommand(combine_command(alloc)?)?
+        .subcommand(merge_command(alloc)?)?
         .subcommand(walsummary_command(alloc)?)?
         .subcommand(follow_command(alloc)?)?
-        .subcommand(drill_command(alloc)?)
+        .subcommand(drill_command(alloc)?)?
+        .subcommand(restart_command(alloc))
 }
 
 /// What the command finds in the words. None exactly where it doesn't take them.

@@ -4,7 +4,7 @@ ghost use Rattle.std.specs.Prelude.{◌≡◌, length, nat_lt, slice_get};
 ghost use Rattle.std.specs.List.{list_all};
 ghost use Rattle.std.specs.Option.{option_map};
 ghost use Rattle.scripts.specs.Cuts.{is_name};
-ghost use Rattle.command_line.specs.Members.{names_in, are_members};
+ghost use Rattle.command_line.specs.Members.{names_in, are_members, are_series};
 
 use lsn_core::Text;
 use scripts::is_name;
@@ -45,4 +45,11 @@ pub(crate) fn are_members(names: &[Text]) -> bool
     ensures { result ≡ are_members names.now }
 {
     1 <= names.len() && are_names(names)
+}
+
+/// Whether there are two names or more, and each is one.
+pub(crate) fn are_series(names: &[Text]) -> bool
+    ensures { result ≡ are_series names.now }
+{
+    2 <= names.len() && are_names(names)
 }

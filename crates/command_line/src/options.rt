@@ -7,8 +7,8 @@ ghost use Rattle.command_line.specs.Options.{decimal_number, segment_value, rels
 ghost use Rattle.command_line.specs.Options.{drill_number, given, IsFrameCount};
 ghost use Rattle.command_line.specs.Words.{lsn_value};
 
+use lsn_core::text_numbers::decimal_in;
 use lsn_core::{Lsn, MOST_RELSEG, SegSize, lsn_read};
-use text_numbers::decimal_in;
 
 /// What the words of `init` give, where they give it.
 #[derive(Clone, Copy, Debug)]

@@ -9,12 +9,13 @@ ghost use Rattle.clap.specs.Matches.{found_of};
 ghost use Rattle.lsn_core.specs.Segment.{IsSegmentMib, IsRelseg};
 ghost use Rattle.command_line.specs.Words.{init_asked, run_asked, replay_to, replay_asked, verify_name, verify_asked};
 ghost use Rattle.command_line.specs.Words.{restore_to, restore_asked, combine_to, combine_asked};
-ghost use Rattle.command_line.specs.Words.{walsummary_asked, follow_to, follow_asked, drill_asked};
+ghost use Rattle.command_line.specs.Words.{merge_asked, walsummary_asked, follow_to, follow_asked};
+ghost use Rattle.command_line.specs.Words.{drill_asked};
 ghost use Rattle.command_line.specs.Words.{asked_by, texts_ask, asked, asks, HasRange};
 
 use crate::app::taken;
 use crate::found::{option_in, word_in, words_in};
-use crate::members::are_members;
+use crate::members::{are_members, are_series};
 use crate::options::{
     FollowSizes, InitOptions, drill_number_in, frames_given, lsn_given, lsn_in, number_given,
     relseg_given, segment_given,
@@ -45,6 +46,9 @@ pub enum Command {
     Restore(Option<Lsn>, Text, Vec<Text>),
     /// The chain of the backups of these names combined to a backup of this name.
     Combine(Text, Vec<Text>),
+    /// The series of the incremental backups of these names, two or more, merged to a backup of this
+    /// name.
+    Merge(Text, Vec<Text>),
     /// What the kept summaries tell of the range from the first place to below the second, which is
     /// past it.
     Walsummary(Lsn, Lsn),
@@ -53,6 +57,8 @@ pub enum Command {
     /// The drill of this number: a new store with a script made from it, a chain of backups, and
     /// their restore.
     Drill(u32),
+    /// The WAL and the data areas brought back after a stop.
+    Restart,
 }
 
 fn init_of(found: &ArgMatches<'_>) -> Option<Command>
@@ -158,6 +164,21 @@ fn combine_of(alloc: Global, found: &ArgMatches<'_>) -> Result<Option<Command>, 
     Ok(None)
 }
 
+/// A member's name is one, and there are two at least.
+fn merge_of(alloc: Global, found: &ArgMatches<'_>) -> Result<Option<Command>, NoMemory>
+    ensures asked { IfOk result (λ command.
+        option_map asks command ≡ merge_asked (rows_of (found_of found.now))) }
+    ensures range { IfOk result (λ command. IfSome command HasRange) }
+{
+    let out = word_in(found, "OUT");
+    let members = words_in(alloc, found, "MEMBER")?;
+    if is_name(out.as_bytes()) && are_series(&members) {
+        let out = Text::copied(alloc, out.as_bytes())?;
+        return Ok(Some(Command::Merge(out, members)));
+    }
+    Ok(None)
+}
+
 /// A range has a place at least.
 fn walsummary_of(found: &ArgMatches<'_>) -> Option<Command>
     ensures asked { option_map asks result ≡ walsummary_asked (rows_of (found_of found.now)) }
@@ -239,6 +260,9 @@ fn asked_by(alloc: Global, name: &str, found: &ArgMatches<'_>) -> Result<Option<
     if name == "combine" {
         return combine_of(alloc, found);
     }
+    if name == "merge-incr" {
+        return merge_of(alloc, found);
+    }
     if name == "walsummary" {
         return Ok(walsummary_of(found));
     }
@@ -247,6 +271,9 @@ fn asked_by(alloc: Global, name: &str, found: &ArgMatches<'_>) -> Result<Option<
     }
     if name == "drill" {
         return Ok(drill_of(found));
+    }
+    if name == "restart" {
+        return Ok(Some(Command::Restart));
     }
     Ok(None)
 }

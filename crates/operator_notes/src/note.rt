@@ -8,16 +8,19 @@ use crate::sums::{gap_note, incr_gap_note};
 use crate::usage::usage_of;
 use crate::wal::{early_note, wal_note};
 use chain_commands::{CombineFault, MembersFault, RestoreFault, VerifyFault};
-use command_answers::Answer;
 use command_base::{backup_name, names_of, output_name};
 use command_line::{Command as Words, command_of};
-use drill_command::{DrillFault, Unclear};
-use lsn_core::{AreaFault, Lsn, NoMemory, Text};
+use lsn_core::{AreaFault, Lsn, NoMemory, StoreFault, Text};
+use pgbackup_cli::command_answers::Answer;
+use pgbackup_cli::drill_command::{DrillFault, Unclear};
+use recovery::RecoveryFault;
+use restart_command::RestartFault;
 use run_answers::{Answer as LineAnswer, RunFault, RunReport, Stop};
 use scripts::Command;
 use std::alloc::Global;
 use store_commands::{FollowFault, InitFault, ReplayFault, WalsummaryFault};
 use store_faults::{BeginWhy, IncrFault};
+use store_restart::RestartWhy;
 
 /// The lines for standard error: how the program is used, where the words aren't taken; where the
 /// command was refused, what was found and what to do next; none where it did what was asked. Each
@@ -32,18 +35,23 @@ pub fn note_of(alloc: Global, words: &[Text], answer: &Answer) -> Result<Text, N
         Answer::Replay(Err(fault)) => replay_note(alloc, name_in(alloc, words)?.as_bytes(), fault),
         Answer::Verify(Err(fault)) => verify_note(alloc, name_in(alloc, words)?.as_bytes(), fault),
         Answer::Restore(Err(fault)) => restore_note(alloc, names_in(alloc, words)?, fault),
-        Answer::Combine(Err(fault)) => combine_note(alloc, names_in(alloc, words)?, fault),
+        Answer::Combine(Err(fault)) | Answer::Merge(Err(fault)) => {
+            combine_note(alloc, names_in(alloc, words)?, fault)
+        }
         Answer::Walsummary(Err(fault)) => walsummary_note(alloc, fault),
         Answer::Follow(Err(fault)) => follow_note(alloc, name_in(alloc, words)?.as_bytes(), fault),
         Answer::Drill(Err(fault)) => drill_note(alloc, fault),
+        Answer::Restart(Err(fault)) => restart_note(alloc, fault),
         Answer::Init(Ok(_))
         | Answer::Replay(Ok(_))
         | Answer::Verify(Ok(_))
         | Answer::Restore(Ok(_))
         | Answer::Combine(Ok(_))
+        | Answer::Merge(Ok(_))
         | Answer::Walsummary(Ok(_))
         | Answer::Follow(Ok(_))
-        | Answer::Drill(Ok(_)) => Ok(Text::from_vec(Vec::new(alloc))),
+        | Answer::Drill(Ok(_))
+        | Answer::Restart(Ok(_)) => Ok(Text::from_vec(Vec::new(alloc))),
     }
 }
 
@@ -160,9 +168,11 @@ fn backup_note(alloc: Global, name: &[u8]) -> Result<Text, NoMemory> {
 fn names_in(alloc: Global, words: &[Text]) -> Result<(Text, Vec<Text>), NoMemory> {
     let none = Vec::new(alloc);
     match command_of(alloc, words)? {
-        Some(Words::Restore(_, name, members) | Words::Combine(name, members)) => {
-            Ok((name, members))
-        }
+        Some(
+            Words::Restore(_, name, members)
+            | Words::Combine(name, members)
+            | Words::Merge(name, members),
+        ) => Ok((name, members)),
         Some(Words::Replay(_, name) | Words::Verify(name) | Words::Follow(_, name)) => {
             Ok((name, none))
         }
@@ -271,6 +281,23 @@ fn walsummary_note(alloc: Global, fault: &WalsummaryFault) -> Result<Text, NoMem
         WalsummaryFault::Site(fault) => take_note(alloc, fault),
         WalsummaryFault::Gap(at) => gap_note(alloc, *at),
         WalsummaryFault::Sums(why) => area_note(alloc, b"sums", *why),
+    }
+}
+
+fn restart_note(alloc: Global, fault: &RestartFault) -> Result<Text, NoMemory> {
+    match fault {
+        RestartFault::Site(fault) => take_note(alloc, fault),
+        RestartFault::Settings(fault) => wal_note(alloc, *fault),
+        RestartFault::Store(size, RestartWhy::Damaged(damage)) => {
+            wal_note(alloc, RecoveryFault::Damaged(*size, *damage))
+        }
+        RestartFault::Store(_, RestartWhy::BadDelta(at)) => {
+            wal_note(alloc, RecoveryFault::BadDelta(*at))
+        }
+        RestartFault::Store(_, RestartWhy::Failed(area)) => {
+            store_note(alloc, StoreFault::Failed(*area))
+        }
+        RestartFault::Store(_, RestartWhy::NoMemory) => memory_note(alloc),
     }
 }
 

@@ -55,6 +55,13 @@ const COMBINE: &[u8] = b"usage: pgbackup combine OUT MEMBER..
   on the one before, at most 64
 ";
 
+const MERGE: &[u8] = b"usage: pgbackup merge-incr OUT MEMBER MEMBER..
+  merges the consecutive incremental backups in b/MEMBER.. to one, and writes it to b/OUT; in a chain it
+  stands in their place
+  OUT, MEMBER: 1 to 32 of a to z, 0 to 9 and _; MEMBER..: incremental backups, each on the one before, at
+  least 2 and at most 64
+";
+
 const WALSUMMARY: &[u8] = b"usage: pgbackup walsummary FROM TO
   prints what the summaries in sums tell of the WAL from FROM on and before TO: of each fork the
   shortest length to which it was cut, and the blocks that were changed since
@@ -76,9 +83,14 @@ const DRILL: &[u8] = b"usage: pgbackup drill N
   N: below 2^32
 ";
 
+const RESTART: &[u8] = b"usage: pgbackup restart
+  brings wal and the data folders back after a stop: the WAL up to its first damage, and the pages that
+  it makes
+";
+
 const HELP: &[u8] = b"usage: pgbackup help [COMMAND]
   prints how a command is used, or all of them: init, run, replay, verify, restore,
-  combine, walsummary, follow, drill
+  combine, merge-incr, walsummary, follow, drill, restart
 usage: pgbackup --version
   prints the program's name and version
 ";
@@ -106,6 +118,9 @@ fn command_usage(name: &[u8]) -> Option<&'static [u8]> {
     if name == b"combine".as_slice() {
         return Some(COMBINE);
     }
+    if name == b"merge-incr".as_slice() {
+        return Some(MERGE);
+    }
     if name == b"walsummary".as_slice() {
         return Some(WALSUMMARY);
     }
@@ -114,6 +129,9 @@ fn command_usage(name: &[u8]) -> Option<&'static [u8]> {
     }
     if name == b"drill".as_slice() {
         return Some(DRILL);
+    }
+    if name == b"restart".as_slice() {
+        return Some(RESTART);
     }
     None
 }
@@ -152,9 +170,11 @@ fn all_usages(alloc: Global, before: &[&[u8]]) -> Result<Text, NoMemory> {
             VERIFY,
             RESTORE,
             COMBINE,
+            MERGE,
             WALSUMMARY,
             FOLLOW,
             DRILL,
+            RESTART,
             HELP,
         ],
     )

@@ -2,9 +2,9 @@
 //! areas, streams and clock, and ends with its status.
 #![tactic(auto)]
 
-use command_answers::Answer;
 use lsn_core::{NoMemory, Text};
 use operator_notes::note_of;
+use pgbackup_cli::command_answers::Answer;
 use pgbackup_cli::{Status, answered};
 use progress::{Progress, is_wanted};
 use std::io::IsTerminal;

@@ -1,16 +1,15 @@
 -- What a drill does is nothing to the input and to a sink.
-use Rattle.std.proofs.Common.{ℕ, List, Option, Result, Ok, Err}
-use Rattle.lsn_core.specs.declared.lsn.Lsn.{Lsn}
+use Rattle.std.proofs.Common.{ℕ, List, Option, Ok, Err}
 use Rattle.vault.specs.Lending.{Names}
 use Rattle.command_base.specs.Outside.{Outside}
 use Rattle.store_commands.specs.declared.replaying.ReplayReport.{ReplayReport}
-use Rattle.drill_command.specs.declared.clearing.Unclear.{Unclear}
-use Rattle.drill_command.specs.declared.clearing.Unclear.TheVariants as unclear
-use Rattle.drill_command.specs.declared.report.DrillFault.{DrillFault}
-use Rattle.drill_command.specs.declared.report.DrillFault.TheVariants as drill
-use Rattle.drill_command.specs.declared.report.DrillReport.{DrillReport}
-use Rattle.drill_command.specs.Clearing.{AreUnclear}
-use Rattle.drill_command.specs.Drill.{areas_cleared, HasLooked, HasBegun, HasRun, HasRestored, DrillDone, DrillRefused, DrillResult, DrillAnswer, DrillDoes}
+use Rattle.pgbackup_cli.specs.declared.drill_command.clearing.Unclear.{Unclear}
+use Rattle.pgbackup_cli.specs.declared.drill_command.clearing.Unclear.TheVariants as unclear
+use Rattle.pgbackup_cli.specs.declared.drill_command.report.DrillFault.{DrillFault}
+use Rattle.pgbackup_cli.specs.declared.drill_command.report.DrillFault.TheVariants as drill
+use Rattle.pgbackup_cli.specs.declared.drill_command.report.DrillReport.{DrillReport}
+use Rattle.pgbackup_cli.specs.drill_command.Clearing.{AreUnclear}
+use Rattle.pgbackup_cli.specs.drill_command.Drill.{areas_cleared, HasLooked, HasBegun, HasRun, HasRestored, DrillDone, DrillRefused, DrillResult, DrillAnswer, DrillDoes}
 
 -- what is known of the input and of the sink
 pub record Streams : Type 0 where

@@ -1,7 +1,7 @@
 -- What a command does is nothing to a sink.
 use Rattle.std.proofs.Common.{ℕ, List, Option, Some, None}
-use Rattle.command_answers.specs.declared.answer.Answer.{Answer}
-use Rattle.command_line.specs.Words.{Asked, Init, Run, Replay, Verify, Restore, Combine, Walsummary, Follow, Drill}
+use Rattle.pgbackup_cli.specs.declared.command_answers.answer.Answer.{Answer}
+use Rattle.command_line.specs.Words.{Asked, Init, Run, Replay, Verify, Restore, Combine, Merge, Walsummary, Follow, Drill, Restart}
 use Rattle.command_base.specs.Outside.{Outside}
 use Rattle.pgbackup_cli.specs.Top.{DoesAsked}
 use Rattle.pgbackup_cli.proofs.Drills.{Streams, drill_beside}
@@ -15,8 +15,10 @@ whatever_is_printed (Some (Replay upto name)) old new printed after prints now c
 whatever_is_printed (Some (Verify name)) old new printed after prints now came does = does
 whatever_is_printed (Some (Restore upto out names)) old new printed after prints now came does = does
 whatever_is_printed (Some (Combine out names)) old new printed after prints now came does = does
+whatever_is_printed (Some (Merge out names)) old new printed after prints now came does = does
 whatever_is_printed (Some (Walsummary from to)) old new printed after prints now came does = does
 whatever_is_printed (Some (Follow mib relseg name)) old new printed after prints now came does = does
+whatever_is_printed (Some Restart) old new printed after prints now came does = does
 whatever_is_printed (Some (Drill n)) old new printed after prints now came does =
     let before : Streams = record { left = old.left; reads = old.reads; printed = printed; prints = prints } in
     let behind : Streams = record { left = new.left; reads = new.reads; printed = after; prints = now } in

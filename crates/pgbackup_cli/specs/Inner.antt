@@ -1,6 +1,6 @@
 -- What private functions answer to those that call them. None of it stands in the contract of a
 -- public call.
-use Rattle.std.specs.Prelude.{ℕ, ◌-◌, List, None, Result}
+use Rattle.std.specs.Prelude.{ℕ, List, Result}
 use Rattle.lsn_core.specs.declared.fault.AreaFault.{AreaFault}
 use Rattle.vault.specs.declared.stream.Sink.{Ghosts as Sinks}
 use Rattle.vault.specs.Stream.{Tells}

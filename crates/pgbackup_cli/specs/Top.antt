@@ -2,23 +2,25 @@
 -- command joins by its file, and by one row in each of these definitions.
 use Rattle.std.specs.Prelude.{◌≡◌, ◌⊎◌, ℕ, List, Option, Some, None, Result}
 use Rattle.lsn_core.specs.declared.fault.AreaFault.{AreaFault}
-use Rattle.command_answers.specs.declared.answer.Answer.{Answer}
-use Rattle.command_answers.specs.declared.answer.Answer.TheVariants as answer
+use Rattle.pgbackup_cli.specs.declared.command_answers.answer.Answer.{Answer}
+use Rattle.pgbackup_cli.specs.declared.command_answers.answer.Answer.TheVariants as answer
 use Rattle.command_base.specs.declared.status.Status.{Status}
 use Rattle.command_line.specs.declared.options.InitOptions.{InitOptions}
-use Rattle.command_line.specs.Words.{Asked, Init, Run, Replay, Verify, Restore, Combine, Walsummary, Follow, Drill, asked}
+use Rattle.command_line.specs.Words.{Asked, Init, Run, Replay, Verify, Restore, Combine, Merge, Walsummary, Follow, Drill, Restart, asked}
 use Rattle.command_base.specs.Outside.{Outside, LeavesSite, Prints}
 use Rattle.store_commands.specs.Init.{InitResult, InitDoes}
-use Rattle.command_answers.specs.Telling.{text_of, status_of}
+use Rattle.pgbackup_cli.specs.command_answers.Telling.{text_of, status_of}
 use Rattle.run_answers.specs.Telling.{RunResult}
 use Rattle.run_command.specs.Run.{RunDoes}
 use Rattle.store_commands.specs.Replay.{ReplayResult, ReplayDoes}
 use Rattle.chain_commands.specs.Verify.{VerifyResult, VerifyDoes}
 use Rattle.chain_commands.specs.Restore.{RestoreResult, RestoreDoes}
 use Rattle.chain_commands.specs.Combine.{CombineResult, CombineDoes}
+use Rattle.chain_commands.specs.Merge.{MergeDoes}
 use Rattle.store_commands.specs.Walsummary.{WalsummaryResult, WalsummaryDoes}
 use Rattle.store_commands.specs.Follow.{FollowResult, FollowDoes}
-use Rattle.drill_command.specs.Drill.{DrillResult, DrillDoes}
+use Rattle.restart_command.specs.Restart.{RestartResult, RestartDoes}
+use Rattle.pgbackup_cli.specs.drill_command.Drill.{DrillResult, DrillDoes}
 
 -- what was asked was done, and this is the answer
 abbrev pub DoesAsked : Option Asked → Outside → Outside → Answer → Type 0
@@ -35,12 +37,16 @@ DoesAsked (Some (Restore upto out names)) old new came =
     (r : RestoreResult) × (came ≡ answer.Restore r) × RestoreDoes upto out names old new r
 DoesAsked (Some (Combine out names)) old new came =
     (r : CombineResult) × (came ≡ answer.Combine r) × CombineDoes out names old new r
+DoesAsked (Some (Merge out names)) old new came =
+    (r : CombineResult) × (came ≡ answer.Merge r) × MergeDoes out names old new r
 DoesAsked (Some (Walsummary from to)) old new came =
     (r : WalsummaryResult) × (came ≡ answer.Walsummary r) × WalsummaryDoes from to old new r
 DoesAsked (Some (Follow mib relseg name)) old new came =
     (r : FollowResult) × (came ≡ answer.Follow r) × FollowDoes mib relseg name old new r
 DoesAsked (Some (Drill n)) old new came =
     (r : DrillResult) × (came ≡ answer.Drill r) × DrillDoes n old new r
+DoesAsked (Some Restart) old new came =
+    (r : RestartResult) × (came ≡ answer.Restart r) × RestartDoes old new r
 
 -- it was done, or memory ran out while the words were read, and nothing was done
 abbrev pub Came : Option Asked → Outside → Outside → Answer → Type 0
@@ -53,11 +59,13 @@ ReadsInput words =
     ((frames : ℕ) × (words ≡ Some (Run frames)))
     ⊎ ((mib relseg : ℕ) × (name : List ℕ) × (words ≡ Some (Follow mib relseg name)))
 
--- `run`, `combine` and `drill` read the clock, and `init`, where no system identifier is given
+-- `run`, `combine`, `merge-incr` and `drill` read the clock, and `init`, where no system identifier is
+-- given
 abbrev pub ReadsClock : Option Asked → Type 0
 ReadsClock words =
     ((frames : ℕ) × (words ≡ Some (Run frames)))
     ⊎ ((out : List ℕ) × (names : List (List ℕ)) × (words ≡ Some (Combine out names)))
+    ⊎ ((out : List ℕ) × (names : List (List ℕ)) × (words ≡ Some (Merge out names)))
     ⊎ ((n : ℕ) × (words ≡ Some (Drill n)))
     ⊎ ((options : InitOptions) × (words ≡ Some (Init options)) × (options.system ≡ None))
 

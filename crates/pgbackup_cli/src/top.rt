@@ -5,16 +5,17 @@ ghost use Rattle.std.specs.Option.{option_map};
 ghost use Rattle.vault.specs.Site.{AllHome};
 ghost use Rattle.command_line.specs.Words.{asked, asks, HasRange};
 ghost use Rattle.command_base.specs.Outside.{outside, of_all};
-ghost use Rattle.command_answers.specs.Telling.{text_of};
+ghost use Rattle.pgbackup_cli.specs.command_answers.Telling.{text_of};
 ghost use Rattle.pgbackup_cli.specs.Top.{DoesAsked, ReadsInput, ReadsClock, ComesTo, Ran};
 ghost use Rattle.pgbackup_cli.specs.Inner.{TellsIn};
 
-use chain_commands::{combine, restore, verify};
-use command_answers::{Answer, exit_status, text_of};
+use crate::command_answers::{Answer, exit_status, text_of};
+use crate::drill_command::drill;
+use chain_commands::{combine, merge, restore, verify};
 use command_base::Status;
 use command_line::{Command, MemberNames, command_of};
-use drill_command::drill;
 use lsn_core::{AreaFault, Text};
+use restart_command::restart;
 use run_command::run;
 use std::alloc::Global;
 use std::sync::Wait;
@@ -54,11 +55,16 @@ fn done<S: Site, I: Source, C: Clock>(
             let members = MemberNames { names };
             Answer::Combine(combine(alloc, out.as_bytes(), &members, site, clock))
         }
+        Command::Merge(out, names) => {
+            let members = MemberNames { names };
+            Answer::Merge(merge(alloc, out.as_bytes(), &members, site, clock))
+        }
         Command::Walsummary(from, to) => Answer::Walsummary(walsummary(alloc, *from, *to, site)),
         Command::Follow(sizes, name) => {
             Answer::Follow(follow(alloc, *sizes, name.as_bytes(), site, input))
         }
         Command::Drill(n) => Answer::Drill(drill(rt, alloc, *n, site, clock)),
+        Command::Restart => Answer::Restart(restart(alloc, site)),
     }
 }
 
@@ -160,8 +166,8 @@ pub fn answered<S: Site, I: Source, O: Sink, C: Clock>(
 
 /// All that the program does: it takes the words of the command line, does what they ask over the
 /// areas of the site, prints its lines and answers the exit status. Every area is given back. Only
-/// `run` and `follow` read the input, and only `run`, `combine`, `drill` and `init` the clock, the
-/// last where no system identifier is given.
+/// `run` and `follow` read the input, and only `run`, `combine`, `merge-incr`, `drill` and `init` the
+/// clock, the last where no system identifier is given.
 pub fn pgbackup<S: Site, I: Source, O: Sink, C: Clock>(
     rt: &(impl Threads + Wait + Sync),
     alloc: Global,

@@ -3,9 +3,9 @@
 use crate::calls::words_in;
 use chain_check::{ChainFault, ChainRefusal, LinkFault, ManifestWhy, Refusal};
 use chain_commands::{MembersFault, RestoreFault, VerifyFault};
-use command_answers::Answer;
 use lsn_core::{Lsn, NoMemory, SegSize, StoreArea, StoreFault, Text};
 use operator_notes::note_of;
+use pgbackup_cli::command_answers::Answer;
 use recovery::RecoveryFault;
 use run_answers::RunFault;
 use scripts::Why;
@@ -194,10 +194,15 @@ fn answer_of(alloc: Global, refusal: &Refused) -> Result<Answer, NoMemory> {
     })
 }
 
+/// What is told where words come to an answer.
+fn note_for(alloc: Global, words: &[Text], answer: Answer) -> Result<Text, NoMemory> {
+    note_of(alloc, words, &answer)
+}
+
 fn is_told(alloc: Global, case: &Case) -> Result<bool, NoMemory> {
     let (line, refusal, told) = case;
     let words = words_in(alloc, line)?;
-    let note = note_of(alloc, &words, &answer_of(alloc, refusal)?)?;
+    let note = note_for(alloc, &words, answer_of(alloc, refusal)?)?;
     Ok(note.as_bytes() == told.as_bytes())
 }
 

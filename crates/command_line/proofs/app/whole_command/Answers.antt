@@ -1,7 +1,7 @@
 -- One subcommand after the other.
 use Rattle.std.proofs.lemmas.Result.{IfOk-weaker}
 use Rattle.clap.specs.Simple.{App, with_subcommand}
-use Rattle.command_line.specs.App.{top_app, init_app, run_app, replay_app, verify_app, restore_app, combine_app, walsummary_app, follow_app, drill_app}
+use Rattle.command_line.specs.App.{top_app, init_app, run_app, replay_app, verify_app, restore_app, combine_app, merge_app, walsummary_app, follow_app, drill_app, restart_app}
 use Rattle.command_line.proofs.AppLemmas.{with_sub}
 use Rattle.command_line.proofs.app.whole_command.Goals as goal
 
@@ -24,10 +24,16 @@ abbrev six : App
 six = with_subcommand five combine_app.top
 
 abbrev seven : App
-seven = with_subcommand six walsummary_app.top
+seven = with_subcommand six merge_app.top
 
 abbrev eight : App
-eight = with_subcommand seven follow_app.top
+eight = with_subcommand seven walsummary_app.top
+
+abbrev nine : App
+nine = with_subcommand eight follow_app.top
+
+abbrev ten : App
+ten = with_subcommand nine drill_app.top
 
 pub returns : goal.returns
 returns c =
@@ -37,6 +43,8 @@ returns c =
     let is_four = with_sub _ _ _ three verify_app is_three c.in_ok-verify_command.ensures c.in_ok-subcommand-4.ensures in
     let is_five = with_sub _ _ _ four restore_app is_four c.in_ok-restore_command.ensures c.in_ok-subcommand-5.ensures in
     let is_six = with_sub _ _ _ five combine_app is_five c.in_ok-combine_command.ensures c.in_ok-subcommand-6.ensures in
-    let is_seven = with_sub _ _ _ six walsummary_app is_six c.in_ok-walsummary_command.ensures c.in_ok-subcommand-7.ensures in
-    let is_eight = with_sub _ _ _ seven follow_app is_seven c.in_ok-follow_command.ensures c.in_ok-subcommand-8.ensures in
-    IfOk-weaker c.subcommand-9.result _ _ (λ r h. with_sub _ _ _ eight drill_app is_eight c.in_ok-drill_command.ensures h) c.subcommand-9.ensures
+    let is_seven = with_sub _ _ _ six merge_app is_six c.in_ok-merge_command.ensures c.in_ok-subcommand-7.ensures in
+    let is_eight = with_sub _ _ _ seven walsummary_app is_seven c.in_ok-walsummary_command.ensures c.in_ok-subcommand-8.ensures in
+    let is_nine = with_sub _ _ _ eight follow_app is_eight c.in_ok-follow_command.ensures c.in_ok-subcommand-9.ensures in
+    let is_ten = with_sub _ _ _ nine drill_app is_nine c.in_ok-drill_command.ensures c.in_ok-subcommand-10.ensures in
+    IfOk-weaker c.subcommand-11.result _ _ (λ r h. with_sub _ _ _ ten restart_app is_ten c.restart_command.ensures h) c.subcommand-11.ensures

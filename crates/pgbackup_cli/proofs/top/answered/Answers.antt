@@ -3,7 +3,7 @@ use Rattle.std.proofs.Common.{◌≡◌, ◌⊎◌, inr, subst, refl, Option}
 use Rattle.command_line.specs.Words.{Asked}
 use Rattle.command_base.specs.Outside.{Outside}
 use Rattle.command_base.specs.declared.status.Status.{Status}
-use Rattle.command_answers.specs.declared.answer.Answer.{Answer}
+use Rattle.pgbackup_cli.specs.declared.command_answers.answer.Answer.{Answer}
 use Rattle.pgbackup_cli.specs.Top.{ComesTo, ReadsInput, ReadsClock}
 use Rattle.pgbackup_cli.proofs.top.answered.Goals as goal
 
