@@ -21,6 +21,7 @@ use Rattle.chain_check.specs.Laws.{ListedHaveForms}
 use Rattle.chain_check.specs.declared.member.Member.{Member}
 use Rattle.chain_files.specs.Segments.{AllHaveForms}
 use Rattle.chain_files.specs.Told.{all_told}
+use Rattle.merge_laws.specs.Members.{AreAsListed}
 use Rattle.chain_laws.proofs.Files.{get_other}
 use Rattle.command_base.proofs.Told.{at_told}
 use Rattle.chain_commands.specs.Chain.{AreMembersIn, files_told}
@@ -28,15 +29,8 @@ use Rattle.backup_laws.proofs.Members.{Known, manifest_once, put_there, some_is}
 
 -- ---- the directories of a chain
 
--- each is as the manifest of its member lists it
-abbrev pub AllListed : List Files → List Member → Type 0
-AllListed [] [] = Unit {0}
-AllListed [] (member ∷ members) = ⊥
-AllListed (files ∷ chain) [] = ⊥
-AllListed (files ∷ chain) (member ∷ members) = IsAsListed files member × AllListed chain members
-
 -- where there is a newest one there is a first
-pub first_listed : (older : List Member) (newest : Member) (chain : List Files) → AllListed chain (older ++ (newest ∷ [])) → (f : Files) × (fs : List Files) × (chain ≡ f ∷ fs)
+pub first_listed : (older : List Member) (newest : Member) (chain : List Files) → AreAsListed chain (older ++ (newest ∷ [])) → (f : Files) × (fs : List Files) × (chain ≡ f ∷ fs)
 first_listed [] newest [] listed = absurd listed
 first_listed (m ∷ older) newest [] listed = absurd listed
 first_listed older newest (f ∷ fs) listed = (f, fs, refl)
@@ -57,7 +51,7 @@ split_told (Some f) rest chain e = by (all_told rest) refl e
     by None is told = absurd cc
     by (Some fs) is told = record { file = f; files = fs; is = refl; told = is; all = sym (some_is (f ∷ fs) chain told) }
 
-pub members_listed : (names : Names) (areas : List AreaState) (members : List Member) (chain : List Files) → AreMembersIn names areas members → files_told areas ≡ Some chain → AllListed chain members
+pub members_listed : (names : Names) (areas : List AreaState) (members : List Member) (chain : List Files) → AreMembersIn names areas members → files_told areas ≡ Some chain → AreAsListed chain members
 members_listed [] [] [] [] are told = tt
 members_listed [] [] [] (f ∷ chain) are told = absurd cc
 members_listed [] [] (m ∷ members) chain are told = absurd are
@@ -66,10 +60,10 @@ members_listed (n ∷ names) [] members chain are told = absurd are
 members_listed (n ∷ names) (a ∷ areas) [] chain are told = absurd are
 members_listed (n ∷ names) (a ∷ areas) (m ∷ members) chain are told =
     let p = split_told a.files (map (λ area. area.files) areas) chain told in
-    subst (λ (fs : List Files). AllListed fs (m ∷ members)) (sym p.all)
+    subst (λ (fs : List Files). AreAsListed fs (m ∷ members)) (sym p.all)
     ((at_told a.files p.file (λ files. (m.name ≡ n) × IsAsListed files m) p.is are.0).1, members_listed names areas members p.files are.1 p.told)
 
-pub all_forms : ListedHaveForms → (chain : List Files) (members : List Member) → AllListed chain members → AllHaveForms chain
+pub all_forms : ListedHaveForms → (chain : List Files) (members : List Member) → AreAsListed chain members → AllHaveForms chain
 all_forms law [] [] listed = tt
 all_forms law [] (m ∷ members) listed = absurd listed
 all_forms law (f ∷ chain) [] listed = absurd listed

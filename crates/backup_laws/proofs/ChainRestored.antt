@@ -1,5 +1,6 @@
 -- A chain of completed backups is restored to what all records of the WAL make.
-use Rattle.std.proofs.Common.{IfSome, ◌≡◌, ℕ, ◌<◌, ◌≤◌, List, [], ◌∷◌, ◌++◌, map, append-nil, Option, Some, Result, Ok, refl, sym, ap, subst, ◌∙◌, arith, ◌⊎◌, inl, inr}
+use Rattle.std.proofs.Common.{IfSome, ◌≡◌, ℕ, ◌<◌, ◌≤◌, List, [], ◌∷◌, ◌++◌, map, append-nil, Option, Some, None, Result, Ok, refl, sym, ap, subst, ◌∙◌, arith, ◌⊎◌, inl, inr}
+use Rattle.std.specs.Prelude.{max}
 use Rattle.std.specs.List.{AllByRecursion}
 use Rattle.lsn_core.specs.Files.{Files}
 use Rattle.lsn_core.specs.Segment.{IsRelseg, IsSegmentMib, StoreSettings}
@@ -23,17 +24,20 @@ use Rattle.backup_laws.specs.Runs.{IsBackedUp}
 use Rattle.backup_laws.specs.Chains.{IsIncremented, IsSoundFull, IsSoundIncrement}
 use Rattle.backup_laws.specs.Finished.{full_member}
 use Rattle.backup_laws.specs.Restores.{HasRun, PastRun}
-use Rattle.backup_laws.specs.ChainRestores.{RanOn, RanInTurn, Combining, IsTakenBy, IsTakenByOne, IsCompletedBackup, CompletedChainsAreReplays}
+use Rattle.backup_laws.specs.ChainRestores.{RanOn, RanInTurn, Making, IsTakenBy, IsTakenByOne, IsCompletedBackup, CompletedChainsAreReplays}
 use Rattle.backup_laws.proofs.Members.{Known, some_is}
-use Rattle.backup_laws.proofs.ChainMembers.{AllListed, first_listed, members_listed, TellsIncrement, incr_told}
+use Rattle.merge_laws.specs.Members.{AreAsListed}
+use Rattle.backup_laws.proofs.ChainMembers.{first_listed, members_listed, TellsIncrement, incr_told}
 use Rattle.backup_laws.proofs.ChainRuns.{KnownOfChains, fulls_sound, incrs_extend, runs_keep, backups_begin}
 use Rattle.backup_laws.proofs.CombinedChains.{KnownOfCombining}
+use Rattle.backup_laws.proofs.MergedSeries.{KnownOfMerging}
 use Rattle.backup_laws.proofs.CompletedChains.{completed_so_far}
 use Rattle.backup_laws.proofs.ListedFiles.{finished_listed}
 use Rattle.backup_laws.proofs.OwnPlaces.{own_place, ends_later}
+use Rattle.backup_laws.proofs.ReadPaths.{manifest_is_read}
 use Rattle.backup_laws.proofs.RestoredRuns.{same_told, chain_restored}
 use Rattle.backup_laws.proofs.WalsLeft.{grown, IsWalOf, entries_both, run_leaves, first_leaves}
-use Rattle.backup_laws.proofs.SoundSoFar.{IsAlong, IsSoundFirst, IsSoundOwn, IsSoundSoFar, ExtendsSound, last_places, sound_on, along_to, both_so_far}
+use Rattle.backup_laws.proofs.SoundSoFar.{IsAlong, IsSoundFirst, IsSoundOwn, IsSoundSoFar, ExtendsSound, IsPlaced, last_places, same_prior, sound_on, along_to, both_so_far}
 
 -- ---- the directories that a run took
 
@@ -94,10 +98,10 @@ module _ (known : Known) (chains : KnownOfChains) (combining : KnownOfCombining)
         record {
           prior = from;
           named = t.prior_is;
-          extends = λ chain to sound le.
-              subst (λ (l : Lsn). IsSoundChain s.relseg h (chain ++ (f ∷ [])) l.0 m.manifest.end) (sym t.start_is)
-              (subst (λ (n : ℕ). IsSoundChain s.relseg h (chain ++ (f ∷ [])) start.0 n) (sym t.end_is)
-              (inc.extends chain to sound (subst (λ (l : Lsn). to ≤ l.0) t.start_is le)));
+          early = subst (λ (l : Lsn). inc.manifest.start ≤ l.0) (sym t.start_is) (let up = (manifest_is_read prior inc.manifest inc.listing).rises in let behind = inc.behind in omega (arith, up, behind));
+          extends = λ chain to sound.
+              subst (λ (l : Lsn). IsSoundChain s.relseg h (chain ++ (f ∷ [])) l.0 (max to m.manifest.end)) (sym t.start_is)
+              (subst (λ (n : ℕ). IsSoundChain s.relseg h (chain ++ (f ∷ [])) start.0 (max to n)) (sym t.end_is) (inc.extends chain to sound));
         },
       )
 
@@ -123,11 +127,23 @@ module _ (known : Known) (chains : KnownOfChains) (combining : KnownOfCombining)
         own = record { past = subst (λ (l : Lsn). begin ≤ l.0) (sym kind.0) place.0; kind = kind.1 };
       }
 
+  pub own_placed : (f : Files) (m : Member) → IsTakenBy run f → IsAsListed f m → IsPlaced run.end.0 m
+  own_placed f m is listed =
+      let of : IsOwn f m = own_of f m is listed in
+      record { before = of.before; early = λ prior timeline named. by of.own.kind prior timeline named }
+    where
+      by : IsSoundFirst s.relseg h f m ⊎ ExtendsSound s.relseg h f m → (prior : Lsn) (timeline : ℕ) → m.label.prior ≡ Some (prior, timeline) → prior.0 ≤ m.label.start.0
+      by (inl first) prior timeline named = absurd (let e : Some (prior, timeline) ≡ None = sym named ∙ first.0 in cc)
+      by (inr more) prior timeline named = subst (λ (l : Lsn). l.0 ≤ m.label.start.0) (same_prior more.prior prior 1 timeline (sym more.named ∙ named)) more.early
+
   -- chains of these and of older ones, which all start where what it found had not ended, are sound so
   -- far for its history, where those of older ones are
-  own_so_far : (Older : Files → Type 0) → ((f : Files) (m : Member) → Older f → IsAsListed f m → m.label.start.0 < begin) → ((f : Files) (fs : List Files) → AllByRecursion Older (f ∷ fs) → IsSoundSoFar s.relseg h (f ∷ fs))
+  own_so_far : (Older : Files → Type 0) → ((f : Files) (m : Member) → Older f → IsAsListed f m → IsPlaced begin m) → ((f : Files) (fs : List Files) → AllByRecursion Older (f ∷ fs) → IsSoundSoFar s.relseg h (f ∷ fs))
       → (f : Files) (fs : List Files) → AllByRecursion (λ g. IsTakenBy run g ⊎ Older g) (f ∷ fs) → IsSoundSoFar s.relseg h (f ∷ fs)
   own_so_far Older placed sound f fs all = both_so_far s.relseg h begin (IsTakenBy run) Older (λ g m is listed. (own_of g m is listed).own) placed sound f fs all
+
+placed_on : (m : Member) (bound later : ℕ) → bound ≤ later → IsPlaced bound m → IsPlaced later m
+placed_on m bound later le p = (let before = p.before in record { before = omega (arith, before, le); early = p.early })
 
 -- ---- the runs
 
@@ -140,7 +156,7 @@ record HaveTakenSound (run : PastRun) (earlier : List PastRun) : Type 0 where
   records : List Record
   wal : IsWalOf settings records (run.left.areas wal_name).files run.end
   sound : (f : Files) (fs : List Files) → AllByRecursion (IsTakenByOne (run ∷ earlier)) (f ∷ fs) → IsSoundSoFar settings.relseg (map entry_of records) (f ∷ fs)
-  placed : (f : Files) (m : Member) → IsTakenByOne (run ∷ earlier) f → IsAsListed f m → m.label.start.0 < run.end.0
+  placed : (f : Files) (m : Member) → IsTakenByOne (run ∷ earlier) f → IsAsListed f m → IsPlaced run.end.0 m
 
 module _ (known : Known) (chains : KnownOfChains) (combining : KnownOfCombining) where
   taken_sound : (run : PastRun) (earlier : List PastRun) → RanInTurn run earlier → HaveTakenSound run earlier
@@ -161,7 +177,7 @@ module _ (known : Known) (chains : KnownOfChains) (combining : KnownOfCombining)
             (λ from to sound. (runs_keep chains when run.before.areas run.left.areas run.report d (f ∷ fs) from to on.ran.told).1 sound)
             (own_so_far known chains combining run on (IsTakenByOne []) (λ g m none listed. absurd none) (λ g gs none. absurd none.0) f fs taken);
         placed = λ f m taken listed. elim taken [
-          | inl is ↦ (own_of known chains combining run on f m is listed).before
+          | inl is ↦ own_placed known chains combining run on f m is listed
           | inr none ↦ absurd none
         ];
       }
@@ -184,7 +200,7 @@ module _ (known : Known) (chains : KnownOfChains) (combining : KnownOfCombining)
             sound_on d.settings.relseg s.relseg d.history (map entry_of all) (f ∷ fs)
             (λ from to sound. subst (λ (t : StoreSettings). IsSoundChain t.relseg (map entry_of (d.found ++ wal_of t.segment d.history)) (f ∷ fs) from to) leaves.same ((keep (f ∷ fs) from to).1 sound))
             (own_so_far known chains combining run on.0 (IsTakenByOne (prior ∷ earlier))
-            (λ g m older listed. omega (arith, was.placed g m older listed, leaves.from))
+            (λ g m older listed. placed_on m prior.end.0 (begin known chains combining run on.0) (let from = leaves.from in omega (arith, from)) (was.placed g m older listed))
             (λ g gs older.
             sound_on s.relseg d.settings.relseg (map entry_of was.records) d.history (g ∷ gs)
             (λ from to sound. (keep (g ∷ gs) from to).0
@@ -193,8 +209,8 @@ module _ (known : Known) (chains : KnownOfChains) (combining : KnownOfCombining)
             (chains.later s.relseg (map entry_of was.records) (map entry_of leaves.more) (g ∷ gs) from to leaves.orderly sound))))
             (was.sound g gs older)) f fs taken);
         placed = λ f m taken listed. elim taken [
-          | inl is ↦ (own_of known chains combining run on.0 f m is listed).before
-          | inr older ↦ omega (arith, was.placed f m older listed, leaves.from, begins_first known chains combining run on.0)
+          | inl is ↦ own_placed known chains combining run on.0 f m is listed
+          | inr older ↦ placed_on m prior.end.0 run.end.0 (let from = leaves.from in let first = begins_first known chains combining run on.0 in omega (arith, from, first)) (was.placed f m older listed)
         ];
       }
 
@@ -209,16 +225,16 @@ pub record IsSoundTo (run : PastRun) (chain : List Files) (newest : Member) : Ty
   pub wal : IsWalOf settings records (run.left.areas wal_name).files run.end
   pub sound : IsSoundChain settings.relseg (map entry_of records) chain newest.label.start.0 newest.manifest.end
 
-module _ (known : Known) (chains : KnownOfChains) (combining : KnownOfCombining) where
+module _ (known : Known) (chains : KnownOfChains) (combining : KnownOfCombining) (merging : KnownOfMerging) where
   -- with no directory behind it
-  whole : (relseg : ℕ) (history : List Entry) (chain : List Files) (start : Lsn) (end : ℕ) (from : Lsn) (to : ℕ) (members : List Member) → IsSoundChain relseg history chain from.0 to → AllListed [] members → last_places from to members ≡ (start, end) → IsSoundChain relseg history chain start.0 end
+  whole : (relseg : ℕ) (history : List Entry) (chain : List Files) (start : Lsn) (end : ℕ) (from : Lsn) (to : ℕ) (members : List Member) → IsSoundChain relseg history chain from.0 to → AreAsListed [] members → last_places from to members ≡ (start, end) → IsSoundChain relseg history chain start.0 end
   whole relseg history chain start end from to [] sound listed ends =
       subst (λ (p : Lsn × ℕ). IsSoundChain relseg history chain p.0.0 p.1) ends sound
   whole relseg history chain start end from to (m ∷ members) sound listed ends = absurd listed
 
-  pub completed_sound : (latest : PastRun) (earlier : List PastRun) (combinings : List Combining) (chain : List Files) (older : List Member) (newest : Member) → RanInTurn latest earlier → AllByRecursion (IsCompletedBackup (latest ∷ earlier) combinings) chain → AllListed chain (older ++ (newest ∷ [])) → IsAccepted (older ++ (newest ∷ []))
+  pub completed_sound : (latest : PastRun) (earlier : List PastRun) (makings : List Making) (chain : List Files) (older : List Member) (newest : Member) → RanInTurn latest earlier → AllByRecursion (IsCompletedBackup (latest ∷ earlier) makings) chain → AreAsListed chain (older ++ (newest ∷ [])) → IsAccepted (older ++ (newest ∷ []))
       → IsSoundTo latest chain newest
-  completed_sound latest earlier combinings chain older newest ran completed listed accepted =
+  completed_sound latest earlier makings chain older newest ran completed listed accepted =
       let so : HaveTakenSound latest earlier = taken_sound known chains combining latest earlier ran in
       let s : StoreSettings = so.settings in
       let history : List Entry = map entry_of so.records in
@@ -226,8 +242,8 @@ module _ (known : Known) (chains : KnownOfChains) (combining : KnownOfCombining)
       let parts = first_listed older newest chain listed in
       let so_far : IsSoundSoFar s.relseg history chain =
       subst (IsSoundSoFar s.relseg history) (sym parts.2)
-      (completed_so_far combining s.relseg so.blocks history (latest ∷ earlier) so.sound combinings parts.0 parts.1 (subst (AllByRecursion (IsCompletedBackup (latest ∷ earlier) combinings)) parts.2 completed)) in
-      let all : AllListed (chain ++ []) (members ++ []) = subst (λ (fs : List Files). AllListed fs (members ++ [])) (sym (append-nil chain)) (subst (AllListed chain) (sym (append-nil members)) listed) in
+      (completed_so_far combining merging s.relseg so.blocks history (latest ∷ earlier) so.sound makings parts.0 parts.1 (subst (AllByRecursion (IsCompletedBackup (latest ∷ earlier) makings)) parts.2 completed)) in
+      let all : AreAsListed (chain ++ []) (members ++ []) = subst (λ (fs : List Files). AreAsListed fs (members ++ [])) (sym (append-nil chain)) (subst (AreAsListed chain) (sym (append-nil members)) listed) in
       let a : IsAlong s.relseg history chain [] (newest.label.start, newest.manifest.end) = along_to s.relseg history chain [] older newest [] so_far all accepted.chain tt in
       record {
         settings = s;
@@ -240,12 +256,12 @@ module _ (known : Known) (chains : KnownOfChains) (combining : KnownOfCombining)
   -- ---- the law
 
   pub chains_restored : CompletedChainsAreReplays
-  chains_restored latest earlier combinings names chain last old new end out upto report ran goes ends stand completed restored =
+  chains_restored latest earlier makings names chain last old new end out upto report ran goes ends stand completed restored =
       let of = restored.does.1 in
       let newest : Member = of.newest in
       let told : files_told (backup_areas names old.areas) ≡ Some chain = same_told names old last restored.backups ∙ stand in
-      let listed : AllListed chain (of.chain.older ++ (newest ∷ [])) = members_listed names (backup_areas names old.areas) (of.chain.older ++ (newest ∷ [])) chain of.chain.are told in
-      let so : IsSoundTo latest chain newest = completed_sound latest earlier combinings chain of.chain.older newest ran completed listed of.chain.accepted in
+      let listed : AreAsListed chain (of.chain.older ++ (newest ∷ [])) = members_listed names (backup_areas names old.areas) (of.chain.older ++ (newest ∷ [])) chain of.chain.are told in
+      let so : IsSoundTo latest chain newest = completed_sound latest earlier makings chain of.chain.older newest ran completed listed of.chain.accepted in
       let given : IfSome (last.areas wal_name).files (λ m. IsSettingsOf m of.holds.settings) = subst (λ (o : Option Files). IfSome o (λ m. IsSettingsOf m of.holds.settings)) restored.wal of.holds.given.given in
       chain_restored known so.settings so.records last old new end newest.label.start (record { 0 = newest.manifest.end }) names out upto report chain so.size
       (grown so.settings so.records (latest.left.areas wal_name).files (last.areas wal_name).files latest.end end of.holds.settings so.wal goes ends given) stand so.sound restored (refl, refl)

@@ -1,6 +1,6 @@
 -- The backups of chains that a run answered make sound chains.
 use Rattle.std.proofs.Common.{◌≡◌, ◌≢◌, ℕ, zero, suc, ◌<◌, ◌≤◌, Bool, true, List, [], ◌∷◌, ◌++◌, map, append_assoc, length, take, drop, Option, Some, None, Ok, refl, sym, ap, subst, ◌∙◌, arith, ◌⊎◌, inl, inr}
-use Rattle.std.specs.Prelude.{IsSome, slice_get, ◌==◌}
+use Rattle.std.specs.Prelude.{IsSome, max, slice_get, ◌==◌}
 use Rattle.std.specs.List.{list_any}
 use Rattle.std.specs.FinMap.{get, insert, empty, get-empty}
 use Rattle.std.specs.Ordering.{nat_cmp}
@@ -10,7 +10,7 @@ use Rattle.std.proofs.lemmas.List.{take-take, take-append-drop, length-take}
 use Rattle.std.proofs.lemmas.Option.{slice_get_within}
 use Rattle.std.proofs.Math.Seq.{take-append_seam, drop-append_seam}
 use mathlib.Core.List.{IsPrefix}
-use Rattle.byte_words.specs.Numbers.{◌>>=◌}
+use Rattle.lsn_core.specs.byte_words.Numbers.{◌>>=◌}
 use Rattle.lsn_core.specs.Files.{Files}
 use Rattle.lsn_core.specs.Segment.{IsRelseg, StoreSettings}
 use Rattle.lsn_core.specs.Store.{Store}
@@ -24,16 +24,16 @@ use Rattle.history.specs.Apply.{apply_all}
 use Rattle.history.specs.Entry.{Entry}
 use Rattle.history.specs.Whole.{entry_of}
 use Rattle.history.specs.Written.{is_redo}
-use Rattle.fuzzy_copies.specs.Covers.{AreTidy}
-use Rattle.fuzzy_copies.specs.Orderly.{IsOrderly}
-use Rattle.fuzzy_copies.specs.Sound.{IsSoundCopy}
-use Rattle.fuzzy_copies.specs.Taken.{IsRunning}
+use Rattle.history.specs.fuzzy_copies.Covers.{AreTidy}
+use Rattle.history.specs.fuzzy_copies.Orderly.{IsOrderly}
+use Rattle.history.specs.fuzzy_copies.Sound.{IsSoundCopy}
+use Rattle.history.specs.fuzzy_copies.Taken.{IsRunning}
 use Rattle.journal.specs.Lawful.{IsLawful}
 use Rattle.journal.proofs.Stands.{lawful_orderly}
 use Rattle.summary_store.specs.Honest.{is_redo_start}
 use Rattle.shared_summaries.specs.Laws.{AnswersSumUp}
 use Rattle.shared_summaries.specs.Shelf.{IsTrueFor, states}
-use Rattle.summary_publish.specs.Published.{AdvanceAnswers}
+use Rattle.shared_summaries.specs.summary_publish.Published.{AdvanceAnswers}
 use Rattle.manifest.specs.Listing.{Listing}
 use Rattle.manifest.specs.Text.{manifest_text}
 use Rattle.shared_store.specs.Copied.{HasRedoPoint}
@@ -441,14 +441,18 @@ module _ (when : ℕ) (old new : Areas) (report : RunReport) (run : RunDone when
         running : IsRunning h start.0
         running = redo_runs s.segment start.0 h law incr_begins
 
-        extends : (chain : List Files) (to : ℕ) → IsSoundChain s.relseg h chain from_prior to → to ≤ start.0 → IsSoundChain s.relseg h (chain ++ (out_told.0 ∷ [])) start.0 end.0
-        extends chain to sound le =
-            let less : from_prior < start.0 = omega (arith, sound.sound.above, le) in
+        -- the prior backup began before this one
+        began : from_prior < start.0
+        began = let up = holds.prior.ours.rises in let behind = holds.prior.behind in omega (arith, up, behind)
+
+        extends : (chain : List Files) (to : ℕ) → IsSoundChain s.relseg h chain from_prior to → IsSoundChain s.relseg h (chain ++ (out_told.0 ∷ [])) start.0 (max to end.0)
+        extends chain to sound =
+            let less : from_prior < start.0 = began in
             let sum = summed_up less in
             let relseg : holds.plan.relseg ≡ s.relseg = holds.relseg in
             let ahead : now ++ drop moment.next h ≡ h = take-append-drop moment.next h in
-            subst (λ (n : ℕ). IsSoundChain n h (chain ++ (out_told.0 ∷ [])) start.0 end.0) relseg
-            (known.extend h chain from_prior to holds.plan.summary.start.0 start.0 end.0 holds.plan out_told.0 (subst IsRelseg (sym relseg) run.given.blocks) running tidy (subst (λ (n : ℕ). IsSoundChain n h chain from_prior to) (sym relseg) sound) sum.begins le
+            subst (λ (n : ℕ). IsSoundChain n h (chain ++ (out_told.0 ∷ [])) start.0 (max to end.0)) relseg
+            (known.extend h chain from_prior to holds.plan.summary.start.0 start.0 end.0 holds.plan out_told.0 (subst IsRelseg (sym relseg) run.given.blocks) running tidy (subst (λ (n : ℕ). IsSoundChain n h chain from_prior to) (sym relseg) sound) sum.begins (omega (arith, less))
             (subst (λ (es : List Entry). IsIncrementOf es holds.plan.summary.start.0 start.0 end.0 holds.plan out_told.0) ahead
             (increment_of (AreTold old) tell.store now (drop moment.next h) from_prior start.0 end.0 holds.plan holds.list holds.files directory.label (manifest_text (listing_with s.system directory.rows start end)) out_told.0
             (subst (λ (es : List Entry). IsSumOf es from_prior start.0 holds.plan.summary) (sym ahead) sum) holds.listed holds.sent directory.files_are)))

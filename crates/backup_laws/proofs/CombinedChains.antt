@@ -20,7 +20,8 @@ use Rattle.chain_commands.specs.declared.combining.CombineReport.{CombineReport}
 use Rattle.chain_commands.specs.Chain.{IsOfChain, files_told}
 use Rattle.chain_commands.specs.Combine.{CombineSeen, CombinesChain, combine_seen}
 use Rattle.backup_laws.specs.CombinedChains.{HasCombined, CombinedChainsStaySound}
-use Rattle.backup_laws.proofs.ChainMembers.{AllListed, members_listed, all_forms}
+use Rattle.merge_laws.specs.Members.{AreAsListed}
+use Rattle.backup_laws.proofs.ChainMembers.{members_listed, all_forms}
 
 -- what is known of lower crates
 pub record KnownOfCombining : Type 0 where
@@ -39,7 +40,7 @@ pub record HasNewest (chain : List Files) (newest : Member) : Type 0 where
   pub ends : EndsWith chain files
   pub listed : IsAsListed files newest
 
-pub newest_listed : (chain : List Files) (older : List Member) (newest : Member) → AllListed chain (older ++ (newest ∷ [])) → HasNewest chain newest
+pub newest_listed : (chain : List Files) (older : List Member) (newest : Member) → AreAsListed chain (older ++ (newest ∷ [])) → HasNewest chain newest
 newest_listed [] [] newest listed = absurd listed
 newest_listed [] (m ∷ older) newest listed = absurd listed
 newest_listed (f ∷ []) [] newest listed = record { files = f; ends = ([], refl); listed = listed.0 }
@@ -52,7 +53,7 @@ newest_listed (f ∷ chain) (m ∷ older) newest listed =
 pub record IsMadeOf (chain : List Files) (made : Files) (report : CombineReport) : Type 0 where
   pub older : List Member
   pub newest : Member
-  pub listed : AllListed chain (older ++ (newest ∷ []))
+  pub listed : AreAsListed chain (older ++ (newest ∷ []))
   pub accepted : IsAccepted (older ++ (newest ∷ []))
   pub last : HasNewest chain newest
   pub when : ℕ
@@ -67,7 +68,7 @@ made_of law members chain name made old new report has =
     let now : CombineSeen = combine_seen members (backup_name name) new in
     let of : IsOfChain members was.members (CombinesChain has.does.0 was now report) = has.does.3 in
     let all : List Member = of.chain.older ++ (of.newest ∷ []) in
-    let listed : AllListed chain all = members_listed members was.members all chain of.chain.are has.were in
+    let listed : AreAsListed chain all = members_listed members was.members all chain of.chain.are has.were in
     let last : HasNewest chain of.newest = newest_listed chain of.chain.older of.newest listed in
     let does : CombinesChain has.does.0 was now report of.newest = of.holds in
     let forms : AllHaveForms chain = all_forms law chain all listed in

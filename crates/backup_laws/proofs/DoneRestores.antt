@@ -1,7 +1,7 @@
 -- A chain of completed backups is restored, over a sound WAL and to an output that holds no file.
 use Rattle.std.proofs.Common.{◌≡◌, ℕ, ◌≤◌, List, [], ◌∷◌, ◌++◌, map, Option, Some, None, IfSome, IfOk, Ok, Err, refl, sym, ap, subst, ◌∙◌, arith, inl, inr}
 use Rattle.std.specs.FinMap.{empty}
-use Rattle.byte_words.specs.Numbers.{◌>>=◌}
+use Rattle.lsn_core.specs.byte_words.Numbers.{◌>>=◌}
 use Rattle.lsn_core.specs.Files.{Files}
 use Rattle.lsn_core.specs.Segment.{StoreSettings}
 use Rattle.lsn_core.specs.Store.{Store}
@@ -16,14 +16,14 @@ use Rattle.wal_reader.specs.Settings.{IsSettingsOf, refusals}
 use Rattle.wal_reader.specs.Wal.{ReadsOn, IsWal, IsWalFrom, stands_behind, tip_at}
 use Rattle.wal_reader.specs.declared.fault.WalFault.TheVariants as reader
 use Rattle.wal_reader.proofs.OneSettings.{one_settings, settings_or_refused}
-use Rattle.wal_pieces.proofs.Onwards.{rest_read}
+use Rattle.wal_reader.proofs.wal_pieces.Onwards.{rest_read}
 use Rattle.history.specs.Entry.{Entry}
 use Rattle.history.specs.Redo.{redo, redo_all}
 use Rattle.history.specs.Whole.{entry_of}
-use Rattle.fuzzy_copies.specs.Orderly.{IsOrderly}
-use Rattle.fuzzy_copies.specs.Sound.{IsSoundCopy}
-use Rattle.fuzzy_copies.proofs.Longer.{sound_later}
-use Rattle.fuzzy_copies.proofs.Repeats.{entries_rise}
+use Rattle.history.specs.fuzzy_copies.Orderly.{IsOrderly}
+use Rattle.history.specs.fuzzy_copies.Sound.{IsSoundCopy}
+use Rattle.history.proofs.fuzzy_copies.Longer.{sound_later}
+use Rattle.history.proofs.fuzzy_copies.Repeats.{entries_rise}
 use Rattle.recovery.specs.declared.fault.RecoveryFault.{RecoveryFault}
 use Rattle.recovery.specs.declared.fault.RecoveryFault.TheVariants.{Damaged, Short, BadDelta, SettingsDamaged, Timeline, NotInit, Failed, NoMemory}
 use Rattle.recovery.specs.declared.reading.Beginning.TheVariants.{AtPlace}
@@ -42,16 +42,19 @@ use Rattle.command_base.specs.Areas.{wal_name, output_name}
 use Rattle.command_base.specs.Faults.{wal_status}
 use Rattle.command_base.specs.Outside.{Outside}
 use Rattle.command_base.proofs.Told.{at_told}
+use Rattle.chain_commands.specs.declared.chain.Joining.TheVariants as join
 use Rattle.chain_commands.specs.Chain.{backup_areas, files_told, IsChainTo}
 use Rattle.chain_commands.specs.Restore.{RestoreSeen, RestoreResult, RestoreDoes, IsLate, IsEarly, EndsAt, IsUnredone, ReadsPast, restore_seen, wal_causes_from, restore_status}
 use Rattle.chain_commands.specs.declared.restoring.RestoreFault.TheVariants as restore
 use Rattle.backup_laws.specs.Restores.{PastRun, GoesOnFrom, IsWholeTo, replay_end, IsWholeReplay}
 use Rattle.backup_laws.specs.Success.{IsDoneOrFails, TellsEmpty, IsSoundWal, IsNotPast}
 use Rattle.backup_laws.specs.RestoreSuccess.{CompletedChainsAreRestored}
-use Rattle.backup_laws.proofs.ChainMembers.{AllListed, members_listed, all_forms}
+use Rattle.merge_laws.specs.Members.{AreAsListed}
+use Rattle.backup_laws.proofs.ChainMembers.{members_listed, all_forms}
 use Rattle.backup_laws.proofs.ChainRestored.{IsSoundTo, completed_sound, chains_restored}
 use Rattle.backup_laws.proofs.ChainRuns.{KnownOfChains}
 use Rattle.backup_laws.proofs.CombinedChains.{KnownOfCombining}
+use Rattle.backup_laws.proofs.MergedSeries.{KnownOfMerging}
 use Rattle.backup_laws.proofs.DoneCommands.{area_fails, not_full, told_some}
 use Rattle.backup_laws.proofs.Members.{Known}
 use Rattle.backup_laws.proofs.NotRefused.{not_damaged, not_short, whole_made, ends_within, reads_all, wal_size, wal_rise, wal_rise_all}
@@ -203,13 +206,13 @@ whole_to end wal sound s given =
           (record { tip = is.last; at = is.ends; read = is.read.walk; whole = λ gap. is.read }),
     )
 
-module _ (known : Known) (chains : KnownOfChains) (combining : KnownOfCombining) (checks : KnownOfChecks) where
+module _ (known : Known) (chains : KnownOfChains) (combining : KnownOfCombining) (merging : KnownOfMerging) (checks : KnownOfChecks join.Chain) where
   restore_done : (end : Lsn) (wal : Files) (sound : IsSoundWal end wal) (names : Names) (chain : List Files) (newest : Member) (so : IsSoundFor end wal sound chain newest) (old new : Outside) (out : List ℕ) (upto : Option Lsn) (r : RestoreResult)
       → (old.areas wal_name).files ≡ Some wal → files_told (backup_areas names old.areas) ≡ Some chain → AllHaveForms chain → IsChainTo names (backup_areas names old.areas) newest → IsLate upto newest → IsNotPast upto end → TellsEmpty (old.areas (output_name out)) → RestoreDoes upto out names old new r → IsDoneOrFails (restore_status r)
   restore_done end wal sound names chain newest so old new out upto (Ok report) told stand forms is late within no_out does = tt
   restore_done end wal sound names chain newest so old new out upto (Err (restore.Site fault)) told stand forms is late within no_out does = area_fails fault.why
   restore_done end wal sound names chain newest so old new out upto (Err (restore.Members why)) told stand forms is late within no_out does =
-      members_done checks names (backup_areas names old.areas) (backup_areas names new.areas) chain newest why (each_told (backup_areas names old.areas) chain stand) is does.1.0
+      members_done join.Chain checks names (backup_areas names old.areas) (backup_areas names new.areas) chain newest why (each_told (backup_areas names old.areas) chain stand) is does.1.0
   restore_done end wal sound names chain newest so old new out upto (Err (restore.Early target stop)) told stand forms is late within no_out does =
       let seen : RestoreSeen = restore_seen names (output_name out) old in
       let of = does.1.0 in
@@ -227,17 +230,17 @@ module _ (known : Known) (chains : KnownOfChains) (combining : KnownOfCombining)
   restore_done end wal sound names chain newest so old new out upto (Err (restore.Out why)) told stand forms is late within no_out does = area_fails why
 
   pub chains_done : CompletedChainsAreRestored
-  chains_done latest earlier combinings names chain newest old new wal end out upto r ran goes told sound stand completed is late within no_out does =
+  chains_done latest earlier makings names chain newest old new wal end out upto r ran goes told sound stand completed is late within no_out does =
       let areas = backup_areas names old.areas in
       let members : List Member = is.older ++ (newest ∷ []) in
-      let listed : AllListed chain members = members_listed names areas members chain is.are stand in
-      let so : IsSoundTo latest chain newest = completed_sound known chains combining latest earlier combinings chain is.older newest ran completed listed is.accepted in
+      let listed : AreAsListed chain members = members_listed names areas members chain is.are stand in
+      let so : IsSoundTo latest chain newest = completed_sound known chains combining merging latest earlier makings chain is.older newest ran completed listed is.accepted in
       (restore_done end wal sound names chain newest (sound_for latest chain newest (old.areas wal_name).files wal end sound so goes told) old new out upto r told stand (all_forms known.forms chain members listed) is late within no_out does, exact r does)
     where
       exact : (x : RestoreResult) → RestoreDoes upto out names old new x → IfOk x (λ report. IsWholeReplay (old.areas wal_name).files end (replay_end upto end) report (new.areas (output_name out)).files)
       exact (Err why) done = tt
       exact (Ok report) done =
-          chains_restored known chains combining latest earlier combinings names chain old old new end out upto report ran goes
+          chains_restored known chains combining merging latest earlier makings names chain old old new end out upto report ran goes
           (subst (λ (o : Option Files). IfSome o (IsWholeTo end)) (sym told) (whole_to end wal sound)) stand completed
           (record {
             does = done;

@@ -14,7 +14,7 @@ use Rattle.drill_script.specs.declared.writer.Step.TheVariants.{Cut, Put, Patch}
 use Rattle.drill_script.specs.declared.writer.Writer.{Writer}
 use Rattle.drill_script.specs.Writer.{writer_at, next}
 use Rattle.drill_script.specs.Drill.{command_of, lines_from, first_line, writer_task, writer_lines, flusher_task, copier_lines, copier_task, drilled, drill_0, drill_1, drill_2}
-use Rattle.drill_command.specs.Drill.{drill_members, drill_out}
+use Rattle.pgbackup_cli.specs.drill_command.Drill.{drill_members, drill_out}
 use Rattle.backup_laws.proofs.DrillLines.{takes, EachOnce}
 
 pub differ : (a b : List ℕ) → bytes_eq a a ≡ true → bytes_eq a b ≡ false → a ≢ b

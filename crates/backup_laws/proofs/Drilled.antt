@@ -34,16 +34,17 @@ use Rattle.run_command.specs.Run.{AreTold, RunDone, backups_asked, others_asked,
 use Rattle.run_command.proofs.ToldLess.{one_front, one_back}
 use Rattle.chain_commands.specs.Chain.{backup_areas, backup_names, files_told}
 use Rattle.drill_script.specs.Drill.{copier_lines, copier_task, drilled, line_of, drill_0, drill_1, drill_2}
-use Rattle.drill_command.specs.Contents.{IsSumOf}
-use Rattle.drill_command.specs.Drill as drill
-use Rattle.drill_command.specs.Drill.{DrillDone, areas_cleared, drill_settings, drill_relseg, drill_members, drill_name, drill_out, drill_writes}
-use Rattle.drill_command.specs.declared.report.DrillReport.{DrillReport}
+use Rattle.pgbackup_cli.specs.drill_command.Contents.{IsSumOf}
+use Rattle.pgbackup_cli.specs.drill_command.Drill as drill
+use Rattle.pgbackup_cli.specs.drill_command.Drill.{DrillDone, areas_cleared, drill_settings, drill_relseg, drill_members, drill_name, drill_out, drill_writes}
+use Rattle.pgbackup_cli.specs.declared.drill_command.report.DrillReport.{DrillReport}
 use Rattle.backup_laws.specs.Chains.{AllTell}
 use Rattle.backup_laws.specs.Telling.{TellsAround}
 use Rattle.backup_laws.specs.Restores.{GoesOnFrom, HasRun, HasRestored, IsWholeReplay, PastRun}
 use Rattle.backup_laws.specs.ChainRestores.{CompletedChainsAreReplays, EndedWell, IsTakenBy, RanInTurn}
 use Rattle.backup_laws.specs.Drills.{AreAnswered, DrillTells, DrillsAreReplays, DrillsTakeTheirBackups, IsWholeDrill}
-use Rattle.backup_laws.proofs.ChainMembers.{AllListed, members_listed}
+use Rattle.merge_laws.specs.Members.{AreAsListed}
+use Rattle.backup_laws.proofs.ChainMembers.{members_listed}
 use Rattle.backup_laws.proofs.DrillLines.{EachOnce, NoneOfIt, TakesIt, taken_once, took}
 use Rattle.backup_laws.proofs.DrillScripts.{all_once, asked_members, asks_for, copier_told, differ, drill_asked, not_out, out_unasked, told_all}
 use Rattle.backup_laws.proofs.DrillStops.{ended_well, none_stopped}
@@ -76,7 +77,7 @@ three_told a b c f g h one two three =
 abbrev IsManifested : Files → Type 0
 IsManifested files = (bytes : List ℕ) × (get files manifest_name ≡ Some bytes)
 
-manifests : (chain : List Files) (members : List Member) → AllListed chain members → AllByRecursion IsManifested chain
+manifests : (chain : List Files) (members : List Member) → AreAsListed chain members → AllByRecursion IsManifested chain
 manifests [] members listed = tt
 manifests (f ∷ chain) [] listed = absurd listed
 manifests (f ∷ chain) (m ∷ members) listed = ((listed.0.manifest.0, listed.0.manifest.1), manifests chain members listed.1)

@@ -16,13 +16,13 @@ use Rattle.wal_summary.specs.declared.summary.Summary.{Summary}
 use Rattle.wal_summary.specs.Kept.{IsGap}
 use Rattle.summary_store.specs.Kept.{AreKept, end_behind}
 use Rattle.summary_store.specs.Honest.{is_redo_start}
-use Rattle.summary_publish.specs.Entries.{first_start, next_redo}
-use Rattle.summary_publish.specs.Partly.{MayAdvance}
-use Rattle.summary_publish.specs.Published.{ArePublished, AdvanceAnswers, with_files}
+use Rattle.shared_summaries.specs.summary_publish.Entries.{first_start, next_redo}
+use Rattle.shared_summaries.specs.summary_publish.Partly.{MayAdvance}
+use Rattle.shared_summaries.specs.summary_publish.Published.{ArePublished, AdvanceAnswers, with_files}
 use Rattle.store_faults.specs.declared.advance_fault.AdvanceFault.TheVariants as advance
-use Rattle.summary_publish.proofs.Adding.{end_append}
-use Rattle.summary_publish.proofs.Fitting.{one_of}
-use Rattle.summary_publish.proofs.KeptFiles.{covered_below, kept_once, next_kept, end_from}
+use Rattle.shared_summaries.proofs.summary_publish.Adding.{end_append}
+use Rattle.shared_summaries.proofs.summary_publish.Fitting.{one_of}
+use Rattle.shared_summaries.proofs.summary_publish.KeptFiles.{covered_below, kept_once, next_kept, end_from}
 use Rattle.shared_summaries.specs.Grown.{HasGrown, IsOldGap}
 use Rattle.shared_summaries.specs.Shelf.{states}
 use Rattle.shared_summaries.proofs.Grown.{runs_begin_grown, publishing_grows, gaps_are_old}

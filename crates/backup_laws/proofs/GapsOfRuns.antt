@@ -4,7 +4,7 @@ use Rattle.std.proofs.lemmas.List.{length-map}
 use Rattle.history.specs.Entry.{Entry}
 use Rattle.history.specs.Whole.{entry_of}
 use Rattle.summary_store.specs.Honest.{is_redo_start}
-use Rattle.summary_publish.specs.Entries.{first_start}
+use Rattle.shared_summaries.specs.summary_publish.Entries.{first_start}
 use Rattle.shared_summaries.specs.Grown.{IsOldGap}
 use Rattle.store_faults.specs.declared.incr_fault.IncrFault.TheVariants.{Gap}
 use Rattle.run_answers.specs.declared.answer.Answer.TheVariants.{IncrRefused}

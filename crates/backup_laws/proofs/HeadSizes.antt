@@ -4,7 +4,7 @@ use Rattle.std.specs.Prelude.{◌==◌}
 use Rattle.std.specs.Int.{w32, to_le_bytes}
 use Rattle.std.proofs.lemmas.Bool.{eqb-true}
 use Rattle.std.proofs.lemmas.List.{length-replicate}
-use Rattle.byte_words.proofs.Fields.{wide32}
+use Rattle.lsn_core.proofs.byte_words.Fields.{wide32}
 use Rattle.lsn_core.specs.Store.{ForkPages}
 use Rattle.incr_file.specs.Form.{pages_bytes}
 use Rattle.incr_file.specs.Head.{body_place, fields_bytes, file_size, head_bytes, head_size, numbers_bytes}

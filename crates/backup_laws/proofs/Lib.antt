@@ -21,6 +21,7 @@ pub mod OwnLeft
 pub mod LongerChains
 pub mod CombinedChains
 pub mod SoundSoFar
+pub mod MergedSeries
 pub mod CompletedChains
 pub mod ChainRestored
 pub mod Gaps

@@ -1,4 +1,5 @@
--- A manifest can list what a directory that is as listed is combined to, where its files' names are text.
+-- A manifest can list what a chain or a series is joined to, of which this directory is the last and is
+-- as listed, where its files' names are text.
 use Rattle.std.proofs.Common.{◌≡◌, ◌≢◌, ℕ, Bool, true, false, cond, not, List, [], ◌∷◌, map, Some, None, refl, sym, ap, ap₂, subst, ◌∙◌, ◌⊎◌, inl, inr}
 use Rattle.std.specs.Str.{IsUtf8, is_utf8, bytes_eq}
 use Rattle.std.specs.List.{AllByRecursion, IsDistinct}
@@ -18,8 +19,13 @@ use Rattle.backup_files.specs.Directory.{manifest_name}
 use Rattle.backup_sending.proofs.Texts.{path_text, good_path}
 use Rattle.chain_check.specs.Directory.{IsRowAsListed, IsForkFile, HasForm, IsAsListed}
 use Rattle.chain_check.specs.declared.member.Member.{Member}
-use Rattle.combine.specs.Calls.{IsPathFor, ArePathsFor, CannotList}
+use Rattle.combine.specs.Calls.{ArePathsFor, CannotList}
 use Rattle.combine.specs.Combined.{other_rows}
+use Rattle.chain_files.specs.Segments.{forms_of}
+use Rattle.directory_files.specs.Written.{CanList}
+use Rattle.merged_forms.specs.Merged.{rests_on_plain}
+use Rattle.incr_merge.specs.Calls.{AreMergedPaths}
+use Rattle.chain_commands.specs.Joined.{CannotListMerged}
 use Rattle.backup_laws.specs.Success.{HaveTextNames}
 use Rattle.backup_laws.proofs.ReadPaths.{path_in, manifest_is_read}
 
@@ -59,15 +65,25 @@ all_good files (row ∷ rows) names listed forms paths = (
   all_good files rows names listed.1 forms.1 paths.1,
 )
 
+-- the path of what stands for the file of a path: an incremental one is a fork's segment file still, any
+-- other keeps its path
+record IsSegmentPath (path out : List ℕ) : Type 0 where
+  placed : (f : IsForkFile path true) → (incr : Bool) × (out ≡ fork_path_bytes f.fork f.seg incr)
+  kept : (IsForkFile path true → ⊥) → out ≡ path
+
+abbrev ArePaths : List FileRow → List (List ℕ) → Type 0
+ArePaths [] paths = paths ≡ []
+ArePaths (row ∷ rows) paths = (path : List ℕ) × (more : List (List ℕ)) × (paths ≡ path ∷ more) × IsSegmentPath row.path path × ArePaths rows more
+
 -- what stands for it has a path of text
-text_for : (files : Files) (row : FileRow) (path : List ℕ) → IsGood files row → IsPathFor row.path path → IsUtf8 path × (is_path path ≡ true)
+text_for : (files : Files) (row : FileRow) (path : List ℕ) → IsGood files row → IsSegmentPath row.path path → IsUtf8 path × (is_path path ≡ true)
 text_for files row path is for = (
   IsUtf8-from_is_utf8 path (stays (is_utf8 path) (λ no. either (IsForkFile row.path true) (λ x. elim x [
-    | inl f ↦ both_ways (is_utf8 path) (is_utf8-from_IsUtf8 path (subst IsUtf8 (sym (for.plain f)) (path_text f.fork f.seg false f.named))) no
+    | inl f ↦ (let out = for.placed f in both_ways (is_utf8 path) (is_utf8-from_IsUtf8 path (subst IsUtf8 (sym out.1) (path_text f.fork f.seg out.0 f.named))) no)
     | inr none ↦ both_ways (is_utf8 path) (is_utf8-from_IsUtf8 path (subst IsUtf8 (sym (for.kept none)) is.text)) no
   ]))),
   stays (is_path path) (λ no. either (IsForkFile row.path true) (λ x. elim x [
-    | inl f ↦ both_ways (is_path path) (ap is_path (for.plain f) ∙ good_path f.fork f.seg false f.named) no
+    | inl f ↦ (let out = for.placed f in both_ways (is_path path) (ap is_path out.1 ∙ good_path f.fork f.seg out.0 f.named) no)
     | inr none ↦ both_ways (is_path path) (ap is_path (for.kept none) ∙ is.good) no
   ])),
 )
@@ -77,18 +93,23 @@ text_for files row path is for = (
 gone_or_there : (files : Files) (gone there bytes : List ℕ) → gone ≡ there → get files gone ≡ None → get files there ≡ Some bytes → ⊥
 gone_or_there files gone there bytes same none some = (let never : None ≡ Some bytes = sym none ∙ (ap (λ (path : List ℕ). get files path) same ∙ some) in cc)
 
+-- what stands for an incremental file has no other file's path
+not_kept : (files : Files) (r q : FileRow) (incr : Bool) (f : IsForkFile r.path true) → IsGood files r → IsGood files q → r.path ≢ q.path → fork_path_bytes f.fork f.seg incr ≡ q.path → ⊥
+not_kept files r q true f a b differ same = differ (f.spelled ∙ same)
+not_kept files r q false f a b differ same = gone_or_there files (fork_path_bytes f.fork f.seg false) q.path b.bytes same (a.alone f) b.there
+
 -- what stands for one has another path than what stands for another
-apart : (files : Files) (r q : FileRow) (p o : List ℕ) → IsGood files r → IsGood files q → r.path ≢ q.path → IsPathFor r.path p → IsPathFor q.path o → p ≢ o
+apart : (files : Files) (r q : FileRow) (p o : List ℕ) → IsGood files r → IsGood files q → r.path ≢ q.path → IsSegmentPath r.path p → IsSegmentPath q.path o → p ≢ o
 apart files r q p o a b differ for to same =
     either (IsForkFile r.path true) (λ x.
     either (IsForkFile q.path true) (λ y.
     elim x [
       | inl f ↦ elim y [
-        | inl g ↦ (let one = one_place f.fork g.fork f.seg g.seg false false f.named g.named (sym (for.plain f) ∙ (same ∙ to.plain g)) in differ (f.spelled ∙ (ap₂ (λ (k : ForkId) (n : ℕ). fork_path_bytes k n true) one.0 one.1.0 ∙ sym g.spelled)))
-        | inr plain ↦ gone_or_there files (fork_path_bytes f.fork f.seg false) q.path b.bytes (sym (for.plain f) ∙ (same ∙ to.kept plain)) (a.alone f) b.there
+        | inl g ↦ (let out = for.placed f in let into = to.placed g in let one = one_place f.fork g.fork f.seg g.seg out.0 into.0 f.named g.named (sym out.1 ∙ (same ∙ into.1)) in differ (f.spelled ∙ (ap₂ (λ (k : ForkId) (n : ℕ). fork_path_bytes k n true) one.0 one.1.0 ∙ sym g.spelled)))
+        | inr plain ↦ (let out = for.placed f in not_kept files r q out.0 f a b differ (sym out.1 ∙ (same ∙ to.kept plain)))
       ]
       | inr none ↦ elim y [
-        | inl g ↦ gone_or_there files (fork_path_bytes g.fork g.seg false) r.path a.bytes (sym (to.plain g) ∙ (sym same ∙ for.kept none)) (b.alone g) a.there
+        | inl g ↦ (let into = to.placed g in not_kept files q r into.0 g b a (λ e. differ (sym e)) (sym into.1 ∙ (sym same ∙ for.kept none)))
         | inr plain ↦ differ (sym (for.kept none) ∙ (same ∙ to.kept plain))
       ]
     ]))
@@ -127,18 +148,18 @@ keep_apart : (rows : List FileRow) → Apart rows → Apart (other_rows rows)
 keep_apart [] all = tt
 keep_apart (r ∷ rows) all = keep_one (not (bytes_eq r.path manifest_name)) r (other_rows rows) (keep_all (λ q. r.path ≢ q.path) rows all.0) (keep_apart rows all.1)
 
-all_texts : (files : Files) (rows : List FileRow) (paths : List (List ℕ)) → AllByRecursion (IsGood files) rows → ArePathsFor rows paths → AllByRecursion (λ path. IsUtf8 path × (is_path path ≡ true)) paths
+all_texts : (files : Files) (rows : List FileRow) (paths : List (List ℕ)) → AllByRecursion (IsGood files) rows → ArePaths rows paths → AllByRecursion (λ path. IsUtf8 path × (is_path path ≡ true)) paths
 all_texts files [] paths good for = subst (AllByRecursion (λ path. IsUtf8 path × (is_path path ≡ true))) (sym for) tt
 all_texts files (r ∷ rows) paths good for =
     subst (AllByRecursion (λ path. IsUtf8 path × (is_path path ≡ true))) (sym for.2) (text_for files r for.0 good.0 for.3, all_texts files rows for.1 good.1 for.4)
 
-others_apart : (files : Files) (r : FileRow) (p : List ℕ) (rows : List FileRow) (paths : List (List ℕ)) → IsGood files r → AllByRecursion (IsGood files) rows → AllByRecursion (λ q. r.path ≢ q.path) rows → IsPathFor r.path p → ArePathsFor rows paths → AllByRecursion (λ path. same_name p path ≡ false) paths
+others_apart : (files : Files) (r : FileRow) (p : List ℕ) (rows : List FileRow) (paths : List (List ℕ)) → IsGood files r → AllByRecursion (IsGood files) rows → AllByRecursion (λ q. r.path ≢ q.path) rows → IsSegmentPath r.path p → ArePaths rows paths → AllByRecursion (λ path. same_name p path ≡ false) paths
 others_apart files r p [] paths is good differ for are = subst (AllByRecursion (λ path. same_name p path ≡ false)) (sym are) tt
 others_apart files r p (q ∷ rows) paths is good differ for are =
     subst (AllByRecursion (λ path. same_name p path ≡ false)) (sym are.2)
     (false_from_ne_true (same_name p are.0) (λ same. apart files r q p are.0 is good.0 differ.0 for are.3 (names_tie p are.0 same)), others_apart files r p rows are.1 is good.1 differ.1 for are.4)
 
-all_distinct : (files : Files) (rows : List FileRow) (paths : List (List ℕ)) → AllByRecursion (IsGood files) rows → Apart rows → ArePathsFor rows paths → IsDistinct same_name paths
+all_distinct : (files : Files) (rows : List FileRow) (paths : List (List ℕ)) → AllByRecursion (IsGood files) rows → Apart rows → ArePaths rows paths → IsDistinct same_name paths
 unfolding IsDistinct
 all_distinct files [] paths good differ for = subst (λ (ps : List (List ℕ)). IsDistinct same_name ps) (sym for) tt
 all_distinct files (r ∷ rows) paths good differ for =
@@ -146,14 +167,31 @@ all_distinct files (r ∷ rows) paths good differ for =
 
 -- ---- the whole
 
-pub never_unlisted : (files : Files) (m : Member) → IsAsListed files m → HaveTextNames files → CannotList m.manifest → ⊥
-never_unlisted files m is names cannot =
+listable : (files : Files) (m : Member) (paths : List (List ℕ)) → IsAsListed files m → HaveTextNames files → ArePaths (other_rows m.manifest.files) paths → CanList m.manifest paths
+listable files m paths is names are =
     let read = manifest_is_read files m.manifest is.manifest in
     let all : List FileRow = m.manifest.files in
     let good : AllByRecursion (IsGood files) (other_rows all) = keep_all (IsGood files) all (all_good files all names is.rows is.forms read.paths) in
-    cannot.2 (record {
+    record {
       system = read.system;
       rises = read.rises;
-      texts = all_texts files (other_rows all) cannot.0 good cannot.1;
-      distinct = all_distinct files (other_rows all) cannot.0 good (keep_apart all (are_apart all read.distinct)) cannot.1;
-    })
+      texts = all_texts files (other_rows all) paths good are;
+      distinct = all_distinct files (other_rows all) paths good (keep_apart all (are_apart all read.distinct)) are;
+    }
+
+-- so can one list what a chain is combined to
+combined_paths : (rows : List FileRow) (paths : List (List ℕ)) → ArePathsFor rows paths → ArePaths rows paths
+combined_paths [] paths are = are
+combined_paths (row ∷ rows) paths are = (are.0, are.1, are.2, record { placed = λ f. (false, are.3.plain f); kept = are.3.kept }, combined_paths rows are.1 are.4)
+
+pub never_unlisted : (files : Files) (m : Member) → IsAsListed files m → HaveTextNames files → CannotList m.manifest → ⊥
+never_unlisted files m is names cannot = cannot.2 (listable files m cannot.0 is names (combined_paths (other_rows m.manifest.files) cannot.0 cannot.1))
+
+-- and what a series is merged to
+merged_paths : (series : List Files) (rows : List FileRow) (paths : List (List ℕ)) → AreMergedPaths series rows paths → ArePaths rows paths
+merged_paths series [] paths are = are
+merged_paths series (row ∷ rows) paths are =
+    (are.0, are.1, are.2, record { placed = λ f. (not (rests_on_plain (forms_of series f.fork f.seg)), are.3.merged f); kept = are.3.kept }, merged_paths series rows are.1 are.4)
+
+pub never_unmerged : (series : List Files) (files : Files) (m : Member) → IsAsListed files m → HaveTextNames files → CannotListMerged series m.manifest → ⊥
+never_unmerged series files m is names cannot = cannot.2 (listable files m cannot.0 is names (merged_paths series (other_rows m.manifest.files) cannot.0 cannot.1))

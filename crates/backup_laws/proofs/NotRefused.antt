@@ -4,8 +4,8 @@ use Rattle.std.specs.Prelude.{nat_le, ◌==◌, if◌then◌else◌}
 use Rattle.std.specs.List.{list_any}
 use Rattle.std.specs.FinMap.{empty, get}
 use Rattle.std.proofs.lemmas.Bool.{cases_Bool, cases_lt, eqb-true, le-leb, lt-leb}
-use Rattle.byte_words.specs.Numbers.{◌>>=◌}
-use Rattle.byte_words.proofs.Fields.{bind_some}
+use Rattle.lsn_core.specs.byte_words.Numbers.{◌>>=◌}
+use Rattle.lsn_core.proofs.byte_words.Fields.{bind_some}
 use Rattle.lsn_core.specs.Files.{Files}
 use Rattle.lsn_core.specs.Segment.{IsSegmentMib, StoreSettings}
 use Rattle.lsn_core.specs.Store.{Store}
@@ -23,8 +23,8 @@ use Rattle.wal_reader.proofs.Reached.{first_reached}
 use Rattle.history.specs.Entry.{Entry}
 use Rattle.history.specs.Apply.{apply, apply_all}
 use Rattle.history.specs.Whole.{entry_of, whole}
-use Rattle.fuzzy_copies.specs.Orderly.{RecordsRise}
-use Rattle.fuzzy_copies.proofs.Completed.{or_second}
+use Rattle.history.specs.fuzzy_copies.Orderly.{RecordsRise}
+use Rattle.history.proofs.fuzzy_copies.Completed.{or_second}
 use Rattle.recovery.specs.declared.fault.RecoveryFault.{RecoveryFault}
 use Rattle.recovery.specs.declared.fault.RecoveryFault.TheVariants.{Damaged, Short, BadDelta, SettingsDamaged, Timeline, NotInit, Failed, NoMemory}
 use Rattle.recovery.specs.declared.reading.Beginning.{Beginning}

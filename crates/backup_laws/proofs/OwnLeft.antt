@@ -7,7 +7,7 @@ use Rattle.std.specs.FinMap.{empty, get, get-empty}
 use Rattle.std.proofs.lemmas.List.{map-append}
 use Rattle.std.specs.Ordering.{nat_cmp}
 use Rattle.std.specs.Cmp.Lexicographic.{slice_cmp}
-use Rattle.byte_words.specs.Told.{when_told}
+use Rattle.lsn_core.specs.byte_words.Told.{when_told}
 use Rattle.lsn_core.specs.Files.{Files}
 use Rattle.lsn_core.specs.Segment.{StoreSettings}
 use Rattle.lsn_core.specs.Store.{Store}
@@ -22,12 +22,12 @@ use Rattle.history.specs.Entry.{Act, Create, Truncate, Change, Drop, Mark, Shutd
 use Rattle.history.specs.Laws.{AreWrittenInPlace}
 use Rattle.history.specs.Whole.{act_of, entry_of, cuts_main}
 use Rattle.history.specs.Written.{Before, behind, is_redo, kind_of, next_record, written}
-use Rattle.fuzzy_copies.specs.Covers.{AreTidy}
-use Rattle.fuzzy_copies.specs.Logged.{history_of, found_before, log_of, StartInPlace, AreLogged}
-use Rattle.fuzzy_copies.specs.Summary.{summary_of}
-use Rattle.fuzzy_copies.proofs.ReadBack.{log_is_written}
-use Rattle.fuzzy_copies.proofs.SummedAlike.{summed_alike}
-use Rattle.fuzzy_copies.proofs.TidyLogs.{logs_tidy}
+use Rattle.history.specs.fuzzy_copies.Covers.{AreTidy}
+use Rattle.history.specs.fuzzy_copies.Logged.{history_of, found_before, log_of, StartInPlace, AreLogged}
+use Rattle.history.specs.fuzzy_copies.Summary.{summary_of}
+use Rattle.history.proofs.fuzzy_copies.ReadBack.{log_is_written}
+use Rattle.history.proofs.fuzzy_copies.SummedAlike.{summed_alike}
+use Rattle.history.proofs.fuzzy_copies.TidyLogs.{logs_tidy}
 use Rattle.wal_summary.proofs.Tables.{same_table}
 use Rattle.summary_store.specs.Honest.{is_redo_start, is_redo_point, IsHonest}
 use Rattle.journal.specs.Lawful.{IsLawful}

@@ -21,18 +21,18 @@ use Rattle.wal_reader.proofs.Reached.{first_reached}
 use Rattle.history.specs.Entry.{Entry}
 use Rattle.history.specs.Redo.{redo_all}
 use Rattle.history.specs.Whole.{entry_of, whole}
-use Rattle.fuzzy_copies.specs.Orderly.{RecordsRise}
-use Rattle.fuzzy_copies.specs.Sound.{IsSoundCopy}
-use Rattle.fuzzy_copies.proofs.Completed.{or_second}
-use Rattle.fuzzy_copies.proofs.Ranges.{end_behind}
-use Rattle.fuzzy_copies.proofs.Records.{records_complete}
-use Rattle.fuzzy_copies.proofs.Repeats.{entries_rise}
+use Rattle.history.specs.fuzzy_copies.Orderly.{RecordsRise}
+use Rattle.history.specs.fuzzy_copies.Sound.{IsSoundCopy}
+use Rattle.history.proofs.fuzzy_copies.Completed.{or_second}
+use Rattle.history.proofs.fuzzy_copies.Ranges.{end_behind}
+use Rattle.history.proofs.fuzzy_copies.Records.{records_complete}
+use Rattle.history.proofs.fuzzy_copies.Repeats.{entries_rise}
 use Rattle.recovery.specs.declared.reading.Beginning.TheVariants.{FirstEntry, AtPlace}
 use Rattle.recovery.specs.Onward.{is_set_behind, found_on, IsReadFrom, replayed_to, ending_by, end_from}
 use Rattle.recovery.specs.Onward as onward
 use Rattle.recovery.proofs.OneWal.{Stops}
 use Rattle.shared_store.specs.Records.{HoldsRecords}
-use Rattle.wal_pieces.proofs.Onwards.{entry_found, goes_on}
+use Rattle.wal_reader.proofs.wal_pieces.Onwards.{entry_found, goes_on}
 use Rattle.backup_restore.proofs.Rising.{reads_rise, rise_from, parted_at, replayed_in, starts_behind, rest_rises, replayed_rest, none_left}
 
 -- ---- no entry stands behind the records of a WAL

@@ -23,10 +23,10 @@ use Rattle.history.specs.Entry.{Entry}
 use Rattle.history.specs.Whole.{entry_of, whole}
 use Rattle.history.specs.Written.{wal_of, tip_of}
 use Rattle.history.specs.Redo.{redo_all}
-use Rattle.fuzzy_copies.specs.Orderly.{IsOrderly}
-use Rattle.fuzzy_copies.specs.Sound.{IsSoundCopy}
-use Rattle.fuzzy_copies.proofs.Longer.{sound_later}
-use Rattle.fuzzy_copies.proofs.Repeats.{entries_rise}
+use Rattle.history.specs.fuzzy_copies.Orderly.{IsOrderly}
+use Rattle.history.specs.fuzzy_copies.Sound.{IsSoundCopy}
+use Rattle.history.proofs.fuzzy_copies.Longer.{sound_later}
+use Rattle.history.proofs.fuzzy_copies.Repeats.{entries_rise}
 use Rattle.recovery.specs.Causes.{HasSettings}
 use Rattle.recovery.specs.Onward.{IsReadFrom, replayed_to, end_from, ending_by}
 use Rattle.recovery.specs.declared.reading.Beginning.TheVariants.{AtPlace}

@@ -4,9 +4,9 @@ use Rattle.std.specs.Prelude.{◌==◌, codes, bytes_eq, nat_le, slice_get}
 use Rattle.std.specs.List.{AllByRecursion, list_all}
 use Rattle.std.specs.Option.{option_map}
 use Rattle.std.proofs.lemmas.Bool.{and_parts, cases_Bool, eqb-true}
-use Rattle.byte_words.specs.Numbers.{◌>>=◌}
+use Rattle.lsn_core.specs.byte_words.Numbers.{◌>>=◌}
 use Rattle.lsn_core.specs.declared.lsn.Lsn.{Lsn}
-use Rattle.text_numbers.specs.Numbers.{number_of}
+use Rattle.lsn_core.specs.text_numbers.Numbers.{number_of}
 use Rattle.backup_label.specs.Label.{HasNoLineEnd}
 use Rattle.scripts.specs.declared.script.Command.{Command}
 use Rattle.scripts.specs.declared.script.Command.TheVariants as command

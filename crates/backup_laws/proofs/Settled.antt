@@ -6,7 +6,7 @@ use Rattle.std.proofs.lemmas.Bool.{eqb-true, le-leb, lt-ltb, ltb-true}
 use Rattle.std.proofs.lemmas.List.{get_or-take, length-take}
 use Rattle.std.proofs.lemmas.Nat.{div-mul-add, mod-mul-add}
 use Rattle.std.proofs.Math.Nat.{mod_self}
-use Rattle.byte_words.specs.Numbers.{u16_in, u32_in, u64_in}
+use Rattle.lsn_core.specs.byte_words.Numbers.{u16_in, u32_in, u64_in}
 use Rattle.lsn_core.specs.Files.{Files}
 use Rattle.lsn_core.specs.Names.{segment_name_bytes}
 use Rattle.lsn_core.specs.Segment.{IsSegmentMib, StoreSettings, segment_bytes, settings_with}
@@ -30,8 +30,8 @@ use Rattle.wal_reader.specs.Wal.{stands_behind}
 use Rattle.wal_reader.proofs.Room.{segment_least}
 use Rattle.wal_reader.proofs.SettingsText.{gives_once}
 use Rattle.wal_writer.specs.Stops.{IsSegmentFile}
-use Rattle.wal_pieces.proofs.Heads.{no_heads, heads_on}
-use Rattle.wal_pieces.proofs.Onwards.{passed}
+use Rattle.wal_reader.proofs.wal_pieces.Heads.{no_heads, heads_on}
+use Rattle.wal_reader.proofs.wal_pieces.Onwards.{passed}
 
 -- ---- the file of settings
 

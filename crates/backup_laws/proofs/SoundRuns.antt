@@ -12,12 +12,12 @@ use Rattle.history.specs.Apply.{apply_all}
 use Rattle.history.specs.Entry.{Entry}
 use Rattle.history.specs.Whole.{entry_of}
 use Rattle.history.specs.Written.{wal_of}
-use Rattle.fuzzy_copies.specs.Logged.{history_of, log_of}
-use Rattle.fuzzy_copies.specs.Orderly.{IsOrderly}
-use Rattle.fuzzy_copies.specs.Sound.{IsSoundCopy}
-use Rattle.fuzzy_copies.specs.Taken.{IsTaken}
-use Rattle.fuzzy_copies.proofs.Restored.{logged_sound}
-use Rattle.fuzzy_copies.proofs.Taken.{taken_sound}
+use Rattle.history.specs.fuzzy_copies.Logged.{history_of, log_of}
+use Rattle.history.specs.fuzzy_copies.Orderly.{IsOrderly}
+use Rattle.history.specs.fuzzy_copies.Sound.{IsSoundCopy}
+use Rattle.history.specs.fuzzy_copies.Taken.{IsTaken}
+use Rattle.history.proofs.fuzzy_copies.Restored.{logged_sound}
+use Rattle.history.proofs.fuzzy_copies.Taken.{taken_sound}
 use Rattle.journal.specs.Lawful.{IsLawful}
 use Rattle.journal.proofs.Stands.{lawful_orderly}
 use Rattle.shared_store.specs.Calls.{IsOfRun}

@@ -1,7 +1,7 @@
 -- The WAL that `init` makes is sound, and so is the one that a run leaves which closed its store.
 use Rattle.std.proofs.Common.{◌≡◌, ℕ, List, [], ◌∷◌, Option, IfSome, Result, Ok, refl, sym, subst, inl}
 use Rattle.std.specs.FinMap.{empty}
-use Rattle.byte_words.specs.Told.{when_both_told}
+use Rattle.lsn_core.specs.byte_words.Told.{when_both_told}
 use Rattle.lsn_core.specs.Files.{Files}
 use Rattle.lsn_core.specs.Segment.{StoreSettings}
 use Rattle.lsn_core.specs.declared.fault.StoreFault.{StoreFault}

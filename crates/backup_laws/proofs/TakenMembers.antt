@@ -1,13 +1,14 @@
--- Directories that are as listed, and accepted as a chain, aren't refused.
-use Rattle.std.proofs.Common.{◌≡◌, ◌≢◌, ℕ, zero, suc, List, [], ◌∷◌, ◌++◌, map, Some, IsSome, refl, sym, ap, subst, ◌∙◌, arith, inl, inr}
+-- Directories that are as listed, and accepted as a chain or as a series, aren't refused.
+use Rattle.std.proofs.Common.{◌≡◌, ◌≢◌, ◌≤◌, ℕ, zero, suc, List, [], ◌∷◌, ◌++◌, length, map, Some, IsSome, refl, sym, ap, subst, ◌∙◌, arith, inl, inr}
 use Rattle.std.specs.Prelude.{slice_get}
 use Rattle.lsn_core.specs.Files.{Files}
 use Rattle.vault.specs.Lending.{Names, IsOneOf}
 use Rattle.vault.specs.Site.{AreaState, Areas}
-use Rattle.chain_check.specs.Chain.{IsAccepted}
+use Rattle.chain_check.specs.Chain.{most_members}
 use Rattle.chain_check.specs.Directory.{IsAsListed}
-use Rattle.chain_check.specs.Laws.{DirectoriesAreOneMember, ListedIsNotRefused, AcceptedIsNotRefused}
+use Rattle.chain_check.specs.Laws.{DirectoriesAreOneMember, ListedHaveForms, ListedIsNotRefused}
 use Rattle.chain_check.specs.Refusals.{HasRefusal, IsOfFiles}
+use Rattle.chain_check.specs.declared.chain.ChainRefusal.{ChainRefusal}
 use Rattle.chain_check.specs.declared.fault.ChainFault.{ChainFault}
 use Rattle.chain_check.specs.declared.fault.ChainFault.TheVariants as directory
 use Rattle.chain_check.specs.declared.link.LinkFault.{LinkFault}
@@ -15,12 +16,15 @@ use Rattle.chain_check.specs.declared.link.LinkFault.TheVariants as link
 use Rattle.chain_check.specs.declared.member.Member.{Member}
 use Rattle.command_base.specs.Areas.{backup_name}
 use Rattle.command_base.proofs.Told.{at_told}
+use Rattle.chain_commands.specs.declared.chain.Joining.{Joining}
+use Rattle.chain_commands.specs.declared.chain.Joining.TheVariants as join
 use Rattle.chain_commands.specs.declared.chain.MembersFault.{MembersFault}
 use Rattle.chain_commands.specs.declared.chain.MembersFault.TheVariants as members
-use Rattle.chain_commands.specs.Chain.{backup_areas, files_told, IsMemberIn, AreMembersIn, IsChainTo, MembersRefused, members_status}
+use Rattle.chain_commands.specs.Chain.{backup_areas, files_told, IsMemberIn, AreMembersIn, IsAcceptedAs, IsRefusedAs, IsJoinedTo, IsChainTo, MembersRefusedAs, members_status}
 use Rattle.chain_commands.specs.Directory.{directory_status}
 use Rattle.chain_commands.specs.Link.{link_status}
-use Rattle.chain_commands.proofs.OneChain.{AreTold, chain_few}
+use Rattle.chain_commands.proofs.Members.{members_length}
+use Rattle.chain_commands.proofs.OneChain.{AreTold}
 use Rattle.backup_laws.specs.Success.{IsDoneOrFails}
 use Rattle.backup_laws.proofs.ChainMembers.{split_told}
 
@@ -123,21 +127,29 @@ module _ (one : DirectoriesAreOneMember) where
 -- ---- they aren't refused
 
 -- what is known of the checks
-pub record KnownOfChecks : Type 0 where
+pub record KnownOfChecks (joining : Joining) : Type 0 where
   pub member : DirectoriesAreOneMember
+  pub forms : ListedHaveForms
   pub listed : ListedIsNotRefused
-  pub accepted : AcceptedIsNotRefused
+  pub accepted : (members : List Member) (refusal : ChainRefusal) → IsAcceptedAs joining members → IsRefusedAs joining members refusal → ⊥
 
-module _ (checks : KnownOfChecks) where
-  pub members_done : (names : Names) (old new : List AreaState) (chain : List Files) (newest : Member) (why : MembersFault) → AreTold old chain → IsChainTo names old newest → MembersRefused names old new why → IsDoneOrFails (members_status why)
+few_members : (joining : Joining) (members : List Member) → IsAcceptedAs joining members → length members ≤ most_members
+few_members join.Chain members is = is.few
+few_members join.Series members is = is.few
+
+module _ (joining : Joining) (checks : KnownOfChecks joining) where
+  pub members_done : (names : Names) (old new : List AreaState) (chain : List Files) (newest : Member) (why : MembersFault) → AreTold old chain → IsJoinedTo joining names old newest → MembersRefusedAs joining names old new why → IsDoneOrFails (members_status why)
   members_done names old new chain newest (members.Directory place refusal) told is refused =
       let at = listed_at names old chain (is.older ++ (newest ∷ [])) place refused.was told is.are refused.there in
       directory_done refusal.fault (λ own. checks.listed at.files at.member refusal.fault own at.listed (at_told refused.was.files at.files (λ fs. HasRefusal fs refusal) at.told refused.refused.refused).0)
   members_done names old new chain newest (members.Link refusal) told is refused = link_done refusal.why (λ own.
       elim (refused own) [
-        | inl many ↦ (let few = chain_few names old newest is in omega (arith, few, many.0))
+        | inl many ↦
+            let few = few_members joining (is.older ++ (newest ∷ [])) is.accepted in
+            let long = members_length names old (is.older ++ (newest ∷ [])) is.are in
+            omega (arith, few, long, many.0)
         | inr none ↦
             let same = same_members checks.member names old chain none.members (is.older ++ (newest ∷ [])) told none.are is.are in
-            checks.accepted none.members refusal (subst (λ (ms : List Member). IsAccepted ms) (sym same) is.accepted) none.refused
+            checks.accepted none.members refusal (subst (IsAcceptedAs joining) (sym same) is.accepted) none.refused
       ])
   members_done names old new chain newest members.NoMemory told is refused = tt

@@ -21,8 +21,8 @@ use Rattle.history.specs.Entry.{Entry}
 use Rattle.history.specs.Whole.{entry_of}
 use Rattle.history.specs.Written.{wal_of, tip_of}
 use Rattle.history.proofs.Histories.{tip_over_read}
-use Rattle.fuzzy_copies.specs.Orderly.{IsOrderly}
-use Rattle.fuzzy_copies.proofs.Repeats.{entries_rise}
+use Rattle.history.specs.fuzzy_copies.Orderly.{IsOrderly}
+use Rattle.history.proofs.fuzzy_copies.Repeats.{entries_rise}
 use Rattle.journal.specs.Lawful.{StandInPlace}
 use Rattle.journal.proofs.Stands.{stand_front}
 use Rattle.shared_store.specs.Records.{HoldsRecords}

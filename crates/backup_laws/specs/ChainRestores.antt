@@ -1,5 +1,5 @@
 -- What `restore` makes of a chain of completed backups is what a replay of the whole WAL makes. A
--- backup is completed that a run answered, or that `combine` made of completed ones.
+-- backup is completed that a run answered, or that `combine` or `merge-incr` made of completed ones.
 use Rattle.std.specs.Prelude.{◌≡◌, ◌⊎◌, ℕ, List, [], ◌∷◌, Option, Some, IfSome, Ok}
 use Rattle.std.specs.List.{AllByRecursion}
 use Rattle.lsn_core.specs.Files.{Files}
@@ -21,6 +21,7 @@ use Rattle.backup_laws.specs.Runs.{IsBackedUp}
 use Rattle.backup_laws.specs.Chains.{IsIncremented, TellsThroughout, FindsOwn}
 use Rattle.backup_laws.specs.Telling.{TellsAround}
 use Rattle.backup_laws.specs.CombinedChains.{HasCombined}
+use Rattle.backup_laws.specs.MergedSeries.{HasMerged}
 use Rattle.backup_laws.specs.Restores.{HasRun, HasRestored, PastRun, GoesOnFrom, IsWholeTo, replay_end, IsWholeReplay}
 
 -- ---- runs
@@ -76,13 +77,38 @@ pub record Combining : Type 0 where
   pub report : CombineReport
   pub done : HasCombined members chain name made old new report
 
+-- a merging that ended well
+pub record Merging : Type 0 where
+  pub members : Names
+  pub series : List Files
+  pub name : List ℕ
+  pub made : Files
+  pub old : Outside
+  pub new : Outside
+  pub report : CombineReport
+  pub done : HasMerged members series name made old new report
+
+-- one or the other; what it was made of, the oldest first, and what it made
+pub data Making : Type 0 where
+  Combined : Combining → Making
+  Merged : Merging → Making
+
+abbrev pub made_of : Making → List Files
+made_of (Combined c) = c.chain
+made_of (Merged m) = m.series
+
+abbrev pub made_by : Making → Files
+made_by (Combined c) = c.made
+made_by (Merged m) = m.made
+
 -- files are the directory of a completed backup: one of these runs answered it, or one of these
--- combinings, the latest first, made it of completed ones
-abbrev pub IsCompletedBackup : List PastRun → List Combining → Files → Type 0
+-- combinings and mergings, the latest first, made it of completed ones
+abbrev pub IsCompletedBackup : List PastRun → List Making → Files → Type 0
 IsCompletedBackup runs [] files = IsTakenByOne runs files
-IsCompletedBackup runs (c ∷ earlier) files =
+IsCompletedBackup runs (making ∷ earlier) files =
     IsCompletedBackup runs earlier files
-    ⊎ ((files ≡ c.made) × AllByRecursion (IsCompletedBackup runs earlier) c.chain)
+    ⊎ ((files ≡ made_by making)
+    × AllByRecursion (IsCompletedBackup runs earlier) (made_of making))
 
 -- ---- the law
 
@@ -91,14 +117,14 @@ IsCompletedBackup runs (c ∷ earlier) files =
 -- whole, and goes on from what the latest of the runs left
 abbrev pub CompletedChainsAreReplays : Type 0
 CompletedChainsAreReplays =
-    (latest : PastRun) (earlier : List PastRun) (combinings : List Combining)
+    (latest : PastRun) (earlier : List PastRun) (makings : List Making)
     (names : Names) (chain : List Files) (last old new : Outside) (end : Lsn)
     (out : List ℕ) (upto : Option Lsn) (report : ReplayReport)
     → RanInTurn latest earlier
     → Related GoesOnFrom (latest.left.areas wal_name).files (last.areas wal_name).files
     → IfSome (last.areas wal_name).files (IsWholeTo end)
     → files_told (backup_areas names last.areas) ≡ Some chain
-    → AllByRecursion (IsCompletedBackup (latest ∷ earlier) combinings) chain
+    → AllByRecursion (IsCompletedBackup (latest ∷ earlier) makings) chain
     → HasRestored last upto out names old new report
     → IsWholeReplay (last.areas wal_name).files end (replay_end upto end) report
     (new.areas (output_name out)).files

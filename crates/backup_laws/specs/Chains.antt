@@ -1,5 +1,5 @@
 -- The backups of chains that a run answered, and that they make sound chains.
-use Rattle.std.specs.Prelude.{◌≡◌, ℕ, ◌≤◌, List, [], ◌∷◌, ◌++◌, map, length, drop, slice_get, Some, IsSome}
+use Rattle.std.specs.Prelude.{◌≡◌, ℕ, ◌≤◌, max, List, [], ◌∷◌, ◌++◌, map, length, drop, slice_get, Some, IsSome}
 use Rattle.std.specs.FinMap.{empty}
 use Rattle.lsn_core.specs.Files.{Files}
 use Rattle.lsn_core.specs.Segment.{StoreSettings}
@@ -9,7 +9,7 @@ use Rattle.vault.specs.Site.{Areas}
 use Rattle.vault.specs.Lending.{Names, IsOneOf}
 use Rattle.history.specs.Entry.{Entry}
 use Rattle.history.specs.Whole.{entry_of}
-use Rattle.fuzzy_copies.specs.Covers.{AreTidy}
+use Rattle.history.specs.fuzzy_copies.Covers.{AreTidy}
 use Rattle.manifest.specs.Listing.{Listing}
 use Rattle.backup_sending.specs.Directory.{IsDirectory, IsFullBackup, incr_label}
 use Rattle.incr_backup.specs.Prior.{HasListing}
@@ -102,8 +102,8 @@ pub record IsSoundFull
   pub sound : IsSoundChain s.relseg history (files ∷ []) start.0 end.0
 
 -- files are the directory of an incremental backup of a name. It names the start of the prior
--- backup's manifest as its prior LSN, and extends each chain that is sound from there up to its own
--- start or less
+-- backup's manifest as its prior LSN, and extends each chain that is sound from there, up to the
+-- later of both ends
 pub record IsSoundIncrement
     (s : StoreSettings) (when : ℕ) (history : List Entry) (name : List ℕ) (start end : Lsn)
     (prior files : Files)
@@ -118,8 +118,8 @@ pub record IsSoundIncrement
       (λ begun. incr_label start checkpoint (record { 0 = manifest.start }) begun name) when put
       start end count (Some files)
   pub extends : (chain : List Files) (to : ℕ)
-      → IsSoundChain s.relseg history chain manifest.start to → to ≤ start.0
-      → IsSoundChain s.relseg history (chain ++ (files ∷ [])) start.0 end.0
+      → IsSoundChain s.relseg history chain manifest.start to
+      → IsSoundChain s.relseg history (chain ++ (files ∷ [])) start.0 (max to end.0)
 
 -- each full backup that a run answered is a sound chain of one, for the history that the run came to
 abbrev pub FullBackupsOfRunsAreSound : Type 0

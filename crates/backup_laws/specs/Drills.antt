@@ -13,9 +13,9 @@ use Rattle.command_base.specs.Outside.{Outside}
 use Rattle.chain_commands.specs.Chain.{backup_names}
 use Rattle.run_answers.specs.declared.told.Told.{Told}
 use Rattle.drill_script.specs.Drill.{drill_0, drill_1, drill_2}
-use Rattle.drill_command.specs.Contents.{IsSumOf}
-use Rattle.drill_command.specs.Drill.{DrillDone, drill_settings, drill_relseg, drill_members, drill_out, drill_writes}
-use Rattle.drill_command.specs.declared.report.DrillReport.{DrillReport}
+use Rattle.pgbackup_cli.specs.drill_command.Contents.{IsSumOf}
+use Rattle.pgbackup_cli.specs.drill_command.Drill.{DrillDone, drill_settings, drill_relseg, drill_members, drill_out, drill_writes}
+use Rattle.pgbackup_cli.specs.declared.drill_command.report.DrillReport.{DrillReport}
 use Rattle.backup_laws.specs.Runs.{IsBackedUp}
 use Rattle.backup_laws.specs.Chains.{IsIncremented, AllTell}
 

@@ -13,8 +13,8 @@ use Rattle.wal_summary.specs.Kept.{IsCovering}
 use Rattle.manifest.specs.Listing.{Listing}
 use Rattle.summary_store.specs.Kept.{AreKept, end_behind}
 use Rattle.summary_store.specs.Honest.{is_redo_start}
-use Rattle.summary_publish.specs.Entries.{first_start}
-use Rattle.summary_publish.specs.Published.{ArePublished, AdvanceAnswers, with_files}
+use Rattle.shared_summaries.specs.summary_publish.Entries.{first_start}
+use Rattle.shared_summaries.specs.summary_publish.Published.{ArePublished, AdvanceAnswers, with_files}
 use Rattle.store_faults.specs.declared.advance_fault.AdvanceFault.TheVariants as advance
 use Rattle.shared_summaries.specs.Grown.{IsOldGap}
 use Rattle.shared_summaries.specs.Shelf.{states}

@@ -4,6 +4,7 @@ pub mod Chains
 pub mod Telling
 pub mod Restores
 pub mod CombinedChains
+pub mod MergedSeries
 pub mod ChainRestores
 pub mod Drills
 pub mod Gaps

@@ -11,7 +11,7 @@ use Rattle.command_base.specs.Outside.{Outside}
 use Rattle.chain_commands.specs.Chain.{backup_areas, files_told, IsChainTo}
 use Rattle.chain_commands.specs.Restore.{RestoreResult, RestoreDoes, IsLate, restore_status}
 use Rattle.backup_laws.specs.Restores.{PastRun, GoesOnFrom, replay_end, IsWholeReplay}
-use Rattle.backup_laws.specs.ChainRestores.{RanInTurn, Combining, IsCompletedBackup}
+use Rattle.backup_laws.specs.ChainRestores.{RanInTurn, Making, IsCompletedBackup}
 use Rattle.backup_laws.specs.Success.{IsDoneOrFails, TellsEmpty, IsSoundWal, IsNotPast}
 
 -- completed backups that stand under some names, and that are accepted as a chain, are restored, to
@@ -20,14 +20,14 @@ use Rattle.backup_laws.specs.Success.{IsDoneOrFails, TellsEmpty, IsSoundWal, IsN
 -- left. What then stands in the output is exactly what a replay of the whole WAL gives
 abbrev pub CompletedChainsAreRestored : Type 0
 CompletedChainsAreRestored =
-    (latest : PastRun) (earlier : List PastRun) (combinings : List Combining)
+    (latest : PastRun) (earlier : List PastRun) (makings : List Making)
     (names : Names) (chain : List Files) (newest : Member) (old new : Outside) (wal : Files)
     (end : Lsn) (out : List ℕ) (upto : Option Lsn) (r : RestoreResult)
     → RanInTurn latest earlier
     → Related GoesOnFrom (latest.left.areas wal_name).files (old.areas wal_name).files
     → (old.areas wal_name).files ≡ Some wal → IsSoundWal end wal
     → files_told (backup_areas names old.areas) ≡ Some chain
-    → AllByRecursion (IsCompletedBackup (latest ∷ earlier) combinings) chain
+    → AllByRecursion (IsCompletedBackup (latest ∷ earlier) makings) chain
     → IsChainTo names (backup_areas names old.areas) newest
     → IsLate upto newest → IsNotPast upto end
     → TellsEmpty (old.areas (output_name out))

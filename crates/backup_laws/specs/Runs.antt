@@ -8,7 +8,7 @@ use Rattle.vault.specs.Site.{Areas, AreaState, IsStill}
 use Rattle.vault.specs.Lending.{IsNoneOf}
 use Rattle.wal_record.specs.declared.record.Record.{Record}
 use Rattle.history.specs.Whole.{entry_of}
-use Rattle.fuzzy_copies.specs.Sound.{IsSoundCopy}
+use Rattle.history.specs.fuzzy_copies.Sound.{IsSoundCopy}
 use Rattle.backup_sending.specs.Directory.{IsFullBackup}
 use Rattle.command_base.specs.Areas.{backup_name, AreaIsDurable}
 use Rattle.scripts.specs.declared.script.Command.TheVariants.{Full}

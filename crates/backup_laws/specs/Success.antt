@@ -42,9 +42,10 @@ use Rattle.store_commands.specs.Init.{InitResult, InitDoes, init_status}
 use Rattle.store_commands.specs.Replay.{ReplayResult, ReplayDoes, replay_status}
 use Rattle.store_commands.specs.Follow.{FollowResult, FollowDoes, follow_status}
 use Rattle.store_commands.specs.Walsummary.{WalsummaryResult, WalsummaryDoes, walsummary_status}
-use Rattle.chain_commands.specs.Chain.{backup_areas, files_told, IsChainTo}
+use Rattle.chain_commands.specs.Chain.{backup_areas, files_told, IsChainTo, IsSeriesTo}
 use Rattle.chain_commands.specs.Verify.{VerifyResult, VerifyDoes, verify_status}
 use Rattle.chain_commands.specs.Combine.{CombineResult, CombineDoes, combine_status}
+use Rattle.chain_commands.specs.Merge.{MergeDoes}
 
 -- a command with this status was done; or a device failed or memory ran out, for which its contract
 -- has the cause: nothing was refused
@@ -174,3 +175,13 @@ AcceptedChainsAreCombined =
     → IsChainTo names (backup_areas names old.areas) newest
     → AllByRecursion HaveTextNames chain → TellsEmpty (old.areas (backup_name out))
     → CombineDoes out names old new r → IsDoneOrFails (combine_status r)
+
+-- and `merge-incr` merges those that are accepted as a series
+abbrev pub AcceptedSeriesAreMerged : Type 0
+AcceptedSeriesAreMerged =
+    (names : Names) (out : List ℕ) (old new : Outside) (series : List Files) (newest : Member)
+    (r : CombineResult)
+    → files_told (backup_areas names old.areas) ≡ Some series
+    → IsSeriesTo names (backup_areas names old.areas) newest
+    → AllByRecursion HaveTextNames series → TellsEmpty (old.areas (backup_name out))
+    → MergeDoes out names old new r → IsDoneOrFails (combine_status r)

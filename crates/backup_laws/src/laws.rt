@@ -28,6 +28,7 @@ use chain_laws::{
 use combine::{combined_directories_are_chains, combined_directories_hold_the_same};
 use incr_file::{heads_are_read_as_written, plans_may_be_written};
 use manifest::manifests_are_read_again;
+use merge_laws::{merged_directories_are_members, merged_directories_stand_for_series};
 use shared_summaries::answers_sum_up;
 use vault::Vault;
 
@@ -56,9 +57,10 @@ pub fn backups_of_runs_are_sound()
 
 /// Each full backup that a run answered is a sound chain of one for the history that the run came
 /// to, where its areas tell their files all the while. Each incremental one names the start of its
-/// prior backup as its prior LSN, and extends each sound chain of that history that ends there,
-/// where the area of summaries was honest and what the run found was tidy. What was a sound chain
-/// before the run is one of its history, and all are sound for the WAL that the run left.
+/// prior backup as its prior LSN, and extends each sound chain of that history from there, up to the
+/// later of both ends, where the area of summaries was honest and what the run found was tidy. What
+/// was a sound chain before the run is one of its history, and all are sound for the WAL that the
+/// run left.
 pub fn backups_of_runs_make_sound_chains()
     ensures full { FullBackupsOfRunsAreSound }
     ensures incremental { IncrementsOfRunsExtendChains }
@@ -104,16 +106,18 @@ pub fn runs_and_restores_are_replays()
 }
 
 /// So it is of every chain of completed backups that `restore` restores with status 0. A backup is
-/// completed that a run answered, or that `combine` made, with status 0, of completed ones:
-/// `restore` leaves just the files of what the whole WAL makes up to the same place. It doesn't
-/// matter in which order they were taken and combined, under which names they stand, what became of
-/// those that were combined, and which runs came between and behind them, as long as the WAL goes
-/// on: what `restore` accepts stands in the right order. What these runs found has to be this
-/// program's own, which it is where nothing else writes `wal` and `sums` (`runs_leave_their_own`).
+/// completed that a run answered, or that `combine` or `merge-incr` made, with status 0, of
+/// completed ones: `restore` leaves just the files of what the whole WAL makes up to the same place.
+/// It doesn't matter in which order they were taken, combined and merged, under which names they
+/// stand, what became of those that were combined or merged, and which runs came between and behind
+/// them, as long as the WAL goes on: what `restore` accepts stands in the right order. What these
+/// runs found has to be this program's own, which it is where nothing else writes `wal` and `sums`
+/// (`runs_leave_their_own`).
 pub fn completed_chains_are_replays()
     ensures { CompletedChainsAreReplays }
 {
-    // known: the same as of one backup and of a combined chain, and what makes chains sound
+    // known: the same as of one backup, of a combined chain and of a merged series, and what makes
+    // chains sound
     manifests_are_read_again();
     labels_are_read_in_one_way();
     directories_have_one_answer();
@@ -124,6 +128,8 @@ pub fn completed_chains_are_replays()
     answers_sum_up();
     combined_directories_hold_the_same();
     combined_directories_are_chains();
+    merged_directories_stand_for_series();
+    merged_directories_are_members();
     chains_are_sound_alike();
 }
 

@@ -1,17 +1,19 @@
 //! Laws of backups and of their restore, on what the commands do.
 //!
-//! What `run`, `combine`, `restore` and `replay` do stands in their own crates, each for itself.
+//! What `run`, `combine`, `merge-incr`, `restore` and `replay` do stands in their own crates, each for
+//! itself.
 //! These laws join them: what a backup leaves is a directory that `verify` takes
 //! (`specs/Finished.antt`); what `run` answered to be a backup is one that replay completes, over
 //! the WAL that the run left (`Runs.antt`), alone or as a member of a chain (`Chains.antt`); what
 //! `combine` makes of such a chain is one too (`CombinedChains.antt`); and `restore` makes of it,
-//! and of every chain of such backups, just what a replay of the whole WAL makes (`Restores.antt`,
-//! `ChainRestores.antt`, which also has what runs leave to later ones). So does `drill`, which makes a
-//! store, runs a script on it and restores its backups in one call (`Drills.antt`). What the laws ask of
-//! a run's areas follows from what stands before it and behind it (`Telling.antt`). And where nothing
-//! covers a part of the WAL that an incremental backup needs, that part is older than what the
-//! summaries' area kept (`Gaps.antt`). What the areas hold for which each command is done stands in
-//! `Success.antt` and `RestoreSuccess.antt`.
+//! and of every chain of such backups, and of what `merge-incr` made of some (`MergedSeries.antt`),
+//! just what a replay of the whole WAL makes (`Restores.antt`, `ChainRestores.antt`, which also has
+//! what runs leave to later ones). So does `drill`, which makes a store, runs a script on it and
+//! restores its backups in one call (`Drills.antt`). What the laws ask of a run's areas follows from
+//! what stands before it and behind it (`Telling.antt`). And where nothing covers a part of the WAL
+//! that an incremental backup needs, that part is older than what the summaries' area kept
+//! (`Gaps.antt`). What the areas hold for which each command is done stands in `Success.antt` and
+//! `RestoreSuccess.antt`.
 //!
 //! Left to others: what each command does, and the laws of copies (`fuzzy_copies`), of chains
 //! (`chain_laws`) and of restores (`backup_restore`) on which these stand.

@@ -1,7 +1,8 @@
 //! Laws of success: when a command is done, as contracts of functions that do nothing.
 
 ghost use Rattle.backup_laws.specs.RestoreSuccess.{CompletedChainsAreRestored};
-ghost use Rattle.backup_laws.specs.Success.{AcceptedChainsAreCombined, CoveredRangesAreTold};
+ghost use Rattle.backup_laws.specs.Success.{AcceptedChainsAreCombined, AcceptedSeriesAreMerged};
+ghost use Rattle.backup_laws.specs.Success.{CoveredRangesAreTold};
 ghost use Rattle.backup_laws.specs.Success.{ListedBackupsAreVerified, NewStoresAreMade};
 ghost use Rattle.backup_laws.specs.Success.{NewWalsAreSound, RunsLeaveSoundWals, ScriptsAreRun};
 ghost use Rattle.backup_laws.specs.Success.{SoundStreamsAreFollowed, SoundWalsAreReplayed};
@@ -15,6 +16,8 @@ use chain_laws::{
 };
 use combine::{combined_directories_are_chains, combined_directories_hold_the_same};
 use manifest::manifests_are_read_again;
+use merge_laws::{merged_directories_are_members, merged_directories_stand_for_series};
+use series_check::series_have_one_answer;
 use shared_summaries::answers_sum_up;
 
 /// A WAL is sound that is read to its end, and whose entries can be applied: so is the one that
@@ -39,15 +42,17 @@ pub fn stores_are_served()
 {}
 
 /// So `verify` is done over a directory that is as its manifest lists it, and `combine` over such
-/// directories that are accepted as a chain, where their files' names are text, to an output that
-/// holds no file.
+/// directories that are accepted as a chain, and `merge-incr` over such that are accepted as a series,
+/// where their files' names are text, to an output that holds no file.
 pub fn listed_backups_are_taken()
     ensures verified { ListedBackupsAreVerified }
     ensures combined { AcceptedChainsAreCombined }
+    ensures merged { AcceptedSeriesAreMerged }
 {
     // known: what is as listed, and what is accepted, isn't refused
     directories_have_one_answer();
     chains_have_one_answer();
+    series_have_one_answer();
 }
 
 /// `restore` is done, and leaves just the files of what the whole WAL makes up to the same place,
@@ -70,5 +75,7 @@ pub fn completed_chains_are_restored()
     answers_sum_up();
     combined_directories_hold_the_same();
     combined_directories_are_chains();
+    merged_directories_stand_for_series();
+    merged_directories_are_members();
     chains_are_sound_alike();
 }

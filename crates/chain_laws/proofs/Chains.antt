@@ -1,6 +1,6 @@
 -- An incremental backup over a sound chain makes a sound chain.
 use Rattle.std.proofs.Common.{◌≡◌, ℕ, zero, suc, ◌+◌, ◌-◌, ◌*◌, ◌/◌, ◌%◌, ◌^◌, ◌<◌, ◌≤◌, inl, inr, Bool, true, false, cond, List, [], ◌∷◌, ◌++◌, map, length, Option, Some, None, is_some, unwrap_or, refl, sym, ap, subst, ◌∙◌, arith}
-use Rattle.std.specs.Prelude.{◌==◌, slice_get}
+use Rattle.std.specs.Prelude.{◌==◌, max, slice_get}
 use Rattle.std.specs.List.{list_any}
 use Rattle.std.specs.FinMap.{get, contains_key, empty}
 use Rattle.std.proofs.Math.Nat.{mod-lt, div-le_of_le-mul, mul-le-mul_left, mul-le-mul_right}
@@ -8,8 +8,8 @@ use Rattle.std.proofs.lemmas.Nat.{div-add-mod'}
 use Rattle.std.proofs.lemmas.Bool.{le-leb, eqb-true, eq-eqb, cases_lt}
 use Rattle.std.proofs.lemmas.Option.{slice_get_within}
 use Rattle.std.proofs.lemmas.List.{reverse-append}
-use Rattle.byte_words.specs.Numbers.{◌>>=◌}
-use Rattle.byte_words.specs.Pieces.{zero_page}
+use Rattle.lsn_core.specs.byte_words.Numbers.{◌>>=◌}
+use Rattle.lsn_core.specs.byte_words.Pieces.{zero_page}
 use Rattle.lsn_core.specs.Blocks.{block_of}
 use Rattle.lsn_core.specs.Files.{Files}
 use Rattle.lsn_core.specs.Names.{IsNamed}
@@ -20,11 +20,10 @@ use Rattle.lsn_core.proofs.AnyAll.{same_bools}
 use Rattle.rel_files.proofs.Segments.{below, has_segment, segments_hold}
 use Rattle.history.specs.Apply.{is_same_fork}
 use Rattle.history.specs.Entry.{Entry}
-use Rattle.fuzzy_copies.specs.Covers.{AreTidy}
-use Rattle.fuzzy_copies.specs.Increment.{BlockOrigin, Copied, Kept, Raised, Missing, ForkOrigin}
-use Rattle.fuzzy_copies.specs.Summary.{BlockRefTable, summary_of}
-use Rattle.fuzzy_copies.specs.Taken.{Copying, IsRunning}
-use Rattle.fuzzy_copies.proofs.Incremental.{increments_sound}
+use Rattle.history.specs.fuzzy_copies.Covers.{AreTidy}
+use Rattle.history.specs.fuzzy_copies.Increment.{BlockOrigin, Copied, Kept, Raised, Missing, ForkOrigin}
+use Rattle.history.specs.fuzzy_copies.Summary.{BlockRefTable, summary_of}
+use Rattle.history.specs.fuzzy_copies.Taken.{Copying, IsRunning}
 use Rattle.wal_summary.specs.Summary.{limit_at, lists_at}
 use Rattle.wal_summary.specs.declared.summary.ForkSummary.{ForkSummary}
 use Rattle.incr_file.specs.Form.{Form, block_in_chain, pages_in_chain}
@@ -45,6 +44,7 @@ use Rattle.chain_laws.specs.Laws.{IncrementsExtendSoundChains}
 use Rattle.chain_laws.proofs.Forks.{IsFoundAt, at_segment, of_segment, no_more, fork_pages, fork_made}
 use Rattle.chain_laws.proofs.Sending.{FileBlock, Sent, Older, Grown, Past, SegmentFile, from_chain, planned_file}
 use Rattle.chain_laws.proofs.Files.{absent_form, sent_form}
+use Rattle.chain_laws.proofs.Overlapping.{overlapping_sound}
 use Rattle.chain_laws.proofs.Stores.{store_with, got_listed, listed_named}
 
 -- what is known of incremental files
@@ -319,13 +319,13 @@ module _ (known : Known) (history : List Entry) (chain : List Files) (prior_star
         blocks = λ block. subst (λ (n : ℕ). Origin fork n (unwrap_or (listed_length inc.list fork) 0)) (div-add-mod' block relseg) (block_origin fork (block / relseg) (block % relseg) (listed_length inc.list fork) refl (mod-lt block (omega (arith, range.least))));
       }
 
-  pub extended : IsRunning history from → AreTidy empty history → place ≤ prior_start → prior_end ≤ from → IsSoundChain relseg history (chain ++ (files ∷ [])) from to
+  pub extended : IsRunning history from → AreTidy empty history → place ≤ prior_start → prior_start ≤ from → IsSoundChain relseg history (chain ++ (files ∷ [])) from (max prior_end to)
   extended running tidy early late =
-      subst (λ (m : Files). IsSoundChain relseg history (chain ++ (m ∷ [])) from to) (sym inc.are)
+      subst (λ (m : Files). IsSoundChain relseg history (chain ++ (m ∷ [])) from (max prior_end to)) (sym inc.are)
       (record {
         copy = copy;
         held = held;
-        sound = increments_sound copy prior.copy history place prior_start prior_end from to running tidy prior.sound early late origin;
+        sound = overlapping_sound copy prior.copy history place prior_start prior_end from to running tidy prior.sound early late origin;
       })
 
 pub increments_extend : Known → IncrementsExtendSoundChains

@@ -20,7 +20,7 @@ use Rattle.lsn_core.proofs.StoreFiles.{same_name, names_tie, name_itself}
 use Rattle.history.specs.Apply.{is_same_fork}
 use Rattle.history.specs.Entry.{Entry}
 use Rattle.history.proofs.Stores.{fork_is}
-use Rattle.fuzzy_copies.specs.Taken.{Copying}
+use Rattle.history.specs.fuzzy_copies.Taken.{Copying}
 use Rattle.incr_file.specs.Form.{Absent, Plain, form_in, part_in, pages_bytes, sent_page, whole_pages}
 use Rattle.incr_file.specs.Head.{head_bytes}
 use Rattle.incr_file.specs.Laws.{WrittenFilesAreRead}

@@ -18,7 +18,7 @@ use Rattle.lsn_core.proofs.AnyAll.{all_pieces, all_range}
 use Rattle.lsn_core.proofs.ForkOrder.{fork_cmp_total}
 use Rattle.lsn_core.proofs.ForkPaths.{one_place}
 use Rattle.lsn_core.proofs.StoreFiles.{same_name, names_tie, all_files}
-use Rattle.fuzzy_copies.proofs.Longer.{sound_later}
+use Rattle.history.proofs.fuzzy_copies.Longer.{sound_later}
 use Rattle.manifest.specs.Text.{manifest_text}
 use Rattle.backup_restore.specs.Directories.{StoresAreHeld, PlainDirectoriesAreChains, AlikeFilesHoldOneStore}
 use Rattle.backup_files.specs.Directory.{label_name, manifest_name, listing_with}

@@ -3,6 +3,7 @@ pub mod Sending
 pub mod Plans
 pub mod Files
 pub mod Stores
+pub mod Overlapping
 pub mod Chains
 pub mod Full
 pub mod Taken

@@ -6,7 +6,7 @@ use Rattle.std.specs.Option.{option_map, option_or}
 use Rattle.std.proofs.lemmas.Bool.{and_parts, leb-true, ltb-true, ltb-false, lt-ltb}
 use Rattle.std.proofs.lemmas.Option.{slice_get-get_or, slice_get_past, slice_get_within, slice_get-map}
 use Rattle.std.proofs.lemmas.List.FromFn.{length-range_with_len, length-map-range_with_len, get_or-range_with_len}
-use Rattle.byte_words.specs.Pieces.{zero_page}
+use Rattle.lsn_core.specs.byte_words.Pieces.{zero_page}
 use Rattle.lsn_core.specs.Store.{ForkPages}
 use Rattle.incr_file.specs.Form.{Form, Absent, Plain, Part, sent_page, block_in_chain, past_all, rebuilt_length, rebuilt_pages, pages_in_chain}
 use Rattle.incr_file.specs.Plan.{plan_at, listed_in, is_sent_whole, truncation_length, planned_head, has_block}

@@ -12,19 +12,19 @@ use Rattle.lsn_core.proofs.AnyAll.{all_more}
 use Rattle.vault.specs.declared.area.Vault.{Ghosts}
 use Rattle.history.specs.Entry.{Entry}
 use Rattle.history.specs.Written.{is_redo}
-use Rattle.fuzzy_copies.specs.Orderly.{IsOrderly}
-use Rattle.fuzzy_copies.specs.Sound.{is_in, window}
-use Rattle.fuzzy_copies.specs.Summary.{summary_of, summed, table_of}
-use Rattle.fuzzy_copies.proofs.Completed.{or_second}
-use Rattle.fuzzy_copies.proofs.Ranges.{and_false}
-use Rattle.fuzzy_copies.proofs.Taken.{Later, rest_rising, rising_front}
+use Rattle.history.specs.fuzzy_copies.Orderly.{IsOrderly}
+use Rattle.history.specs.fuzzy_copies.Sound.{is_in, window}
+use Rattle.history.specs.fuzzy_copies.Summary.{summary_of, summed, table_of}
+use Rattle.history.proofs.fuzzy_copies.Completed.{or_second}
+use Rattle.history.proofs.fuzzy_copies.Ranges.{and_false}
+use Rattle.history.proofs.fuzzy_copies.Taken.{Later, rest_rising, rising_front}
 use Rattle.wal_summary.specs.Summary.{IsSummary}
 use Rattle.wal_summary.specs.declared.summary.Summary.{Summary}
 use Rattle.summary_store.specs.Honest.{IsHonest, is_redo_start}
 use Rattle.summary_store.specs.Kept.{AreKept}
 use Rattle.shared_summaries.specs.Laws.{AnswersSumUp}
 use Rattle.shared_summaries.specs.Shelf.{IsTrueFor}
-use Rattle.summary_publish.specs.Published.{AdvanceAnswers, ArePublished, with_files}
+use Rattle.shared_summaries.specs.summary_publish.Published.{AdvanceAnswers, ArePublished, with_files}
 use Rattle.backup_sending.specs.declared.basis.Basis.{Basis}
 use Rattle.backup_files.specs.Directory.{directory_with}
 use Rattle.backup_sending.specs.Sent.{SentFile, AreListed, AreSent, IsCopyOf, IsSentAs, blocks_sent, file_of}

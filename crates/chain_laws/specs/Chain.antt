@@ -3,7 +3,7 @@ use Rattle.std.specs.Prelude.{ℕ, List}
 use Rattle.lsn_core.specs.Files.{Files}
 use Rattle.lsn_core.specs.Store.{Store}
 use Rattle.history.specs.Entry.{Entry}
-use Rattle.fuzzy_copies.specs.Sound.{IsSoundCopy}
+use Rattle.history.specs.fuzzy_copies.Sound.{IsSoundCopy}
 use Rattle.chain_files.specs.Held.{IsStoreOfChain}
 
 -- a chain of directories, the oldest one first, is combined to the files of a store, at so many

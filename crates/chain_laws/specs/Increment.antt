@@ -3,7 +3,7 @@ use Rattle.std.specs.Prelude.{◌≡◌, ℕ, List, map}
 use Rattle.lsn_core.specs.Files.{Files}
 use Rattle.lsn_core.specs.declared.ids.ForkLen.{ForkLen}
 use Rattle.history.specs.Entry.{Entry}
-use Rattle.fuzzy_copies.specs.Summary.{summary_of}
+use Rattle.history.specs.fuzzy_copies.Summary.{summary_of}
 use Rattle.wal_summary.specs.Summary.{IsSummary}
 use Rattle.backup_sending.specs.declared.basis.Basis.{Basis}
 use Rattle.backup_files.specs.Directory.{directory_with}

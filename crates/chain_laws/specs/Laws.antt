@@ -1,15 +1,15 @@
 -- Laws of chains of backups.
-use Rattle.std.specs.Prelude.{◌≤◌, ℕ, List, [], ◌∷◌, ◌++◌, Some}
+use Rattle.std.specs.Prelude.{◌≤◌, ℕ, max, List, [], ◌∷◌, ◌++◌, Some}
 use Rattle.std.specs.FinMap.{empty}
 use Rattle.lsn_core.specs.Files.{Files}
 use Rattle.lsn_core.specs.Segment.{IsRelseg, StoreSettings}
 use Rattle.lsn_core.specs.Store.{Store}
 use Rattle.lsn_core.specs.declared.lsn.Lsn.{Lsn}
 use Rattle.history.specs.Entry.{Entry}
-use Rattle.fuzzy_copies.specs.Covers.{AreTidy}
-use Rattle.fuzzy_copies.specs.Orderly.{IsOrderly}
-use Rattle.fuzzy_copies.specs.Sound.{IsSoundCopy}
-use Rattle.fuzzy_copies.specs.Taken.{IsRunning}
+use Rattle.history.specs.fuzzy_copies.Covers.{AreTidy}
+use Rattle.history.specs.fuzzy_copies.Orderly.{IsOrderly}
+use Rattle.history.specs.fuzzy_copies.Sound.{IsSoundCopy}
+use Rattle.history.specs.fuzzy_copies.Taken.{IsRunning}
 use Rattle.chain_files.specs.Held.{IsStoreOfChain}
 use Rattle.chain_files.specs.Segments.{chain_segments}
 use Rattle.backup_restore.specs.Directories.{AreAlike}
@@ -19,17 +19,17 @@ use Rattle.chain_laws.specs.Chain.{IsSoundChain}
 use Rattle.chain_laws.specs.Increment.{IsIncrementOf}
 
 -- the law of incremental copies: a sound chain, and behind it an incremental backup of the same
--- history that begins at the chain's end or past it, are a sound chain. The summary by which it is
--- planned begins at the chain's start or before it
+-- history that begins at the chain's start or past it, are a sound chain, up to the later of both
+-- ends. The summary by which it is planned begins at the chain's start or before it
 abbrev pub IncrementsExtendSoundChains : Type 0
 IncrementsExtendSoundChains =
     (history : List Entry) (chain : List Files) (prior_start prior_end : ℕ)
     (place from to : ℕ) (basis : Basis) (files : Files)
     → IsRelseg basis.relseg → IsRunning history from → AreTidy empty history
     → IsSoundChain basis.relseg history chain prior_start prior_end
-    → place ≤ prior_start → prior_end ≤ from
+    → place ≤ prior_start → prior_start ≤ from
     → IsIncrementOf history place from to basis files
-    → IsSoundChain basis.relseg history (chain ++ (files ∷ [])) from to
+    → IsSoundChain basis.relseg history (chain ++ (files ∷ [])) from (max prior_end to)
 
 -- the directory of a full backup is a chain of one that holds the backup's copy
 abbrev pub FullBackupsHoldTheirCopies : Type 0

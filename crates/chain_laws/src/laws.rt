@@ -8,8 +8,9 @@ use backup_restore::{directories_hold_one_store, stores_are_held_by_their_files}
 use incr_file::{heads_are_read_as_written, plans_may_be_written};
 
 /// The law of incremental copies, from directories: an incremental backup extends each sound chain
-/// of the same history that ends at its start or before it, and from whose start on, or from an
-/// earlier place on, its summary tells what changed.
+/// of the same history that begins at its start or before it, and from whose start on, or from an
+/// earlier place on, its summary tells what changed. What comes of it is sound up to the later of
+/// both ends.
 pub fn increments_extend_sound_chains()
     ensures { IncrementsExtendSoundChains }
 {
