@@ -4,8 +4,8 @@ use Rattle.std.specs.List.{position}
 use Rattle.std.specs.Option.{option_map}
 use Rattle.std.proofs.lemmas.List.{append_cancel_left, append_assoc}
 use Rattle.std.proofs.lemmas.List.Quantifiers.{position-Some}
-use Rattle.byte_words.specs.Cuts.{cut_at}
-use Rattle.byte_words.proofs.Cutting.{Lacks, cut_again, cut_whole, front_of, back_of}
+use Rattle.lsn_core.specs.byte_words.Cuts.{cut_at}
+use Rattle.lsn_core.proofs.byte_words.Cutting.{Lacks, cut_again, cut_whole, front_of, back_of}
 use Rattle.backup_label.specs.Label.{HasNoLineEnd, IsKeyLine, HasKeyLine, line_text}
 
 pub never_some : {A : Type 0} (x : A) → None ≡ Some x → ⊥

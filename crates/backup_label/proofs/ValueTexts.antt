@@ -5,9 +5,9 @@ use Rattle.std.specs.Fmt.{decimal}
 use Rattle.std.proofs.lemmas.Bool.{and_parts, ne_eqb}
 use Rattle.std.proofs.lemmas.Fmt.{decimal_injective}
 use Rattle.std.proofs.lemmas.List.{append_cancel_left, append_cancel_right}
-use Rattle.byte_words.specs.Cuts.{cut_at}
-use Rattle.byte_words.proofs.Cutting.{Lacks, cut_again, cut_whole, front_of, back_of}
-use Rattle.text_numbers.specs.Numbers.{is_hex_number, all_hex_digits}
+use Rattle.lsn_core.specs.byte_words.Cuts.{cut_at}
+use Rattle.lsn_core.proofs.byte_words.Cutting.{Lacks, cut_again, cut_whole, front_of, back_of}
+use Rattle.lsn_core.specs.text_numbers.Numbers.{is_hex_number, all_hex_digits}
 use Rattle.lsn_core.specs.Names.{IsLsnText}
 use Rattle.lsn_core.proofs.LsnTexts.{one_lsn}
 use Rattle.backup_label.specs.Label.{IsStartValue, IsTimelineValue, is_file_digits}

@@ -6,10 +6,10 @@ use Rattle.std.proofs.lemmas.Bool.{ne_eqb, eq-eqb, and_from}
 use Rattle.std.proofs.lemmas.List.{length-append}
 use Rattle.std.proofs.lemmas.List.Folds.{list_all-append}
 use Rattle.std.proofs.Math.Nat.{div-le_self, mod-le}
-use Rattle.byte_words.proofs.Cutting.{Lacks}
-use Rattle.text_numbers.specs.Numbers.{eight_digits, all_digits, all_hex_digits}
-use Rattle.text_numbers.proofs.Decimal.{tells, decimal_is_digits}
-use Rattle.text_numbers.proofs.EightDigits.{eight_upper, upper_is_hex, length-eight_digits}
+use Rattle.lsn_core.proofs.byte_words.Cutting.{Lacks}
+use Rattle.lsn_core.specs.text_numbers.Numbers.{eight_digits, all_digits, all_hex_digits}
+use Rattle.lsn_core.proofs.text_numbers.Decimal.{tells, decimal_is_digits}
+use Rattle.lsn_core.proofs.text_numbers.EightDigits.{eight_upper, upper_is_hex, length-eight_digits}
 use Rattle.lsn_core.specs.declared.lsn.Lsn.{Lsn}
 use Rattle.lsn_core.specs.Names.{lsn_bytes, per_group, segment_number, segment_name_bytes}
 use Rattle.lsn_core.specs.Sizes.{most_segments}

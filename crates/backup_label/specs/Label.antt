@@ -3,7 +3,7 @@
 use Rattle.std.specs.Prelude.{◌≡◌, ◌≢◌, ℕ, ◌+◌, ◌^◌, ◌<◌, Bool, true, false, List, [], ◌∷◌, ◌++◌, length, codes, Option, Some, None, Result, Ok, Err, ◌==◌, ◌&&◌, ◌⊎◌}
 use Rattle.std.specs.Fmt.{decimal}
 use Rattle.std.specs.List.{AllByRecursion}
-use Rattle.text_numbers.specs.Numbers.{all_hex_digits}
+use Rattle.lsn_core.specs.text_numbers.Numbers.{all_hex_digits}
 use Rattle.lsn_core.specs.declared.lsn.Lsn.{Lsn}
 use Rattle.lsn_core.specs.Names.{lsn_bytes, IsLsnText, segment_number, segment_name_bytes}
 use Rattle.backup_label.specs.declared.label.Label.{Label}

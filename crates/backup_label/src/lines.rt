@@ -8,7 +8,7 @@ ghost use Rattle.backup_label.specs.Inside.{LacksPlaceLine, HasTimelineLine, Lac
 
 use crate::keys::START;
 use crate::values::{start_in, timeline_in};
-use byte_words::{behind_prefix, cut_at};
+use lsn_core::byte_words::{behind_prefix, cut_at};
 use lsn_core::{Lsn, lsn_read};
 
 /// The value of the line with this key, and what stands behind the line. None exactly where the

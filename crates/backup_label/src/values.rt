@@ -1,13 +1,13 @@
 //! The values of a label's lines.
 
 ghost use Rattle.std.specs.Prelude.{◌≡◌, IfSome, IfNone};
-ghost use Rattle.text_numbers.specs.Numbers.{all_hex_digits};
+ghost use Rattle.lsn_core.specs.text_numbers.Numbers.{all_hex_digits};
 ghost use Rattle.backup_label.specs.Label.{is_file_digits, IsStartValue, IsTimelineValue};
 ghost use Rattle.backup_label.specs.Inside.{file_note, IsNoFileNote, IsNoStart, IsNoTimeline};
 
-use byte_words::{behind_prefix, cut_at};
+use lsn_core::byte_words::{behind_prefix, cut_at};
+use lsn_core::text_numbers::decimal_in;
 use lsn_core::{Lsn, lsn_read};
-use text_numbers::decimal_in;
 
 /// What stands between `(file ` and the closing bracket. None exactly where these aren't there.
 fn file_in(note: &[u8]) -> Option<&[u8]>

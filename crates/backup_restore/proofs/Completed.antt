@@ -13,12 +13,12 @@ use Rattle.wal_reader.specs.Wal.{IsWal, IsWalFrom, tip_at}
 use Rattle.wal_reader.specs.Wal as wal
 use Rattle.wal_reader.specs.Cursor.{found_at}
 use Rattle.history.specs.Redo.{redo_all}
-use Rattle.fuzzy_copies.specs.Orderly.{RecordsRise}
-use Rattle.fuzzy_copies.proofs.Records.{records_complete}
+use Rattle.history.specs.fuzzy_copies.Orderly.{RecordsRise}
+use Rattle.history.proofs.fuzzy_copies.Records.{records_complete}
 use Rattle.recovery.specs.Onward.{is_set_behind, found_on, ReadsOn, replayed_to, ending_by}
 use Rattle.recovery.proofs.SoFar.{none_set}
 use Rattle.backup_restore.specs.Completed.{SoundCopiesAreCompleted, RestoresAreReplays}
-use Rattle.wal_pieces.proofs.Onwards.{rest_read}
+use Rattle.wal_reader.proofs.wal_pieces.Onwards.{rest_read}
 use Rattle.backup_restore.proofs.Rising.{wal_rises, parted_at, replayed_in, rest_rises, replayed_rest, none_left}
 
 -- ---- what is found up to a target

@@ -1,6 +1,6 @@
 -- Restores of the same files are done, or refused for one reason.
 use Rattle.std.proofs.Common.{◌≡◌, ℕ, List, [], ◌∷◌, Option, Some, None, IfSome, Result, Ok, Err, refl, sym, ap, ◌∙◌}
-use Rattle.byte_words.specs.Numbers.{◌>>=◌}
+use Rattle.lsn_core.specs.byte_words.Numbers.{◌>>=◌}
 use Rattle.lsn_core.specs.Files.{Files}
 use Rattle.lsn_core.specs.Segment.{StoreSettings}
 use Rattle.lsn_core.specs.Store.{Store}

@@ -15,10 +15,10 @@ use Rattle.wal_reader.proofs.Passing.{stands_given}
 use Rattle.wal_reader.proofs.Reached.{first_reached}
 use Rattle.history.specs.Entry.{Entry}
 use Rattle.history.specs.Whole.{entry_of}
-use Rattle.fuzzy_copies.specs.Orderly.{RecordsRise}
-use Rattle.fuzzy_copies.specs.Recovered.{is_replayed}
+use Rattle.history.specs.fuzzy_copies.Orderly.{RecordsRise}
+use Rattle.history.specs.fuzzy_copies.Recovered.{is_replayed}
 use Rattle.recovery.specs.Onward.{ending_by}
-use Rattle.wal_pieces.proofs.Onwards.{passed}
+use Rattle.wal_reader.proofs.wal_pieces.Onwards.{passed}
 
 -- ---- they rise
 

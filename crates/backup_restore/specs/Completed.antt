@@ -9,7 +9,7 @@ use Rattle.wal_record.specs.declared.record.Record.{Record}
 use Rattle.wal_reader.specs.Wal.{IsWal}
 use Rattle.history.specs.Redo.{redo_all}
 use Rattle.history.specs.Whole.{entry_of, whole}
-use Rattle.fuzzy_copies.specs.Sound.{IsSoundCopy}
+use Rattle.history.specs.fuzzy_copies.Sound.{IsSoundCopy}
 use Rattle.recovery.specs.declared.reading.Beginning.TheVariants.{AtPlace}
 use Rattle.recovery.specs.declared.replaying.Replayed.{Replayed}
 use Rattle.recovery.specs.Onward.{IsReadFromTo, replayed_to, ending_by}

@@ -9,8 +9,8 @@ use Rattle.lsn_core.specs.declared.lsn.Lsn.{Lsn}
 use Rattle.wal_writer.specs.declared.state.Flushed.{Flushed}
 use Rattle.history.specs.Entry.{Entry, RedoMark, Online, BackupEnd, is_of_run}
 use Rattle.history.specs.Written.{is_redo}
-use Rattle.fuzzy_copies.specs.Orderly.{AllEndBy}
-use Rattle.fuzzy_copies.proofs.Ranges.{all_at}
+use Rattle.history.specs.fuzzy_copies.Orderly.{AllEndBy}
+use Rattle.history.proofs.fuzzy_copies.Ranges.{all_at}
 use Rattle.shared_store.specs.declared.receipt.Redo.{Redo}
 use Rattle.shared_store.specs.Calls.{IsMarkOf}
 use Rattle.shared_store.specs.Copied.{is_redo_at}

@@ -16,7 +16,7 @@ use Rattle.vault.specs.declared.area.Vault.{Ghosts}
 use Rattle.wal_record.specs.Tips.{wal_limit}
 use Rattle.wal_writer.specs.declared.state.Flushed.{Flushed}
 use Rattle.history.specs.Entry.{Entry, BackupEnd}
-use Rattle.fuzzy_copies.specs.Taken.{IsTaken}
+use Rattle.history.specs.fuzzy_copies.Taken.{IsTaken}
 use Rattle.shared_store.specs.declared.receipt.Redo.{Redo}
 use Rattle.manifest.specs.declared.listing.FileRow.{FileRow}
 use Rattle.shared_store.specs.Seen.{Seen}

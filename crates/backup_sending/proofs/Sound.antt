@@ -6,8 +6,8 @@ use Rattle.std.proofs.lemmas.Bool.{or_left}
 use Rattle.std.proofs.lemmas.List.Folds.{list_any-append}
 use Rattle.lsn_core.specs.Store.{Store}
 use Rattle.history.specs.Entry.{Entry, Online}
-use Rattle.fuzzy_copies.specs.Taken.{IsSeen, IsTaken}
-use Rattle.fuzzy_copies.proofs.Taken.{taken_sound}
+use Rattle.history.specs.fuzzy_copies.Taken.{IsSeen, IsTaken}
+use Rattle.history.proofs.fuzzy_copies.Taken.{taken_sound}
 use Rattle.shared_store.specs.Calls.{IsMarkOf}
 use Rattle.shared_store.specs.Copied.{HasRedoPoint}
 use Rattle.shared_store.proofs.RedoPoints.{redo_runs, redo_stays}

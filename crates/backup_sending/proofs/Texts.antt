@@ -10,8 +10,8 @@ use Rattle.std.proofs.lemmas.Fmt.{decimal_nonempty}
 use Rattle.std.proofs.lemmas.List.{append-nil}
 use Rattle.std.proofs.lemmas.Str.{IsUtf8-append}
 use Rattle.json.proofs.Printed.Utf8.{IsUtf8-are_ascii}
-use Rattle.text_numbers.proofs.Decimal.{decimal_is_digits}
-use Rattle.text_numbers.specs.Numbers.{all_digits}
+use Rattle.lsn_core.proofs.text_numbers.Decimal.{decimal_is_digits}
+use Rattle.lsn_core.specs.text_numbers.Numbers.{all_digits}
 use Rattle.lsn_core.specs.Names.{fork_path_bytes, file_prefix, file_tail, plain_name, segment_suffix, IsNamed}
 use Rattle.lsn_core.specs.declared.ids.ForkId.{ForkId}
 use Rattle.lsn_core.specs.declared.ids.ForkKind.{ForkKind}

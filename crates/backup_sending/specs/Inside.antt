@@ -33,7 +33,7 @@ use Rattle.vault.specs.declared.area.Vault.{Ghosts}
 use Rattle.vault.specs.Area.{after_write}
 use Rattle.pg_page.specs.Header.{zero_page}
 use Rattle.history.specs.Entry.{Entry}
-use Rattle.fuzzy_copies.specs.Taken.{IsBlockCopied, IsListed, IsTaken}
+use Rattle.history.specs.fuzzy_copies.Taken.{IsBlockCopied, IsListed, IsTaken}
 use Rattle.backup_label.specs.declared.label.Label.{Label}
 use Rattle.backup_label.specs.Label.{HasNoLineEnd, IsLabel, label_text}
 use Rattle.backup_label.specs.Time.{IsTimeText}

@@ -6,8 +6,8 @@ use Rattle.lsn_core.specs.Files.{Files}
 use Rattle.lsn_core.specs.Segment.{StoreSettings}
 use Rattle.history.specs.Entry.{Entry}
 use Rattle.history.specs.Written.{is_redo}
-use Rattle.fuzzy_copies.specs.Sound.{IsSoundCopy}
-use Rattle.fuzzy_copies.specs.Taken.{IsSeen}
+use Rattle.history.specs.fuzzy_copies.Sound.{IsSoundCopy}
+use Rattle.history.specs.fuzzy_copies.Taken.{IsSeen}
 use Rattle.journal.specs.Lawful.{IsLawful}
 use Rattle.shared_store.specs.Seen.{Seen}
 use Rattle.shared_store.specs.Copied.{HasRedoPoint}

@@ -9,7 +9,7 @@ use Rattle.lsn_core.specs.declared.ids.ForkId.{ForkId}
 use Rattle.lsn_core.specs.declared.ids.ForkLen.{ForkLen}
 use Rattle.history.specs.Apply.{is_same_fork}
 use Rattle.history.specs.Entry.{Entry}
-use Rattle.fuzzy_copies.specs.Taken.{Copying, IsListed, IsSeen}
+use Rattle.history.specs.fuzzy_copies.Taken.{Copying, IsListed, IsSeen}
 use Rattle.wal_summary.specs.Summary.{limit_at}
 use Rattle.wal_summary.specs.declared.summary.ForkSummary.{ForkSummary}
 use Rattle.incr_file.specs.Form.{pages_bytes}

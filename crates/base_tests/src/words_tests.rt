@@ -1,9 +1,11 @@
 //! Numbers and parts of bytes and texts.
 
-use byte_words::{aligned, behind_prefix, cut_at, u8_at, u16_at, u32_at, u64_at, zeros};
+use lsn_core::byte_words::{aligned, behind_prefix, cut_at, u8_at, u16_at, u32_at, u64_at, zeros};
+use lsn_core::text_numbers::{
+    decimal_front, decimal_in, digits_in, eight_digits_front, hex_digits_in,
+};
 use std::test::Fail;
 use test_areas::NEW_WAL;
-use text_numbers::{decimal_front, decimal_in, digits_in, eight_digits_front, hex_digits_in};
 
 /// The magic, the low byte of the info, the timeline and the address of a page head.
 fn head_in(bytes: &[u8]) -> Option<(u16, u8, u32, u64)> {

@@ -2,7 +2,7 @@
 use Rattle.std.proofs.Common.{◌≡◌, ℕ, ◌%◌, Bool, true, false, List, length, Option, Some, None, is_some, Result, Ok, Err, IfOk, IfSome, refl, sym, ap, ap₂, ◌∙◌}
 use Rattle.std.specs.Option.{option_map}
 use Rattle.std.specs.FinMap.{get}
-use Rattle.byte_words.specs.Told.{when_both_told}
+use Rattle.lsn_core.specs.byte_words.Told.{when_both_told}
 use Rattle.lsn_core.specs.Files.{Files}
 use Rattle.lsn_core.specs.declared.fault.AreaFault.{AreaFault}
 use Rattle.lsn_core.specs.Names.{fork_path_bytes, IsNamed, NamesNoFork}

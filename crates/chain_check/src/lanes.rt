@@ -11,7 +11,7 @@ ghost use Rattle.chain_check.specs.LaneSums.{Knows, AreKnown, KnowsRow, IsPiece,
 ghost use Rattle.chain_check.specs.LaneSums.{Moves, IsHashing};
 
 use crate::sums::says_sum;
-use byte_words::zeros;
+use lsn_core::byte_words::zeros;
 use lsn_core::{AreaFault, NoMemory};
 use manifest::{FileRow, SumKind};
 use sha_lanes::Lanes;

@@ -15,7 +15,7 @@ use crate::fault::ChainFault;
 use crate::lanes::lane_sums;
 use crate::refusal::Refusal;
 use crate::sums::has_sum;
-use byte_words::zeros;
+use lsn_core::byte_words::zeros;
 use lsn_core::{AreaFault, Text};
 use manifest::FileRow;
 use std::alloc::Global;

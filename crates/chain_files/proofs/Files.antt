@@ -6,7 +6,7 @@ use Rattle.std.proofs.lemmas.Grind.{flat_map-append}
 use Rattle.std.proofs.lemmas.List.{length-map, length-append, length-take, length-take-le, length-drop, append-nil, append_assoc, drop-drop, drop-map, take-map, take-take, take-append-le, take_at, take_more, map-append, get_or-drop}
 use Rattle.std.proofs.lemmas.List.FromFn.{get_or-map-range_with_len}
 use Rattle.std.proofs.Math.Seq.{take-add}
-use Rattle.byte_words.specs.Pieces.{overwritten}
+use Rattle.lsn_core.specs.byte_words.Pieces.{overwritten}
 use Rattle.std.specs.FinMap.{get}
 use Rattle.std.specs.Global.{Vec}
 use Rattle.lsn_core.specs.Files.{Files}

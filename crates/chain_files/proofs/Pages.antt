@@ -8,7 +8,7 @@ use Rattle.std.specs.FinMap.{get}
 use Rattle.std.proofs.Math.Nat.{div-mul-le_self, mul-le-mul_right, mul-div_cancel}
 use Rattle.std.proofs.Math.Seq.{drop-append_seam}
 use Rattle.std.proofs.lemmas.List.{append_assoc, length-append, length-take-le, length-drop, length-replicate, take_at}
-use Rattle.byte_words.specs.Pieces.{zero_page}
+use Rattle.lsn_core.specs.byte_words.Pieces.{zero_page}
 use Rattle.lsn_core.specs.Files.{Files}
 use Rattle.lsn_core.specs.Names.{fork_path_bytes}
 use Rattle.lsn_core.specs.Store.{ForkPages}

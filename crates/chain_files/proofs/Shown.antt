@@ -4,8 +4,8 @@ use Rattle.std.specs.List.{range_with_len}
 use Rattle.std.specs.List.Sorted.{IsStrictlyIncreasing}
 use Rattle.std.proofs.lemmas.Bool.{cases_lt}
 use Rattle.std.proofs.lemmas.List.{get_or_append_left, get_or-append_right, get_or-take, get_or-drop, get_or-replicate, get_or_past, length-take, length-drop, length-replicate, append_assoc}
-use Rattle.byte_words.specs.Numbers.{u32_in}
-use Rattle.byte_words.specs.Told.{when_told}
+use Rattle.lsn_core.specs.byte_words.Numbers.{u32_in}
+use Rattle.lsn_core.specs.byte_words.Told.{when_told}
 use Rattle.lsn_core.specs.Files.{Files}
 use Rattle.vault.specs.Area.{bytes_of, IsRead}
 use Rattle.incr_file.specs.Head.{head_with, head_size, file_size, body_place}

@@ -1,7 +1,7 @@
 -- From where the pages of a combined segment file are read.
 use Rattle.std.specs.Prelude.{◌≡◌, ℕ, ◌-◌, ◌*◌, min, List, [], map, take, drop, length, slice_get, Option, Some, None, IfSome}
 use Rattle.std.specs.Option.{option_map, unwrap_or}
-use Rattle.byte_words.specs.Pieces.{zero_filled, zero_page}
+use Rattle.lsn_core.specs.byte_words.Pieces.{zero_filled, zero_page}
 use Rattle.lsn_core.specs.Files.{Files}
 use Rattle.lsn_core.specs.Sizes.{page_size}
 use Rattle.lsn_core.specs.Store.{ForkPages}

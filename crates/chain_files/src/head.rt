@@ -9,8 +9,8 @@ ghost use Rattle.incr_file.specs.Head.{IsHead};
 ghost use Rattle.incr_file.specs.declared.decode.HeadFault.TheVariants.{NoMemory as OutOfMemory};
 ghost use Rattle.chain_files.specs.Inside.{ShowsFrom, GoesOn};
 
-use byte_words::zeros;
 use incr_file::{HeadFault, HeadView, decode_head, head_size};
+use lsn_core::byte_words::zeros;
 use lsn_core::{AreaFault, NoMemory};
 use std::alloc::Global;
 use vault::Vault;

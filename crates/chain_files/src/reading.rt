@@ -3,7 +3,7 @@
 ghost use Rattle.std.specs.Prelude.{◌≡◌, ◌≤◌, ◌-◌, ◌*◌, map, take, drop, length, IfOk, OnOk, IfErr, IfSome};
 ghost use Rattle.lsn_core.specs.Sizes.{page_size};
 ghost use Rattle.incr_file.specs.Form.{pages_bytes};
-ghost use Rattle.byte_words.specs.Pieces.{zero_page};
+ghost use Rattle.lsn_core.specs.byte_words.Pieces.{zero_page};
 ghost use Rattle.chain_files.specs.Sources.{member_bytes, bytes_at, slot_page};
 ghost use Rattle.chain_files.specs.Told.{chain_told, ArePlaces, AllOnlyRead, FailsAt};
 
@@ -11,8 +11,8 @@ use crate::fault::MemberFault;
 use crate::member::fill_from;
 use crate::paths::FilePaths;
 use crate::slot::Slot;
-use byte_words::overwrite;
 use lsn_core::PAGE;
+use lsn_core::byte_words::overwrite;
 use vault::{Held, Vault};
 
 /// A page of zeros.

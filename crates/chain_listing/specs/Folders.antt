@@ -4,7 +4,7 @@ use Rattle.std.specs.Str.{bytes_eq}
 use Rattle.std.specs.Option.{option_map}
 use Rattle.std.specs.Global.{Vec}
 use Rattle.std.specs.FinMap.{get, keys}
-use Rattle.byte_words.specs.Cuts.{cut_at}
+use Rattle.lsn_core.specs.byte_words.Cuts.{cut_at}
 use Rattle.lsn_core.specs.Files.{Files}
 use Rattle.vault.specs.Area.{bytes_of}
 use Rattle.chain_listing.specs.Shown.{Shows, TextsTell, manifest_path, label_path}

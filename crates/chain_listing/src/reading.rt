@@ -10,7 +10,7 @@ ghost use Rattle.chain_listing.specs.Folders.{is_other, with_folder, folders_in,
 use crate::backup::{Backup, is_name};
 use crate::shown::{FolderFault, shown};
 use backup_files::MANIFEST;
-use byte_words::cut_at;
+use lsn_core::byte_words::cut_at;
 use lsn_core::{AreaFault, NoMemory, Text};
 use std::alloc::Global;
 use vault::{Vault, read_whole};

@@ -1,8 +1,8 @@
 -- An LSN in the words of the command line.
 use Rattle.std.proofs.Common.{◌≡◌, ℕ, List, Option, Some, None, IfSome, IfNone, refl, ap}
-use Rattle.byte_words.specs.Numbers.{◌>>=◌}
-use Rattle.byte_words.specs.Cuts.{cut_at}
-use Rattle.text_numbers.specs.Numbers.{hex_number_of}
+use Rattle.lsn_core.specs.byte_words.Numbers.{◌>>=◌}
+use Rattle.lsn_core.specs.byte_words.Cuts.{cut_at}
+use Rattle.lsn_core.specs.text_numbers.Numbers.{hex_number_of}
 use Rattle.lsn_core.specs.Names.{IsLsnText}
 use Rattle.lsn_core.specs.declared.lsn.Lsn.{Lsn}
 use Rattle.lsn_core.proofs.LsnTexts.{not_cut, not_high, not_low, is_lsn, one_lsn}

@@ -2,9 +2,9 @@
 use Rattle.std.specs.Prelude.{ℕ, ◌+◌, ◌-◌, ◌*◌, ◌==◌, Bool, true, false, List, [], ◌∷◌, length, take, slice_get, codes, nat_eq, Option, Some, None, if◌then◌else◌}
 use Rattle.std.specs.Str.{bytes_eq}
 use Rattle.std.specs.List.{starts_with}
-use Rattle.byte_words.specs.Numbers.{◌>>=◌}
-use Rattle.byte_words.specs.Cuts.{cut_at}
-use Rattle.text_numbers.specs.Numbers.{hex_number_of}
+use Rattle.lsn_core.specs.byte_words.Numbers.{◌>>=◌}
+use Rattle.lsn_core.specs.byte_words.Cuts.{cut_at}
+use Rattle.lsn_core.specs.text_numbers.Numbers.{hex_number_of}
 use Rattle.lsn_core.specs.declared.lsn.Lsn.{Lsn}
 use Rattle.chain_view.specs.declared.words.Asked.{Asked}
 use Rattle.chain_view.specs.declared.words.Options.{Options}

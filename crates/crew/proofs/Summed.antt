@@ -3,7 +3,7 @@ use Rattle.std.proofs.Common.{ℕ, [], refl, inr}
 use Rattle.lsn_core.specs.declared.fault.StoreFault.{StoreFault}
 use Rattle.shared_store.specs.Seen.{Seen, TakesFault}
 use Rattle.shared_summaries.specs.Shelf.{HasPublished}
-use Rattle.summary_publish.specs.Published.{LooksOn}
+use Rattle.shared_summaries.specs.summary_publish.Published.{LooksOn}
 use Rattle.scripts.specs.declared.script.Command.TheVariants as command
 use Rattle.run_answers.specs.declared.answer.Answer.TheVariants.{Published, CallFailed}
 use Rattle.crew.specs.Run.{Basis}

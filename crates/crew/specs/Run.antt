@@ -21,7 +21,7 @@ use Rattle.vault.specs.Site.{Areas, AreaState, IsStill}
 use Rattle.vault.specs.Lending.{Names, IsOneOf, IsNoneOf}
 use Rattle.history.specs.declared.op.Op.{Op}
 use Rattle.history.specs.Entry.{Entry}
-use Rattle.fuzzy_copies.specs.Taken.{IsTaken}
+use Rattle.history.specs.fuzzy_copies.Taken.{IsTaken}
 use Rattle.history.specs.Apply.{apply_all}
 use Rattle.history.specs.Op.{act_of_op}
 use Rattle.history.specs.Written.{record_of, tip_of}

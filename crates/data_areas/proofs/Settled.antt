@@ -19,7 +19,7 @@ use Rattle.page_pool.specs.Calls.{AreWholePages}
 use Rattle.page_pool.specs.Opening.{HoldsWhole, ShowsPages}
 use Rattle.page_pool.specs.Steps.{IsClean}
 use Rattle.page_pool.specs.declared.partition.Unopened.{Unopened}
-use Rattle.byte_words.specs.Numbers.{◌>>=◌}
+use Rattle.lsn_core.specs.byte_words.Numbers.{◌>>=◌}
 use Rattle.std.proofs.lemmas.List.Elements.{All-get_or}
 use Rattle.std.proofs.lemmas.Option.{get_or_from_slice_get, slice_get_within}
 use Rattle.data_areas.specs.declared.areas.DataAreas.{DataAreas}

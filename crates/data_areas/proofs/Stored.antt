@@ -11,7 +11,7 @@ use Rattle.lsn_core.specs.declared.fault.AreaFault.TheVariants.{Failed, NoMemory
 use Rattle.vault.specs.declared.area.Vault.{Ghosts}
 use Rattle.vault.specs.Area.{Related}
 use Rattle.vault.specs.Frame.{AgreeBut, ChangesOnly, IsAmong}
-use Rattle.partitions.specs.Parts.{IsPart}
+use Rattle.history.specs.partitions.Parts.{IsPart}
 use Rattle.rel_files.specs.Forks.{IsForkPath}
 use Rattle.rel_files.specs.Laws.{HasOnlyForks}
 use Rattle.rel_files.specs.Shown.{AreFilesOf, ShowsStore, KeepsOthers}

@@ -5,7 +5,7 @@ use Rattle.std.proofs.lemmas.Option.{slice_get-get_or}
 use Rattle.std.specs.Option.{option_map}
 use Rattle.std.specs.Result.{result_err}
 use Rattle.std.proofs.lemmas.Bool.{eq-eqb, eqb-true}
-use Rattle.byte_words.specs.Numbers.{◌>>=◌}
+use Rattle.lsn_core.specs.byte_words.Numbers.{◌>>=◌}
 use Rattle.std.specs.FinMap.{get, empty, remove, get-empty, get-remove}
 use Rattle.lsn_core.specs.Causes.{Rose, HasCause}
 use Rattle.lsn_core.specs.declared.ids.ForkId.{ForkId}
@@ -19,9 +19,9 @@ use Rattle.lsn_core.specs.declared.fault.AreaFault.TheVariants.{Failed, NoMemory
 use Rattle.vault.specs.declared.area.Vault.{Ghosts}
 use Rattle.history.specs.Apply.{is_same_fork}
 use Rattle.history.proofs.Stores.{by_test, fork_is}
-use Rattle.partitions.specs.Parts.{partition_of, is_of, IsPart}
-use Rattle.partitions.proofs.Puts.{own, put_other, page_own, made_own, made_other, cut_own, cut_other}
-use Rattle.byte_words.specs.Told.{when_told}
+use Rattle.history.specs.partitions.Parts.{partition_of, is_of, IsPart}
+use Rattle.history.proofs.partitions.Puts.{own, put_other, page_own, made_own, made_other, cut_own, cut_other}
+use Rattle.lsn_core.specs.byte_words.Told.{when_told}
 use Rattle.lsn_core.specs.Files.{Files}
 use Rattle.rel_files.specs.Laws.{HasNoForks}
 use Rattle.rel_files.proofs.WholeStores.{nothing_is_held}

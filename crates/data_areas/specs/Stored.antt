@@ -6,7 +6,7 @@ use Rattle.lsn_core.specs.Store.{Store}
 use Rattle.lsn_core.specs.declared.fault.AreaFault.{AreaFault}
 use Rattle.lsn_core.specs.declared.fault.AreaFault.TheVariants.{Failed, NoMemory}
 use Rattle.vault.specs.declared.area.Vault.{Ghosts}
-use Rattle.partitions.specs.Parts.{IsPart}
+use Rattle.history.specs.partitions.Parts.{IsPart}
 use Rattle.rel_files.specs.Shown.{ShowsStore, KeepsOthers}
 use Rattle.rel_files.specs.declared.forks.Forks.{Forks}
 use Rattle.data_areas.specs.declared.areas.DataAreas.{DataAreas}

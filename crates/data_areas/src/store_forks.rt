@@ -11,8 +11,8 @@ ghost use Rattle.data_areas.specs.Kept.{all_none, all_on};
 
 use crate::areas::DataAreas;
 use crate::fault::data_fault;
+use history::partitions::partition_of;
 use lsn_core::{AreaFault, BlockId, ForkId, Pages, StoreFault};
-use partitions::partition_of;
 use rel_files::Forks;
 use std::alloc::Global;
 use vault::Vault;

@@ -10,8 +10,8 @@ use Rattle.std.proofs.lemmas.List.{take_all, take-append-drop, get_or-map, map-a
 use Rattle.std.proofs.Math.Seq.{take-suc, set-append_seam}
 use Rattle.std.proofs.lemmas.List.Sums.{sum_by-append, sum_by-cons}
 use Rattle.std.proofs.lemmas.Option.{get_or_from_slice_get, slice_get-get_or}
-use Rattle.byte_words.specs.Pieces.{zero_page}
-use Rattle.byte_words.specs.Numbers.{◌>>=◌}
+use Rattle.lsn_core.specs.byte_words.Pieces.{zero_page}
+use Rattle.lsn_core.specs.byte_words.Numbers.{◌>>=◌}
 use Rattle.history.specs.Apply.{is_same_fork}
 use Rattle.lsn_core.specs.declared.ids.BlockId.{BlockId}
 use Rattle.lsn_core.specs.declared.ids.ForkId.{ForkId}

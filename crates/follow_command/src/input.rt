@@ -8,7 +8,7 @@ ghost use Rattle.wal_follow.specs.Following.{StandsBehind};
 ghost use Rattle.follow_command.specs.declared.input.InputFault.TheVariants as refusal;
 ghost use Rattle.follow_command.specs.Input.{most_input, IsInputFront, FeedAnswer, InputAnswer};
 
-use byte_words::zeros;
+use lsn_core::byte_words::zeros;
 use lsn_core::{AreaFault, Lsn, NoMemory};
 use std::alloc::Global;
 use vault::Source;

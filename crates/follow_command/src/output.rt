@@ -1,7 +1,7 @@
 //! The pages that a follower made, written into an area.
 
 ghost use Rattle.std.specs.Prelude.{◌≡◌, ◌+◌, ◌-◌, ◌^◌, ◌<◌, IfOk, OnOk};
-ghost use Rattle.byte_words.specs.Pieces.{zero_page};
+ghost use Rattle.lsn_core.specs.byte_words.Pieces.{zero_page};
 ghost use Rattle.lsn_core.specs.Causes.{HasCause};
 ghost use Rattle.lsn_core.specs.Segment.{IsRelseg};
 ghost use Rattle.follow_command.specs.Output.{CopiesBlock, CopiesFork, CopiesStore, IsMade};
@@ -22,7 +22,7 @@ pub struct Written {
 }
 
 /// A page of zeros.
-#[tactic(auto, unfolding(byte_words::specs::Pieces::zero_page))]
+#[tactic(auto, unfolding(lsn_core::specs::byte_words::Pieces::zero_page))]
 fn empty_page() -> [u8; 8192]
     ensures { result ≡ zero_page }
 {

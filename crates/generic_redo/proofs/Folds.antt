@@ -9,7 +9,7 @@ use Rattle.history.specs.Whole.{item_of}
 use Rattle.history.specs.Redo.{redone}
 use Rattle.history.proofs.Pushes.{map_more}
 use Rattle.generic_redo.specs.Redo.{ref_redone}
-use Rattle.byte_words.specs.Numbers.{◌>>=◌}
+use Rattle.lsn_core.specs.byte_words.Numbers.{◌>>=◌}
 use Rattle.lsn_core.specs.Store.{Store}
 use Rattle.history.specs.declared.op.Item.{Item}
 use Rattle.history.specs.Apply.{Rule, item_by, items_by}

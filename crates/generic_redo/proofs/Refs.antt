@@ -1,7 +1,7 @@
 -- A block reference redone, by its body and by its number.
 use Rattle.std.proofs.Common.{◌≡◌, ℕ, ◌<◌, List, length, get_or, Option, Some, refl, sym, ap, subst, ◌∙◌}
 use Rattle.std.proofs.lemmas.Option.{slice_get_read}
-use Rattle.byte_words.specs.Numbers.{◌>>=◌}
+use Rattle.lsn_core.specs.byte_words.Numbers.{◌>>=◌}
 use Rattle.lsn_core.specs.Store.{Store}
 use Rattle.lsn_core.specs.Shown.{Turns}
 use Rattle.lsn_core.specs.Blocks.{page_put}

@@ -1,6 +1,6 @@
 -- One block reference of a record redone.
 use Rattle.std.specs.Prelude.{ℕ, Option, slice_get}
-use Rattle.byte_words.specs.Numbers.{◌>>=◌}
+use Rattle.lsn_core.specs.byte_words.Numbers.{◌>>=◌}
 use Rattle.lsn_core.specs.Store.{Store}
 use Rattle.wal_record.specs.declared.record.Record.{Record}
 use Rattle.wal_record.specs.declared.record.BlockRef.{BlockRef}

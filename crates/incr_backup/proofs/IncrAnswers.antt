@@ -30,7 +30,7 @@ use Rattle.shared_store.specs.Shared.{HasCheckpointIn, HasEnded, IsPlaced, MayFi
 use Rattle.shared_store.proofs.Booked.{takes_rose}
 use Rattle.shared_store.proofs.SharedLaws.{end_comes_behind}
 use Rattle.shared_summaries.specs.Shelf.{AreShelved, HasCovered, TakesAdvanceFaults, states}
-use Rattle.summary_publish.specs.Published.{AdvanceAnswers}
+use Rattle.shared_summaries.specs.summary_publish.Published.{AdvanceAnswers}
 use Rattle.store_faults.specs.declared.advance_fault.AdvanceFault.{AdvanceFault}
 use Rattle.store_faults.specs.declared.advance_fault.AdvanceFault.TheVariants as advance
 use Rattle.backup_sending.specs.declared.basis.Basis.{Basis}

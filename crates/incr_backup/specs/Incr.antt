@@ -14,7 +14,7 @@ use Rattle.manifest.specs.Listing.{Listing}
 use Rattle.wal_summary.specs.declared.summary.Summary.{Summary}
 use Rattle.shared_store.specs.Seen.{Seen, ShareRose}
 use Rattle.shared_summaries.specs.Shelf.{AreShelved, states}
-use Rattle.summary_publish.specs.Published.{AdvanceAnswers}
+use Rattle.shared_summaries.specs.summary_publish.Published.{AdvanceAnswers}
 use Rattle.store_faults.specs.declared.advance_fault.AdvanceFault.{AdvanceFault}
 use Rattle.store_faults.specs.declared.advance_fault.AdvanceFault.TheVariants as advance
 use Rattle.backup_sending.specs.declared.basis.Basis.{Basis}

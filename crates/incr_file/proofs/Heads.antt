@@ -3,8 +3,8 @@ use Rattle.std.proofs.Common.{◌≡◌, ℕ, ◌+◌, ◌*◌, ◌-◌, ◌^◌
 use Rattle.std.specs.List.{All}
 use Rattle.std.specs.Int.{w32, to_le_bytes}
 use Rattle.std.proofs.lemmas.List.{length-append, length-replicate, append_assoc, take_all}
-use Rattle.byte_words.specs.Numbers.{IsBytes, u32_in}
-use Rattle.byte_words.proofs.Fields.{wide32}
+use Rattle.lsn_core.specs.byte_words.Numbers.{IsBytes, u32_in}
+use Rattle.lsn_core.proofs.byte_words.Fields.{wide32}
 use Rattle.incr_file.specs.declared.head.IncrHead.{IncrHead}
 use Rattle.incr_file.specs.declared.head.HeadView.{HeadView}
 use Rattle.incr_file.specs.Head.{head_magic, IsHead, head_with, head_size, body_place, file_size, numbers_bytes, fields_bytes, head_bytes}

@@ -5,8 +5,8 @@ use Rattle.std.specs.Int.{w32, from_le_bytes, to_le_bytes}
 use Rattle.std.proofs.lemmas.List.{drop_at, drop-drop, length-append, length-drop, get_or-drop, append_assoc, append-nil, take_more}
 use Rattle.std.proofs.lemmas.List.FromFn.{map-range_with_len_more, length-map-range_with_len, fill_by_all}
 use Rattle.std.proofs.lemmas.Bool.{le-ltb}
-use Rattle.byte_words.specs.Numbers.{IsBytes, number_at, u32_in}
-use Rattle.byte_words.proofs.Fields.{wide32, number_again, number_is, number_takes, IsBytes-drop}
+use Rattle.lsn_core.specs.byte_words.Numbers.{IsBytes, number_at, u32_in}
+use Rattle.lsn_core.proofs.byte_words.Fields.{wide32, number_again, number_is, number_takes, IsBytes-drop}
 use Rattle.incr_file.specs.Head.{numbers_bytes}
 use Rattle.incr_file.specs.Reading.{block_numbers}
 

@@ -5,7 +5,7 @@ use Rattle.std.specs.List.{position, position_or_len}
 use Rattle.std.specs.Option.{option_or}
 use Rattle.std.proofs.lemmas.Bool.{cases_lt, eq-eqb, eqb-true, ltb-false, lt-ltb, le-ltb, false_from_ne_true}
 use Rattle.std.proofs.lemmas.Option.{slice_get_past, slice_get-get_or}
-use Rattle.byte_words.specs.Numbers.{◌>>=◌}
+use Rattle.lsn_core.specs.byte_words.Numbers.{◌>>=◌}
 use Rattle.lsn_core.specs.Store.{ForkPages}
 use Rattle.incr_file.specs.Form.{Form, Absent, Plain, Part, sent_page, block_in_chain}
 use Rattle.incr_file.specs.Origin.{FormPage, AreComplete, origin_with, sent_number, origin_in_chain, form_pages, page_from}

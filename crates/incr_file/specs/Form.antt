@@ -2,7 +2,7 @@
 use Rattle.std.specs.Prelude.{ℕ, ◌+◌, ◌*◌, ◌/◌, ◌==◌, max, List, [], ◌∷◌, map, take, drop, length, slice_get, Option, Some, None, nat_lt, if◌then◌else◌}
 use Rattle.std.specs.List.{flat_map, range_with_len}
 use Rattle.std.specs.Option.{option_or, unwrap_or}
-use Rattle.byte_words.specs.Pieces.{zero_page}
+use Rattle.lsn_core.specs.byte_words.Pieces.{zero_page}
 use Rattle.lsn_core.specs.Sizes.{page_size}
 use Rattle.lsn_core.specs.Store.{ForkPages}
 use Rattle.incr_file.specs.declared.head.IncrHead.{IncrHead}

@@ -4,7 +4,7 @@ use Rattle.std.specs.Prelude.{◌<◌, ◌≤◌, ℕ, ◌+◌, ◌*◌, ◌/◌
 use Rattle.std.specs.List.{All}
 use Rattle.std.specs.List.Sorted.{IsStrictlyIncreasing}
 use Rattle.std.specs.Int.{w32, to_le_bytes}
-use Rattle.byte_words.specs.Pieces.{zero_filled}
+use Rattle.lsn_core.specs.byte_words.Pieces.{zero_filled}
 use Rattle.lsn_core.specs.Sizes.{page_size, most_relseg}
 use Rattle.incr_file.specs.declared.head.IncrHead.{IncrHead}
 

@@ -1,7 +1,7 @@
 -- What holds of heads, of files written with them, and of plans.
 use Rattle.std.specs.Prelude.{◌≡◌, ◌≢◌, ◌≤◌, ℕ, ◌+◌, ◌&&◌, Bool, List, ◌++◌, length, slice_get, nat_lt, Option, Some, Result, Ok, Err}
 use Rattle.std.specs.List.Sorted.{IsStrictlyIncreasing}
-use Rattle.byte_words.specs.Numbers.{IsBytes, ◌>>=◌}
+use Rattle.lsn_core.specs.byte_words.Numbers.{IsBytes, ◌>>=◌}
 use Rattle.lsn_core.specs.Sizes.{page_size}
 use Rattle.lsn_core.specs.Segment.{IsRelseg}
 use Rattle.lsn_core.specs.Store.{ForkPages}

@@ -7,7 +7,7 @@ ghost use Rattle.incr_file.specs.Reading.{block_numbers, HoldsHead, FitsSegmentF
 
 use crate::head::{HEAD_MAGIC, HeadBlocks, HeadView, IncrHead};
 use crate::sizes::{body_place, head_size};
-use byte_words::u32_in;
+use lsn_core::byte_words::u32_in;
 use lsn_core::{MOST_RELSEG, NoMemory};
 use std::alloc::Global;
 

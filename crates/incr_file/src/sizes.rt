@@ -4,8 +4,8 @@ ghost use Rattle.std.specs.Prelude.{◌≡◌, ◌≤◌, length, min};
 ghost use Rattle.incr_file.specs.Head.{body_place, file_size};
 ghost use Rattle.incr_file.specs.Reading.{told_head_size};
 
-use byte_words::u32_in;
 use lsn_core::PAGE;
+use lsn_core::byte_words::u32_in;
 
 /// Where the first of so many listed blocks begins in an incremental file, in bytes: behind the
 /// head, at a multiple of 8192; 12 where none is listed (profile).

@@ -27,9 +27,9 @@ use Rattle.history.specs.Laws.{IsFresh}
 use Rattle.history.specs.Whole.{entry_of}
 use Rattle.history.specs.Written.{tip_past, tip_over, tip_of}
 use Rattle.history.proofs.Histories.{tip_over_read}
-use Rattle.fuzzy_copies.specs.Orderly.{AllEndBy}
-use Rattle.fuzzy_copies.specs.Logged.{log_of}
-use Rattle.fuzzy_copies.proofs.Repeats.{kind_fresh}
+use Rattle.history.specs.fuzzy_copies.Orderly.{AllEndBy}
+use Rattle.history.specs.fuzzy_copies.Logged.{log_of}
+use Rattle.history.proofs.fuzzy_copies.Repeats.{kind_fresh}
 use Rattle.journal.specs.Lawful.{StandInPlace, IsLawful}
 use Rattle.journal.specs.Journal.{HoldsLog}
 use Rattle.journal.specs.Laws.{FoundIsTold, FoundAreEnded, TipsCountEntries}

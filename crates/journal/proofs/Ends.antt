@@ -16,8 +16,8 @@ use Rattle.history.specs.Whole.{entry_of}
 use Rattle.history.specs.Written.{Before, behind, at_first, next_record, tip_past, tip_over, written, wal_of}
 use Rattle.history.specs.Laws.{AreWrittenInPlace}
 use Rattle.history.proofs.Histories.{written_on}
-use Rattle.fuzzy_copies.specs.Logged.{history_of, found_before, log_of, AreLogged}
-use Rattle.fuzzy_copies.proofs.Completed.{or_second}
+use Rattle.history.specs.fuzzy_copies.Logged.{history_of, found_before, log_of, AreLogged}
+use Rattle.history.proofs.fuzzy_copies.Completed.{or_second}
 use Rattle.journal.specs.Lawful.{StandInPlace, IsLawful}
 use Rattle.journal.specs.Laws.{HistoriesEndAtAnEntry}
 use Rattle.journal.proofs.Stands.{start_later}

@@ -5,8 +5,8 @@ use Rattle.lsn_core.specs.Store.{Store, ForkPages, fork_cmp}
 use Rattle.lsn_core.specs.Tip.{Tip}
 use Rattle.history.specs.Pages.{page_count}
 use Rattle.history.specs.Written.{kind_of}
-use Rattle.partitions.specs.Parts.{is_of, IsPart}
-use Rattle.partitions.proofs.Folds.{parts_fold}
+use Rattle.history.specs.partitions.Parts.{is_of, IsPart}
+use Rattle.history.proofs.partitions.Folds.{parts_fold}
 use Rattle.journal.specs.Laws.{PartsMayFollow}
 use Rattle.journal.proofs.Parting.{own_comes_next}
 

@@ -4,8 +4,8 @@ use Rattle.std.specs.Prelude.{◌==◌, ◌||◌}
 use Rattle.std.specs.Option.{unwrap_or}
 use Rattle.std.specs.FinMap.{empty}
 use Rattle.std.proofs.lemmas.List.Elements.{All-push}
-use Rattle.byte_words.specs.Numbers.{◌>>=◌}
-use Rattle.byte_words.proofs.Fields.{bind_some}
+use Rattle.lsn_core.specs.byte_words.Numbers.{◌>>=◌}
+use Rattle.lsn_core.proofs.byte_words.Fields.{bind_some}
 use Rattle.lsn_core.specs.Store.{Store}
 use Rattle.lsn_core.specs.Tip.{Tip, tip_with}
 use Rattle.wal_record.specs.declared.record.Record.{Record}
@@ -19,8 +19,8 @@ use Rattle.history.specs.Whole.{entry_of}
 use Rattle.history.specs.Written.{Before, behind, behind_all, at_first, kind_of, next_record, is_redo, tip_past, tip_over, tip_of, written, wal_of}
 use Rattle.history.specs.Laws.{IsFresh, HasGoodPages, AreWrittenInPlace}
 use Rattle.history.proofs.Histories.{written_on, tip_over-append, apply_all-push, apply_all-behind}
-use Rattle.fuzzy_copies.specs.Covers.{AreTidy}
-use Rattle.fuzzy_copies.specs.Logged.{history_of, found_before, log_of, StartInPlace, AreLogged}
+use Rattle.history.specs.fuzzy_copies.Covers.{AreTidy}
+use Rattle.history.specs.fuzzy_copies.Logged.{history_of, found_before, log_of, StartInPlace, AreLogged}
 use Rattle.journal.specs.Lawful.{IsLawful}
 use Rattle.journal.specs.Journal.{MayComeNext, entry_at}
 use Rattle.journal.specs.Laws.{GoesOn, LawfulGoesOn}

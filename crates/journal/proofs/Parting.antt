@@ -3,7 +3,7 @@ use Rattle.std.specs.Prelude.{◌||◌}
 use Rattle.std.specs.List.{list_any}
 use Rattle.std.proofs.lemmas.Bool.{or_parts}
 use Rattle.std.proofs.Common.{◌≡◌, ℕ, ◌+◌, false, List, [], ◌∷◌, map, length, Option, Some, option_map, refl, sym, ap, ◌∙◌, arith}
-use Rattle.byte_words.specs.Numbers.{◌>>=◌}
+use Rattle.lsn_core.specs.byte_words.Numbers.{◌>>=◌}
 use Rattle.lsn_core.specs.Store.{Store, ForkPages}
 use Rattle.lsn_core.specs.declared.ids.ForkId.{ForkId}
 use Rattle.lsn_core.specs.Blocks.{pages_of, with_block, page_put, with_fork, with_cut}
@@ -16,11 +16,11 @@ use Rattle.history.specs.Apply.{main_fork, without_rels, page_at, edited, apply_
 use Rattle.history.specs.Pages.{page_count}
 use Rattle.history.proofs.Counts.{IsMoved, moved_insert, moved_cut, page_count-with_fork}
 use Rattle.history.specs.Written.{block_over, block_of_item, kind_of, is_redo}
-use Rattle.partitions.specs.Parts.{is_item_of, IsPart, ConcernsNoOther}
-use Rattle.partitions.proofs.Puts.{pages_own, page_own, page_at_own, cut_own}
-use Rattle.partitions.proofs.Folds.{mapped_some}
-use Rattle.partitions.proofs.Removed.{rels_count}
-use Rattle.partitions.proofs.OwnActs.{OfNoOther, own_fork, first_own, others_own, own_done, own_tidy}
+use Rattle.history.specs.partitions.Parts.{is_item_of, IsPart, ConcernsNoOther}
+use Rattle.history.proofs.partitions.Puts.{pages_own, page_own, page_at_own, cut_own}
+use Rattle.history.proofs.partitions.Folds.{mapped_some}
+use Rattle.history.proofs.partitions.Removed.{rels_count}
+use Rattle.history.proofs.partitions.OwnActs.{OfNoOther, own_fork, first_own, others_own, own_done, own_tidy}
 use Rattle.journal.specs.Laws.{PartsTellKinds, OwnActsMayComeNext}
 
 blocks_same : (q redo : ℕ) (store part : Store) (items : List Item) → IsPart q store part → OfNoOther q items → map (block_of_item part redo) items ≡ map (block_of_item store redo) items

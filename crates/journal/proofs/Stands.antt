@@ -5,7 +5,7 @@ use Rattle.std.specs.List.{All, filter}
 use Rattle.std.specs.FinMap.{empty}
 use Rattle.std.proofs.lemmas.Bool.{lt-ltb, lt-leb, cases_lt}
 use Rattle.std.proofs.lemmas.List.Elements.{filter-append, All-nil, All-cons, All-weaker}
-use Rattle.byte_words.specs.Numbers.{aligned}
+use Rattle.lsn_core.specs.byte_words.Numbers.{aligned}
 use Rattle.lsn_core.specs.Store.{Store}
 use Rattle.lsn_core.specs.Segment.{segment_bytes}
 use Rattle.lsn_core.specs.Tip.{Tip}
@@ -18,15 +18,15 @@ use Rattle.history.specs.Whole.{entry_of}
 use Rattle.history.specs.Written.{Before, behind, tip_past, tip_over}
 use Rattle.history.specs.Laws.{IsFresh, AreWrittenInPlace}
 use Rattle.history.proofs.Pushes.{all_first, all_rest}
-use Rattle.fuzzy_copies.specs.Orderly.{IsOrderly, AreOwnFrom}
-use Rattle.fuzzy_copies.specs.Covers.{AreTidy, AreTidyFrom}
-use Rattle.fuzzy_copies.specs.Logged.{found_before}
-use Rattle.fuzzy_copies.specs.Sound.{state_before, entries_before}
-use Rattle.fuzzy_copies.specs.Taken.{since}
-use Rattle.fuzzy_copies.proofs.View.{middle}
-use Rattle.fuzzy_copies.proofs.Replay.{applied_in_two}
-use Rattle.fuzzy_copies.proofs.Kept.{tidy_behind}
-use Rattle.fuzzy_copies.proofs.Taken.{in_parts}
+use Rattle.history.specs.fuzzy_copies.Orderly.{IsOrderly, AreOwnFrom}
+use Rattle.history.specs.fuzzy_copies.Covers.{AreTidy, AreTidyFrom}
+use Rattle.history.specs.fuzzy_copies.Logged.{found_before}
+use Rattle.history.specs.fuzzy_copies.Sound.{state_before, entries_before}
+use Rattle.history.specs.fuzzy_copies.Taken.{since}
+use Rattle.history.proofs.fuzzy_copies.View.{middle}
+use Rattle.history.proofs.fuzzy_copies.Replay.{applied_in_two}
+use Rattle.history.proofs.fuzzy_copies.Kept.{tidy_behind}
+use Rattle.history.proofs.fuzzy_copies.Taken.{in_parts}
 use Rattle.journal.specs.Lawful.{StandInPlace, IsLawful}
 use Rattle.journal.specs.Laws.{LawfulIsOrderly, LawfulIsTidy, OwnIsTidy, OwnPlacesAreTidy}
 use Rattle.wal_record.specs.declared.record.Record.{Record}

@@ -4,7 +4,7 @@ use Rattle.std.specs.Prelude.{IfSome}
 use Rattle.std.proofs.lemmas.Bool.{cases_lt, ne_eqb}
 use Rattle.std.proofs.lemmas.List.{map-append}
 use Rattle.std.proofs.lemmas.List.Elements.{All-push, All-weaker}
-use Rattle.byte_words.specs.Told.{when_told}
+use Rattle.lsn_core.specs.byte_words.Told.{when_told}
 use Rattle.lsn_core.specs.Files.{Files}
 use Rattle.lsn_core.specs.Segment.{segment_bytes}
 use Rattle.lsn_core.specs.Store.{Store}
@@ -36,8 +36,8 @@ use Rattle.wal_writer.proofs.Waiting.{waits_more, waits_still}
 use Rattle.history.specs.Entry.{Act, Mark, Marking, Entry}
 use Rattle.history.specs.Pages.{page_count}
 use Rattle.history.specs.Written.{mark_kind, tip_past, tip_over, tip_of}
-use Rattle.fuzzy_copies.specs.Orderly.{AllEndBy}
-use Rattle.fuzzy_copies.specs.Logged.{log_of}
+use Rattle.history.specs.fuzzy_copies.Orderly.{AllEndBy}
+use Rattle.history.specs.fuzzy_copies.Logged.{log_of}
 use Rattle.journal.specs.Lawful.{IsLawful}
 use Rattle.journal.specs.Journal.{HoldsLog, EndsWith, IsTold, IsJournal, Written, IsEndOf, MayFollow, entry_at}
 use Rattle.journal.specs.Laws.{GoesOn, IsKeptTo}

@@ -16,7 +16,7 @@ use Rattle.wal_archive.specs.Archive.{archive_of}
 use Rattle.wal_archive.specs.Rules.{IsWal, lsn}
 use Rattle.wal_archive.specs.Laws.{HasNoGap}
 use Rattle.wal_reader.specs.declared.fault.WalFault.{WalFault}
-use Rattle.wal_pieces.specs.Piece.{ReadsPiece}
+use Rattle.wal_reader.specs.wal_pieces.Piece.{ReadsPiece}
 use Rattle.wal_writer.specs.declared.state.WalState.{WalState}
 use Rattle.wal_writer.specs.Log.{Log}
 use Rattle.wal_writer.specs.Laws.{IsKnown, Waits}
@@ -26,8 +26,8 @@ use Rattle.history.specs.Laws.{IsFresh, HasGoodPages}
 use Rattle.history.specs.Op.{IsTidy}
 use Rattle.history.specs.Pages.{page_count}
 use Rattle.history.specs.Written.{kind_of, tip_of}
-use Rattle.fuzzy_copies.specs.Orderly.{AllEndBy}
-use Rattle.fuzzy_copies.specs.Logged.{log_of}
+use Rattle.history.specs.fuzzy_copies.Orderly.{AllEndBy}
+use Rattle.history.specs.fuzzy_copies.Logged.{log_of}
 use Rattle.journal.specs.Lawful.{IsLawful}
 
 -- the area's archive is the first of these entries, and the others wait in the log to be flushed.

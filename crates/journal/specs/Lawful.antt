@@ -10,8 +10,8 @@ use Rattle.history.specs.Entry.{Entry}
 use Rattle.history.specs.Apply.{apply_all}
 use Rattle.history.specs.Whole.{entry_of}
 use Rattle.history.specs.Laws.{IsFresh}
-use Rattle.fuzzy_copies.specs.Covers.{AreTidy}
-use Rattle.fuzzy_copies.specs.Logged.{history_of, AreLogged}
+use Rattle.history.specs.fuzzy_copies.Covers.{AreTidy}
+use Rattle.history.specs.fuzzy_copies.Logged.{history_of, AreLogged}
 
 -- each entry starts where one may start behind a place, which is where the one before ends, and
 -- ends past its start

@@ -22,10 +22,10 @@ use Rattle.history.specs.Op.{IsTidy}
 use Rattle.history.specs.Whole.{entry_of}
 use Rattle.history.specs.Pages.{page_count}
 use Rattle.history.specs.Written.{kind_of, tip_of}
-use Rattle.partitions.specs.Parts.{part_of, IsPart, ConcernsNoOther}
-use Rattle.fuzzy_copies.specs.Orderly.{IsOrderly, AreOwnFrom}
-use Rattle.fuzzy_copies.specs.Covers.{AreTidyFrom}
-use Rattle.fuzzy_copies.specs.Logged.{log_of}
+use Rattle.history.specs.partitions.Parts.{part_of, IsPart, ConcernsNoOther}
+use Rattle.history.specs.fuzzy_copies.Orderly.{IsOrderly, AreOwnFrom}
+use Rattle.history.specs.fuzzy_copies.Covers.{AreTidyFrom}
+use Rattle.history.specs.fuzzy_copies.Logged.{log_of}
 use Rattle.journal.specs.Lawful.{IsLawful}
 use Rattle.journal.specs.Journal.{HoldsLog, EndsWith, IsTold, IsEndOf, MayComeNext, MayFollow, entry_at}
 

@@ -22,8 +22,8 @@ use std::alloc::Global;
 use std::marker::{Brand, Model};
 use timeline::{Names, Note, Pen, Timeline};
 use vault::Vault;
-use wal_pieces::read_piece;
 use wal_reader::WalFault;
+use wal_reader::wal_pieces::read_piece;
 use wal_record::{Kind, Record};
 use wal_writer::{AppendFault, Flushed, WalState};
 

@@ -5,7 +5,7 @@ ghost use Rattle.wal_record.specs.Spelling.{IsWritable};
 ghost use Rattle.history.specs.Written.{mark_kind};
 ghost use Rattle.journal.specs.Marks.{marking_of};
 
-use checkpointer::{online_kind, redo_kind};
+use history::checkpointer::{online_kind, redo_kind};
 use lsn_core::Lsn;
 use wal_record::Kind;
 

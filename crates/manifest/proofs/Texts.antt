@@ -12,9 +12,9 @@ use Rattle.json.proofs.Printed.Utf8.{IsUtf8-are_ascii}
 use Rattle.std.proofs.lemmas.Str.Ascii.{IsAscii-nil, IsAscii-cons}
 use Rattle.hex.specs.Hex.{is_hex_digit, decode_of}
 use Rattle.hex.proofs.HexLemmas.{decode_of-ok}
-use Rattle.text_numbers.specs.Numbers.{all_hex_digits}
-use Rattle.text_numbers.proofs.Hexadecimal.{is_text}
-use Rattle.text_numbers.proofs.EightDigits.{hex_text}
+use Rattle.lsn_core.specs.text_numbers.Numbers.{all_hex_digits}
+use Rattle.lsn_core.proofs.text_numbers.Hexadecimal.{is_text}
+use Rattle.lsn_core.proofs.text_numbers.EightDigits.{hex_text}
 use Rattle.lsn_core.specs.Names.{lsn_bytes}
 use Rattle.manifest.specs.Kinds.{is_sum, sum_digits}
 use Rattle.manifest.specs.declared.kinds.SumKind.{SumKind}

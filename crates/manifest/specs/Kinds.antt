@@ -1,8 +1,8 @@
 -- The kinds of sums that a manifest names.
 use Rattle.std.specs.Prelude.{ℕ, Bool, List, [], ◌∷◌, length, codes, Option, Some, None, ◌==◌, ◌&&◌, if◌then◌else◌}
 use Rattle.std.specs.Str.{bytes_eq}
-use Rattle.byte_words.specs.Numbers.{◌>>=◌}
-use Rattle.text_numbers.specs.Numbers.{all_hex_digits}
+use Rattle.lsn_core.specs.byte_words.Numbers.{◌>>=◌}
+use Rattle.lsn_core.specs.text_numbers.Numbers.{all_hex_digits}
 use Rattle.manifest.specs.declared.kinds.SumKind.{SumKind}
 use Rattle.manifest.specs.declared.kinds.SumKind.TheVariants.{Sha224, Sha256, Sha384, Sha512}
 use Rattle.manifest.specs.declared.listing.FileRow.{FileRow}

@@ -1,7 +1,7 @@
 //! The kinds of sums that a manifest names.
 
 ghost use Rattle.std.specs.Prelude.{◌≡◌};
-ghost use Rattle.text_numbers.specs.Numbers.{all_hex_digits};
+ghost use Rattle.lsn_core.specs.text_numbers.Numbers.{all_hex_digits};
 ghost use Rattle.manifest.specs.Kinds.{kind_name, sum_digits, kind_in, is_sum};
 
 /// A SHA-2 function (FIPS 180-4), as a manifest names it.

@@ -1,7 +1,7 @@
 -- The pages and marks of frames after a change.
 use Rattle.std.proofs.Common.{◌≡◌, ℕ, ◌+◌, ◌<◌, ◌≤◌, max, min, cond, List, [], take, Option, Some, None, is_some, option_map, unwrap_or, sym, ap, ◌∙◌, arith}
 use Rattle.std.specs.FinMap.{get, insert, remove}
-use Rattle.byte_words.specs.Pieces.{zero_page}
+use Rattle.lsn_core.specs.byte_words.Pieces.{zero_page}
 use Rattle.lsn_core.specs.declared.ids.ForkId.{ForkId}
 use Rattle.lsn_core.specs.declared.ids.BlockId.{BlockId}
 use Rattle.lsn_core.specs.Store.{ForkPages}

@@ -3,9 +3,9 @@ use Rattle.std.proofs.Common.{◌≡◌, ℕ, ◌+◌, ◌*◌, ◌-◌, ◌<◌
 use Rattle.std.specs.Prelude.{◌&&◌, nat_lt}
 use Rattle.std.specs.List.{All}
 use Rattle.std.proofs.lemmas.Bool.{cases_lt, eq-eqb, le-leb, lt-leb, lt-ltb, le-ltb}
-use Rattle.byte_words.specs.Numbers.{u16_in}
-use Rattle.byte_words.specs.Pieces.{overwritten}
-use Rattle.byte_words.proofs.Overwritten.{length-overwritten, overwritten_before, overwritten_behind, overwritten_within}
+use Rattle.lsn_core.specs.byte_words.Numbers.{u16_in}
+use Rattle.lsn_core.specs.byte_words.Pieces.{overwritten}
+use Rattle.lsn_core.proofs.byte_words.Overwritten.{length-overwritten, overwritten_before, overwritten_behind, overwritten_within}
 use Rattle.pg_page.specs.Frags.{Fragment, bad_frag, written_frags, is_good}
 use Rattle.pg_page.proofs.PatchLaws.{Fits, frags_fit, length-written_frags}
 use Rattle.history.proofs.Pushes.{all_first, all_rest}

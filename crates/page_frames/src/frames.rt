@@ -3,7 +3,7 @@
 ghost use Rattle.std.specs.Prelude.{◌≡◌, ◌<◌, ◌≤◌, ◌+◌, ◌⊎◌, true, None, Some, IsSome, IfOk, OnOk, OnErr, List, ℕ, box_value};
 ghost use Rattle.std.specs.FinMap.{empty, get, insert, remove, len};
 ghost use Rattle.std.specs.Option.{option_map, unwrap_or};
-ghost use Rattle.byte_words.specs.Pieces.{zero_page};
+ghost use Rattle.lsn_core.specs.byte_words.Pieces.{zero_page};
 ghost use Rattle.lsn_core.specs.declared.ids.BlockId.{BlockId};
 ghost use Rattle.lsn_core.specs.Blocks.{page_put};
 ghost use Rattle.history.specs.Apply.{page_at};

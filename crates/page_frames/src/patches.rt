@@ -1,7 +1,7 @@
 //! The header that a patch would leave.
 
 ghost use Rattle.std.specs.Prelude.{◌≡◌, ◌+◌, ◌<◌, None, get_or};
-ghost use Rattle.byte_words.specs.Numbers.{u16_in};
+ghost use Rattle.lsn_core.specs.byte_words.Numbers.{u16_in};
 ghost use Rattle.pg_page.specs.Frags.{bad_frag, written_frags, is_good};
 ghost use Rattle.page_frames.specs.Inside.{byte_over, byte_over_all, is_header};
 

@@ -5,7 +5,7 @@ use Rattle.std.specs.FinMap.{get, remove, get-remove, contains_key}
 use Rattle.std.proofs.lemmas.Bool.{eq-eqb, or_parts, and_parts, ltb-true, lt-ltb}
 use Rattle.std.proofs.lemmas.List.Folds.{list_any-append}
 use Rattle.std.proofs.Math.Bool.{or-false, or-true}
-use Rattle.byte_words.specs.Numbers.{◌>>=◌}
+use Rattle.lsn_core.specs.byte_words.Numbers.{◌>>=◌}
 use Rattle.lsn_core.specs.Relation.{Relation}
 use Rattle.lsn_core.proofs.ForkOrder.{fork_cmp_total}
 use Rattle.history.proofs.Counts.{none_removed}
@@ -18,13 +18,13 @@ use Rattle.history.specs.Entry.{Act, Create, Truncate, Change, Drop, Mark, Entry
 use Rattle.history.specs.Apply.{Rule, main_fork, init_fork, without_rel, without_rels, edited, is_same_fork, is_same_block, apply_act}
 use Rattle.history.specs.Op.{IsTidy}
 use Rattle.history.proofs.Stores.{by_test, block_is, fork_is}
-use Rattle.fuzzy_copies.specs.Touches.{act_touches, act_cuts, act_settles}
-use Rattle.fuzzy_copies.specs.Effects.{Stay, Reach, Alter, Clear, after}
-use Rattle.fuzzy_copies.proofs.Pages.{same_stores, put_view, cut_view, fork_view, absorbed, contains_key-insert, contains_key-with_fork, contains_key-with_cut}
-use Rattle.fuzzy_copies.proofs.View.{act_forks}
-use Rattle.fuzzy_copies.proofs.Completed.{either_none}
-use Rattle.fuzzy_copies.proofs.Taken.{listed_blocks}
-use Rattle.fuzzy_copies.proofs.Kept.{entries_keep, forks_keep}
+use Rattle.history.specs.fuzzy_copies.Touches.{act_touches, act_cuts, act_settles}
+use Rattle.history.specs.fuzzy_copies.Effects.{Stay, Reach, Alter, Clear, after}
+use Rattle.history.proofs.fuzzy_copies.Pages.{same_stores, put_view, cut_view, fork_view, absorbed, contains_key-insert, contains_key-with_fork, contains_key-with_cut}
+use Rattle.history.proofs.fuzzy_copies.View.{act_forks}
+use Rattle.history.proofs.fuzzy_copies.Completed.{either_none}
+use Rattle.history.proofs.fuzzy_copies.Taken.{listed_blocks}
+use Rattle.history.proofs.fuzzy_copies.Kept.{entries_keep, forks_keep}
 use Rattle.page_frames.specs.Marks.{DirtyMarks, touch_end, is_dirty}
 use Rattle.page_frames.proofs.Marks.{mark_set}
 use Rattle.page_pool.specs.declared.work.Work.{Work}

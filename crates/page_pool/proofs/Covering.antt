@@ -5,18 +5,18 @@ use Rattle.std.specs.List.{list_any}
 use Rattle.std.specs.FinMap.{get, empty, contains_key, get-empty}
 use Rattle.std.proofs.lemmas.Bool.{and_parts}
 use Rattle.std.proofs.lemmas.List.Elements.{recursion_from_All}
-use Rattle.byte_words.specs.Numbers.{◌>>=◌}
+use Rattle.lsn_core.specs.byte_words.Numbers.{◌>>=◌}
 use Rattle.lsn_core.specs.declared.ids.ForkId.{ForkId}
 use Rattle.lsn_core.specs.Store.{Store, ForkPages, fork_cmp}
 use Rattle.history.specs.Entry.{Entry}
 use Rattle.history.specs.Apply.{apply_all}
 use Rattle.history.proofs.Stores.{by_test}
-use Rattle.partitions.specs.Parts.{is_of, part_of, IsPart}
-use Rattle.partitions.proofs.Puts.{own}
-use Rattle.partitions.proofs.Folds.{parts_fold}
-use Rattle.fuzzy_copies.specs.Touches.{act_cuts, touches, resets, settles}
-use Rattle.fuzzy_copies.specs.Taken.{since}
-use Rattle.fuzzy_copies.proofs.Covering.{lagging}
+use Rattle.history.specs.partitions.Parts.{is_of, part_of, IsPart}
+use Rattle.history.proofs.partitions.Puts.{own}
+use Rattle.history.proofs.partitions.Folds.{parts_fold}
+use Rattle.history.specs.fuzzy_copies.Touches.{act_cuts, touches, resets, settles}
+use Rattle.history.specs.fuzzy_copies.Taken.{since}
+use Rattle.history.proofs.fuzzy_copies.Covering.{lagging}
 use Rattle.page_frames.specs.Marks.{DirtyMarks, touch_end, is_dirty}
 use Rattle.page_pool.specs.declared.work.Pending.{Pending}
 use Rattle.page_pool.specs.Part.{is_to_settle, is_to_cut}

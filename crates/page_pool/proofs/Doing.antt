@@ -4,7 +4,7 @@ use Rattle.std.specs.Prelude.{max}
 use Rattle.std.specs.FinMap.{get, insert, get-insert, contains_key}
 use Rattle.lsn_core.proofs.ForkOrder.{fork_cmp_total}
 use Rattle.std.specs.List.{All}
-use Rattle.byte_words.proofs.Fields.{bind_some}
+use Rattle.lsn_core.proofs.byte_words.Fields.{bind_some}
 use Rattle.lsn_core.specs.declared.ids.ForkId.{ForkId}
 use Rattle.lsn_core.specs.declared.ids.BlockId.{BlockId}
 use Rattle.lsn_core.specs.Store.{Store, ForkPages}

@@ -7,9 +7,9 @@ use Rattle.std.proofs.lemmas.Bool.{and_parts, cases_lt}
 use Rattle.std.proofs.lemmas.List.Elements.{All-weaker, recursion_from_All, filter_map-append}
 use Rattle.lsn_core.specs.declared.ids.ForkId.{ForkId}
 use Rattle.history.specs.Entry.{Entry}
-use Rattle.partitions.specs.Parts.{act_part, part_of}
-use Rattle.fuzzy_copies.specs.Touches.{touches}
-use Rattle.fuzzy_copies.specs.Taken.{since}
+use Rattle.history.specs.partitions.Parts.{act_part, part_of}
+use Rattle.history.specs.fuzzy_copies.Touches.{touches}
+use Rattle.history.specs.fuzzy_copies.Taken.{since}
 use Rattle.lsn_core.specs.declared.ids.BlockId.{BlockId}
 use Rattle.page_frames.specs.Marks.{DirtyMarks, fork_marks, dirty_ends, touch_end}
 use Rattle.page_frames.specs.Framed.{Framed}

@@ -13,7 +13,7 @@ use Rattle.std.proofs.lemmas.List.{map-append}
 use Rattle.std.proofs.lemmas.List.Elements.{filter-append, All-nil, All-push, All-same, All-weaker, All-drop}
 use Rattle.std.proofs.lemmas.List.Folds.{list_any-append}
 use Rattle.std.proofs.lemmas.List.Sums.{fold-append}
-use Rattle.byte_words.specs.Numbers.{◌>>=◌}
+use Rattle.lsn_core.specs.byte_words.Numbers.{◌>>=◌}
 use Rattle.lsn_core.specs.Store.{Store}
 use Rattle.lsn_core.specs.Tip.{Tip, tip_with}
 use Rattle.history.specs.declared.op.Item.{Item}
@@ -21,12 +21,12 @@ use Rattle.history.specs.Entry.{Act, Create, Truncate, Change, Drop, Mark, NoOp,
 use Rattle.history.specs.Apply.{main_fork, init_fork, without_rel, is_same_fork, is_fork_of, is_of_any, is_same_block, apply, apply_act, apply_all}
 use Rattle.history.proofs.Stores.{by_test, fork_self}
 use Rattle.history.proofs.Histories.{tip_over-append}
-use Rattle.partitions.specs.Parts.{is_item_of, act_part, part_of, concerns, ConcernsNoOther}
-use Rattle.partitions.proofs.Folds.{none_kept, passed_over}
-use Rattle.partitions.proofs.OwnActs.{all_kept, own_fork, OfNoOther, first_own, others_own}
-use Rattle.fuzzy_copies.specs.Touches.{act_touches, act_cuts}
-use Rattle.fuzzy_copies.specs.Taken.{since}
-use Rattle.fuzzy_copies.proofs.Replay.{applied_in_two}
+use Rattle.history.specs.partitions.Parts.{is_item_of, act_part, part_of, concerns, ConcernsNoOther}
+use Rattle.history.proofs.partitions.Folds.{none_kept, passed_over}
+use Rattle.history.proofs.partitions.OwnActs.{all_kept, own_fork, OfNoOther, first_own, others_own}
+use Rattle.history.specs.fuzzy_copies.Touches.{act_touches, act_cuts}
+use Rattle.history.specs.fuzzy_copies.Taken.{since}
+use Rattle.history.proofs.fuzzy_copies.Replay.{applied_in_two}
 use Rattle.page_frames.specs.Marks.{DirtyMarks, touch_end}
 use Rattle.page_frames.proofs.Marks.{mark_set}
 use Rattle.page_pool.specs.declared.work.Work.{Work}

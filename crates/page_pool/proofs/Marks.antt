@@ -11,7 +11,7 @@ use Rattle.lsn_core.specs.declared.ids.ForkId.{ForkId}
 use Rattle.history.specs.declared.op.Item.{Item}
 use Rattle.history.specs.Entry.{Act, Create, Truncate, Change, Drop, Mark}
 use Rattle.history.specs.Apply.{main_fork, init_fork, is_same_fork, without_rel}
-use Rattle.fuzzy_copies.specs.Touches.{is_at, act_touches, act_cuts}
+use Rattle.history.specs.fuzzy_copies.Touches.{is_at, act_touches, act_cuts}
 use Rattle.page_frames.specs.Marks.{DirtyMarks, touch_end, is_dirty, touched}
 use Rattle.page_frames.proofs.Marks.{mark_set, mark_cut, mark_made}
 use Rattle.page_pool.specs.Steps.{items_touched, marks_without, marks_dropped, marks_after}

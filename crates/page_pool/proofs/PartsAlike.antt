@@ -3,7 +3,7 @@ use Rattle.std.proofs.Common.{◌≡◌, ℕ, ◌+◌, ◌||◌, true, false, co
 use Rattle.std.specs.Option.{option_or}
 use Rattle.std.specs.FinMap.{get}
 use Rattle.std.proofs.lemmas.Bool.{or_parts}
-use Rattle.byte_words.specs.Numbers.{◌>>=◌}
+use Rattle.lsn_core.specs.byte_words.Numbers.{◌>>=◌}
 use Rattle.lsn_core.specs.declared.ids.ForkId.{ForkId}
 use Rattle.lsn_core.specs.Store.{Store, ForkPages}
 use Rattle.lsn_core.specs.Blocks.{pages_of, with_block, page_put, with_fork, with_cut}
@@ -13,11 +13,11 @@ use Rattle.history.specs.Entry.{Create, Truncate, Change, Drop, Mark}
 use Rattle.history.specs.Apply.{main_fork, init_fork, without_rels, page_at, edited, apply_item, apply_items}
 use Rattle.history.specs.Pages.{page_count}
 use Rattle.history.proofs.Counts.{IsMoved, moved_insert, moved_cut, page_count-with_fork}
-use Rattle.partitions.specs.Parts.{is_of, is_rel_of, IsPart}
-use Rattle.partitions.proofs.Puts.{own, pages_own, page_own, page_at_own, cut_own}
-use Rattle.partitions.proofs.Folds.{mapped_some}
-use Rattle.partitions.proofs.Removed.{rels_count}
-use Rattle.partitions.proofs.OwnActs.{own_fork, OfNoOther, first_own, others_own}
+use Rattle.history.specs.partitions.Parts.{is_of, is_rel_of, IsPart}
+use Rattle.history.proofs.partitions.Puts.{own, pages_own, page_own, page_at_own, cut_own}
+use Rattle.history.proofs.partitions.Folds.{mapped_some}
+use Rattle.history.proofs.partitions.Removed.{rels_count}
+use Rattle.history.proofs.partitions.OwnActs.{own_fork, OfNoOther, first_own, others_own}
 use Rattle.page_pool.specs.declared.fault.OpFault.{OpFault}
 use Rattle.page_pool.specs.declared.fault.OpFault.TheVariants.{ForkExists, NoFork}
 use Rattle.page_pool.specs.Refusals.{judged_blocks, judged_edits, judged_found, behind_item, judged_items, judged_cut}

@@ -3,7 +3,7 @@ use Rattle.std.proofs.Common.{◌≡◌, ℕ, ◌+◌, ◌<◌, false, cond, Lis
 use Rattle.std.specs.List.{All}
 use Rattle.std.proofs.lemmas.List.Elements.{All-nil, All-cons}
 use Rattle.lsn_core.specs.Sizes.{most_blocks}
-use Rattle.byte_words.specs.Numbers.{◌>>=◌}
+use Rattle.lsn_core.specs.byte_words.Numbers.{◌>>=◌}
 use Rattle.lsn_core.specs.declared.ids.BlockId.{BlockId}
 use Rattle.lsn_core.specs.Store.{Store}
 use Rattle.lsn_core.specs.Blocks.{page_put}

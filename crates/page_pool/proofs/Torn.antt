@@ -5,7 +5,7 @@ use Rattle.std.proofs.Math.Bool.{or-false}
 use Rattle.std.specs.FinMap.{get, contains_key}
 use Rattle.std.proofs.lemmas.Bool.{and_parts, or_parts, cases_lt, leb-true, le-leb}
 use Rattle.std.proofs.lemmas.Option.{slice_get_past}
-use Rattle.byte_words.specs.Numbers.{◌>>=◌}
+use Rattle.lsn_core.specs.byte_words.Numbers.{◌>>=◌}
 use Rattle.lsn_core.specs.declared.ids.ForkId.{ForkId}
 use Rattle.lsn_core.specs.declared.ids.BlockId.{BlockId}
 use Rattle.lsn_core.specs.Store.{Store, ForkPages}
@@ -16,8 +16,8 @@ use Rattle.rel_files.proofs.Pages.{HeldBy, held_by}
 use Rattle.rel_files.proofs.ForkStores.{by_fork, mended_missing, mended_get, mended_others, mended_block, mended_past}
 use Rattle.history.specs.Apply.{is_same_fork}
 use Rattle.history.proofs.Stores.{by_test, fork_is}
-use Rattle.fuzzy_copies.specs.Sound.{Agree}
-use Rattle.fuzzy_copies.proofs.Pages.{block_by_pages, fork_view, contains_key-with_fork, contains_key-with_cut}
+use Rattle.history.specs.fuzzy_copies.Sound.{Agree}
+use Rattle.history.proofs.fuzzy_copies.Pages.{block_by_pages, fork_view, contains_key-with_fork, contains_key-with_cut}
 use Rattle.page_frames.specs.Marks.{DirtyMarks, is_dirty, cleaned}
 use Rattle.page_pool.specs.declared.work.Work.{Work}
 use Rattle.page_pool.specs.declared.work.Work.TheVariants.{Make, Cut, Remove}

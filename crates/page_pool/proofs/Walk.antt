@@ -8,8 +8,8 @@ use Rattle.lsn_core.specs.declared.ids.ForkId.{ForkId}
 use Rattle.lsn_core.specs.declared.ids.BlockId.{BlockId}
 use Rattle.lsn_core.specs.Store.{Store, ForkPages}
 use Rattle.lsn_core.specs.Blocks.{block_count, pages_of, page_put}
-use Rattle.byte_words.specs.Numbers.{◌>>=◌}
-use Rattle.byte_words.proofs.Fields.{bind_some}
+use Rattle.lsn_core.specs.byte_words.Numbers.{◌>>=◌}
+use Rattle.lsn_core.proofs.byte_words.Fields.{bind_some}
 use Rattle.history.specs.declared.op.Edit.{Edit}
 use Rattle.history.specs.declared.op.Edit.TheVariants.{Put, Patch}
 use Rattle.history.specs.declared.op.Item.{Item}

@@ -7,10 +7,10 @@ use Rattle.lsn_core.specs.declared.ids.ForkId.{ForkId}
 use Rattle.history.specs.Entry.{Act, Create, Truncate, Change, Drop, Mark, NoOp, Entry}
 use Rattle.history.specs.Apply.{main_fork, is_same_fork, is_fork_of, is_of_any}
 use Rattle.history.proofs.Stores.{by_test, fork_is}
-use Rattle.partitions.specs.Parts.{is_of, is_item_of, is_rel_of, act_part, part_of, act_concerns, concerns}
-use Rattle.partitions.proofs.Folds.{none_kept}
-use Rattle.fuzzy_copies.specs.Touches.{is_at, act_touches, act_cuts, act_settles, touches, resets, settles}
-use Rattle.fuzzy_copies.proofs.Completed.{or_second}
+use Rattle.history.specs.partitions.Parts.{is_of, is_item_of, is_rel_of, act_part, part_of, act_concerns, concerns}
+use Rattle.history.proofs.partitions.Folds.{none_kept}
+use Rattle.history.specs.fuzzy_copies.Touches.{is_at, act_touches, act_cuts, act_settles, touches, resets, settles}
+use Rattle.history.proofs.fuzzy_copies.Completed.{or_second}
 use Rattle.page_pool.specs.declared.work.Work.{Work}
 use Rattle.page_pool.specs.declared.work.Work.TheVariants.{Make, Cut, Remove}
 use Rattle.page_pool.specs.declared.work.Pending.{Pending}

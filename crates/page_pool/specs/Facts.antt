@@ -8,10 +8,10 @@ use Rattle.rel_files.specs.Laws.{HasOnlyForks}
 use Rattle.history.specs.Entry.{Act, Create, Truncate, Change, Drop, Mark, Entry}
 use Rattle.history.specs.Apply.{main_fork, is_same_fork, is_of_any, apply_all}
 use Rattle.history.specs.Written.{tip_over}
-use Rattle.partitions.specs.Parts.{part_of}
-use Rattle.fuzzy_copies.specs.Touches.{touches}
-use Rattle.fuzzy_copies.specs.Taken.{since}
-use Rattle.fuzzy_copies.specs.Orderly.{AreOwnFrom}
+use Rattle.history.specs.partitions.Parts.{part_of}
+use Rattle.history.specs.fuzzy_copies.Touches.{touches}
+use Rattle.history.specs.fuzzy_copies.Taken.{since}
+use Rattle.history.specs.fuzzy_copies.Orderly.{AreOwnFrom}
 use Rattle.page_frames.specs.Marks.{DirtyMarks, touch_end}
 use Rattle.page_pool.specs.declared.work.Work.{Work}
 use Rattle.page_pool.specs.declared.work.Work.TheVariants.{Make, Cut, Remove}

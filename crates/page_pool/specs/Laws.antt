@@ -14,9 +14,9 @@ use Rattle.history.specs.Apply.{apply_act, apply_all}
 use Rattle.history.specs.Op.{act_of_op, IsTidy}
 use Rattle.history.specs.Pages.{page_count}
 use Rattle.rel_files.specs.Forks.{Holds}
-use Rattle.partitions.specs.Parts.{is_of, part_of, IsPart, concerns, ConcernsNoOther}
-use Rattle.fuzzy_copies.specs.Covers.{Covers}
-use Rattle.fuzzy_copies.specs.CoverLaws.{MakesTidily}
+use Rattle.history.specs.partitions.Parts.{is_of, part_of, IsPart, concerns, ConcernsNoOther}
+use Rattle.history.specs.fuzzy_copies.Covers.{Covers}
+use Rattle.history.specs.fuzzy_copies.CoverLaws.{MakesTidily}
 use Rattle.page_frames.specs.Marks.{DirtyMarks, is_dirty, cleaned}
 use Rattle.page_frames.specs.Framed.{Framed, held_page}
 use Rattle.page_frames.specs.Overlay.{pages_over, marks_over}

@@ -8,7 +8,7 @@ use Rattle.lsn_core.specs.Store.{Store}
 use Rattle.lsn_core.specs.Blocks.{block_of}
 use Rattle.vault.specs.Stops.{Event}
 use Rattle.history.specs.Apply.{is_same_fork}
-use Rattle.fuzzy_copies.specs.Sound.{Agree}
+use Rattle.history.specs.fuzzy_copies.Sound.{Agree}
 use Rattle.page_frames.specs.Marks.{DirtyMarks, is_dirty, dirty_ends}
 use Rattle.page_frames.specs.Framed.{Framed}
 use Rattle.page_pool.specs.declared.work.Work.{Work}

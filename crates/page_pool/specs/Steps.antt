@@ -9,7 +9,7 @@ use Rattle.lsn_core.specs.Blocks.{with_fork, with_cut, without_fork}
 use Rattle.history.specs.declared.op.Item.{Item}
 use Rattle.history.specs.Entry.{Act, Create, Truncate, Change, Drop, Mark}
 use Rattle.history.specs.Apply.{main_fork, init_fork, without_rel, apply_act}
-use Rattle.fuzzy_copies.specs.Sound.{Agree}
+use Rattle.history.specs.fuzzy_copies.Sound.{Agree}
 use Rattle.page_frames.specs.Marks.{DirtyMarks, fork_marks, touch_end, is_dirty, touched}
 use Rattle.page_pool.specs.declared.work.Work.{Work}
 use Rattle.page_pool.specs.declared.work.Work.TheVariants.{Make, Cut, Remove}

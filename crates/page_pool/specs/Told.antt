@@ -1,6 +1,6 @@
 -- What an area gives for a block that has no frame.
 use Rattle.std.specs.Prelude.{ℕ, false, ◌*◌, ◌/◌, ◌%◌, List, take, drop, Option, Some, None}
-use Rattle.byte_words.specs.Pieces.{zero_page}
+use Rattle.lsn_core.specs.byte_words.Pieces.{zero_page}
 use Rattle.lsn_core.specs.declared.ids.BlockId.{BlockId}
 use Rattle.lsn_core.specs.Files.{Files}
 use Rattle.lsn_core.specs.Names.{fork_path_bytes}

@@ -14,7 +14,7 @@ ghost use Rattle.page_pool.specs.Ready.{AreGoodPages};
 ghost use Rattle.page_pool.specs.Inside.{page_of_edit, IsDoneBy};
 
 use crate::ready::{Done, NewPage};
-use checkpointer::{creation_kind, drop_kind, needs_image, truncation_kind};
+use history::checkpointer::{creation_kind, drop_kind, needs_image, truncation_kind};
 use history::{Edit, Item, Op};
 use lsn_core::{BlockId, Lsn, NoMemory, Rel};
 use page_frames::Frames;

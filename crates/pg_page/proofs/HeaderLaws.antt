@@ -2,8 +2,8 @@
 use Rattle.std.proofs.Common.{◌≡◌, ℕ, ◌+◌, ◌-◌, ◌^◌, ◌<◌, ◌≤◌, List, length, get_or, take, drop, replicate, ◌⊎◌, ◌++◌, inl, inr, refl, sym, ap, subst, ◌∙◌, arith}
 use Rattle.std.proofs.lemmas.List.{length-append, get_or-replicate, length-drop, length-replicate, length-take, length-take-le, take-append-drop}
 use Rattle.std.proofs.lemmas.Bool.{cases_lt}
-use Rattle.byte_words.specs.Pieces.{overwritten}
-use Rattle.byte_words.proofs.Overwritten.{length-overwritten, overwritten_before, overwritten_behind, overwritten_within, overwritten_between}
+use Rattle.lsn_core.specs.byte_words.Pieces.{overwritten}
+use Rattle.lsn_core.proofs.byte_words.Overwritten.{length-overwritten, overwritten_before, overwritten_behind, overwritten_within, overwritten_between}
 use Rattle.pg_page.specs.Header.{IsGood, lower_of, upper_of, special_of, version_of, lsn_of, lsn_field, hole_of, hole_zeroed, with_lsn}
 
 -- two pages with the same bytes from 12 to 19

@@ -3,8 +3,8 @@ use Rattle.std.proofs.Common.{◌≡◌, ℕ, ◌+◌, ◌-◌, ◌<◌, ◌≤�
 use Rattle.std.specs.Prelude.{nat_lt}
 use Rattle.std.proofs.lemmas.Bool.{ltb-true, ltb-false}
 use Rattle.std.proofs.lemmas.List.{take_at, drop_at, take-append-drop, length-append, length-take-le, length-drop, length-replicate, drop-drop, append-nil, append_assoc, replicate-append-replicate, drop-replicate}
-use Rattle.byte_words.specs.Pieces.{overwritten}
-use Rattle.byte_words.proofs.Overwritten.{overwritten_between}
+use Rattle.lsn_core.specs.byte_words.Pieces.{overwritten}
+use Rattle.lsn_core.proofs.byte_words.Overwritten.{overwritten_between}
 use Rattle.pg_page.specs.Header.{IsGood, lower_of, upper_of, hole_of, hole_zeroed}
 use Rattle.pg_page.specs.Image.{restored, without_hole, image_of, image_without}
 

@@ -1,8 +1,8 @@
 -- A page made from nothing.
 use Rattle.std.proofs.Common.{◌≡◌, ℕ, ◌+◌, ◌-◌, ◌≤◌, List, [], ◌++◌, length, replicate, refl, sym, ap, ◌∙◌, arith}
 use Rattle.std.proofs.lemmas.List.{length-append, length-replicate, append-nil, append_assoc, replicate-append-replicate}
-use Rattle.byte_words.specs.Pieces.{overwritten}
-use Rattle.byte_words.proofs.Overwritten.{overwritten_between}
+use Rattle.lsn_core.specs.byte_words.Pieces.{overwritten}
+use Rattle.lsn_core.proofs.byte_words.Overwritten.{overwritten_between}
 use Rattle.pg_page.specs.Header.{IsGood, made_page, made_fields}
 
 abbrev zeros : ℕ → List ℕ

@@ -6,8 +6,8 @@ use Rattle.std.proofs.lemmas.List.{length-replicate}
 use Rattle.std.proofs.lemmas.List.Elements.{All-nil, All-cons}
 use Rattle.std.proofs.lemmas.Grind.{same_number_lists}
 use Rattle.std.proofs.lemmas.Bool.{cases_lt, and_parts, or_parts, leb-true, le-leb, eqb-true, eq-eqb, ltb-false}
-use Rattle.byte_words.specs.Pieces.{overwritten}
-use Rattle.byte_words.proofs.Overwritten.{length-overwritten, overwritten_before, overwritten_behind, overwritten_within, overwritten_between}
+use Rattle.lsn_core.specs.byte_words.Pieces.{overwritten}
+use Rattle.lsn_core.proofs.byte_words.Overwritten.{length-overwritten, overwritten_before, overwritten_behind, overwritten_within, overwritten_between}
 use Rattle.pg_page.specs.Header.{IsGood, lower_of, upper_of, special_of, version_of, lsn_field, hole_zeroed, with_lsn}
 use Rattle.pg_page.specs.Frags.{Fragment, frag_size, is_bad, bad_frag, bad_frag_from, written_frags, patched, is_good}
 use Rattle.pg_page.proofs.HeaderLaws.{length-lsn_field, IsGood-with_lsn, IsGood-hole_zeroed, hole_zeroed-hole_zeroed, IsGood-under_lsn, IsGood-under_zeros}

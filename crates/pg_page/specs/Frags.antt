@@ -1,6 +1,6 @@
 -- Fragments written over a page: what a delta says of a block.
 use Rattle.std.specs.Prelude.{ℕ, ◌+◌, ◌==◌, ◌&&◌, ◌||◌, Bool, List, [], ◌∷◌, length, Option, Some, None, nat_lt, nat_le, if◌then◌else◌}
-use Rattle.byte_words.specs.Pieces.{overwritten}
+use Rattle.lsn_core.specs.byte_words.Pieces.{overwritten}
 use Rattle.pg_page.specs.Header.{lower_of, upper_of, special_of, version_of, hole_zeroed, with_lsn}
 
 -- bytes, and the place of a page that they are written at

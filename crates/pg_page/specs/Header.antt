@@ -1,10 +1,10 @@
 -- The header of a page (PostgreSQL manual, Database Page Layout), and the hole in its middle.
 use Rattle.std.specs.Prelude.{◌≡◌, ℕ, ◌+◌, ◌-◌, ◌*◌, ◌/◌, ◌%◌, ◌^◌, ◌≤◌, List, ◌++◌, length, replicate, Option, Some, None, nat_lt, if◌then◌else◌}
 use Rattle.std.specs.Int.{w16, w32, to_le_bytes}
-use Rattle.byte_words.specs.Numbers.{u16_in, u32_in}
-use Rattle.byte_words.specs.Pieces.{overwritten}
+use Rattle.lsn_core.specs.byte_words.Numbers.{u16_in, u32_in}
+use Rattle.lsn_core.specs.byte_words.Pieces.{overwritten}
 -- a page of zeros, as an added block is
-unfoldable pub use Rattle.byte_words.specs.Pieces.{zero_page}
+unfoldable pub use Rattle.lsn_core.specs.byte_words.Pieces.{zero_page}
 
 -- pd_lower, pd_upper, pd_special and pd_pagesize_version
 abbrev pub lower_of : List ℕ → ℕ

@@ -5,7 +5,7 @@ ghost use Rattle.std.specs.List.{All};
 ghost use Rattle.pg_page.specs.Frags.{bad_frag, written_frags, patched, is_good};
 
 use crate::page::{is_good, set_lsn, zero_hole};
-use byte_words::overwrite;
+use lsn_core::byte_words::overwrite;
 use std::alloc::{AllocError, Global};
 use std::marker::Model;
 

@@ -5,7 +5,7 @@ ghost use Rattle.pg_page.specs.Header.{zero_page};
 ghost use Rattle.pg_page.specs.Image.{restored};
 
 use crate::page::zero_page;
-use byte_words::overwrite;
+use lsn_core::byte_words::overwrite;
 use std::alloc::{AllocError, Global};
 use std::boxed::Box;
 

@@ -4,7 +4,7 @@ ghost use Rattle.std.specs.Prelude.{◌≡◌, ◌<◌, ◌≤◌, ◌↔◌, Is
 ghost use Rattle.pg_page.specs.Header.{zero_page, made_page, made_fields};
 
 use crate::page::{Page, fill_between, zero_page};
-use byte_words::overwrite;
+use lsn_core::byte_words::overwrite;
 use std::alloc::{AllocError, Global};
 use std::boxed::Box;
 

@@ -1,10 +1,10 @@
 //! A page with a good header.
 
 ghost use Rattle.std.specs.Prelude.{◌≡◌, ◌+◌, ◌-◌, ◌<◌, ◌≤◌, ◌↔◌, length, replicate, box_value, IsTrue, IsSome, IfSome};
-ghost use Rattle.byte_words.specs.Pieces.{overwritten};
+ghost use Rattle.lsn_core.specs.byte_words.Pieces.{overwritten};
 ghost use Rattle.pg_page.specs.Header.{IsGood, lsn_of, lsn_field, hole_of, hole_zeroed, with_lsn, zero_page};
 
-use byte_words::{overwrite, u16_in};
+use lsn_core::byte_words::{overwrite, u16_in};
 use std::boxed::Box;
 use std::marker::Model;
 

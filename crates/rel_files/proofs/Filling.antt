@@ -1,7 +1,7 @@
 -- Zero pages put one after the other, up to the block of a page.
 use Rattle.std.proofs.Common.{◌≡◌, ℕ, ◌+◌, ◌<◌, ◌≤◌, ⊎_elim, List, Option, sym, subst, arith}
 use Rattle.std.proofs.lemmas.Bool.{cases_lt}
-use Rattle.byte_words.specs.Pieces.{zero_page}
+use Rattle.lsn_core.specs.byte_words.Pieces.{zero_page}
 use Rattle.lsn_core.specs.declared.ids.ForkId.{ForkId}
 use Rattle.lsn_core.specs.Files.{Files}
 use Rattle.lsn_core.specs.Store.{Store}

@@ -1,7 +1,7 @@
 //! Pages put at blocks of a fork.
 
 ghost use Rattle.std.specs.Prelude.{◌≡◌, ◌-◌, ◌<◌, ◌^◌, OnOk, OnErr};
-ghost use Rattle.byte_words.specs.Pieces.{zero_page};
+ghost use Rattle.lsn_core.specs.byte_words.Pieces.{zero_page};
 ghost use Rattle.lsn_core.specs.Causes.{HasCause};
 ghost use Rattle.vault.specs.Frame.{ChangesOnly, Adds};
 ghost use Rattle.rel_files.specs.Events.{IsPut};
@@ -55,7 +55,7 @@ impl<V: Vault> Putting for V {
 }
 
 /// A page of zeros.
-#[tactic(auto, unfolding(byte_words::specs::Pieces::zero_page))]
+#[tactic(auto, unfolding(lsn_core::specs::byte_words::Pieces::zero_page))]
 fn zero_page() -> [u8; 8192]
     ensures { result ≡ zero_page }
 {

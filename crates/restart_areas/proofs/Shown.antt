@@ -3,7 +3,7 @@ use Rattle.std.proofs.Common.{◌≡◌, ℕ, zero, suc, ◌<◌, List, [], ◌�
 use Rattle.std.specs.Prelude.{slice_get}
 use Rattle.lsn_core.specs.Store.{Store}
 use Rattle.vault.specs.declared.area.Vault.{Ghosts}
-use Rattle.partitions.specs.Parts.{IsPart}
+use Rattle.history.specs.partitions.Parts.{IsPart}
 use Rattle.rel_files.specs.Shown.{AreFilesOf, HoldsStore}
 use Rattle.rel_files.specs.declared.forks.Forks.{Forks}
 use Rattle.data_areas.specs.declared.areas.DataAreas.{DataAreas}

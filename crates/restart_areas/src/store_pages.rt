@@ -12,8 +12,8 @@ ghost use Rattle.restart_areas.specs.Inside.{CountsCall};
 
 use crate::calls::fault_of_data;
 use data_areas::DataAreas;
+use history::partitions::partition_of;
 use lsn_core::{AreaFault, BlockId, ForkId, Pages, StoreFault};
-use partitions::partition_of;
 use rel_files::Forks;
 use std::alloc::Global;
 use vault::Vault;

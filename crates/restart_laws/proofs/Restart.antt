@@ -7,7 +7,7 @@ use Rattle.std.proofs.lemmas.Bool.{or_parts}
 use Rattle.std.proofs.lemmas.List.Folds.{list_any-append}
 use Rattle.std.proofs.lemmas.List.Elements.{filter-append}
 use Rattle.std.proofs.Math.Nat.{mod-lt}
-use Rattle.byte_words.specs.Numbers.{◌>>=◌}
+use Rattle.lsn_core.specs.byte_words.Numbers.{◌>>=◌}
 use Rattle.lsn_core.specs.declared.ids.ForkId.{ForkId}
 use Rattle.lsn_core.specs.Store.{Store, ForkPages}
 use Rattle.lsn_core.specs.Blocks.{block_of}
@@ -15,16 +15,16 @@ use Rattle.wal_record.specs.declared.record.Record.{Record}
 use Rattle.history.specs.Entry.{Entry}
 use Rattle.history.specs.Apply.{apply_all}
 use Rattle.history.specs.Whole.{entry_of}
-use Rattle.partitions.specs.Parts.{partition_of, is_of}
-use Rattle.fuzzy_copies.specs.Touches.{resets, settles}
-use Rattle.fuzzy_copies.specs.Orderly.{IsOrderly, RecordsRise}
-use Rattle.fuzzy_copies.specs.Sound.{window, state_before, entries_before, Agree, IsSoundCopy}
-use Rattle.fuzzy_copies.specs.Taken.{since}
-use Rattle.fuzzy_copies.specs.Covers.{AreTidy, AreTidyFrom, AgreesUnlessChanged, Covers}
-use Rattle.fuzzy_copies.proofs.Replay.{applied_in_two}
-use Rattle.fuzzy_copies.proofs.Kept.{entries_keep, forks_keep, tidy_front}
-use Rattle.fuzzy_copies.proofs.Covering.{TwoRanges, two_ranges, lagging}
-use Rattle.fuzzy_copies.proofs.Records.{records_complete}
+use Rattle.history.specs.partitions.Parts.{partition_of, is_of}
+use Rattle.history.specs.fuzzy_copies.Touches.{resets, settles}
+use Rattle.history.specs.fuzzy_copies.Orderly.{IsOrderly, RecordsRise}
+use Rattle.history.specs.fuzzy_copies.Sound.{window, state_before, entries_before, Agree, IsSoundCopy}
+use Rattle.history.specs.fuzzy_copies.Taken.{since}
+use Rattle.history.specs.fuzzy_copies.Covers.{AreTidy, AreTidyFrom, AgreesUnlessChanged, Covers}
+use Rattle.history.proofs.fuzzy_copies.Replay.{applied_in_two}
+use Rattle.history.proofs.fuzzy_copies.Kept.{entries_keep, forks_keep, tidy_front}
+use Rattle.history.proofs.fuzzy_copies.Covering.{TwoRanges, two_ranges, lagging}
+use Rattle.history.proofs.fuzzy_copies.Records.{records_complete}
 use Rattle.restart_laws.specs.Restart.{LeaveAlone, AreTidyBehind, IsCopyOf, AreRestorable}
 use Rattle.restart_laws.specs.Laws.{MoreEntriesKeepCovers, EarlierPlacesAreCovered, LostEntriesKeepCovers, RestartsAreWhole}
 

@@ -6,11 +6,11 @@ use Rattle.wal_record.specs.declared.record.Record.{Record}
 use Rattle.history.specs.Entry.{Entry}
 use Rattle.history.specs.Apply.{apply_all}
 use Rattle.history.specs.Whole.{whole}
-use Rattle.fuzzy_copies.specs.Orderly.{IsOrderly}
-use Rattle.fuzzy_copies.specs.Sound.{state_before, entries_before}
-use Rattle.fuzzy_copies.specs.Covers.{AreTidy, AreTidyFrom, AgreesUnlessChanged, Covers}
-use Rattle.fuzzy_copies.specs.CoverLaws.{MakesTidily}
-use Rattle.fuzzy_copies.specs.Recovered.{recovered_records}
+use Rattle.history.specs.fuzzy_copies.Orderly.{IsOrderly}
+use Rattle.history.specs.fuzzy_copies.Sound.{state_before, entries_before}
+use Rattle.history.specs.fuzzy_copies.Covers.{AreTidy, AreTidyFrom, AgreesUnlessChanged, Covers}
+use Rattle.history.specs.fuzzy_copies.CoverLaws.{MakesTidily}
+use Rattle.history.specs.fuzzy_copies.Recovered.{recovered_records}
 use Rattle.restart_laws.specs.Restart.{LeaveAlone, AreTidyBehind, IsCopyOf, AreRestorable}
 
 -- a disk that covers entries covers more of them, where those that start below the place change

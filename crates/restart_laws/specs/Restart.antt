@@ -7,12 +7,12 @@ use Rattle.lsn_core.specs.Store.{Store}
 use Rattle.wal_record.specs.declared.record.Record.{Record}
 use Rattle.history.specs.Entry.{Entry}
 use Rattle.history.specs.Whole.{entry_of}
-use Rattle.partitions.specs.Parts.{partition_of, is_of}
-use Rattle.fuzzy_copies.specs.Touches.{resets, settles}
-use Rattle.fuzzy_copies.specs.Orderly.{RecordsRise}
-use Rattle.fuzzy_copies.specs.Sound.{is_in, window, state_before, IsWrittenAsDelta}
-use Rattle.fuzzy_copies.specs.Taken.{since}
-use Rattle.fuzzy_copies.specs.Covers.{AreTidy, Covers}
+use Rattle.history.specs.partitions.Parts.{partition_of, is_of}
+use Rattle.history.specs.fuzzy_copies.Touches.{resets, settles}
+use Rattle.history.specs.fuzzy_copies.Orderly.{RecordsRise}
+use Rattle.history.specs.fuzzy_copies.Sound.{is_in, window, state_before, IsWrittenAsDelta}
+use Rattle.history.specs.fuzzy_copies.Taken.{since}
+use Rattle.history.specs.fuzzy_copies.Covers.{AreTidy, Covers}
 
 -- entries change nothing of some forks
 pub record LeaveAlone (ours : ForkId → Bool) (entries : List Entry) : Type 0 where

@@ -23,7 +23,7 @@ use Rattle.store_lifecycle.specs.Starts.{AreNamed, AreStarts, fresh_passes}
 use Rattle.store_areas.specs.Begin.{IsBegun, faults_of, shown_of}
 use Rattle.store_lifecycle.specs.Close.{IsClosed}
 use Rattle.shared_summaries.specs.Shelf.{AreShelved}
-use Rattle.summary_publish.specs.Published.{LooksOn}
+use Rattle.shared_summaries.specs.summary_publish.Published.{LooksOn}
 use Rattle.scripts.specs.declared.script.Task.{Task}
 use Rattle.crew.specs.Run.{Basis}
 use Rattle.run_answers.specs.declared.told.Told.{Told}

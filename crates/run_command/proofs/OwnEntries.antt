@@ -28,7 +28,7 @@ use Rattle.history.specs.Laws.{AreWrittenInPlace}
 use Rattle.history.specs.Written.{Before, behind, behind_all, next_record, written, at_first, wal_of}
 use Rattle.history.proofs.Histories.{apply_all-behind}
 use Rattle.history.proofs.WrittenLaws.{written_is_applied}
-use Rattle.fuzzy_copies.specs.Logged.{history_of, log_of, found_before}
+use Rattle.history.specs.fuzzy_copies.Logged.{history_of, log_of, found_before}
 use Rattle.journal.proofs.Ends.{own_alone}
 use Rattle.journal.proofs.Goes.{known_behind}
 use Rattle.shared_store.specs.Seen.{is_number}

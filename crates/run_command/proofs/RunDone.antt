@@ -32,8 +32,8 @@ use Rattle.history.specs.Entry.{Entry}
 use Rattle.history.specs.Apply.{apply_all}
 use Rattle.history.specs.Whole.{entry_of}
 use Rattle.history.specs.Written.{tip_of, wal_of}
-use Rattle.fuzzy_copies.specs.Logged.{history_of, log_of}
-use Rattle.fuzzy_copies.specs.Orderly.{IsOrderly}
+use Rattle.history.specs.fuzzy_copies.Logged.{history_of, log_of}
+use Rattle.history.specs.fuzzy_copies.Orderly.{IsOrderly}
 use Rattle.journal.specs.Lawful.{IsLawful}
 use Rattle.journal.proofs.Stands.{lawful_orderly}
 use Rattle.recovery.specs.Causes.{HasSettings}

@@ -12,7 +12,7 @@ use Rattle.store_faults.specs.declared.incr_fault.IncrFault.TheVariants as incr
 use Rattle.backup_sending.specs.Sent.{SentFile, AreFor, IsCopyOf, IsSentAs, blocks_sent}
 use Rattle.lsn_core.specs.Store.{ForkPages}
 use Rattle.wal_summary.specs.declared.summary.Summary.{Summary}
-use Rattle.summary_publish.specs.Published.{Advances, AdvancesTo, AdvanceAnswers}
+use Rattle.shared_summaries.specs.summary_publish.Published.{Advances, AdvancesTo, AdvanceAnswers}
 use Rattle.store_faults.specs.declared.advance_fault.AdvanceFault.{AdvanceFault}
 use Rattle.store_faults.specs.declared.advance_fault.AdvanceFault.TheVariants as advance
 use Rattle.command_base.specs.Areas.{backup_name}

@@ -6,8 +6,8 @@ ghost use Rattle.scripts.specs.Reasons.{script_limit};
 ghost use Rattle.run_command.specs.Input.{TakesAtMost};
 ghost use Rattle.run_command.specs.Inner.{IsReadOn, IsInputOf};
 
-use byte_words::zeros;
 use lsn_core::AreaFault;
+use lsn_core::byte_words::zeros;
 use scripts::SCRIPT_LIMIT;
 use std::alloc::Global;
 use vault::Source;

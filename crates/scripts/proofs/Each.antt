@@ -1,8 +1,8 @@
 -- Texts that are read one by one, where each has to be read.
 use Rattle.std.proofs.Common.{◌≡◌, ℕ, ◌+◌, ◌<◌, List, [], ◌∷◌, ◌++◌, length, get_or, drop, drop-cons, add-one, suc, Option, Some, None, refl, sym, ap, ◌∙◌, arith, append_assoc, length-append}
 use Rattle.std.proofs.lemmas.List.{append-nil}
-use Rattle.byte_words.specs.Numbers.{◌>>=◌}
-use Rattle.byte_words.proofs.Fields.{bind_some}
+use Rattle.lsn_core.specs.byte_words.Numbers.{◌>>=◌}
+use Rattle.lsn_core.proofs.byte_words.Fields.{bind_some}
 use Rattle.scripts.specs.Items.{each_in}
 
 -- texts before these were read, as these items

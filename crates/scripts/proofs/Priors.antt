@@ -4,7 +4,7 @@ use Rattle.std.specs.Prelude.{bytes_eq, codes, ◌==◌, if◌then◌else◌}
 use Rattle.std.specs.List.{AllByRecursion}
 use Rattle.std.specs.Option.{option_map}
 use Rattle.std.proofs.lemmas.Slice.Eq.{bytes_eq-Decides}
-use Rattle.byte_words.specs.Numbers.{◌>>=◌}
+use Rattle.lsn_core.specs.byte_words.Numbers.{◌>>=◌}
 use Rattle.scripts.specs.declared.script.Command.TheVariants as command
 use Rattle.scripts.specs.declared.script.Line.{Line}
 use Rattle.scripts.specs.declared.script.Task.{Task}
@@ -15,7 +15,7 @@ use Rattle.scripts.specs.Items.{fork_in, rel_in, block_in, shape_in, items_in, g
 use Rattle.scripts.specs.Meaning.{Says, Nothing, Worker, Does, meaning, words_say, only, two, three, change_says, checkpoint_says, summarise_says, incr_says, are_two_names}
 use Rattle.scripts.specs.Script.{IsScript}
 use Rattle.scripts.proofs.Drafts.{SaysSuch, such_drafted}
-use Rattle.text_numbers.specs.Numbers.{number_of}
+use Rattle.lsn_core.specs.text_numbers.Numbers.{number_of}
 
 -- ---- what a line says
 

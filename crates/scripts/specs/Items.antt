@@ -5,9 +5,9 @@ use Rattle.std.specs.List.{position, slice_split}
 use Rattle.std.specs.Option.{option_map}
 use Rattle.std.specs.Result.{result_ok}
 use Rattle.hex.specs.Hex.{decode_of}
-use Rattle.byte_words.specs.Numbers.{◌>>=◌}
-use Rattle.byte_words.specs.Cuts.{cut_at}
-use Rattle.text_numbers.specs.Numbers.{number_of}
+use Rattle.lsn_core.specs.byte_words.Numbers.{◌>>=◌}
+use Rattle.lsn_core.specs.byte_words.Cuts.{cut_at}
+use Rattle.lsn_core.specs.text_numbers.Numbers.{number_of}
 use Rattle.lsn_core.specs.declared.ids.ForkKind.{ForkKind}
 use Rattle.lsn_core.specs.declared.ids.ForkKind.TheVariants.{Main, Init}
 use Rattle.lsn_core.specs.declared.ids.ForkId.{ForkId}

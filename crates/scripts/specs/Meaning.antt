@@ -1,12 +1,12 @@
 -- What a line says.
 use Rattle.std.specs.Prelude.{ℕ, List, [], ◌∷◌, ◌&&◌, Bool, not, Option, Some, None, codes, bytes_eq, ◌==◌, if◌then◌else◌}
 use Rattle.std.specs.Option.{option_map}
-use Rattle.byte_words.specs.Numbers.{◌>>=◌}
+use Rattle.lsn_core.specs.byte_words.Numbers.{◌>>=◌}
 use Rattle.scripts.specs.declared.script.Command.{Command}
 use Rattle.scripts.specs.declared.script.Command.TheVariants.{Insert, Grow, Checkpoint, Flush, Summarise, Full, Incr}
 use Rattle.scripts.specs.declared.order.Order.TheVariants.{Create, Truncate, Change, Drop}
 use Rattle.scripts.specs.Cuts.{words_of, is_name}
-use Rattle.text_numbers.specs.Numbers.{number_of}
+use Rattle.lsn_core.specs.text_numbers.Numbers.{number_of}
 use Rattle.scripts.specs.Items.{fork_in, rel_in, block_in, shape_in, items_in, growth_count, flush_count}
 
 -- nothing, that a worker's lines begin, or a command

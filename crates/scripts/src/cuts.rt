@@ -6,7 +6,7 @@ ghost use Rattle.std.specs.Option.{option_map};
 ghost use Rattle.scripts.specs.Cuts.{is_blank, is_allowed, is_name, is_name_byte};
 ghost use Rattle.scripts.specs.Inside.{WordAnswer};
 
-use byte_words::behind;
+use lsn_core::byte_words::behind;
 
 /// Whether a byte stands between words.
 fn is_blank(b: u8) -> bool

@@ -4,12 +4,12 @@ ghost use Rattle.std.specs.Prelude.{◌≡◌, IfOk};
 ghost use Rattle.std.specs.Option.{option_map};
 ghost use Rattle.scripts.specs.Items.{bytes_in, offset_in, frag_in, frags_in};
 
-use byte_words::cut_at;
 use hex::FromHexError;
 use lsn_core::NoMemory;
+use lsn_core::byte_words::cut_at;
+use lsn_core::text_numbers::digits_in;
 use pg_page::{Frag, Frags};
 use std::alloc::Global;
-use text_numbers::digits_in;
 
 /// The 1 to 8,192 bytes that two hexadecimal digits each write, in either case. None exactly where
 /// the text is no such digits.

@@ -11,10 +11,10 @@ use crate::cuts::first_word;
 use crate::frags::frags_in;
 use crate::order::{OrderEdit, OrderItem, OrderItems};
 use crate::shape::{PageShape, shape_of};
-use byte_words::{behind, cut_at};
+use lsn_core::byte_words::{behind, cut_at};
+use lsn_core::text_numbers::digits_in;
 use lsn_core::{BlockId, ForkId, ForkKind, NoMemory, Rel};
 use std::alloc::Global;
-use text_numbers::digits_in;
 
 /// How many items a line has at most (profile).
 const ITEM_LIMIT: usize = 16;

@@ -13,9 +13,9 @@ use crate::cuts::{first_word, is_name};
 use crate::items::{block_in, flush_count, fork_in, growth_count, items_in, rel_in, shape_in};
 use crate::order::Order;
 use crate::script::Command;
+use lsn_core::text_numbers::digits_in;
 use lsn_core::{NoMemory, Text};
 use std::alloc::Global;
-use text_numbers::digits_in;
 
 /// What a line says: nothing, that a worker's lines begin, or a command.
 #[derive(Drop)]

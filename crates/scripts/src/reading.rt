@@ -14,8 +14,8 @@ use crate::meaning::{Said, meaning};
 use crate::script::{Command, SCRIPT_LIMIT, Script, Task};
 use crate::taken::has_name;
 use crate::why::{ScriptFault, Why};
-use byte_words::{behind, place_of};
 use lsn_core::NoMemory;
+use lsn_core::byte_words::{behind, place_of};
 use std::alloc::Global;
 
 /// Whether a worker has this name.

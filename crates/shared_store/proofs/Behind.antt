@@ -24,9 +24,9 @@ use Rattle.history.specs.Laws.{IsFresh, AreFresh, HasGoodPages}
 use Rattle.history.specs.Pages.{page_count}
 use Rattle.history.specs.Written.{record_of, tip_of}
 use Rattle.history.proofs.Counts.{page_count-insert, page_count-with_fork}
-use Rattle.partitions.specs.Parts.{part_of, IsPart, ConcernsNoOther}
-use Rattle.partitions.proofs.Folds.{parts_fold}
-use Rattle.partitions.proofs.OwnActs.{own_done}
+use Rattle.history.specs.partitions.Parts.{part_of, IsPart, ConcernsNoOther}
+use Rattle.history.proofs.partitions.Folds.{parts_fold}
+use Rattle.history.proofs.partitions.OwnActs.{own_done}
 use Rattle.journal.specs.Journal.{IsTold, MayFollow}
 use Rattle.journal.proofs.Follows.{empty_part, parts_follow}
 use Rattle.journal.proofs.Parting.{kinds_told}

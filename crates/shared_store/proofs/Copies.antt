@@ -23,13 +23,13 @@ use Rattle.rel_files.proofs.ForkStores.{mended_get, mended_none}
 use Rattle.history.specs.Entry.{Act, Create, Truncate, Change, Drop, Mark, NoOp, Entry}
 use Rattle.history.specs.Apply.{main_fork, init_fork, is_same_fork, is_fork_of, is_of_any}
 use Rattle.history.proofs.Stores.{by_test, fork_is}
-use Rattle.partitions.specs.Parts.{is_of, is_rel_of, act_part, part_of, IsPart}
-use Rattle.fuzzy_copies.specs.Taken.{since, IsBlockCopied, IsListed}
-use Rattle.fuzzy_copies.specs.CoverLaws.{AnswersCopier}
-use Rattle.fuzzy_copies.proofs.Covering.{answers}
+use Rattle.history.specs.partitions.Parts.{is_of, is_rel_of, act_part, part_of, IsPart}
+use Rattle.history.specs.fuzzy_copies.Taken.{since, IsBlockCopied, IsListed}
+use Rattle.history.specs.fuzzy_copies.CoverLaws.{AnswersCopier}
+use Rattle.history.proofs.fuzzy_copies.Covering.{answers}
 use Rattle.history.specs.Apply.{apply_all}
-use Rattle.partitions.specs.Parts.{part_of}
-use Rattle.partitions.proofs.Folds.{parts_fold}
+use Rattle.history.specs.partitions.Parts.{part_of}
+use Rattle.history.proofs.partitions.Folds.{parts_fold}
 use Rattle.journal.specs.Lawful.{IsLawful}
 use Rattle.journal.proofs.Follows.{empty_part}
 use Rattle.journal.proofs.Stands.{lawful_orderly, own_is_tidy}

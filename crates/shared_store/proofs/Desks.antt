@@ -11,7 +11,7 @@ use Rattle.history.specs.declared.op.Op.{Op}
 use Rattle.history.specs.declared.op.Op.TheVariants as op
 use Rattle.history.specs.Entry.{Entry, Marking, is_of_run}
 use Rattle.history.specs.Op.{act_of_op}
-use Rattle.partitions.specs.Parts.{concerns, act_concerns, is_item_of, is_rel_of, partition_of, ConcernsNoOther}
+use Rattle.history.specs.partitions.Parts.{concerns, act_concerns, is_item_of, is_rel_of, partition_of, ConcernsNoOther}
 use Rattle.journal.specs.Journal.{Written}
 use Rattle.page_pool.specs.Ready.{HasItems}
 use Rattle.store_ledgers.specs.Counts.{Counts, Held, count_at, counted}

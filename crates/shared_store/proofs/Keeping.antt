@@ -15,8 +15,8 @@ use Rattle.wal_writer.specs.Log.{Log, IsLog}
 use Rattle.history.specs.Entry.{Entry, Marking, RedoMark, is_of_run}
 use Rattle.history.specs.Written.{tip_past, tip_over, tip_of}
 use Rattle.history.proofs.Pushes.{all_first, all_rest}
-use Rattle.partitions.specs.Parts.{concerns}
-use Rattle.fuzzy_copies.specs.Orderly.{AllEndBy}
+use Rattle.history.specs.partitions.Parts.{concerns}
+use Rattle.history.specs.fuzzy_copies.Orderly.{AllEndBy}
 use Rattle.journal.specs.Journal.{EndsWith}
 use Rattle.journal.specs.Lawful.{IsLawful}
 use Rattle.page_pool.specs.Part.{Part}

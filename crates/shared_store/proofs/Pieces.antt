@@ -28,12 +28,12 @@ use Rattle.wal_reader.specs.declared.fault.WalFault.{WalFault}
 use Rattle.wal_reader.specs.declared.fault.WalFault.TheVariants as wal
 use Rattle.wal_reader.specs.Wal.{tip_at}
 use Rattle.wal_writer.specs.Log.{Log, IsLog}
-use Rattle.wal_pieces.specs.Piece.{AreGiven, IsPiece, HasDamagedPiece, PieceAnswer}
-use Rattle.wal_pieces.specs.Laws.{is_place_of as is_record_place, IsPlaceAmong, from_place}
-use Rattle.wal_pieces.proofs.Places.{Rise, known_rise, going_on, going_on_whole, none_behind}
+use Rattle.wal_reader.specs.wal_pieces.Piece.{AreGiven, IsPiece, HasDamagedPiece, PieceAnswer}
+use Rattle.wal_reader.specs.wal_pieces.Laws.{is_place_of as is_record_place, IsPlaceAmong, from_place}
+use Rattle.wal_reader.proofs.wal_pieces.Places.{Rise, known_rise, going_on, going_on_whole, none_behind}
 use Rattle.history.specs.Entry.{Entry}
 use Rattle.history.specs.Written.{tip_of}
-use Rattle.fuzzy_copies.specs.Logged.{log_of}
+use Rattle.history.specs.fuzzy_copies.Logged.{log_of}
 use Rattle.journal.specs.Lawful.{StandInPlace}
 use Rattle.journal.specs.Journal.{EndsWith, Written, IsJournal}
 use Rattle.journal.proofs.Ends.{entry_ends, record_ends, log_ends}

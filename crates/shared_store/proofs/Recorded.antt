@@ -21,7 +21,7 @@ use Rattle.wal_writer.specs.Log.{Log, IsLog}
 use Rattle.wal_writer.specs.Laws.{Waits}
 use Rattle.history.specs.Entry.{Entry}
 use Rattle.history.specs.Written.{tip_of}
-use Rattle.fuzzy_copies.specs.Logged.{log_of}
+use Rattle.history.specs.fuzzy_copies.Logged.{log_of}
 use Rattle.journal.specs.Lawful.{IsLawful}
 use Rattle.journal.specs.Journal.{HoldsLog, IsTold, IsJournal, IsEndOf, Written}
 

@@ -9,10 +9,10 @@ use Rattle.wal_record.specs.Tips.{first_tip}
 use Rattle.wal_writer.specs.Log.{Log, IsLog}
 use Rattle.history.specs.Entry.{Entry, is_of_run}
 use Rattle.history.specs.Written.{is_redo, tip_past, tip_over, tip_of}
-use Rattle.fuzzy_copies.specs.Orderly.{IsOrderly, AreOwnFrom}
-use Rattle.fuzzy_copies.specs.Covers.{AreTidyFrom}
-use Rattle.fuzzy_copies.proofs.Completed.{or_second}
-use Rattle.fuzzy_copies.proofs.Taken.{any_weaker}
+use Rattle.history.specs.fuzzy_copies.Orderly.{IsOrderly, AreOwnFrom}
+use Rattle.history.specs.fuzzy_copies.Covers.{AreTidyFrom}
+use Rattle.history.proofs.fuzzy_copies.Completed.{or_second}
+use Rattle.history.proofs.fuzzy_copies.Taken.{any_weaker}
 use Rattle.journal.specs.Lawful.{IsLawful}
 use Rattle.journal.specs.Journal.{EndsWith}
 use Rattle.journal.proofs.Stands.{lawful_orderly, own_places}

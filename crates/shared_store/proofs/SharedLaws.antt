@@ -11,7 +11,7 @@ use Rattle.journal.specs.Journal.{IsEndOf}
 use Rattle.journal.proofs.Ends.{end_pushed}
 use Rattle.shared_store.specs.Copied.{is_redo_at}
 use Rattle.shared_store.specs.Shared.{CheckpointsLeaveRedoPoints, EndsComeBehind}
-use Rattle.fuzzy_copies.proofs.Taken.{any_weaker}
+use Rattle.history.proofs.fuzzy_copies.Taken.{any_weaker}
 
 some_own : (o : Option ℕ) (worker : ℕ) → o ≡ Some worker → is_some o ≡ true
 some_own o worker e = ap (λ (x : Option ℕ). is_some x) e

@@ -12,7 +12,7 @@ use Rattle.lsn_core.specs.declared.lsn.Place.{Place}
 use Rattle.lsn_core.specs.declared.fault.MarkFault.{MarkFault}
 use Rattle.wal_writer.specs.declared.state.Flushed.{Flushed}
 use Rattle.history.specs.Entry.{Entry, Marking, Mark, is_of_run}
-use Rattle.partitions.specs.Parts.{concerns}
+use Rattle.history.specs.partitions.Parts.{concerns}
 use Rattle.journal.specs.Journal.{Written}
 use Rattle.journal.specs.Lawful.{IsLawful}
 use Rattle.page_pool.specs.Part.{Part}

@@ -11,10 +11,10 @@ use Rattle.wal_record.specs.Tips.{first_tip, wal_limit}
 use Rattle.wal_archive.specs.Archive.{archive_of}
 use Rattle.wal_archive.specs.Laws.{HasNoGap}
 use Rattle.wal_reader.specs.Wal.{IsWal, ReadsOn}
-use Rattle.wal_pieces.specs.Laws.{from_place}
+use Rattle.wal_reader.specs.wal_pieces.Laws.{from_place}
 use Rattle.history.specs.Entry.{Entry}
 use Rattle.history.specs.Written.{tip_of}
-use Rattle.fuzzy_copies.specs.Logged.{log_of}
+use Rattle.history.specs.fuzzy_copies.Logged.{log_of}
 use Rattle.journal.specs.Lawful.{IsLawful}
 
 -- an entry starts at a place, or ends there

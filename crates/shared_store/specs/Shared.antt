@@ -15,8 +15,8 @@ use Rattle.shared_store.specs.declared.receipt.Redo.{Redo}
 use Rattle.shared_store.specs.Seen.{Seen, Booked, accepted_by, marks_by, TakesFault, BooksOne, BooksIf, failed_area}
 use Rattle.shared_store.specs.Locked.{Standing, AreNumbered, made_in}
 use Rattle.shared_store.specs.Refusals.{IsRefusedBehind}
-use Rattle.fuzzy_copies.specs.Orderly.{AllEndBy}
-use Rattle.fuzzy_copies.specs.Taken.{IsSeen}
+use Rattle.history.specs.fuzzy_copies.Orderly.{AllEndBy}
+use Rattle.history.specs.fuzzy_copies.Taken.{IsSeen}
 use Rattle.wal_record.specs.Tips.{wal_limit}
 use Rattle.shared_store.specs.Copied.{HasRedoPoint}
 use Rattle.shared_store.specs.Calls.{IsReceipt, IsTaken, IsMarkOf, HasNoRoom}

@@ -1,8 +1,8 @@
 //! The value under the lock of a partition.
 
 ghost use Rattle.std.specs.Prelude.{◌≡◌, ◌+◌, ◌≤◌, max, true, Some, None, IfOk, OnOk, if◌then◌else◌};
-ghost use Rattle.partitions.specs.Parts.{is_of};
-ghost use Rattle.fuzzy_copies.specs.Taken.{IsBlockCopied};
+ghost use Rattle.history.specs.partitions.Parts.{is_of};
+ghost use Rattle.history.specs.fuzzy_copies.Taken.{IsBlockCopied};
 ghost use Rattle.page_pool.specs.Facts.{history_end};
 ghost use Rattle.page_pool.specs.Calls.{MayWriteNext, MayWriteAll};
 ghost use Rattle.page_pool.specs.Ready.{HasItems};

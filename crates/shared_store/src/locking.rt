@@ -2,8 +2,8 @@
 //! for the history and the WAL alone, and not while a data area is read or written.
 
 ghost use Rattle.std.specs.Prelude.{◌≡◌, ◌<◌, ◌≤◌, true, IfOk, OnOk};
-ghost use Rattle.partitions.specs.Parts.{is_of};
-ghost use Rattle.fuzzy_copies.specs.Taken.{IsBlockCopied};
+ghost use Rattle.history.specs.partitions.Parts.{is_of};
+ghost use Rattle.history.specs.fuzzy_copies.Taken.{IsBlockCopied};
 ghost use Rattle.page_pool.specs.Facts.{history_end};
 ghost use Rattle.page_pool.specs.Calls.{MayWriteNext, MayWriteAll};
 ghost use Rattle.journal.specs.Lawful.{IsLawful};

@@ -5,7 +5,7 @@ use Rattle.lsn_core.specs.declared.ids.ForkId.{ForkId}
 use Rattle.lsn_core.specs.Store.{Store}
 use Rattle.lsn_core.specs.Blocks.{block_of}
 use Rattle.history.specs.Entry.{Entry}
-use Rattle.fuzzy_copies.specs.Touches.{resets}
+use Rattle.history.specs.fuzzy_copies.Touches.{resets}
 use Rattle.stop_areas.specs.Left.{HasWhatStays}
 use Rattle.stop_areas.proofs.Found.{left_held}
 use Rattle.stop_laws.specs.Window.{base_of}

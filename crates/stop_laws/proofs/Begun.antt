@@ -4,7 +4,7 @@ use Rattle.std.specs.Prelude.{slice_get}
 use Rattle.std.specs.List.{All, list_any}
 use Rattle.std.proofs.lemmas.List.Elements.{All-nil, All-cons}
 use Rattle.std.specs.FinMap.{empty}
-use Rattle.byte_words.specs.Numbers.{◌>>=◌}
+use Rattle.lsn_core.specs.byte_words.Numbers.{◌>>=◌}
 use Rattle.lsn_core.specs.declared.ids.ForkId.{ForkId}
 use Rattle.lsn_core.specs.Files.{Files}
 use Rattle.lsn_core.specs.Store.{Store, ForkPages}
@@ -14,11 +14,11 @@ use Rattle.vault.specs.Stops.{Event}
 use Rattle.rel_files.specs.Forks.{Holds, HasWholePages}
 use Rattle.history.specs.Entry.{Entry}
 use Rattle.history.specs.Apply.{apply_all}
-use Rattle.partitions.specs.Parts.{is_of, part_of, IsPart, concerns}
-use Rattle.partitions.proofs.Puts.{own}
-use Rattle.fuzzy_copies.specs.Touches.{resets}
-use Rattle.fuzzy_copies.specs.Taken.{since}
-use Rattle.fuzzy_copies.proofs.Kept.{entries_keep, forks_keep}
+use Rattle.history.specs.partitions.Parts.{is_of, part_of, IsPart, concerns}
+use Rattle.history.proofs.partitions.Puts.{own}
+use Rattle.history.specs.fuzzy_copies.Touches.{resets}
+use Rattle.history.specs.fuzzy_copies.Taken.{since}
+use Rattle.history.proofs.fuzzy_copies.Kept.{entries_keep, forks_keep}
 use Rattle.stop_areas.specs.Left.{Base, HasWhatStays, IsLeftOf}
 use Rattle.stop_areas.proofs.Held.{held_left}
 use Rattle.page_pool.specs.Part.{Part}

@@ -5,7 +5,7 @@ use Rattle.std.specs.List.{AllByRecursion, list_any, filter}
 use Rattle.std.specs.FinMap.{get, empty, get-empty}
 use Rattle.std.proofs.lemmas.Bool.{and_parts, or_parts}
 use Rattle.std.proofs.lemmas.Bool.Decides.{leb_tells}
-use Rattle.byte_words.specs.Numbers.{◌>>=◌}
+use Rattle.lsn_core.specs.byte_words.Numbers.{◌>>=◌}
 use Rattle.lsn_core.specs.Relation.{Relation}
 use Rattle.lsn_core.specs.declared.ids.ForkId.{ForkId}
 use Rattle.lsn_core.specs.declared.ids.BlockId.{BlockId}
@@ -16,13 +16,13 @@ use Rattle.history.specs.Entry.{Act, Create, Truncate, Change, Drop, Mark, Entry
 use Rattle.history.specs.Apply.{edited, main_fork, init_fork, is_same_fork, is_fork_of, is_of_any, apply, apply_act, apply_all}
 use Rattle.history.specs.Op.{IsTidy}
 use Rattle.history.proofs.Stores.{by_test, fork_is, block_is}
-use Rattle.partitions.specs.Parts.{is_of, is_item_of, is_rel_of, act_part, part_of, IsPart, act_concerns, concerns}
-use Rattle.partitions.proofs.Folds.{parts_fold}
-use Rattle.fuzzy_copies.specs.Touches.{is_at, act_touches, act_cuts, act_settles, touches, resets, settles}
-use Rattle.fuzzy_copies.specs.Effects.{Clear, Stay, after}
-use Rattle.fuzzy_copies.specs.Covers.{AreTidy}
-use Rattle.fuzzy_copies.proofs.View.{middle, act_view}
-use Rattle.fuzzy_copies.proofs.Kept.{entries_keep}
+use Rattle.history.specs.partitions.Parts.{is_of, is_item_of, is_rel_of, act_part, part_of, IsPart, act_concerns, concerns}
+use Rattle.history.proofs.partitions.Folds.{parts_fold}
+use Rattle.history.specs.fuzzy_copies.Touches.{is_at, act_touches, act_cuts, act_settles, touches, resets, settles}
+use Rattle.history.specs.fuzzy_copies.Effects.{Clear, Stay, after}
+use Rattle.history.specs.fuzzy_copies.Covers.{AreTidy}
+use Rattle.history.proofs.fuzzy_copies.View.{middle, act_view}
+use Rattle.history.proofs.fuzzy_copies.Kept.{entries_keep}
 use Rattle.page_pool.specs.Facts.{touch_over}
 
 -- ---- the last touch

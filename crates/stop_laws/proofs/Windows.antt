@@ -10,14 +10,14 @@ use Rattle.std.proofs.lemmas.List.Folds.{list_any-append}
 use Rattle.history.specs.Entry.{Entry}
 use Rattle.history.specs.Apply.{apply_all}
 use Rattle.history.proofs.Stores.{by_test}
-use Rattle.fuzzy_copies.specs.Touches.{resets, settles}
-use Rattle.fuzzy_copies.specs.Sound.{state_before, entries_before}
-use Rattle.fuzzy_copies.specs.Taken.{since}
-use Rattle.fuzzy_copies.specs.Covers.{AreTidy}
-use Rattle.fuzzy_copies.proofs.View.{middle}
-use Rattle.fuzzy_copies.proofs.Replay.{applied_in_two}
-use Rattle.fuzzy_copies.proofs.Taken.{rising_front, two_parts}
-use Rattle.fuzzy_copies.proofs.Kept.{tidy_front, tidy_behind}
+use Rattle.history.specs.fuzzy_copies.Touches.{resets, settles}
+use Rattle.history.specs.fuzzy_copies.Sound.{state_before, entries_before}
+use Rattle.history.specs.fuzzy_copies.Taken.{since}
+use Rattle.history.specs.fuzzy_copies.Covers.{AreTidy}
+use Rattle.history.proofs.fuzzy_copies.View.{middle}
+use Rattle.history.proofs.fuzzy_copies.Replay.{applied_in_two}
+use Rattle.history.proofs.fuzzy_copies.Taken.{rising_front, two_parts}
+use Rattle.history.proofs.fuzzy_copies.Kept.{tidy_front, tidy_behind}
 use Rattle.stop_laws.specs.Laws.{HistoriesHaveWindows, WindowsGrow}
 
 -- where none starts below a place, all start there or past it

@@ -9,7 +9,7 @@ use Rattle.std.proofs.lemmas.List.{map-append}
 use Rattle.std.proofs.lemmas.List.Elements.{filter-append, recursion_from_All}
 use Rattle.std.proofs.lemmas.List.Folds.{list_any-append}
 use Rattle.std.proofs.lemmas.List.Sums.{fold-append}
-use Rattle.byte_words.specs.Numbers.{◌>>=◌}
+use Rattle.lsn_core.specs.byte_words.Numbers.{◌>>=◌}
 use Rattle.lsn_core.specs.declared.ids.ForkId.{ForkId}
 use Rattle.lsn_core.specs.declared.ids.BlockId.{BlockId}
 use Rattle.lsn_core.specs.Store.{Store, ForkPages}
@@ -18,11 +18,11 @@ use Rattle.history.specs.Entry.{Entry}
 use Rattle.history.specs.Apply.{apply_all}
 use Rattle.history.proofs.Stores.{by_test, fork_self}
 use Rattle.history.proofs.Pushes.{all_weaker}
-use Rattle.partitions.specs.Parts.{is_of, part_of, IsPart}
-use Rattle.partitions.proofs.Puts.{own}
-use Rattle.fuzzy_copies.specs.Touches.{act_cuts, touches, resets, settles}
-use Rattle.fuzzy_copies.specs.Taken.{since}
-use Rattle.fuzzy_copies.proofs.Kept.{entries_keep, forks_keep}
+use Rattle.history.specs.partitions.Parts.{is_of, part_of, IsPart}
+use Rattle.history.proofs.partitions.Puts.{own}
+use Rattle.history.specs.fuzzy_copies.Touches.{act_cuts, touches, resets, settles}
+use Rattle.history.specs.fuzzy_copies.Taken.{since}
+use Rattle.history.proofs.fuzzy_copies.Kept.{entries_keep, forks_keep}
 use Rattle.page_frames.specs.Marks.{DirtyMarks, touch_end, is_dirty}
 use Rattle.page_frames.specs.Overlay.{marks_over}
 use Rattle.page_frames.proofs.Overlays.{block_over, dirty_there}

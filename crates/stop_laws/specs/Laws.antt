@@ -8,10 +8,10 @@ use Rattle.lsn_core.specs.Store.{Store}
 use Rattle.vault.specs.Frame.{LeavesNow, LeavesOnly}
 use Rattle.rel_files.specs.Forks.{Holds, HasWholePages}
 use Rattle.history.specs.Entry.{Entry}
-use Rattle.partitions.specs.Parts.{concerns}
-use Rattle.fuzzy_copies.specs.Sound.{entries_before}
-use Rattle.fuzzy_copies.specs.Covers.{AgreesUnlessChanged}
-use Rattle.fuzzy_copies.specs.CoverLaws.{MakesTidily}
+use Rattle.history.specs.partitions.Parts.{concerns}
+use Rattle.history.specs.fuzzy_copies.Sound.{entries_before}
+use Rattle.history.specs.fuzzy_copies.Covers.{AgreesUnlessChanged}
+use Rattle.history.specs.fuzzy_copies.CoverLaws.{MakesTidily}
 use Rattle.stop_areas.specs.Left.{ChangesMore, IsLeftOf}
 use Rattle.page_pool.specs.Part.{Part}
 use Rattle.page_pool.specs.Calls.{AreWholePages, HoldsFrames}

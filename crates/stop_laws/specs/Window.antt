@@ -7,11 +7,11 @@ use Rattle.lsn_core.specs.declared.ids.BlockId.{BlockId}
 use Rattle.lsn_core.specs.Store.{Store}
 use Rattle.history.specs.Entry.{Entry}
 use Rattle.history.specs.Apply.{apply_all}
-use Rattle.partitions.specs.Parts.{is_of}
-use Rattle.fuzzy_copies.specs.Touches.{resets, settles}
-use Rattle.fuzzy_copies.specs.Sound.{entries_before, state_before}
-use Rattle.fuzzy_copies.specs.Taken.{since}
-use Rattle.fuzzy_copies.specs.Covers.{AreTidy}
+use Rattle.history.specs.partitions.Parts.{is_of}
+use Rattle.history.specs.fuzzy_copies.Touches.{resets, settles}
+use Rattle.history.specs.fuzzy_copies.Sound.{entries_before, state_before}
+use Rattle.history.specs.fuzzy_copies.Taken.{since}
+use Rattle.history.specs.fuzzy_copies.Covers.{AreTidy}
 use Rattle.page_frames.specs.Overlay.{pages_over, marks_over}
 use Rattle.stop_areas.specs.Left.{Base}
 use Rattle.page_pool.specs.Part.{Part}

@@ -6,16 +6,16 @@ use Rattle.std.proofs.lemmas.Bool.{le-ltb}
 use Rattle.std.proofs.lemmas.List.Elements.{filter-append, All-push}
 use Rattle.lsn_core.specs.declared.ids.ForkId.{ForkId}
 use Rattle.lsn_core.specs.Files.{Files}
-use Rattle.byte_words.specs.Numbers.{◌>>=◌}
+use Rattle.lsn_core.specs.byte_words.Numbers.{◌>>=◌}
 use Rattle.lsn_core.specs.Store.{Store, ForkPages}
 use Rattle.lsn_core.specs.Blocks.{block_of}
 use Rattle.vault.specs.Stops.{Event, synced}
 use Rattle.vault.specs.Frame.{Each, LeavesNow, LeavesOnly}
 use Rattle.history.specs.Entry.{Entry}
 use Rattle.history.specs.Apply.{apply_all}
-use Rattle.fuzzy_copies.specs.Sound.{state_before, entries_before}
-use Rattle.fuzzy_copies.specs.Taken.{since}
-use Rattle.fuzzy_copies.proofs.Kept.{entries_keep, forks_keep}
+use Rattle.history.specs.fuzzy_copies.Sound.{state_before, entries_before}
+use Rattle.history.specs.fuzzy_copies.Taken.{since}
+use Rattle.history.proofs.fuzzy_copies.Kept.{entries_keep, forks_keep}
 use Rattle.stop_areas.specs.Left.{Base, HasWhatStays, IsLeftOf}
 use Rattle.stop_areas.specs.Keeps.{Keeps}
 use Rattle.stop_areas.proofs.Kept.{stops_keep_pages}

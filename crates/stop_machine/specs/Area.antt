@@ -9,8 +9,8 @@ use Rattle.lsn_core.specs.Store.{Store}
 use Rattle.vault.specs.Stops.{Event, synced}
 use Rattle.vault.specs.Frame.{Each, LeavesNow}
 use Rattle.history.specs.Entry.{Entry}
-use Rattle.fuzzy_copies.specs.Sound.{state_before, entries_before}
-use Rattle.fuzzy_copies.specs.Taken.{since}
+use Rattle.history.specs.fuzzy_copies.Sound.{state_before, entries_before}
+use Rattle.history.specs.fuzzy_copies.Taken.{since}
 use Rattle.rel_files.specs.Forks.{Holds, HasWholePages}
 use Rattle.stop_areas.specs.Left.{IsLeftOf}
 use Rattle.stop_areas.specs.Keeps.{Keeps}

@@ -3,7 +3,7 @@ use Rattle.std.specs.Prelude.{◌≡◌, ◌<◌, ℕ, Bool, List, [], ◌∷◌
 use Rattle.lsn_core.specs.declared.ids.ForkId.{ForkId}
 use Rattle.lsn_core.specs.Store.{Store}
 use Rattle.vault.specs.Frame.{LeavesOnly}
-use Rattle.fuzzy_copies.specs.Sound.{state_before}
+use Rattle.history.specs.fuzzy_copies.Sound.{state_before}
 use Rattle.stop_machine.specs.Area.{Area, Step, after, IsLeftAt, IsSafe, MayStep}
 
 -- a stop at any moment of a step of a safe area leaves what stays, and the area is safe behind it

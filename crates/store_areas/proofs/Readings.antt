@@ -3,7 +3,7 @@ use Rattle.std.proofs.Common.{◌≡◌, ℕ, ◌+◌, ◌<◌, ◌≤◌, true,
 use Rattle.std.specs.FinMap.{empty}
 use Rattle.std.proofs.lemmas.List.{length-map}
 use Rattle.std.proofs.lemmas.List.Elements.{All-nil, All-cons}
-use Rattle.byte_words.specs.Told.{when_told}
+use Rattle.lsn_core.specs.byte_words.Told.{when_told}
 use Rattle.lsn_core.specs.Files.{Files}
 use Rattle.lsn_core.specs.Segment.{StoreSettings}
 use Rattle.lsn_core.specs.Tip.{Tip}
@@ -16,7 +16,7 @@ use Rattle.history.specs.Entry.{Entry}
 use Rattle.history.specs.Apply.{apply_all}
 use Rattle.history.specs.Whole.{entry_of, whole}
 use Rattle.history.proofs.Histories.{tip_over_read}
-use Rattle.fuzzy_copies.specs.Orderly.{AllEndBy}
+use Rattle.history.specs.fuzzy_copies.Orderly.{AllEndBy}
 use Rattle.journal.specs.Journal.{EndsWith, IsTold}
 use Rattle.journal.proofs.Begun.{found_told}
 use Rattle.recovery.specs.Onward.{AllEndBy as EndBy}

@@ -19,7 +19,7 @@ use Rattle.recovery.specs.Causes.{RecoveryCauses, CauseOf, HasSettings, wal_caus
 use Rattle.recovery.specs.Reading.{IsReadTo}
 use Rattle.recovery.specs.declared.fault.RecoveryFault.{RecoveryFault}
 use Rattle.recovery.specs.declared.fault.RecoveryFault.TheVariants as recovery
-use Rattle.partitions.specs.Parts.{IsPart}
+use Rattle.history.specs.partitions.Parts.{IsPart}
 use Rattle.data_areas.specs.declared.areas.DataAreas.{DataAreas}
 use Rattle.data_areas.specs.Phases.{HaveMarkSince, CameSoFar}
 use Rattle.store_areas.specs.declared.areas.StoreAreas.{StoreAreas}

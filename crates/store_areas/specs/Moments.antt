@@ -14,7 +14,7 @@ use Rattle.history.specs.Apply.{apply_all}
 use Rattle.history.specs.Whole.{entry_of}
 use Rattle.recovery.specs.Causes.{HasSettings}
 use Rattle.recovery.specs.Reading.{IsReadTo}
-use Rattle.partitions.specs.Parts.{IsPart}
+use Rattle.history.specs.partitions.Parts.{IsPart}
 use Rattle.data_areas.specs.declared.areas.DataAreas.{DataAreas}
 use Rattle.data_areas.specs.Areas.{area_of}
 use Rattle.data_areas.specs.Marking.{rebuilding_name}

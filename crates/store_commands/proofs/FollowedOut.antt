@@ -1,7 +1,7 @@
 -- What a stream that was followed leaves in an area that was empty.
 use Rattle.std.proofs.Common.{Bool, true, ◌≡◌, ℕ, ◌≤◌, List, [], ◌∷◌, Option, Some, None, IfSome, IfOk, option_map, Result, Ok, Err, refl, ap, sym, subst, ◌∙◌, arith}
 use Rattle.std.specs.FinMap.{empty, len}
-use Rattle.byte_words.specs.Told.{when_told}
+use Rattle.lsn_core.specs.byte_words.Told.{when_told}
 use Rattle.lsn_core.specs.Causes.{HasCause, Rose}
 use Rattle.lsn_core.specs.Files.{Files}
 use Rattle.lsn_core.specs.Store.{Store, files_of}

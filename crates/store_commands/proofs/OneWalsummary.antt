@@ -3,7 +3,7 @@ use Rattle.std.proofs.Common.{◌≡◌, ℕ, ◌<◌, ◌≤◌, List, [], ◌�
 use Rattle.std.proofs.lemmas.Bool.Decides.{leb_tells}
 use Rattle.lsn_core.specs.Files.{Files}
 use Rattle.lsn_core.specs.declared.lsn.Lsn.{Lsn}
-use Rattle.fuzzy_copies.specs.Summary.{summed}
+use Rattle.history.specs.fuzzy_copies.Summary.{summed}
 use Rattle.vault.specs.declared.lending.TakeFault.{TakeFault}
 use Rattle.vault.specs.Site.{AreaState}
 use Rattle.wal_summary.specs.declared.summary.ForkSummary.{ForkSummary}

@@ -1,6 +1,6 @@
 -- Why a WAL can't be replayed, by what each of its readings was refused for.
 use Rattle.std.proofs.Common.{◌≡◌, ℕ, ◌≤◌, true, Option, IfSome, refl, arith}
-use Rattle.byte_words.specs.Told.{when_both_told}
+use Rattle.lsn_core.specs.byte_words.Told.{when_both_told}
 use Rattle.lsn_core.specs.Causes.{Rose}
 use Rattle.lsn_core.specs.Files.{Files}
 use Rattle.lsn_core.specs.Segment.{StoreSettings}

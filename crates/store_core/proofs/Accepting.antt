@@ -3,7 +3,7 @@ use Rattle.std.proofs.Common.{◌≡◌, ℕ, ◌+◌, ◌<◌, ◌≤◌, Bool,
 use Rattle.std.specs.Prelude.{◌==◌, nat_lt, slice_get}
 use Rattle.std.specs.Option.{option_or}
 use Rattle.std.proofs.lemmas.Bool.{lt-ltb, le-ltb}
-use Rattle.byte_words.proofs.Fields.{bind_some}
+use Rattle.lsn_core.proofs.byte_words.Fields.{bind_some}
 use Rattle.lsn_core.specs.declared.lsn.Place.{Place}
 use Rattle.lsn_core.specs.Store.{Store}
 use Rattle.lsn_core.specs.Tip.{Tip}

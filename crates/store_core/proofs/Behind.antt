@@ -6,7 +6,7 @@ use Rattle.std.specs.FinMap.{get, get-remove, contains_key}
 use Rattle.std.proofs.lemmas.Bool.{or_parts, and_parts, ltb-true, lt-ltb}
 use Rattle.std.proofs.lemmas.List.Folds.{list_any-append}
 use Rattle.std.proofs.Math.Bool.{and-false, and-true, or-false, or-true}
-use Rattle.byte_words.specs.Numbers.{◌>>=◌}
+use Rattle.lsn_core.specs.byte_words.Numbers.{◌>>=◌}
 use Rattle.lsn_core.specs.Relation.{Relation}
 use Rattle.lsn_core.proofs.ForkOrder.{fork_cmp_total}
 use Rattle.lsn_core.specs.declared.ids.ForkId.{ForkId}
@@ -22,13 +22,13 @@ use Rattle.history.specs.Apply.{Rule, main_fork, init_fork, without_rel, without
 use Rattle.history.specs.Op.{IsTidyCut, IsTidy}
 use Rattle.history.specs.Whole.{is_named}
 use Rattle.history.proofs.Stores.{by_test, block_is, block_self, fork_is, page_found}
-use Rattle.fuzzy_copies.specs.Touches.{is_at, act_touches, act_cuts, act_settles}
-use Rattle.fuzzy_copies.specs.Effects.{Stay, Reach, Alter, Clear, after, after_all, is_past, item_effect}
-use Rattle.fuzzy_copies.proofs.Pages.{put_view, cut_view, drop_view, fork_view, absorbed, contains_key-insert, contains_key-with_fork, contains_key-with_cut}
-use Rattle.fuzzy_copies.proofs.View.{middle, mapped, act_view, act_forks}
-use Rattle.fuzzy_copies.proofs.Completed.{either_none}
-use Rattle.fuzzy_copies.proofs.Taken.{listed_blocks}
-use Rattle.fuzzy_copies.proofs.Kept.{entries_keep, forks_keep}
+use Rattle.history.specs.fuzzy_copies.Touches.{is_at, act_touches, act_cuts, act_settles}
+use Rattle.history.specs.fuzzy_copies.Effects.{Stay, Reach, Alter, Clear, after, after_all, is_past, item_effect}
+use Rattle.history.proofs.fuzzy_copies.Pages.{put_view, cut_view, drop_view, fork_view, absorbed, contains_key-insert, contains_key-with_fork, contains_key-with_cut}
+use Rattle.history.proofs.fuzzy_copies.View.{middle, mapped, act_view, act_forks}
+use Rattle.history.proofs.fuzzy_copies.Completed.{either_none}
+use Rattle.history.proofs.fuzzy_copies.Taken.{listed_blocks}
+use Rattle.history.proofs.fuzzy_copies.Kept.{entries_keep, forks_keep}
 use Rattle.store_core.specs.declared.step.Work.{Work}
 use Rattle.store_core.specs.declared.step.Work.TheVariants.{Make, Cut, Remove}
 use Rattle.store_core.specs.Parts.{dirty_after, with_removal, works_dropped, works_after, work_done}

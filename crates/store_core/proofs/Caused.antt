@@ -6,7 +6,7 @@ use Rattle.std.specs.FinMap.{empty, contains_key}
 use Rattle.std.proofs.lemmas.Bool.{and_parts, or_parts, eq-eqb, or_left, or_right, le-leb}
 use Rattle.std.proofs.lemmas.List.Elements.{All-nil, All-push, All-weaker, filter-append, recursion_from_All}
 use Rattle.std.proofs.lemmas.List.Folds.{list_any-append}
-use Rattle.byte_words.specs.Numbers.{◌>>=◌}
+use Rattle.lsn_core.specs.byte_words.Numbers.{◌>>=◌}
 use Rattle.lsn_core.specs.Relation.{Relation}
 use Rattle.lsn_core.specs.declared.ids.ForkId.{ForkId}
 use Rattle.lsn_core.specs.declared.ids.BlockId.{BlockId}
@@ -16,18 +16,18 @@ use Rattle.history.specs.Entry.{Act, Create, Truncate, Change, Drop, Mark, Entry
 use Rattle.history.specs.Apply.{main_fork, init_fork, is_same_fork, is_fork_of, is_of_any, without_rel, apply_all}
 use Rattle.history.proofs.Pushes.{all_first, all_rest}
 use Rattle.history.proofs.Stores.{by_test, fork_is, fork_self}
-use Rattle.partitions.specs.Parts.{is_of, is_rel_of, IsPart, ConcernsNoOther}
-use Rattle.partitions.proofs.Puts.{own}
-use Rattle.partitions.proofs.OwnActs.{own_fork, own_rel}
-use Rattle.fuzzy_copies.specs.Touches.{act_touches, act_cuts, act_settles, touches, resets, settles}
-use Rattle.fuzzy_copies.specs.Orderly.{IsOrderly}
-use Rattle.fuzzy_copies.specs.Sound.{entries_before}
-use Rattle.fuzzy_copies.specs.Taken.{since}
-use Rattle.fuzzy_copies.specs.Covers.{AreTidy, AreTidyFrom, Covers}
-use Rattle.fuzzy_copies.proofs.Covering.{lagging}
-use Rattle.fuzzy_copies.proofs.Completed.{or_second}
-use Rattle.fuzzy_copies.proofs.Kept.{tidy_behind}
-use Rattle.fuzzy_copies.proofs.Taken.{in_parts}
+use Rattle.history.specs.partitions.Parts.{is_of, is_rel_of, IsPart, ConcernsNoOther}
+use Rattle.history.proofs.partitions.Puts.{own}
+use Rattle.history.proofs.partitions.OwnActs.{own_fork, own_rel}
+use Rattle.history.specs.fuzzy_copies.Touches.{act_touches, act_cuts, act_settles, touches, resets, settles}
+use Rattle.history.specs.fuzzy_copies.Orderly.{IsOrderly}
+use Rattle.history.specs.fuzzy_copies.Sound.{entries_before}
+use Rattle.history.specs.fuzzy_copies.Taken.{since}
+use Rattle.history.specs.fuzzy_copies.Covers.{AreTidy, AreTidyFrom, Covers}
+use Rattle.history.proofs.fuzzy_copies.Covering.{lagging}
+use Rattle.history.proofs.fuzzy_copies.Completed.{or_second}
+use Rattle.history.proofs.fuzzy_copies.Kept.{tidy_behind}
+use Rattle.history.proofs.fuzzy_copies.Taken.{in_parts}
 use Rattle.store_core.specs.declared.step.Work.{Work}
 use Rattle.store_core.specs.declared.step.Work.TheVariants.{Make, Cut, Remove}
 use Rattle.store_core.specs.State.{Part}

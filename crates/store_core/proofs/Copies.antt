@@ -6,7 +6,7 @@ use Rattle.std.specs.FinMap.{get, insert, keys, contains_key, get-empty, contain
 use Rattle.std.proofs.lemmas.Bool.{and_parts, or_parts, or_left, or_right, eq-eqb, eqb-false, ltb-true}
 use Rattle.std.proofs.lemmas.List.{append-nil, length-replicate}
 use Rattle.std.proofs.lemmas.List.Folds.{list_any-append, list_all-append}
-use Rattle.byte_words.specs.Numbers.{◌>>=◌}
+use Rattle.lsn_core.specs.byte_words.Numbers.{◌>>=◌}
 use Rattle.lsn_core.specs.declared.ids.ForkId.{ForkId}
 use Rattle.lsn_core.specs.declared.ids.BlockId.{BlockId}
 use Rattle.lsn_core.specs.Store.{Store, ForkPages, fork_cmp}
@@ -17,13 +17,13 @@ use Rattle.history.specs.Apply.{is_same_fork, is_same_block}
 use Rattle.history.specs.Whole.{is_named}
 use Rattle.history.specs.Written.{is_redo}
 use Rattle.history.proofs.Stores.{by_test, fork_is, block_is}
-use Rattle.partitions.specs.Parts.{partition_of, is_of}
-use Rattle.fuzzy_copies.specs.Taken.{IsBlockCopied, IsListed, IsSeen, IsTaken}
-use Rattle.fuzzy_copies.specs.CoverLaws.{AnswersCopier}
-use Rattle.fuzzy_copies.proofs.Pages.{got}
-use Rattle.fuzzy_copies.proofs.Taken.{listed_blocks}
-use Rattle.fuzzy_copies.proofs.Completed.{or_second}
-use Rattle.fuzzy_copies.proofs.Covering.{answers}
+use Rattle.history.specs.partitions.Parts.{partition_of, is_of}
+use Rattle.history.specs.fuzzy_copies.Taken.{IsBlockCopied, IsListed, IsSeen, IsTaken}
+use Rattle.history.specs.fuzzy_copies.CoverLaws.{AnswersCopier}
+use Rattle.history.proofs.fuzzy_copies.Pages.{got}
+use Rattle.history.proofs.fuzzy_copies.Taken.{listed_blocks}
+use Rattle.history.proofs.fuzzy_copies.Completed.{or_second}
+use Rattle.history.proofs.fuzzy_copies.Covering.{answers}
 use Rattle.store_core.specs.State.{Part, Published, Prior, Backup, first_record, part_numbers}
 use Rattle.store_core.specs.Steps.{new_backup, is_listed, unread, with_forks, with_listing, is_within, with_copied, fork_blocks, blocks_of, sends, is_settled, is_complete}
 use Rattle.store_core.proofs.Behind.{unsettled, has_before, page_block}

@@ -17,7 +17,7 @@ use Rattle.history.specs.Entry.{Act, Create, Truncate, Change, Drop, Mark}
 use Rattle.history.specs.Apply.{main_fork, init_fork, is_same_fork, is_same_block}
 use Rattle.history.specs.Whole.{is_named}
 use Rattle.history.proofs.Stores.{by_test, block_is}
-use Rattle.fuzzy_copies.specs.Touches.{is_at, act_touches, act_cuts}
+use Rattle.history.specs.fuzzy_copies.Touches.{is_at, act_touches, act_cuts}
 use Rattle.store_core.specs.Parts.{block_cmp, placed_by, with_dirty, items_dirty, dirty_after}
 use Rattle.store_core.specs.Facts.{is_dirty}
 use Rattle.store_core.specs.Inside.{uncut}

@@ -9,7 +9,7 @@ use Rattle.std.proofs.lemmas.Option.{slice_get-get_or, slice_get_past}
 use Rattle.std.proofs.lemmas.List.{length-append, length-replicate}
 use Rattle.std.proofs.lemmas.List.Folds.{list_any-append}
 use Rattle.std.proofs.lemmas.List.FromFn.{length-map-range_with_len, get_or-map-range_with_len}
-use Rattle.byte_words.specs.Numbers.{◌>>=◌}
+use Rattle.lsn_core.specs.byte_words.Numbers.{◌>>=◌}
 use Rattle.lsn_core.specs.declared.ids.ForkId.{ForkId}
 use Rattle.lsn_core.specs.declared.ids.BlockId.{BlockId}
 use Rattle.lsn_core.specs.Store.{Store, ForkPages, fork_cmp}
@@ -19,11 +19,11 @@ use Rattle.history.specs.Entry.{Entry}
 use Rattle.history.specs.Apply.{page_at}
 use Rattle.history.specs.Whole.{is_named}
 use Rattle.history.proofs.Stores.{by_test}
-use Rattle.partitions.specs.Parts.{partition_of}
-use Rattle.fuzzy_copies.specs.Summary.{BlockRefTable, summary_of}
-use Rattle.fuzzy_copies.specs.Taken.{IsSeen}
-use Rattle.fuzzy_copies.specs.Increment.{BlockOrigin, Copied, Kept, Raised, Missing, ForkOrigin}
-use Rattle.fuzzy_copies.proofs.Pages.{page_by_block}
+use Rattle.history.specs.partitions.Parts.{partition_of}
+use Rattle.history.specs.fuzzy_copies.Summary.{BlockRefTable, summary_of}
+use Rattle.history.specs.fuzzy_copies.Taken.{IsSeen}
+use Rattle.history.specs.fuzzy_copies.Increment.{BlockOrigin, Copied, Kept, Raised, Missing, ForkOrigin}
+use Rattle.history.proofs.fuzzy_copies.Pages.{page_by_block}
 use Rattle.store_core.specs.State.{Part, Published, Prior, Backup, part_numbers}
 use Rattle.store_core.specs.Increments.{raised_length, raised_pages, raised, page_over, pages_over, with_pages, copy_over}
 use Rattle.store_core.specs.Steps.{is_listed, blocks_of, table_for, sends, is_settled, is_complete}

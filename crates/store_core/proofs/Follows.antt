@@ -4,7 +4,7 @@ use Rattle.std.specs.Prelude.{max, ◌||◌}
 use Rattle.std.specs.List.{All}
 use Rattle.std.specs.FinMap.{empty, get-empty}
 use Rattle.std.proofs.lemmas.List.Elements.{All-nil}
-use Rattle.byte_words.specs.Numbers.{◌>>=◌}
+use Rattle.lsn_core.specs.byte_words.Numbers.{◌>>=◌}
 use Rattle.lsn_core.specs.declared.ids.BlockId.{BlockId}
 use Rattle.lsn_core.specs.Store.{Store, ForkPages, fork_cmp}
 use Rattle.lsn_core.specs.Blocks.{page_put}
@@ -15,9 +15,9 @@ use Rattle.history.specs.Apply.{page_at, apply_act}
 use Rattle.history.specs.Op.{IsTidy}
 use Rattle.history.specs.Written.{tip_of}
 use Rattle.history.proofs.Pushes.{all_rest}
-use Rattle.partitions.specs.Parts.{is_of, IsPart, act_concerns, ConcernsNoOther}
-use Rattle.partitions.proofs.Folds.{others_leave}
-use Rattle.fuzzy_copies.specs.Taken.{since}
+use Rattle.history.specs.partitions.Parts.{is_of, IsPart, act_concerns, ConcernsNoOther}
+use Rattle.history.proofs.partitions.Folds.{others_leave}
+use Rattle.history.specs.fuzzy_copies.Taken.{since}
 use Rattle.store_core.specs.declared.step.Work.{Work}
 use Rattle.store_core.specs.State.{Part, empty_part}
 use Rattle.store_core.specs.Parts.{dirty_after, works_after, part_after, Turn, with_disk, next_write, cleaned, work_done}

@@ -15,13 +15,13 @@ use Rattle.history.specs.Apply.{apply_all}
 use Rattle.history.specs.Laws.{applied_up_to}
 use Rattle.history.specs.Whole.{whole}
 use Rattle.history.proofs.Pushes.{all_first, all_rest, all_weaker}
-use Rattle.partitions.specs.Parts.{partition_of}
-use Rattle.fuzzy_copies.specs.Logged.{history_of}
-use Rattle.fuzzy_copies.specs.Orderly.{IsOrderly, AllEndBy}
-use Rattle.fuzzy_copies.specs.Recovered.{recovered_records}
-use Rattle.fuzzy_copies.specs.Sound.{IsSoundCopy}
-use Rattle.fuzzy_copies.proofs.Incremental.{increments_sound}
-use Rattle.fuzzy_copies.proofs.Restored.{sound_restored, logs_whole}
+use Rattle.history.specs.partitions.Parts.{partition_of}
+use Rattle.history.specs.fuzzy_copies.Logged.{history_of}
+use Rattle.history.specs.fuzzy_copies.Orderly.{IsOrderly, AllEndBy}
+use Rattle.history.specs.fuzzy_copies.Recovered.{recovered_records}
+use Rattle.history.specs.fuzzy_copies.Sound.{IsSoundCopy}
+use Rattle.history.proofs.fuzzy_copies.Incremental.{increments_sound}
+use Rattle.history.proofs.fuzzy_copies.Restored.{sound_restored, logs_whole}
 use Rattle.store_core.specs.declared.step.Asked.{Asked}
 use Rattle.store_core.specs.declared.step.Step.{Step}
 use Rattle.store_core.specs.declared.step.Step.TheVariants as step

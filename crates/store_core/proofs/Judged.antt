@@ -26,8 +26,8 @@ use Rattle.history.specs.Laws.{AreFresh, IsFresh}
 use Rattle.history.specs.Op.{act_of_op, IsReached, IsTidyItem, AreTidyItems, IsTidyCut, IsTidy, IsFitEdit, IsFitItem, IsFit}
 use Rattle.history.proofs.Names.{not_named}
 use Rattle.history.proofs.Stores.{get_here, get_there, by_test, page_apart}
-use Rattle.partitions.specs.Parts.{partition_of, is_item_of, ConcernsNoOther}
-use Rattle.fuzzy_copies.proofs.Ranges.{and_false}
+use Rattle.history.specs.partitions.Parts.{partition_of, is_item_of, ConcernsNoOther}
+use Rattle.history.proofs.fuzzy_copies.Ranges.{and_false}
 use Rattle.store_core.specs.declared.reply.Refusal.{Refusal}
 use Rattle.store_core.specs.declared.reply.Refusal.TheVariants.{ForkExists, PastEnd, NoBlock, BadPage, BadFragment, BlockCount, TwoRelations, ForkFull, CutPastEnd, SameBlock}
 use Rattle.store_core.specs.Refusals.{most_items, is_same_rel, are_of_one, judged_form, judged_blocks, judged_frags, judged_edits, judged_edit, judged_length, judged_found, behind_item, judged_items, judged_cut, judged_op, part_of_items, part_of_op}

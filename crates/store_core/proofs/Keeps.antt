@@ -23,16 +23,16 @@ use Rattle.history.specs.Whole.{is_named}
 use Rattle.history.specs.Written.{block_over, block_of_item, kind_of, record_of, is_redo, tip_of}
 use Rattle.history.proofs.Pushes.{all_first, all_rest, all_weaker}
 use Rattle.history.proofs.WrittenLaws.{commands_done}
-use Rattle.partitions.specs.Parts.{partition_of, IsPart, ConcernsNoOther}
-use Rattle.partitions.proofs.Puts.{page_at_own}
-use Rattle.partitions.proofs.OwnActs.{OfNoOther, first_own, others_own, own_done, own_tidy}
-use Rattle.fuzzy_copies.specs.Orderly.{IsOrderly, AreOwnFrom}
-use Rattle.fuzzy_copies.specs.Sound.{IsSoundCopy}
-use Rattle.fuzzy_copies.specs.Summary.{summary_of}
-use Rattle.fuzzy_copies.specs.Increment.{ForkOrigin}
-use Rattle.fuzzy_copies.specs.Taken.{IsRunning}
-use Rattle.fuzzy_copies.proofs.Longer.{sound_later}
-use Rattle.fuzzy_copies.proofs.Taken.{taken_sound}
+use Rattle.history.specs.partitions.Parts.{partition_of, IsPart, ConcernsNoOther}
+use Rattle.history.proofs.partitions.Puts.{page_at_own}
+use Rattle.history.proofs.partitions.OwnActs.{OfNoOther, first_own, others_own, own_done, own_tidy}
+use Rattle.history.specs.fuzzy_copies.Orderly.{IsOrderly, AreOwnFrom}
+use Rattle.history.specs.fuzzy_copies.Sound.{IsSoundCopy}
+use Rattle.history.specs.fuzzy_copies.Summary.{summary_of}
+use Rattle.history.specs.fuzzy_copies.Increment.{ForkOrigin}
+use Rattle.history.specs.fuzzy_copies.Taken.{IsRunning}
+use Rattle.history.proofs.fuzzy_copies.Longer.{sound_later}
+use Rattle.history.proofs.fuzzy_copies.Taken.{taken_sound}
 use Rattle.store_core.specs.declared.step.Asked.{Asked}
 use Rattle.store_core.specs.declared.step.Asked.TheVariants as asked
 use Rattle.store_core.specs.declared.step.Step.{Step}

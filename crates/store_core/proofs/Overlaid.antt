@@ -14,8 +14,8 @@ use Rattle.lsn_core.specs.Blocks.{pages_of, with_block, page_put}
 use Rattle.pg_page.specs.Header.{zero_page}
 use Rattle.history.specs.Apply.{is_same_fork}
 use Rattle.history.proofs.Stores.{by_test, fork_is}
-use Rattle.fuzzy_copies.specs.Summary.{BlockRefTable}
-use Rattle.fuzzy_copies.proofs.Pages.{got}
+use Rattle.history.specs.fuzzy_copies.Summary.{BlockRefTable}
+use Rattle.history.proofs.fuzzy_copies.Pages.{got}
 use Rattle.store_core.specs.Increments.{with_pages, listed_blocks, page_over, pages_over}
 use Rattle.store_core.proofs.Copies.{either_way}
 use Rattle.store_core.proofs.Stored.{pages_here, put_again, copied_next, last_set}

@@ -9,7 +9,7 @@ use Rattle.lsn_core.specs.declared.ids.ForkId.{ForkId}
 use Rattle.lsn_core.specs.Store.{Store}
 use Rattle.lsn_core.specs.Blocks.{block_count, pages_of}
 use Rattle.history.proofs.Stores.{by_test}
-use Rattle.fuzzy_copies.specs.Summary.{BlockRefTable}
+use Rattle.history.specs.fuzzy_copies.Summary.{BlockRefTable}
 use Rattle.incr_file.specs.declared.plan.FilePlan.TheVariants.{Whole, Incr}
 use Rattle.incr_file.specs.Plan.{planned, has_block, listed_in, is_sent_whole, truncation_length, planned_head}
 use Rattle.store_core.specs.Increments.{listed_blocks, has_file, file_plan, plan_sends, rebuilt_count, last_segment, raised_length}

@@ -9,11 +9,11 @@ use Rattle.std.proofs.lemmas.List.Folds.{list_any-append}
 use Rattle.history.specs.Entry.{Entry}
 use Rattle.history.specs.Written.{is_redo}
 use Rattle.history.proofs.Stores.{by_test}
-use Rattle.fuzzy_copies.specs.Orderly.{IsOrderly}
-use Rattle.fuzzy_copies.specs.Sound.{is_in, window}
-use Rattle.fuzzy_copies.specs.Summary.{summed, both_summed, summed_up, summary_of}
-use Rattle.fuzzy_copies.proofs.Summaries.{meet}
-use Rattle.fuzzy_copies.proofs.Ranges.{and_false, start_behind}
+use Rattle.history.specs.fuzzy_copies.Orderly.{IsOrderly}
+use Rattle.history.specs.fuzzy_copies.Sound.{is_in, window}
+use Rattle.history.specs.fuzzy_copies.Summary.{summed, both_summed, summed_up, summary_of}
+use Rattle.history.proofs.fuzzy_copies.Summaries.{meet}
+use Rattle.history.proofs.fuzzy_copies.Ranges.{and_false, start_behind}
 use Rattle.wal_summary.proofs.Tables.{same_table, first_summed}
 use Rattle.store_core.specs.State.{Published}
 use Rattle.store_core.specs.Increments.{published_to, next_redo, overlaps, table_between}

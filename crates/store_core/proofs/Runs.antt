@@ -6,8 +6,8 @@ use Rattle.std.specs.FinMap.{empty}
 use Rattle.std.proofs.lemmas.List.Elements.{All-nil, All-push}
 use Rattle.std.proofs.lemmas.Nat.{div-mul-add, mod-mul-add}
 use Rattle.std.proofs.Math.Nat.{mod_self}
-use Rattle.byte_words.specs.Numbers.{◌>>=◌, aligned}
-use Rattle.byte_words.proofs.Fields.{bind_some}
+use Rattle.lsn_core.specs.byte_words.Numbers.{◌>>=◌, aligned}
+use Rattle.lsn_core.proofs.byte_words.Fields.{bind_some}
 use Rattle.lsn_core.specs.Segment.{segment_bytes}
 use Rattle.lsn_core.specs.Store.{Store}
 use Rattle.lsn_core.specs.Tip.{Tip}
@@ -24,9 +24,9 @@ use Rattle.history.specs.Whole.{entry_of}
 use Rattle.history.specs.Written.{Before, behind, behind_all, at_first, record_of, next_record, is_redo, tip_past, tip_over, tip_of, redo_past}
 use Rattle.history.specs.Laws.{IsFresh, HasGoodPages, AreWrittenInPlace}
 use Rattle.history.proofs.Histories.{tip_over-append, apply_all-push}
-use Rattle.fuzzy_copies.specs.Orderly.{IsOrderly, AreOwnFrom, AllEndBy}
-use Rattle.fuzzy_copies.specs.Covers.{AreTidy}
-use Rattle.fuzzy_copies.specs.Logged.{history_of, found_before, StartInPlace, AreLogged}
+use Rattle.history.specs.fuzzy_copies.Orderly.{IsOrderly, AreOwnFrom, AllEndBy}
+use Rattle.history.specs.fuzzy_copies.Covers.{AreTidy}
+use Rattle.history.specs.fuzzy_copies.Logged.{history_of, found_before, StartInPlace, AreLogged}
 use Rattle.store_core.specs.State.{first_record}
 use Rattle.store_core.specs.Steps.{entry_at}
 

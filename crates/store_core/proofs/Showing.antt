@@ -22,7 +22,7 @@ use Rattle.lsn_core.specs.declared.ids.BlockId.{BlockId}
 use Rattle.lsn_core.specs.Blocks.{block_of}
 use Rattle.history.specs.Whole.{is_named}
 use Rattle.history.specs.Apply.{page_at}
-use Rattle.partitions.specs.Parts.{partition_of}
+use Rattle.history.specs.partitions.Parts.{partition_of}
 use Rattle.store_core.specs.declared.pool.Pool.{Pool}
 use Rattle.store_core.specs.declared.step.Asked.{Asked}
 use Rattle.store_core.specs.declared.step.Step.TheVariants as step
@@ -30,8 +30,8 @@ use Rattle.store_core.specs.declared.machine.Machine.{Machine}
 use Rattle.store_core.specs.declared.over.FinishedBackup.{FinishedBackup}
 use Rattle.store_core.specs.declared.reply.Reply.{Reply}
 use Rattle.store_core.specs.declared.reply.Reply.TheVariants as reply
-use Rattle.fuzzy_copies.specs.Logged.{found_before, StartInPlace}
-use Rattle.fuzzy_copies.specs.Summary.{summary_of}
+use Rattle.history.specs.fuzzy_copies.Logged.{found_before, StartInPlace}
+use Rattle.history.specs.fuzzy_copies.Summary.{summary_of}
 use Rattle.wal_summary.specs.declared.summary.Summary.{Summary}
 use Rattle.wal_summary.specs.declared.summary.ForkSummary.{ForkSummary}
 use Rattle.wal_summary.specs.Summary.{IsSummary, table_of_forks}
@@ -52,7 +52,7 @@ use Rattle.lsn_core.specs.declared.ids.ForkLen.{ForkLen}
 use Rattle.store_core.specs.declared.crew.Crew.{Crew}
 use Rattle.store_core.proofs.Crews.{got_set}
 use Rattle.pg_page.specs.Header.{zero_page}
-use Rattle.fuzzy_copies.proofs.Pages.{page_by_block}
+use Rattle.history.proofs.fuzzy_copies.Pages.{page_by_block}
 
 pub reached_machine : (s : State) → IsReached s → IsMachine s
 reached_machine s r = subst IsMachine (sym r.is) (steps_keep _ r.steps r.may.pages (machine_first r.mib r.relseg r.may.segment))

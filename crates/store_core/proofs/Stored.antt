@@ -11,7 +11,7 @@ use Rattle.lsn_core.proofs.ForkOrder.{fork_cmp_total, fork_cmp-IsAntisymmetric}
 use Rattle.pg_page.specs.Header.{zero_page}
 use Rattle.history.specs.Apply.{is_same_fork}
 use Rattle.history.proofs.Stores.{by_test, fork_self, get_here, get_there}
-use Rattle.fuzzy_copies.proofs.Pages.{got}
+use Rattle.history.proofs.fuzzy_copies.Pages.{got}
 use Rattle.store_core.specs.Steps.{unread, with_forks}
 use Rattle.store_core.proofs.Behind.{removed}
 use Rattle.store_core.proofs.Copies.{forks_got, keys_named}

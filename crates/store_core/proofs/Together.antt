@@ -4,7 +4,7 @@ use Rattle.std.specs.List.{filter}
 use Rattle.std.proofs.lemmas.List.{take_more, map-append}
 use Rattle.std.proofs.lemmas.List.Elements.{filter-append}
 use Rattle.lsn_core.specs.declared.ids.ForkId.{ForkId}
-use Rattle.fuzzy_copies.specs.Summary.{BlockRefTable, least, is_at_most, summed, both_summed}
+use Rattle.history.specs.fuzzy_copies.Summary.{BlockRefTable, least, is_at_most, summed, both_summed}
 use Rattle.wal_summary.specs.declared.summary.Summary.{Summary}
 use Rattle.wal_summary.proofs.Tables.{before_none, one_summed, lists_summed}
 use Rattle.store_core.specs.State.{Published}

@@ -10,11 +10,11 @@ use Rattle.lsn_core.specs.Blocks.{block_of}
 use Rattle.history.specs.Entry.{Act, Create, Truncate, Change, Drop, Mark, Entry}
 use Rattle.history.specs.Apply.{main_fork, is_same_fork, is_of_any, apply_all}
 use Rattle.history.specs.Whole.{is_named}
-use Rattle.partitions.specs.Parts.{is_of, IsPart}
-use Rattle.fuzzy_copies.specs.Touches.{touches}
-use Rattle.fuzzy_copies.specs.Sound.{Agree}
-use Rattle.fuzzy_copies.specs.Taken.{since}
-use Rattle.fuzzy_copies.specs.Covers.{Covers}
+use Rattle.history.specs.partitions.Parts.{is_of, IsPart}
+use Rattle.history.specs.fuzzy_copies.Touches.{touches}
+use Rattle.history.specs.fuzzy_copies.Sound.{Agree}
+use Rattle.history.specs.fuzzy_copies.Taken.{since}
+use Rattle.history.specs.fuzzy_copies.Covers.{Covers}
 use Rattle.store_core.specs.declared.step.Work.{Work}
 use Rattle.store_core.specs.declared.step.Work.TheVariants.{Make, Cut, Remove}
 use Rattle.store_core.specs.State.{Part, State}

@@ -12,7 +12,7 @@ use Rattle.history.specs.Entry.{Entry}
 use Rattle.history.specs.Apply.{page_at}
 use Rattle.history.specs.Whole.{is_named}
 use Rattle.history.specs.Written.{is_redo}
-use Rattle.fuzzy_copies.specs.Summary.{BlockRefTable, summed}
+use Rattle.history.specs.fuzzy_copies.Summary.{BlockRefTable, summed}
 use Rattle.incr_file.specs.declared.plan.FilePlan.{FilePlan}
 use Rattle.incr_file.specs.declared.plan.FilePlan.TheVariants.{Whole, Incr}
 use Rattle.incr_file.specs.Plan.{planned, has_block, plan_of}

@@ -18,7 +18,7 @@ use Rattle.lsn_core.specs.Tip.{Tip}
 use Rattle.wal_record.specs.declared.record.Record.{Record}
 use Rattle.wal_record.specs.declared.record.Kind.{Kind}
 use Rattle.wal_record.specs.Tips.{wal_limit, record_at_tip, tip_after, is_redo_mark}
-use Rattle.fuzzy_copies.specs.Summary.{least, is_at_most}
+use Rattle.history.specs.fuzzy_copies.Summary.{least, is_at_most}
 use Rattle.wal_summary.specs.declared.summary.Summary.{Summary}
 use Rattle.wal_summary.specs.Summary.{table_of_summary}
 use Rattle.store_core.specs.declared.reply.Wrote.{Wrote}

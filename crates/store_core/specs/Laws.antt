@@ -8,9 +8,9 @@ use Rattle.history.specs.Entry.{Entry}
 use Rattle.history.specs.Laws.{HasGoodPages, applied_up_to}
 use Rattle.history.specs.Op.{act_of_op}
 use Rattle.history.specs.Whole.{whole}
-use Rattle.fuzzy_copies.specs.Sound.{IsSoundCopy}
-use Rattle.fuzzy_copies.specs.Recovered.{recovered_records}
-use Rattle.fuzzy_copies.specs.Summary.{summary_of}
+use Rattle.history.specs.fuzzy_copies.Sound.{IsSoundCopy}
+use Rattle.history.specs.fuzzy_copies.Recovered.{recovered_records}
+use Rattle.history.specs.fuzzy_copies.Summary.{summary_of}
 use Rattle.store_core.specs.declared.step.Step.{Step}
 use Rattle.store_core.specs.declared.step.Step.TheVariants as step
 use Rattle.store_core.specs.State.{Published, Increment, Finished, State, records_of}

@@ -14,7 +14,7 @@ use Rattle.lsn_core.specs.Blocks.{page_put, with_fork, with_cut, without_fork}
 use Rattle.history.specs.declared.op.Item.{Item}
 use Rattle.history.specs.Entry.{Act, Create, Truncate, Change, Drop, Mark}
 use Rattle.history.specs.Apply.{main_fork, init_fork, without_rel, page_at, apply_act}
-use Rattle.fuzzy_copies.specs.Touches.{act_cuts}
+use Rattle.history.specs.fuzzy_copies.Touches.{act_cuts}
 use Rattle.store_core.specs.declared.step.Work.{Work}
 use Rattle.store_core.specs.declared.step.Work.TheVariants.{Make, Cut, Remove}
 use Rattle.store_core.specs.declared.reply.Wrote.{Wrote}

@@ -22,7 +22,7 @@ use Rattle.history.specs.Op.{act_of_op, apply_op}
 use Rattle.history.specs.Pages.{page_count}
 use Rattle.history.specs.Whole.{is_named}
 use Rattle.history.specs.Written.{record_of}
-use Rattle.partitions.specs.Parts.{partition_of}
+use Rattle.history.specs.partitions.Parts.{partition_of}
 use Rattle.store_core.specs.declared.reply.Refusal.{Refusal}
 use Rattle.store_core.specs.declared.reply.Refusal.TheVariants.{NoFork, ForkExists, PastEnd, NoBlock, BadPage, BadFragment, BlockCount, TwoRelations, ForkFull, StoreFull, CutPastEnd, SameBlock, WalFull}
 use Rattle.store_core.specs.State.{State, part_numbers, end_of_wal}

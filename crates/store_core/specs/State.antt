@@ -12,7 +12,7 @@ use Rattle.wal_record.specs.Tips.{first_tip, record_at_tip}
 use Rattle.history.specs.Entry.{Entry}
 use Rattle.history.specs.Whole.{entry_of}
 use Rattle.history.specs.Written.{tip_of, wal_of}
-use Rattle.fuzzy_copies.specs.Summary.{BlockRefTable}
+use Rattle.history.specs.fuzzy_copies.Summary.{BlockRefTable}
 use Rattle.store_core.specs.declared.step.Work.{Work}
 
 -- a partition: its pages in frames, as they are now; its disk; the dirty blocks, whose pages aren't

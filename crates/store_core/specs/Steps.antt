@@ -15,8 +15,8 @@ use Rattle.history.specs.Entry.{Marking, Online, RedoMark, BackupEnd, Act, Mark,
 use Rattle.history.specs.Op.{act_of_op}
 use Rattle.history.specs.Whole.{is_named}
 use Rattle.history.specs.Written.{record_of}
-use Rattle.partitions.specs.Parts.{partition_of}
-use Rattle.fuzzy_copies.specs.Summary.{BlockRefTable, summary_of}
+use Rattle.history.specs.partitions.Parts.{partition_of}
+use Rattle.history.specs.fuzzy_copies.Summary.{BlockRefTable, summary_of}
 use Rattle.store_core.specs.declared.step.Asked.{Asked}
 use Rattle.store_core.specs.declared.step.Asked.TheVariants as asked
 use Rattle.store_core.specs.declared.step.Step.{Step}

@@ -14,9 +14,9 @@ use crate::kinds::op_kind;
 use crate::machine::Machine;
 use crate::reply::{Receipt, Refusal, Reply};
 use crate::stores::copied;
+use history::partitions::partition_of;
 use history::{Item, Op, PageMap};
 use lsn_core::{Lsn, NoMemory};
-use partitions::partition_of;
 use std::alloc::Global;
 use wal_record::Kind;
 

@@ -4,9 +4,9 @@ ghost use Rattle.std.specs.Prelude.{◌≡◌, IfOk};
 ghost use Rattle.wal_record.specs.Spelling.{IsWritable};
 ghost use Rattle.history.specs.Op.{act_of_op, IsFit, AreFit};
 ghost use Rattle.history.specs.Written.{kind_of};
-ghost use Rattle.checkpointer.specs.Laws.{pages_before};
+ghost use Rattle.history.specs.checkpointer.Laws.{pages_before};
 
-use checkpointer::{change_kind, creation_kind, drop_kind, truncation_kind};
+use history::checkpointer::{change_kind, creation_kind, drop_kind, truncation_kind};
 use history::{Item, Op, PageMap};
 use lsn_core::{Lsn, NoMemory};
 use std::alloc::Global;

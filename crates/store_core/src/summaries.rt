@@ -4,7 +4,7 @@ ghost use Rattle.std.specs.Prelude.{◌≡◌, ◌==◌, map};
 ghost use Rattle.std.specs.List.{list_any};
 ghost use Rattle.std.specs.Option.{option_map};
 ghost use Rattle.wal_record.specs.Tips.{is_redo_mark};
-ghost use Rattle.fuzzy_copies.specs.Summary.{least, is_at_most};
+ghost use Rattle.history.specs.fuzzy_copies.Summary.{least, is_at_most};
 ghost use Rattle.wal_summary.specs.Summary.{limit_at, lists_at};
 ghost use Rattle.store_core.specs.Increments.{overlaps, table_between};
 ghost use Rattle.store_core.specs.Inside.{published_in, next_redo_in, limit_past, listed_past};

@@ -20,10 +20,10 @@ use Rattle.history.specs.Apply.{apply_all}
 use Rattle.history.specs.Whole.{entry_of}
 use Rattle.history.specs.Written.{tip_past, tip_over, tip_of}
 use Rattle.history.proofs.Pushes.{all_first, all_rest}
-use Rattle.partitions.specs.Parts.{is_of, part_of, IsPart}
-use Rattle.partitions.proofs.Folds.{parts_fold}
-use Rattle.partitions.proofs.Puts.{one_part}
-use Rattle.fuzzy_copies.specs.Orderly.{AllEndBy, AreOwnFrom}
+use Rattle.history.specs.partitions.Parts.{is_of, part_of, IsPart}
+use Rattle.history.proofs.partitions.Folds.{parts_fold}
+use Rattle.history.proofs.partitions.Puts.{one_part}
+use Rattle.history.specs.fuzzy_copies.Orderly.{AllEndBy, AreOwnFrom}
 use Rattle.journal.specs.Lawful.{StandInPlace}
 use Rattle.journal.specs.Journal.{EndsWith, IsTold}
 use Rattle.page_pool.specs.Part.{Part}

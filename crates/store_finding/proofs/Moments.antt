@@ -13,7 +13,7 @@ use Rattle.vault.specs.Frame.{Adds, IsAmong, IsDurable, Has, LeavesNow, OnlyRead
 use Rattle.vault.proofs.Through.{adds_none, adds_on, adds_sync}
 use Rattle.history.specs.Entry.{Entry}
 use Rattle.history.specs.Apply.{apply_all}
-use Rattle.partitions.specs.Parts.{IsPart}
+use Rattle.history.specs.partitions.Parts.{IsPart}
 use Rattle.data_areas.specs.declared.areas.DataAreas.{DataAreas}
 use Rattle.vault.specs.declared.boxed.BoxedArea.{BoxedArea}
 use Rattle.data_areas.specs.declared.settling.Partitions.{Partitions}

@@ -12,7 +12,7 @@ use Rattle.vault.specs.Frame.{Adds, IsAmong}
 use Rattle.history.specs.Entry.{Entry}
 use Rattle.history.specs.Apply.{apply_all}
 use Rattle.history.specs.Whole.{entry_of}
-use Rattle.partitions.proofs.Puts.{one_part}
+use Rattle.history.proofs.partitions.Puts.{one_part}
 use Rattle.recovery.specs.Causes.{HasSettings}
 use Rattle.recovery.specs.Reading.{IsReadTo}
 use Rattle.recovery.specs.declared.fault.RecoveryFault.{RecoveryFault}

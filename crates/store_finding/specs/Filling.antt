@@ -13,7 +13,7 @@ use Rattle.vault.specs.Frame.{Adds, IsAmong, Has, LeavesNow}
 use Rattle.wal_record.specs.declared.record.Record.{Record}
 use Rattle.history.specs.Entry.{Entry}
 use Rattle.history.specs.Apply.{apply_all}
-use Rattle.partitions.specs.Parts.{IsPart}
+use Rattle.history.specs.partitions.Parts.{IsPart}
 use Rattle.recovery.specs.Reading.{IsReadTo}
 use Rattle.recovery.specs.Causes.{HasSettings}
 use Rattle.recovery.specs.declared.fault.ReplayFault.{ReplayFault}

@@ -8,7 +8,7 @@ use Rattle.history.specs.declared.op.Op.{Op}
 use Rattle.history.specs.declared.op.Op.TheVariants as op
 use Rattle.history.specs.declared.op.Item.{Item}
 use Rattle.history.specs.Op.{act_of_op}
-use Rattle.partitions.specs.Parts.{partition_of, is_item_of, ConcernsNoOther}
+use Rattle.history.specs.partitions.Parts.{partition_of, is_item_of, ConcernsNoOther}
 use Rattle.page_pool.specs.Refusals.{most_items}
 use Rattle.store_faults.specs.declared.insert_fault.InsertFault.{InsertFault}
 use Rattle.store_faults.specs.declared.insert_fault.InsertFault.TheVariants as fault

@@ -3,7 +3,7 @@
 ghost use Rattle.std.specs.Prelude.{◌≡◌, ◌+◌, ◌<◌, ◌≤◌, true, None, IfOk, OnOk, OnErr, IfErr};
 ghost use mathlib.Core.List.{IsPrefix};
 ghost use Rattle.history.specs.Op.{act_of_op};
-ghost use Rattle.partitions.specs.Parts.{ConcernsNoOther};
+ghost use Rattle.history.specs.partitions.Parts.{ConcernsNoOther};
 ghost use Rattle.journal.specs.Lawful.{IsLawful};
 ghost use Rattle.page_pool.specs.Ready.{HasItems};
 ghost use Rattle.page_pool.specs.Room.{blocks_of, HasFrames};

@@ -4,7 +4,7 @@ ghost use Rattle.std.specs.Prelude.{◌≡◌, ◌+◌, ◌<◌, true, [], ◌�
 ghost use Rattle.history.specs.Op.{act_of_op};
 ghost use Rattle.wal_record.specs.Spelling.{IsWritable};
 ghost use Rattle.wal_writer.specs.Answers.{AppendAnswer};
-ghost use Rattle.partitions.specs.Parts.{ConcernsNoOther};
+ghost use Rattle.history.specs.partitions.Parts.{ConcernsNoOther};
 ghost use Rattle.journal.specs.Journal.{MayFollow, entry_at};
 ghost use Rattle.page_pool.specs.Ready.{HasItems, IsChecked, IsReady};
 ghost use Rattle.page_pool.specs.Room.{blocks_of, HasFrames};

@@ -12,9 +12,9 @@ use Rattle.rel_files.specs.Laws.{HasOnlyForks}
 use Rattle.rel_files.proofs.WholeStores.{files_are_exact}
 use Rattle.history.specs.Entry.{Entry}
 use Rattle.history.specs.Written.{tip_of}
-use Rattle.partitions.specs.Parts.{IsPart}
-use Rattle.partitions.proofs.Folds.{parts_fold}
-use Rattle.fuzzy_copies.specs.Orderly.{AllEndBy}
+use Rattle.history.specs.partitions.Parts.{IsPart}
+use Rattle.history.proofs.partitions.Folds.{parts_fold}
+use Rattle.history.specs.fuzzy_copies.Orderly.{AllEndBy}
 use Rattle.journal.specs.Lawful.{IsLawful}
 use Rattle.journal.specs.Journal.{IsJournal, IsEndOf, Written}
 use Rattle.journal.proofs.Follows.{empty_part}

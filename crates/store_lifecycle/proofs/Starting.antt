@@ -8,7 +8,7 @@ use Rattle.lsn_core.specs.Tip.{Tip}
 use Rattle.vault.specs.declared.area.Vault.{Ghosts}
 use Rattle.wal_writer.specs.Log.{Log, IsLog, log_at}
 use Rattle.history.specs.Entry.{Entry, is_of_run}
-use Rattle.partitions.specs.Parts.{concerns}
+use Rattle.history.specs.partitions.Parts.{concerns}
 use Rattle.journal.specs.Journal.{Written}
 use Rattle.journal.specs.Lawful.{IsLawful}
 use Rattle.page_pool.specs.Part.{Part}

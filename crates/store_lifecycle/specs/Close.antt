@@ -13,8 +13,8 @@ use Rattle.lsn_core.specs.declared.fault.StoreFault.TheVariants as store
 use Rattle.vault.specs.Frame.{IsDurable}
 use Rattle.vault.specs.declared.area.Vault.{Ghosts}
 use Rattle.history.specs.Entry.{Entry}
-use Rattle.partitions.specs.Parts.{IsPart}
-use Rattle.fuzzy_copies.specs.Logged.{log_of}
+use Rattle.history.specs.partitions.Parts.{IsPart}
+use Rattle.history.specs.fuzzy_copies.Logged.{log_of}
 use Rattle.journal.specs.Lawful.{IsLawful}
 use Rattle.store_areas.specs.declared.areas.StoreAreas.{StoreAreas}
 use Rattle.store_areas.specs.Begin.{data_area}

@@ -21,7 +21,7 @@ use Rattle.wal_record.specs.declared.record.Record.{Record}
 use Rattle.wal_archive.specs.Rules.{lsn}
 use Rattle.wal_archive.specs.declared.fault.Damage.{Damage}
 use Rattle.history.specs.Whole.{whole}
-use Rattle.partitions.specs.Parts.{is_of, IsPart}
+use Rattle.history.specs.partitions.Parts.{is_of, IsPart}
 use Rattle.recovery.specs.declared.fault.RecoveryFault.{RecoveryFault}
 use Rattle.recovery.specs.declared.fault.RecoveryFault.TheVariants as recovery
 use Rattle.recovery.specs.declared.fault.ReplayFault.{ReplayFault}

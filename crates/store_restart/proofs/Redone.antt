@@ -14,9 +14,9 @@ use Rattle.wal_record.specs.Tips.{first_tip, tip_after}
 use Rattle.wal_archive.specs.Rules.{End, Gives}
 use Rattle.wal_archive.specs.declared.fault.Damage.{Damage}
 use Rattle.wal_reader.specs.Wal.{stands_behind, stands_at, tip_at, ReadsOn}
-use Rattle.wal_pieces.proofs.Onwards.{AreLike, like_next, entry_found, parted}
+use Rattle.wal_reader.proofs.wal_pieces.Onwards.{AreLike, like_next, entry_found, parted}
 use Rattle.history.specs.Redo.{redo_all}
-use Rattle.fuzzy_copies.specs.Orderly.{RecordsRise}
+use Rattle.history.specs.fuzzy_copies.Orderly.{RecordsRise}
 use Rattle.recovery.specs.Onward.{IsReadFrom, IsReadFromTo, HasDamageFrom, ending_by}
 use Rattle.recovery.specs.declared.fault.RecoveryFault.{RecoveryFault}
 use Rattle.recovery.specs.declared.fault.RecoveryFault.TheVariants as recovery

@@ -18,7 +18,7 @@ use Rattle.wal_archive.proofs.Judged.{record_is_fair}
 use Rattle.wal_archive.proofs.Read.{origin_end}
 use Rattle.wal_reader.specs.Wal.{stands_behind, ReadsOn, IsWal}
 use Rattle.wal_reader.proofs.Reached.{first_reached}
-use Rattle.fuzzy_copies.specs.Orderly.{RecordsRise}
+use Rattle.history.specs.fuzzy_copies.Orderly.{RecordsRise}
 use Rattle.recovery.specs.Onward as onward
 use Rattle.recovery.specs.Replay.{IsRead}
 use Rattle.backup_restore.proofs.Rising.{reads_rise}

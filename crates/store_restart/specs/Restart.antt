@@ -12,7 +12,7 @@ use Rattle.vault.specs.declared.area.Vault.{Ghosts}
 use Rattle.wal_record.specs.declared.record.Record.{Record}
 use Rattle.wal_archive.specs.Rules.{lsn}
 use Rattle.history.specs.Whole.{entry_of, whole}
-use Rattle.fuzzy_copies.specs.Recovered.{is_replayed, recovered_records}
+use Rattle.history.specs.fuzzy_copies.Recovered.{is_replayed, recovered_records}
 use Rattle.recovery.specs.declared.tally.Tally.{Tally}
 use Rattle.recovery.specs.Recovered.{first_bad_redo}
 use Rattle.recovery.specs.Tally.{IsTallyOf}

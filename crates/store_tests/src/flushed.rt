@@ -6,7 +6,7 @@ ghost use Rattle.lsn_core.specs.Sizes.{most_blocks};
 ghost use Rattle.wal_record.specs.Spelling.{IsWritable};
 ghost use Rattle.wal_record.specs.Tips.{IsWithin};
 
-use checkpointer::{change_kind, creation_kind};
+use history::checkpointer::{change_kind, creation_kind};
 use history::{Edit, Item};
 use lsn_core::{BlockId, Lsn, NoMemory, SegSize, Settings, WalTip};
 use pg_page::{Page, make_page, zero_page};

@@ -2,7 +2,7 @@
 use Rattle.std.proofs.Common.{◌≡◌, ℕ, zero, suc, ◌+◌, ◌-◌, ◌%◌, ◌<◌, ◌≤◌, min, Bool, true, false, cond, ◌==◌, ◌&&◌, ◌||◌, inl, inr, List, ◌∷◌, ◌++◌, get_or, Option, Some, None, Result, Ok, Err, refl, sym, ap, ap₂, subst, ◌∙◌, arith}
 use Rattle.std.specs.Prelude.{nat_le, if◌then◌else◌}
 use Rattle.std.proofs.lemmas.Bool.{cases_lt, le-leb, lt-leb, leb-true, leb-false, and_parts, lt-ltb, eq-eqb}
-use Rattle.byte_words.specs.Numbers.{u32_in}
+use Rattle.lsn_core.specs.byte_words.Numbers.{u32_in}
 use Rattle.lsn_core.specs.Segment.{segment_bytes}
 use Rattle.lsn_core.specs.declared.lsn.Lsn.{Lsn}
 use Rattle.wal_pages.specs.Places.{head_size, start_after}

@@ -1,7 +1,7 @@
 -- Parts of one form, one after the other.
 use Rattle.std.proofs.Common.{◌≡◌, ℕ, suc, ◌+◌, ◌-◌, ◌<◌, List, [], ◌∷◌, ◌++◌, Option, Some, None, refl, sym, ap, ◌∙◌, arith}
 use Rattle.std.proofs.lemmas.List.{append_assoc}
-use Rattle.byte_words.specs.Numbers.{◌>>=◌}
+use Rattle.lsn_core.specs.byte_words.Numbers.{◌>>=◌}
 use Rattle.summary_file.specs.declared.fault.SummaryFault.{SummaryFault}
 use Rattle.summary_file.specs.declared.fault.SummaryFault.TheVariants.{Length, Magic, Sum, Order, NoMemory}
 use Rattle.summary_file.specs.Inside.{many, Fails}

@@ -6,8 +6,8 @@ use Rattle.std.proofs.lemmas.Bool.{eqb-true}
 use Rattle.std.proofs.lemmas.Option.{cond_some}
 use Rattle.std.specs.List.{flat_map, AllByRecursion}
 use Rattle.std.specs.Int.{w32, w64, to_le_bytes}
-use Rattle.byte_words.specs.Numbers.{◌>>=◌, number_at, IsBytes}
-use Rattle.byte_words.proofs.Fields.{wide32, wide64, step, number_takes, bind_some, put_front}
+use Rattle.lsn_core.specs.byte_words.Numbers.{◌>>=◌, number_at, IsBytes}
+use Rattle.lsn_core.proofs.byte_words.Fields.{wide32, wide64, step, number_takes, bind_some, put_front}
 use Rattle.summary_file.specs.declared.numbers.ForkNumbers.{ForkNumbers}
 use Rattle.summary_file.specs.declared.numbers.FileNumbers.{FileNumbers}
 use Rattle.summary_file.specs.Numbers.{fork_head, fork_bytes, file_head, file_bytes, ForkFits, NumbersFit, HasNumbers}

@@ -2,8 +2,8 @@
 use Rattle.std.proofs.Common.{◌≡◌, ◌↔◌, IsTrue, ◌==◌, ℕ, ◌/◌, ◌%◌, ◌^◌, ◌<◌, List, ◌++◌, codes, refl, sym, ◌∙◌, arith}
 use Rattle.std.proofs.lemmas.Bool.{eqb-true, eq-eqb}
 use Rattle.std.proofs.lemmas.List.{append_assoc, append_cancel_left}
-use Rattle.text_numbers.specs.Numbers.{eight_digits, HasNoEight}
-use Rattle.text_numbers.proofs.EightDigits.{eight_once}
+use Rattle.lsn_core.specs.text_numbers.Numbers.{eight_digits, HasNoEight}
+use Rattle.lsn_core.proofs.text_numbers.EightDigits.{eight_once}
 use Rattle.summary_file.specs.Name.{sixteen_digits, summary_name_bytes, NamesNoRange}
 use Rattle.summary_file.specs.Inside.{HasNoSixteen}
 

@@ -2,7 +2,7 @@
 use Rattle.std.proofs.Common.{ℕ, zero, suc, List, [], ◌∷◌, ◌++◌, length, arith}
 use Rattle.std.specs.List.{flat_map}
 use Rattle.std.specs.Int.{w32, w64, to_le_bytes}
-use Rattle.byte_words.specs.Numbers.{IsBytes}
+use Rattle.lsn_core.specs.byte_words.Numbers.{IsBytes}
 use Rattle.summary_file.specs.declared.numbers.ForkNumbers.{ForkNumbers}
 use Rattle.summary_file.specs.declared.numbers.FileNumbers.{FileNumbers}
 use Rattle.summary_file.specs.Numbers.{fork_head, fork_bytes, file_head, numbers_bytes}

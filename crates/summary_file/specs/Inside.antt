@@ -5,7 +5,7 @@ use Rattle.std.specs.List.{AllByRecursion}
 use Rattle.std.specs.List.Sorted.{IsStrictlySortedBy}
 use Rattle.std.specs.Ordering.{nat_cmp}
 use Rattle.std.specs.Int.{w32, w64}
-use Rattle.byte_words.specs.Numbers.{◌>>=◌, number_at}
+use Rattle.lsn_core.specs.byte_words.Numbers.{◌>>=◌, number_at}
 use Rattle.lsn_core.specs.Sizes.{most_blocks}
 use Rattle.lsn_core.specs.Store.{fork_cmp}
 use Rattle.lsn_core.specs.declared.ids.ForkKind.{ForkKind}

@@ -1,6 +1,6 @@
 -- The name of a summary's file.
 use Rattle.std.specs.Prelude.{◌≡◌, ℕ, ◌/◌, ◌%◌, ◌^◌, ◌<◌, List, ◌++◌, codes}
-use Rattle.text_numbers.specs.Numbers.{eight_digits}
+use Rattle.lsn_core.specs.text_numbers.Numbers.{eight_digits}
 
 -- an LSN in sixteen upper-case hexadecimal digits: its upper and its lower 32 bits, eight each
 abbrev pub sixteen_digits : ℕ → List ℕ

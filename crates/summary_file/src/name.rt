@@ -4,10 +4,10 @@ ghost use Rattle.std.specs.Prelude.{◌≡◌, ◌<◌, ◌^◌, ◌++◌, ◌�
 ghost use Rattle.summary_file.specs.Name.{sixteen_digits, summary_name_bytes, NamesNoRange};
 ghost use Rattle.summary_file.specs.Inside.{HasNoSixteen};
 
-use byte_words::behind_prefix;
+use lsn_core::byte_words::behind_prefix;
+use lsn_core::text_numbers::eight_digits_front;
 use lsn_core::{Lsn, NoMemory, Text};
 use std::alloc::Global;
-use text_numbers::eight_digits_front;
 
 /// The name of the file of a range's summary: 40 upper-case hexadecimal digits, timeline 1 in 8 and
 /// the range's start and its end in 16 each, and `.summary` (pg_walsummary).

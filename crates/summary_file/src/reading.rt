@@ -2,12 +2,12 @@
 
 ghost use Rattle.std.specs.Prelude.{◌≡◌};
 ghost use Rattle.std.specs.Int.{w32, w64};
-ghost use Rattle.byte_words.specs.Numbers.{number_at};
+ghost use Rattle.lsn_core.specs.byte_words.Numbers.{number_at};
 ghost use Rattle.summary_file.specs.Inside.{many, fork_at, file_at, Reads};
 
 use crate::fault::SummaryFault;
 use crate::numbers::{FileNumbers, ForkList, ForkNumbers};
-use byte_words::{u32_at, u64_at};
+use lsn_core::byte_words::{u32_at, u64_at};
 use std::alloc::Global;
 use wal_summary::BlockNumbers;
 

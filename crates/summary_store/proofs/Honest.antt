@@ -9,7 +9,7 @@ use Rattle.vault.specs.Area.{bytes_of}
 use Rattle.wal_summary.specs.declared.summary.Summary.{Summary}
 use Rattle.wal_summary.specs.Kept.{AreHonest}
 use Rattle.wal_summary.specs.Summary.{IsSummary}
-use Rattle.fuzzy_copies.specs.Summary.{summary_of}
+use Rattle.history.specs.fuzzy_copies.Summary.{summary_of}
 use Rattle.wal_crc.specs.Crc.{crc32c}
 use Rattle.summary_file.specs.Numbers.{numbers_bytes}
 use Rattle.summary_file.specs.File.{IsFileOf, summary_numbers}

@@ -5,7 +5,7 @@ use Rattle.std.specs.FinMap.{get}
 use Rattle.lsn_core.specs.Files.{Files}
 use Rattle.history.specs.Entry.{Entry}
 use Rattle.history.specs.Written.{is_redo}
-use Rattle.fuzzy_copies.specs.Summary.{summary_of}
+use Rattle.history.specs.fuzzy_copies.Summary.{summary_of}
 use Rattle.wal_summary.specs.declared.summary.Summary.{Summary}
 use Rattle.wal_summary.specs.Summary.{IsSummary}
 use Rattle.summary_file.specs.File.{IsFileOf}

@@ -4,7 +4,7 @@ use Rattle.std.specs.Option.{option_map}
 use Rattle.std.specs.Global.{Vec}
 use Rattle.std.specs.declared.string.String.{String}
 use Rattle.std.specs.FinMap.{get, insert}
-use Rattle.byte_words.specs.Pieces.{zero_filled}
+use Rattle.lsn_core.specs.byte_words.Pieces.{zero_filled}
 use Rattle.lsn_core.specs.Files.{Files}
 use Rattle.vault.specs.Area.{bytes_of, after_write}
 use Rattle.system_calls.specs.Parts.{is_name_part}

@@ -3,11 +3,11 @@
 ghost use Rattle.std.specs.Prelude.{◌≡◌, ◌-◌, ◌^◌, ◌≤◌, ℕ, min, length, take, drop, ◌++◌, IfOk, OnOk, OnErr};
 ghost use Rattle.std.specs.Option.{option_map};
 ghost use Rattle.std.specs.FinMap.{get, keys};
-ghost use Rattle.byte_words.specs.Pieces.{zero_filled};
+ghost use Rattle.lsn_core.specs.byte_words.Pieces.{zero_filled};
 ghost use Rattle.vault.specs.Area.{bytes_of, file_written, after_cut, after_remove};
 ghost use Rattle.vault.specs.Memory.{files_in, reads_in, read_count, IsWritten, IsReadCounted};
 
-use byte_words::overwrite;
+use lsn_core::byte_words::overwrite;
 use lsn_core::{NoMemory, Text};
 use std::alloc::Global;
 use std::collections::BTreeMap;

@@ -1,7 +1,7 @@
 -- Where the bytes of a cut entry stand, the entry stands.
 use Rattle.std.proofs.Common.{◌≡◌, ℕ, ◌+◌, ◌-◌, ◌%◌, ◌^◌, ◌<◌, ◌≤◌, ◌⊎◌, List, length, get_or, Some, sym, ap, subst, ◌∙◌, arith, inl, inr}
 use Rattle.std.proofs.lemmas.Bool.{cases_lt}
-use Rattle.byte_words.specs.Numbers.{u32_in, aligned}
+use Rattle.lsn_core.specs.byte_words.Numbers.{u32_in, aligned}
 use Rattle.wal_pages.specs.Places.{place, flat_before, IsBehindHead, start_after, stop_of, end_of}
 use Rattle.wal_pages.specs.Heads.{page_head}
 use Rattle.wal_pages.specs.Spread.{still_to_come, spread_byte}

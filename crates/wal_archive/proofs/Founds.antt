@@ -3,8 +3,8 @@ use Rattle.std.proofs.Common.{◌≡◌, ℕ, ◌+◌, ◌-◌, ◌*◌, ◌/◌
 use Rattle.std.specs.Prelude.{Result, Ok, Err, IfSome, nat_le, ◌==◌}
 use Rattle.std.proofs.lemmas.Bool.{cases_lt, cases_eq, cases_Bool, le-leb, lt-leb, leb-true, eq-eqb, ne_eqb, and_parts, and_from, cond-true, cond-false}
 use Rattle.std.proofs.Math.Nat.{mul-le-mul, mul_assoc}
-use Rattle.byte_words.specs.Numbers.{u32_in}
-use Rattle.byte_words.specs.Told.{when_told, when_both_told}
+use Rattle.lsn_core.specs.byte_words.Numbers.{u32_in}
+use Rattle.lsn_core.specs.byte_words.Told.{when_told, when_both_told}
 use Rattle.lsn_core.specs.Files.{Files}
 use Rattle.lsn_core.specs.Sizes.{most_segments}
 use Rattle.lsn_core.specs.Segment.{segment_bytes}

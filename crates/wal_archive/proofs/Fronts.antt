@@ -3,8 +3,8 @@ use Rattle.std.proofs.Common.{◌≡◌, ℕ, suc, ◌+◌, ◌-◌, ◌%◌, �
 use Rattle.std.specs.Prelude.{Result, Ok, Err, IfSome}
 use Rattle.std.proofs.lemmas.Bool.{cond-true, cond-false}
 use Rattle.std.proofs.lemmas.List.{length-take, length-drop, get_or-take, get_or-drop, get_or_append_left}
-use Rattle.byte_words.specs.Numbers.{u32_in}
-use Rattle.byte_words.specs.Told.{when_told, when_both_told}
+use Rattle.lsn_core.specs.byte_words.Numbers.{u32_in}
+use Rattle.lsn_core.specs.byte_words.Told.{when_told, when_both_told}
 use Rattle.lsn_core.specs.Files.{Files}
 use Rattle.wal_pages.specs.Places.{head_size}
 use Rattle.wal_pages.proofs.Splits.{head_bounds}

@@ -3,12 +3,12 @@ use Rattle.std.proofs.Common.{◌≡◌, ℕ, List, take, Option, Ok, sym, ap}
 use Rattle.std.specs.Prelude.{◌==◌}
 use Rattle.lsn_core.specs.declared.lsn.Lsn.{Lsn}
 use Rattle.lsn_core.specs.declared.lsn.Place.{Place}
-use Rattle.wal_heads.specs.declared.header.Header.{Header}
+use Rattle.wal_pages.specs.declared.wal_heads.header.Header.{Header}
 use Rattle.wal_record.specs.declared.record.Record.{Record}
 use Rattle.wal_record.specs.declared.record.Kind.{Kind}
 use Rattle.wal_record.specs.declared.record.RecordFault.TheVariants as faults
 use Rattle.wal_record.specs.Outcome.{or_fault}
-use Rattle.wal_heads.specs.Header.{parts_at, is_linked, entry_sum}
+use Rattle.wal_pages.specs.wal_heads.Header.{parts_at, is_linked, entry_sum}
 use Rattle.wal_record.specs.Decoding.{kind_at, may_come, record_in, record_at}
 use Rattle.wal_record.proofs.EntryTaken.{went, held, held_at_last}
 use Rattle.wal_archive.specs.Laws.{IsFair}

@@ -3,7 +3,7 @@ use Rattle.std.proofs.Common.{◌≡◌, ℕ, ◌+◌, ◌-◌, ◌/◌, ◌%◌
 use Rattle.std.specs.Prelude.{Result, Ok, Err}
 use Rattle.std.proofs.lemmas.Bool.{cases_lt, cases_eq, lt-ltb, le-ltb, le-leb, lt-leb, leb-true, cond-true, cond-false, ne_eqb, eq-eqb, and_from, and_parts}
 use Rattle.std.proofs.lemmas.List.{length-take, length-take-le, get_or-take}
-use Rattle.byte_words.specs.Numbers.{u32_in}
+use Rattle.lsn_core.specs.byte_words.Numbers.{u32_in}
 use Rattle.lsn_core.specs.Segment.{segment_bytes}
 use Rattle.wal_pages.specs.Places.{place, flat_before, head_size, IsBehindHead, start_after, stop_of}
 use Rattle.wal_pages.specs.Spread.{still_to_come}

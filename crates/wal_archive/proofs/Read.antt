@@ -10,7 +10,7 @@ use Rattle.wal_record.specs.Tips.{first_tip, tip_after}
 use Rattle.wal_record.specs.declared.record.Record.{Record}
 use Rattle.wal_record.specs.Spelling.{sealed}
 use Rattle.wal_pages.specs.Places.{flat_before, start_after, end_of}
-use Rattle.byte_words.specs.Numbers.{aligned}
+use Rattle.lsn_core.specs.byte_words.Numbers.{aligned}
 use Rattle.wal_pages.specs.Spread.{spread_byte, spread}
 use Rattle.wal_pages.proofs.Splits.{stop_start}
 use Rattle.wal_archive.specs.Archive.{Archive, IsArchive, archive_of}

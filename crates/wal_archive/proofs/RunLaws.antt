@@ -20,7 +20,7 @@ use Rattle.wal_archive.specs.declared.fault.Broken.TheVariants.{Head}
 use Rattle.wal_archive.specs.declared.fault.ReadFault.{ReadFault}
 use Rattle.wal_archive.specs.declared.fault.ReadFault.TheVariants.{Bad, Failed, NoMemory}
 use Rattle.wal_archive.specs.Reading.{Says}
-use Rattle.byte_words.specs.Told.{when_told, when_both_told}
+use Rattle.lsn_core.specs.byte_words.Told.{when_told, when_both_told}
 use Rattle.wal_archive.proofs.Files.{nth_held}
 use Rattle.wal_archive.proofs.Runs.{bytes_held}
 use Rattle.wal_archive.proofs.Writes.{nth_past, nth_take, held_old, byte_at, at_split}

@@ -5,7 +5,7 @@ use Rattle.std.specs.Option.{option_map}
 use Rattle.std.specs.FinMap.{get, keys}
 use Rattle.std.proofs.lemmas.Bool.{cases_lt, lt-ltb, le-ltb, lt-leb, le-leb, ltb-true, ltb-false, cond-true, cond-false, ne_eqb, eq-eqb}
 use Rattle.std.proofs.lemmas.List.{length-take}
-use Rattle.byte_words.specs.Told.{when_told, when_both_told}
+use Rattle.lsn_core.specs.byte_words.Told.{when_told, when_both_told}
 use Rattle.lsn_core.specs.Files.{Files}
 use Rattle.lsn_core.specs.Segment.{segment_bytes}
 use Rattle.lsn_core.specs.Names.{segment_name_bytes}

@@ -10,8 +10,8 @@ use Rattle.std.proofs.lemmas.Bool.{cases_lt, cases_eq, cases_Bool, le-ltb, le-le
 use Rattle.std.proofs.lemmas.Nat.{div-mul-add, mod-mul-add, div-add-mod', mod_below, le-div, div_below}
 use Rattle.std.proofs.Math.Nat.{mul_assoc}
 use Rattle.std.proofs.lemmas.List.{length-append, length-take, length-take-le, length-drop, length-replicate, get_or-take, get_or_append_left, get_or-append_right, take-append-drop, drop_all, append-nil}
-use Rattle.byte_words.specs.Pieces.{overwritten, zero_filled}
-use Rattle.byte_words.proofs.Overwritten.{overwritten_before, overwritten_behind, overwritten_within}
+use Rattle.lsn_core.specs.byte_words.Pieces.{overwritten, zero_filled}
+use Rattle.lsn_core.proofs.byte_words.Overwritten.{overwritten_before, overwritten_behind, overwritten_within}
 use Rattle.lsn_core.specs.Files.{Files}
 use Rattle.lsn_core.specs.Sizes.{most_segments}
 use Rattle.lsn_core.specs.Segment.{segment_bytes}

@@ -2,7 +2,7 @@
 use Rattle.std.specs.Prelude.{◌≡◌, ℕ, ◌+◌, ◌-◌, ◌/◌, ◌%◌, ◌<◌, ◌≤◌, ◌^◌, min, Bool, true, not, List, length, get_or, Option, Some, None, Result, Ok, Err, IfSome, nat_le, ◌==◌, ◌&&◌, ◌||◌, if◌then◌else◌}
 use Rattle.std.specs.Global.{Vec}
 use Rattle.std.specs.Option.{option_map}
-use Rattle.byte_words.specs.Numbers.{u32_in}
+use Rattle.lsn_core.specs.byte_words.Numbers.{u32_in}
 use Rattle.lsn_core.specs.Files.{Files}
 use Rattle.lsn_core.specs.Segment.{segment_bytes}
 use Rattle.lsn_core.specs.Sizes.{page_size}
@@ -10,7 +10,7 @@ use Rattle.wal_pages.specs.Places.{head_size, IsBehindHead, start_after}
 use Rattle.lsn_core.specs.Causes.{Rose}
 use Rattle.lsn_core.specs.declared.fault.AreaFault.{AreaFault}
 use Rattle.lsn_core.specs.declared.fault.AreaFault.TheVariants as area
-use Rattle.wal_heads.specs.Header.{least_total, most_total}
+use Rattle.wal_pages.specs.wal_heads.Header.{least_total, most_total}
 use Rattle.vault.specs.declared.area.Vault.{Ghosts}
 use Rattle.wal_archive.specs.Archive.{Archive, archive_of}
 use Rattle.wal_archive.specs.Rules.{◌>>=◌, missing, is_ok, not_held, bytes_at, head_at, left_on_page, first_head, entry_bytes, entry_at, next_bytes, set_heads, set_bytes}

@@ -1,6 +1,6 @@
 -- The reading rules: what stands behind an end of the archive, and why nothing does.
 use Rattle.std.specs.Prelude.{◌≡◌, ℕ, zero, suc, ◌+◌, ◌-◌, ◌/◌, ◌%◌, min, Bool, true, false, List, [], ◌∷◌, ◌++◌, length, Option, Some, None, Result, Ok, Err, nat_le, not, ◌==◌, ◌&&◌, ◌||◌, if◌then◌else◌}
-use Rattle.byte_words.specs.Numbers.{u32_in}
+use Rattle.lsn_core.specs.byte_words.Numbers.{u32_in}
 use Rattle.lsn_core.specs.Files.{Files}
 use Rattle.lsn_core.specs.Segment.{segment_bytes}
 use Rattle.lsn_core.specs.Sizes.{page_size}
@@ -10,7 +10,7 @@ use Rattle.lsn_core.specs.declared.lsn.Place.{Place}
 use Rattle.wal_pages.specs.Places.{head_size, page_of, start_after, end_of}
 use Rattle.wal_pages.specs.Heads.{head_fault}
 use Rattle.wal_pages.specs.declared.heads.HeadFault.{HeadFault}
-use Rattle.wal_heads.specs.Header.{least_total, most_total}
+use Rattle.wal_pages.specs.wal_heads.Header.{least_total, most_total}
 use Rattle.wal_record.specs.Tips.{first_tip, tip_after}
 use Rattle.wal_record.specs.declared.record.Record.{Record}
 use Rattle.wal_record.specs.declared.record.RecordFault.{RecordFault}

@@ -1,12 +1,12 @@
 -- An entry's own bytes stand in the archive: they are flat bytes side by side, and the page heads
 -- among them are there.
 use Rattle.std.specs.Prelude.{◌≡◌, ℕ, ◌+◌, ◌%◌, ◌<◌, ◌≤◌, ◌⊎◌, List, length, get_or, Some, None}
-use Rattle.byte_words.specs.Numbers.{u32_in}
+use Rattle.lsn_core.specs.byte_words.Numbers.{u32_in}
 use Rattle.lsn_core.specs.Sizes.{page_size}
 use Rattle.wal_pages.specs.Places.{place, flat_before, head_size, IsBehindHead, stop_of}
 use Rattle.wal_pages.specs.Heads.{head_fault}
 use Rattle.wal_pages.specs.Spread.{still_to_come}
-use Rattle.wal_heads.specs.Header.{least_total, most_total}
+use Rattle.wal_pages.specs.wal_heads.Header.{least_total, most_total}
 use Rattle.wal_archive.specs.Archive.{Archive}
 
 -- a page's head is held and passes, with so many bytes of an entry still to come

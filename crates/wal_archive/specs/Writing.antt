@@ -1,6 +1,6 @@
 -- Entries laid out behind the archive's end, and what is written of them.
 use Rattle.std.specs.Prelude.{◌≡◌, ℕ, zero, suc, ◌+◌, ◌-◌, ◌/◌, ◌%◌, ◌<◌, ◌≤◌, List, [], ◌∷◌, ◌++◌, length, take, drop, Some, Ok}
-use Rattle.byte_words.specs.Numbers.{u32_in}
+use Rattle.lsn_core.specs.byte_words.Numbers.{u32_in}
 use Rattle.lsn_core.specs.Files.{Files}
 use Rattle.lsn_core.specs.Segment.{segment_bytes}
 use Rattle.lsn_core.specs.Names.{segment_name_bytes}
@@ -8,7 +8,7 @@ use Rattle.lsn_core.specs.Tip.{Tip}
 use Rattle.vault.specs.Area.{after_write}
 use Rattle.wal_pages.specs.Places.{start_after, end_of}
 use Rattle.wal_pages.specs.Spread.{spread}
-use Rattle.wal_heads.specs.Header.{least_total, most_total}
+use Rattle.wal_pages.specs.wal_heads.Header.{least_total, most_total}
 use Rattle.wal_record.specs.Spelling.{sealed}
 use Rattle.wal_record.specs.Tips.{tip_after, wal_limit}
 use Rattle.wal_record.specs.declared.record.Record.{Record}

@@ -8,7 +8,7 @@ ghost use Rattle.wal_archive.specs.Scanning.{HoldsPast, MarksPast, AreNames, IsH
 
 use crate::segments::{held_size, segment_in};
 use crate::zeros::{PIECE, are_zeros};
-use byte_words::zeros;
+use lsn_core::byte_words::zeros;
 use lsn_core::{AreaFault, SegSize, Text};
 use std::alloc::Global;
 use vault::Vault;

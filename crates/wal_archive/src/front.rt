@@ -1,12 +1,12 @@
 //! What is held of a page, and what it tells of the entry that starts there.
 
 ghost use Rattle.std.specs.Prelude.{◌≡◌, ◌+◌, ◌-◌, ◌%◌, ◌^◌, ◌<◌, ◌≤◌, ℕ, length, take, drop, get_or, IsTrue, Some, IfOk, IfSome};
-ghost use Rattle.byte_words.specs.Numbers.{u32_in};
+ghost use Rattle.lsn_core.specs.byte_words.Numbers.{u32_in};
 ghost use Rattle.lsn_core.specs.Causes.{HasCause};
 ghost use Rattle.lsn_core.specs.Sizes.{page_size};
 ghost use Rattle.wal_pages.specs.Places.{head_size, IsBehindHead};
 ghost use Rattle.vault.specs.Frame.{OnlyReads};
-ghost use Rattle.wal_heads.specs.Header.{least_total, most_total};
+ghost use Rattle.wal_pages.specs.wal_heads.Header.{least_total, most_total};
 ghost use Rattle.wal_archive.specs.Archive.{archive_of};
 ghost use Rattle.wal_archive.specs.Rules.{is_total, left_on_page};
 ghost use Rattle.wal_archive.specs.Reading.{ReadsFront, TellsHead, TellsEntryAt, IsEntrySized, shows_more};
@@ -15,11 +15,11 @@ use crate::fault::{Broken, Damage, ReadFault};
 use crate::long::long_entry;
 use crate::run::run_on_page;
 use crate::taking::why_missing;
-use byte_words::{u32_in, zeros};
+use lsn_core::byte_words::{u32_in, zeros};
 use lsn_core::{AreaFault, Lsn, PAGE, SegSize};
 use std::alloc::{AllocError, Global};
 use vault::Vault;
-use wal_heads::{LEAST_TOTAL, MOST_TOTAL};
+use wal_pages::wal_heads::{LEAST_TOTAL, MOST_TOTAL};
 use wal_pages::{head_fault, head_size};
 
 /// Whether an entry may have so many bytes.

@@ -1,11 +1,11 @@
 //! Entries over several pages.
 
 ghost use Rattle.std.specs.Prelude.{◌≡◌, ◌+◌, ◌-◌, ◌%◌, ◌^◌, ◌<◌, ◌≤◌, min, length, IfOk, IfSome};
-ghost use Rattle.byte_words.specs.Numbers.{u32_in};
+ghost use Rattle.lsn_core.specs.byte_words.Numbers.{u32_in};
 ghost use Rattle.lsn_core.specs.Sizes.{page_size};
 ghost use Rattle.wal_pages.specs.Places.{head_size, IsBehindHead};
 ghost use Rattle.vault.specs.Frame.{OnlyReads};
-ghost use Rattle.wal_heads.specs.Header.{least_total, most_total};
+ghost use Rattle.wal_pages.specs.wal_heads.Header.{least_total, most_total};
 ghost use Rattle.wal_archive.specs.Rules.{left_on_page};
 ghost use Rattle.wal_archive.specs.Reading.{piece_size, ReadsFront, ReadsBytes, TellsHeld, TellsPiece, TellsEntry, IsEntrySized};
 

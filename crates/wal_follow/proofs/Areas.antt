@@ -6,8 +6,8 @@ use Rattle.std.proofs.lemmas.List.FromFn.{map-range_with_len_more}
 use Rattle.std.specs.Option.{unwrap_or}
 use Rattle.std.proofs.lemmas.Bool.{cases_lt}
 use Rattle.std.proofs.lemmas.List.{same_lists, length-append, length-replicate, length-take, length-drop, get_or_append_left, get_or-append_right, get_or-replicate, get_or-take, get_or-drop, get_or_default, drop-take, take-take, drop-drop}
-use Rattle.byte_words.specs.Pieces.{overwritten}
-use Rattle.byte_words.proofs.Overwritten.{length-overwritten, overwritten_before, overwritten_within, overwritten_behind}
+use Rattle.lsn_core.specs.byte_words.Pieces.{overwritten}
+use Rattle.lsn_core.proofs.byte_words.Overwritten.{length-overwritten, overwritten_before, overwritten_within, overwritten_behind}
 use Rattle.lsn_core.specs.Segment.{segment_bytes}
 use Rattle.vault.specs.Area.{bytes_of, IsRead}
 use Rattle.stream_laws.specs.Streams.{segment_part}

@@ -7,7 +7,7 @@ ghost use Rattle.stream_laws.specs.Streams.{segment_part};
 ghost use Rattle.stream_laws.specs.Windows.{shown};
 ghost use Rattle.wal_follow.specs.Window.{IsInRoom, run, span_segments, NamesPart, IsPartRead};
 
-use byte_words::overwrite;
+use lsn_core::byte_words::overwrite;
 use lsn_core::{AreaFault, MOST_SEGMENTS, NoMemory, SegSize, Text, segment_name};
 use std::alloc::Global;
 use std::marker::Model;

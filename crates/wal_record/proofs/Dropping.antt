@@ -4,11 +4,11 @@ use Rattle.std.specs.Int.{w32, w64, to_le_bytes, cast_unsigned}
 use Rattle.std.specs.Prelude.{false, nat_eq}
 use Rattle.std.proofs.lemmas.List.{append-nil, append_assoc, length-append, drop_more}
 use Rattle.lsn_core.specs.Relation.{Relation}
-use Rattle.wal_heads.specs.declared.announce.MainHead.{MainHead}
-use Rattle.wal_heads.specs.declared.announce.MainHead.TheVariants.{Absent, Short, Long}
-use Rattle.wal_heads.specs.declared.announce.RelName.{RelName}
-use Rattle.wal_heads.specs.Heads.{main_bytes}
-use Rattle.wal_heads.specs.Announcements.{named_at}
+use Rattle.wal_pages.specs.declared.wal_heads.announce.MainHead.{MainHead}
+use Rattle.wal_pages.specs.declared.wal_heads.announce.MainHead.TheVariants.{Absent, Short, Long}
+use Rattle.wal_pages.specs.declared.wal_heads.announce.RelName.{RelName}
+use Rattle.wal_pages.specs.wal_heads.Heads.{main_bytes}
+use Rattle.wal_pages.specs.wal_heads.Announcements.{named_at}
 use Rattle.wal_record.specs.declared.record.RecordFault.{RecordFault}
 use Rattle.wal_record.specs.declared.record.Why.{Why}
 use Rattle.wal_record.specs.declared.record.Why.TheVariants as whys

@@ -7,21 +7,21 @@ use Rattle.std.proofs.lemmas.List.{length-append}
 use Rattle.std.proofs.Math.Seq.{take-append_seam, drop-append_seam}
 use Rattle.lsn_core.specs.declared.lsn.Lsn.{Lsn}
 use Rattle.lsn_core.specs.declared.lsn.Place.{Place}
-use Rattle.byte_words.proofs.Fields.{wide8, wide16, wide32, wide64, step_again}
-use Rattle.wal_heads.specs.declared.header.Header.{Header}
-use Rattle.wal_heads.specs.declared.header.Form.{Form}
+use Rattle.lsn_core.proofs.byte_words.Fields.{wide8, wide16, wide32, wide64, step_again}
+use Rattle.wal_pages.specs.declared.wal_heads.header.Header.{Header}
+use Rattle.wal_pages.specs.declared.wal_heads.header.Form.{Form}
 use Rattle.wal_record.specs.declared.record.Record.{Record}
 use Rattle.wal_record.specs.declared.record.Kind.{Kind}
 use Rattle.wal_record.specs.declared.record.RecordFault.TheVariants as faults
 use Rattle.wal_record.specs.Outcome.{◌>>=◌, or_fault, refused}
-use Rattle.wal_heads.specs.Header.{entry_at, header_at, parts_at, is_linked, form_of, entry_sum}
-use Rattle.wal_heads.specs.Heads.{AreHeads}
-use Rattle.wal_heads.specs.Announcements.{Heads, heads_at}
+use Rattle.wal_pages.specs.wal_heads.Header.{entry_at, header_at, parts_at, is_linked, form_of, entry_sum}
+use Rattle.wal_pages.specs.wal_heads.Heads.{AreHeads}
+use Rattle.wal_pages.specs.wal_heads.Announcements.{Heads, heads_at}
 use Rattle.wal_record.specs.Content.{said}
 use Rattle.wal_record.specs.Decoding.{kind_at, may_come, record_in, record_at}
 use Rattle.wal_record.specs.Entry.{header_front, HeaderFits, tree_bytes, IsEntry}
-use Rattle.wal_heads.proofs.Steps.{takes_again, passes, passes_over}
-use Rattle.wal_heads.proofs.HeadsAgain.{heads_again}
+use Rattle.wal_pages.proofs.wal_heads.Steps.{takes_again, passes, passes_over}
+use Rattle.wal_pages.proofs.wal_heads.HeadsAgain.{heads_again}
 
 holds_none : (a b c : Bool) → a ≡ false → b ≡ false → c ≡ false → (a || (b || c)) ≡ false
 holds_none a b c e f g = rw (e, f, g) refl

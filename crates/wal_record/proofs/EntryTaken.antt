@@ -7,23 +7,23 @@ use Rattle.std.proofs.lemmas.List.{take-append-drop, length-take-le}
 use Rattle.std.proofs.Math.Seq.{take-append-add}
 use Rattle.lsn_core.specs.declared.lsn.Lsn.{Lsn}
 use Rattle.lsn_core.specs.declared.lsn.Place.{Place}
-use Rattle.byte_words.specs.Numbers.{IsBytes, number_at}
-use Rattle.byte_words.proofs.Fields.{wide8, wide16, wide32, wide64, step, put_front, number_again, number_is, IsBytes-take}
-use Rattle.wal_heads.specs.declared.header.Header.{Header}
-use Rattle.wal_heads.specs.declared.header.Form.{Form}
+use Rattle.lsn_core.specs.byte_words.Numbers.{IsBytes, number_at}
+use Rattle.lsn_core.proofs.byte_words.Fields.{wide8, wide16, wide32, wide64, step, put_front, number_again, number_is, IsBytes-take}
+use Rattle.wal_pages.specs.declared.wal_heads.header.Header.{Header}
+use Rattle.wal_pages.specs.declared.wal_heads.header.Form.{Form}
 use Rattle.wal_record.specs.declared.record.Record.{Record}
 use Rattle.wal_record.specs.declared.record.Kind.{Kind}
 use Rattle.wal_record.specs.declared.record.RecordFault.TheVariants as faults
 use Rattle.wal_record.specs.declared.record.Why.{Why}
 use Rattle.wal_record.specs.Outcome.{◌>>=◌, or_fault, refused}
-use Rattle.wal_heads.specs.Header.{entry_at, header_at, parts_at, is_linked, form_of, entry_sum}
-use Rattle.wal_heads.specs.Heads.{AreHeads}
-use Rattle.wal_heads.specs.Announcements.{Heads, heads_at}
+use Rattle.wal_pages.specs.wal_heads.Header.{entry_at, header_at, parts_at, is_linked, form_of, entry_sum}
+use Rattle.wal_pages.specs.wal_heads.Heads.{AreHeads}
+use Rattle.wal_pages.specs.wal_heads.Announcements.{Heads, heads_at}
 use Rattle.wal_record.specs.Content.{said}
 use Rattle.wal_record.specs.Decoding.{kind_at, may_come, record_in, record_at}
 use Rattle.wal_record.specs.Entry.{header_front, HeaderFits, tree_bytes, IsEntry}
-use Rattle.wal_heads.proofs.Steps.{took}
-use Rattle.wal_heads.proofs.HeadsTaken.{heads_takes}
+use Rattle.wal_pages.proofs.wal_heads.Steps.{took}
+use Rattle.wal_pages.proofs.wal_heads.HeadsTaken.{heads_takes}
 
 -- none of three tests holds
 pub none_of_three : (a b c : Bool) → (a || (b || c)) ≡ false → (a ≡ false) × (b ≡ false) × (c ≡ false)

@@ -13,14 +13,14 @@ use Rattle.pg_page.specs.Header.{IsGood, hole_of}
 use Rattle.pg_page.specs.Image.{image_of}
 use Rattle.pg_page.specs.Frags.{Fragment, bad_frag}
 use Rattle.pg_page.proofs.ImageLaws.{length-image_of-Some, length-image_of-None, hole_bounds}
-use Rattle.wal_heads.specs.declared.announce.ImageHead.{ImageHead}
-use Rattle.wal_heads.specs.declared.announce.MainHead.TheVariants.{Short, Long}
+use Rattle.wal_pages.specs.declared.wal_heads.announce.ImageHead.{ImageHead}
+use Rattle.wal_pages.specs.declared.wal_heads.announce.MainHead.TheVariants.{Short, Long}
 use Rattle.wal_record.specs.declared.record.Kind.{Kind}
 use Rattle.wal_record.specs.declared.record.Kind.TheVariants.{Shutdown, Online, RedoMark, NoOp, BackupEnd, Images, Generic, Create, Truncate, Commit}
 use Rattle.wal_record.specs.declared.record.BlockRef.{BlockRef}
 use Rattle.wal_record.specs.declared.record.Body.{Body}
 use Rattle.wal_record.specs.declared.record.Body.TheVariants.{Image, Delta}
-use Rattle.wal_heads.specs.Heads.{has_bit, image_good, image_may, block_good, image_size, block_size, main_size, ImageFits, NameFits, BlockFits, MainFits, AreHeads}
+use Rattle.wal_pages.specs.wal_heads.Heads.{has_bit, image_good, image_may, block_good, image_size, block_size, main_size, ImageFits, NameFits, BlockFits, MainFits, AreHeads}
 use Rattle.wal_record.specs.Spelling.{fork_number, main_of, blocks_of, image_head_of, frags_bytes, body_image, body_flag, body_bytes, body_data_len, is_same, same_flag, told_name, head_of, heads_of, main_head_of, bodies_bytes, IsRelation, IsWritableBody, IsWritableBlock, IsWritable}
 use Rattle.wal_record.proofs.Deltas.{frags_most}
 use Rattle.wal_record.proofs.Writing.{flags_fit}

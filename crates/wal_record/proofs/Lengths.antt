@@ -2,8 +2,8 @@
 use Rattle.std.proofs.Common.{◌≡◌, ℕ, ◌+◌, ◌*◌, ◌≤◌, Bool, true, false, cond, List, [], ◌∷◌, ◌++◌, length, Option, Some, None, refl, arith}
 use Rattle.std.specs.List.{All}
 use Rattle.std.specs.Prelude.{nat_le}
-use Rattle.wal_heads.specs.declared.announce.MainHead.TheVariants.{Short, Long}
-use Rattle.wal_heads.specs.Heads.{main_bytes}
+use Rattle.wal_pages.specs.declared.wal_heads.announce.MainHead.TheVariants.{Short, Long}
+use Rattle.wal_pages.specs.wal_heads.Heads.{main_bytes}
 use Rattle.wal_record.proofs.Dropping.{length-commit}
 use Rattle.std.proofs.lemmas.List.{length-append}
 use Rattle.std.proofs.lemmas.List.Elements.{All-head, All-tail}
@@ -11,7 +11,7 @@ use Rattle.lsn_core.specs.Relation.{Relation}
 use Rattle.pg_page.specs.Header.{IsGood, hole_of}
 use Rattle.pg_page.specs.Image.{image_of}
 use Rattle.pg_page.proofs.ImageLaws.{length-image_of-Some, length-image_of-None}
-use Rattle.wal_heads.proofs.Lengths.{heads_most}
+use Rattle.wal_pages.proofs.wal_heads.Lengths.{heads_most}
 use Rattle.wal_record.specs.declared.record.BlockRef.{BlockRef}
 use Rattle.wal_record.specs.declared.record.Body.{Body}
 use Rattle.wal_record.specs.declared.record.Body.TheVariants.{Image, Delta}

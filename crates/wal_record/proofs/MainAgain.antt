@@ -6,15 +6,15 @@ use Rattle.std.proofs.Math.Facts.{Fits-of_z, Fits-lt-pow}
 use Rattle.std.proofs.lemmas.Int.{to_z-of_z}
 use Rattle.std.proofs.lemmas.List.Elements.{All-head, All-tail}
 use Rattle.std.proofs.lemmas.Bool.{eq-eqb, and_from, lt-ltb}
-use Rattle.byte_words.specs.Numbers.{◌>>=◌}
-use Rattle.byte_words.proofs.Fields.{wide32, wide64, step_again}
+use Rattle.lsn_core.specs.byte_words.Numbers.{◌>>=◌}
+use Rattle.lsn_core.proofs.byte_words.Fields.{wide32, wide64, step_again}
 use Rattle.lsn_core.specs.Relation.{Relation}
 use Rattle.lsn_core.specs.declared.lsn.Lsn.{Lsn}
-use Rattle.wal_heads.specs.Announcements.{named_at}
-use Rattle.wal_heads.proofs.HeadsAgain.{named_again}
+use Rattle.wal_pages.specs.wal_heads.Announcements.{named_at}
+use Rattle.wal_pages.proofs.wal_heads.HeadsAgain.{named_again}
 use Rattle.wal_record.specs.Parts.{checkpoint_at, mark_at, start_at, creation_at, truncation_at, bits_at, are_other_bits, other_bits_at, commit_time_at, commit_at}
 use Rattle.wal_record.specs.Spelling.{full_name, checkpoint_bytes, relation_bytes, truncation_bytes, rels_bytes, IsRelation}
-use Rattle.wal_heads.proofs.Steps.{takes_again, passes}
+use Rattle.wal_pages.proofs.wal_heads.Steps.{takes_again, passes}
 
 checkpoint_followed : (redo : Lsn) (end : List ℕ) → redo.0 < 2 ^ 64 → length end ≡ 0 → checkpoint_at (to_le_bytes w64 redo.0 ++ (to_le_bytes w32 1 ++ (to_le_bytes w32 1 ++ (to_le_bytes w64 1 ++ end)))) ≡ Some redo
 unfolding checkpoint_at

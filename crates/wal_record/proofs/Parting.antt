@@ -3,22 +3,22 @@ use Rattle.std.proofs.Common.{◌≡◌, ℕ, zero, suc, ◌+◌, ◌<◌, ◌�
 use Rattle.std.specs.Int.{Width, w16, byte_len, from_le_bytes}
 use Rattle.std.proofs.lemmas.List.{append-nil, append_assoc, length-drop, drop_more, drop_all}
 use Rattle.std.proofs.lemmas.Bool.{ltb-false}
-use Rattle.byte_words.specs.Numbers.{◌>>=◌, number_at}
-use Rattle.byte_words.proofs.Fields.{guard_some}
+use Rattle.lsn_core.specs.byte_words.Numbers.{◌>>=◌, number_at}
+use Rattle.lsn_core.proofs.byte_words.Fields.{guard_some}
 use Rattle.lsn_core.specs.declared.ids.BlockId.{BlockId}
 use Rattle.pg_page.specs.Frags.{Fragment}
-use Rattle.wal_heads.specs.declared.announce.BlockHead.{BlockHead}
-use Rattle.wal_heads.specs.declared.announce.RelName.{RelName}
-use Rattle.wal_heads.specs.declared.header.Form.{Form}
+use Rattle.wal_pages.specs.declared.wal_heads.announce.BlockHead.{BlockHead}
+use Rattle.wal_pages.specs.declared.wal_heads.announce.RelName.{RelName}
+use Rattle.wal_pages.specs.declared.wal_heads.header.Form.{Form}
 use Rattle.wal_record.specs.declared.record.BlockRef.{BlockRef}
 use Rattle.wal_record.specs.declared.record.RecordFault.{RecordFault}
 use Rattle.wal_record.specs.declared.record.RecordFault.TheVariants.{Length, Prev, Crc, Unsupported, Header, Content, NoMemory}
 use Rattle.wal_record.specs.declared.record.Why.{Why}
-use Rattle.wal_heads.specs.Heads.{image_size, block_size}
+use Rattle.wal_pages.specs.wal_heads.Heads.{image_size, block_size}
 use Rattle.wal_record.specs.Outcome.{refused, Fails}
 use Rattle.wal_record.specs.Parts.{frag_at, with_frag, frags_at}
 use Rattle.wal_record.specs.Content.{id_said, body_by, block_said, own_name, with_block, blocks_said}
-use Rattle.wal_heads.proofs.Steps.{took}
+use Rattle.wal_pages.proofs.wal_heads.Steps.{took}
 
 -- fragments, and those that are read behind them
 abbrev pub with_frags : List Fragment → Option (List Fragment) → Option (List Fragment)

@@ -4,20 +4,20 @@ use Rattle.lsn_core.specs.Relation.{Relation}
 use Rattle.lsn_core.specs.declared.ids.ForkKind.TheVariants.{Main, Init}
 use Rattle.pg_page.specs.Header.{made_page, made_fields}
 use Rattle.pg_page.specs.Image.{without_hole}
-use Rattle.wal_heads.specs.declared.announce.MainHead.TheVariants.{Absent, Short}
+use Rattle.wal_pages.specs.declared.wal_heads.announce.MainHead.TheVariants.{Absent, Short}
 use Rattle.wal_record.specs.declared.record.Record.{Record}
 use Rattle.wal_record.specs.declared.record.Kind.{Kind}
 use Rattle.wal_record.specs.declared.record.Kind.TheVariants.{Shutdown, RedoMark, NoOp, BackupEnd, Generic, Create, Truncate}
 use Rattle.wal_record.specs.declared.record.BlockRef.{BlockRef}
 use Rattle.wal_record.specs.declared.record.Body.{Body}
 use Rattle.wal_record.specs.declared.record.Body.TheVariants.{Image, Delta}
-use Rattle.wal_heads.specs.Announcements.{named_at}
+use Rattle.wal_pages.specs.wal_heads.Announcements.{named_at}
 use Rattle.wal_record.specs.Parts.{frag_at, frags_at, delta_at, creation_at}
 use Rattle.wal_record.specs.Content.{id_said, delta_said, block_said, blocks_said, creation_said, blocks_alone, kind_said, said}
-use Rattle.wal_heads.specs.declared.announce.BlockHead.{BlockHead}
-use Rattle.wal_heads.specs.declared.announce.RelName.{RelName}
+use Rattle.wal_pages.specs.declared.wal_heads.announce.BlockHead.{BlockHead}
+use Rattle.wal_pages.specs.declared.wal_heads.announce.RelName.{RelName}
 use Rattle.wal_record.specs.declared.record.Why.TheVariants as whys
-use Rattle.wal_heads.specs.declared.header.Form.TheVariants as forms
+use Rattle.wal_pages.specs.declared.wal_heads.header.Form.TheVariants as forms
 use Rattle.wal_record.specs.Spelling.{spelling, total_of, body_of}
 
 -- the first entry of an archive that begins at 0/100000: 50 bytes

@@ -1,14 +1,14 @@
 -- What is written of an entry is of the grammar of entries.
 use Rattle.std.proofs.Common.{◌≡◌, ℕ, ◌%◌, ◌/◌, ◌^◌, ◌<◌, ◌≤◌, ◌∙◌, true, List, ◌++◌, length, drop, Option, None, refl, sym, ap, subst, arith}
 use Rattle.std.specs.Int.{w32, to_le_bytes}
-use Rattle.byte_words.specs.Numbers.{u32_in}
-use Rattle.byte_words.proofs.Fields.{wide32, number_again, number_is}
+use Rattle.lsn_core.specs.byte_words.Numbers.{u32_in}
+use Rattle.lsn_core.proofs.byte_words.Fields.{wide32, number_again, number_is}
 use Rattle.lsn_core.specs.declared.lsn.Lsn.{Lsn}
 use Rattle.wal_crc.specs.Crc.{crc32c}
-use Rattle.wal_heads.specs.declared.header.Header.{Header}
+use Rattle.wal_pages.specs.declared.wal_heads.header.Header.{Header}
 use Rattle.wal_record.specs.declared.record.Record.{Record}
-use Rattle.wal_heads.specs.Header.{entry_sum, is_linked}
-use Rattle.wal_heads.specs.Announcements.{Heads}
+use Rattle.wal_pages.specs.wal_heads.Header.{entry_sum, is_linked}
+use Rattle.wal_pages.specs.wal_heads.Announcements.{Heads}
 use Rattle.wal_record.specs.Decoding.{may_come}
 use Rattle.wal_record.specs.Entry.{header_front, own_place, IsEntry}
 use Rattle.wal_record.specs.Spelling.{manager_of, info_of, main_of, blocks_of, heads_of, main_head_of, bodies_bytes, body_of, total_of, front_of, spelling, sealed, IsWritable}

@@ -14,13 +14,13 @@ use Rattle.pg_page.specs.Header.{IsGood}
 use Rattle.pg_page.specs.Image.{restored}
 use Rattle.pg_page.specs.Frags.{Fragment, bad_frag, is_good}
 use Rattle.pg_page.proofs.PatchLaws.{good_told}
-use Rattle.wal_heads.specs.declared.announce.BlockHead.{BlockHead}
-use Rattle.wal_heads.specs.declared.announce.ImageHead.{ImageHead}
-use Rattle.wal_heads.specs.declared.announce.MainHead.{MainHead}
-use Rattle.wal_heads.specs.declared.announce.RelName.{RelName}
-use Rattle.wal_heads.specs.declared.header.Form.{Form}
-use Rattle.wal_heads.specs.declared.header.Form.TheVariants as forms
-use Rattle.wal_heads.specs.declared.header.Header.{Header}
+use Rattle.wal_pages.specs.declared.wal_heads.announce.BlockHead.{BlockHead}
+use Rattle.wal_pages.specs.declared.wal_heads.announce.ImageHead.{ImageHead}
+use Rattle.wal_pages.specs.declared.wal_heads.announce.MainHead.{MainHead}
+use Rattle.wal_pages.specs.declared.wal_heads.announce.RelName.{RelName}
+use Rattle.wal_pages.specs.declared.wal_heads.header.Form.{Form}
+use Rattle.wal_pages.specs.declared.wal_heads.header.Form.TheVariants as forms
+use Rattle.wal_pages.specs.declared.wal_heads.header.Header.{Header}
 use Rattle.wal_record.specs.declared.record.BlockRef.{BlockRef}
 use Rattle.wal_record.specs.declared.record.Body.{Body}
 use Rattle.wal_record.specs.declared.record.Body.TheVariants.{Image, Delta}
@@ -31,16 +31,16 @@ use Rattle.wal_record.specs.declared.record.RecordFault.{RecordFault}
 use Rattle.wal_record.specs.declared.record.RecordFault.TheVariants as faults
 use Rattle.wal_record.specs.declared.record.Why.{Why}
 use Rattle.wal_record.specs.declared.record.Why.TheVariants as whys
-use Rattle.wal_heads.specs.Announcements.{named_at, heads_at}
-use Rattle.wal_heads.specs.Heads.{image_size, block_size, main_size}
-use Rattle.wal_heads.specs.Header.{parts_at, is_linked, entry_sum, form_of}
+use Rattle.wal_pages.specs.wal_heads.Announcements.{named_at, heads_at}
+use Rattle.wal_pages.specs.wal_heads.Heads.{image_size, block_size, main_size}
+use Rattle.wal_pages.specs.wal_heads.Header.{parts_at, is_linked, entry_sum, form_of}
 use Rattle.wal_record.specs.Outcome.{or_fault, refused, Gives}
 use Rattle.wal_record.specs.Parts.{last_of, good_page, page_at, frags_at, delta_at, checkpoint_at, mark_at, start_at, creation_at, truncation_at, commit_time_at, commit_at}
 use Rattle.wal_record.specs.Content.{fork_numbered, relation_of, is_packed, is_applied, id_said, has_blocks, has_deltas, image_said, delta_said, body_by, block_said, own_name, with_block, blocks_said, no_name, creation_said, truncation_said, rel_said, with_rel, rels_said, commit_said, has_other_bits, blocks_alone, kind_said, said}
 use Rattle.wal_record.specs.Decoding.{kind_at, may_come, record_in, record_at}
 use Rattle.wal_record.specs.Spelling.{IsImage, IsWritableBody, IsWritableBlock, IsRelation, IsWritable}
 use Rattle.wal_record.specs.Sound.{HasNumbers, IsSoundBody, IsSoundBlock, IsSound}
-use Rattle.wal_heads.proofs.Steps.{passed, took}
+use Rattle.wal_pages.proofs.wal_heads.Steps.{passed, took}
 use Rattle.wal_record.proofs.EntryTaken.{went, is_there, says_so, held, held_at_last}
 
 -- a test before the rest of a reading, where it is refused if it holds, or unless it holds

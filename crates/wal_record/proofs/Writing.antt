@@ -5,15 +5,15 @@ use Rattle.std.proofs.lemmas.List.{append-nil, append_assoc, drop_more}
 use Rattle.lsn_core.specs.Relation.{Relation}
 use Rattle.lsn_core.specs.declared.ids.ForkKind.{ForkKind}
 use Rattle.lsn_core.specs.declared.ids.ForkKind.TheVariants.{Main, Init}
-use Rattle.wal_heads.specs.declared.announce.ImageHead.{ImageHead}
-use Rattle.wal_heads.specs.declared.announce.RelName.{RelName}
-use Rattle.wal_heads.specs.declared.announce.BlockHead.{BlockHead}
-use Rattle.wal_heads.specs.declared.announce.MainHead.TheVariants.{Absent}
+use Rattle.wal_pages.specs.declared.wal_heads.announce.ImageHead.{ImageHead}
+use Rattle.wal_pages.specs.declared.wal_heads.announce.RelName.{RelName}
+use Rattle.wal_pages.specs.declared.wal_heads.announce.BlockHead.{BlockHead}
+use Rattle.wal_pages.specs.declared.wal_heads.announce.MainHead.TheVariants.{Absent}
 use Rattle.wal_record.specs.declared.record.BlockRef.{BlockRef}
 use Rattle.wal_record.specs.declared.record.Body.{Body}
 use Rattle.wal_record.specs.declared.record.Body.TheVariants.{Image, Delta}
 use Rattle.wal_record.specs.declared.record.Kind.TheVariants.{Generic}
-use Rattle.wal_heads.specs.Heads.{hole_bytes, image_bytes, rel_bytes, block_bytes, heads_bytes}
+use Rattle.wal_pages.specs.wal_heads.Heads.{hole_bytes, image_bytes, rel_bytes, block_bytes, heads_bytes}
 use Rattle.wal_record.specs.Spelling.{fork_number, body_flag, is_same, same_flag, head_of, heads_of, all_heads, bodies_bytes, body_of}
 
 hole_apart : (o : Option ℕ) (x rest : List ℕ) → hole_bytes o (x ++ rest) ≡ hole_bytes o x ++ rest

@@ -8,7 +8,7 @@ use Rattle.std.proofs.lemmas.Bool.{and_from, and_parts, le-leb, lt-ltb, le-ltb, 
 use Rattle.std.proofs.lemmas.List.{length-append, length-drop, append_assoc, take_at, drop_at, take-append-le, drop-append-le}
 use Rattle.std.proofs.Math.Seq.{take-append_seam, drop-append_seam, take-length}
 use Rattle.std.proofs.lemmas.List.Elements.{All-head, All-tail, All-nil, All-cons}
-use Rattle.byte_words.proofs.Fields.{wide16, step_again}
+use Rattle.lsn_core.proofs.byte_words.Fields.{wide16, step_again}
 use Rattle.lsn_core.specs.Relation.{Relation}
 use Rattle.lsn_core.specs.declared.ids.BlockId.{BlockId}
 use Rattle.lsn_core.specs.declared.ids.ForkKind.{ForkKind}
@@ -18,26 +18,26 @@ use Rattle.pg_page.specs.Image.{image_of, restored}
 use Rattle.pg_page.specs.Frags.{Fragment, bad_frag, is_good}
 use Rattle.pg_page.proofs.ImageLaws.{image_of-Some, image_of-None, length-image_of-Some, length-image_of-None, hole_bounds, restored_image, restored_whole}
 use Rattle.pg_page.proofs.PatchLaws.{told_good}
-use Rattle.wal_heads.specs.declared.announce.RelName.{RelName}
-use Rattle.wal_heads.specs.declared.announce.BlockHead.{BlockHead}
-use Rattle.wal_heads.specs.declared.header.Form.{Form}
-use Rattle.wal_heads.specs.declared.header.Form.TheVariants as forms
+use Rattle.wal_pages.specs.declared.wal_heads.announce.RelName.{RelName}
+use Rattle.wal_pages.specs.declared.wal_heads.announce.BlockHead.{BlockHead}
+use Rattle.wal_pages.specs.declared.wal_heads.header.Form.{Form}
+use Rattle.wal_pages.specs.declared.wal_heads.header.Form.TheVariants as forms
 use Rattle.wal_record.specs.declared.record.Kind.{Kind}
 use Rattle.wal_record.specs.declared.record.Kind.TheVariants.{Shutdown, Online, RedoMark, NoOp, BackupEnd, Images, Generic, Create, Truncate, Commit}
 use Rattle.wal_record.specs.declared.record.BlockRef.{BlockRef}
 use Rattle.wal_record.specs.declared.record.Body.{Body}
 use Rattle.wal_record.specs.declared.record.Body.TheVariants.{Image, Delta}
 use Rattle.wal_record.specs.declared.record.Why.TheVariants as whys
-use Rattle.wal_heads.specs.Heads.{has_bit, image_size, block_size, main_size}
+use Rattle.wal_pages.specs.wal_heads.Heads.{has_bit, image_size, block_size, main_size}
 use Rattle.wal_record.specs.Outcome.{or_fault}
 use Rattle.wal_record.specs.Parts.{last_of, good_page, page_at, frag_at, with_frag, frags_at, delta_at, checkpoint_at, mark_at, start_at, creation_at, truncation_at, commit_time_at, commit_at}
 use Rattle.wal_record.specs.Content.{fork_numbered, relation_of, is_packed, is_applied, id_said, has_blocks, has_deltas, image_said, delta_said, body_by, block_said, own_name, with_block, blocks_said, no_name, creation_said, truncation_said, rel_said, with_rel, rels_said, commit_said, has_other_bits, blocks_alone, kind_said, said}
-use Rattle.wal_heads.specs.Header.{form_of}
+use Rattle.wal_pages.specs.wal_heads.Header.{form_of}
 use Rattle.wal_record.specs.Spelling.{fork_number, manager_of, info_of, main_of, blocks_of, image_head_of, frag_bytes, frags_bytes, body_image, body_bytes, body_data_len, is_same, told_name, full_name, head_of, heads_of, main_head_of, bodies_bytes, checkpoint_bytes, creation_bytes, truncation_bytes, relation_bytes, rels_bytes, IsRelation, IsWritableBody, IsWritableBlock, IsImage, IsWritable}
-use Rattle.wal_heads.proofs.Steps.{takes_again, passes, passes_over}
+use Rattle.wal_pages.proofs.wal_heads.Steps.{takes_again, passes, passes_over}
 use Rattle.wal_record.proofs.MainAgain.{checkpoint_again, mark_again, start_again, creation_again, truncation_again, time_again, bits_again, commit_again, full_name_again}
 use Rattle.wal_record.proofs.Dropping.{length-rels}
-use Rattle.wal_heads.specs.Announcements.{named_at}
+use Rattle.wal_pages.specs.wal_heads.Announcements.{named_at}
 use Rattle.wal_record.proofs.Deltas.{frags_fit}
 use Rattle.wal_record.proofs.EntryAgain.{goes, found, holds}
 use Rattle.wal_record.proofs.HeadsWritten.{flags_of, main_sized, sized}

@@ -6,12 +6,12 @@ use Rattle.lsn_core.specs.Sizes.{most_blocks}
 use Rattle.lsn_core.specs.declared.ids.BlockId.{BlockId}
 use Rattle.lsn_core.specs.declared.ids.ForkKind.{ForkKind}
 use Rattle.lsn_core.specs.declared.ids.ForkKind.TheVariants.{Main, Init}
-use Rattle.wal_heads.specs.declared.announce.BlockHead.{BlockHead}
-use Rattle.wal_heads.specs.declared.announce.ImageHead.{ImageHead}
-use Rattle.wal_heads.specs.declared.announce.MainHead.{MainHead}
-use Rattle.wal_heads.specs.declared.announce.RelName.{RelName}
-use Rattle.wal_heads.specs.declared.header.Form.{Form}
-use Rattle.wal_heads.specs.declared.header.Form.TheVariants as forms
+use Rattle.wal_pages.specs.declared.wal_heads.announce.BlockHead.{BlockHead}
+use Rattle.wal_pages.specs.declared.wal_heads.announce.ImageHead.{ImageHead}
+use Rattle.wal_pages.specs.declared.wal_heads.announce.MainHead.{MainHead}
+use Rattle.wal_pages.specs.declared.wal_heads.announce.RelName.{RelName}
+use Rattle.wal_pages.specs.declared.wal_heads.header.Form.{Form}
+use Rattle.wal_pages.specs.declared.wal_heads.header.Form.TheVariants as forms
 use Rattle.wal_record.specs.declared.record.BlockRef.{BlockRef}
 use Rattle.wal_record.specs.declared.record.Body.{Body}
 use Rattle.wal_record.specs.declared.record.Body.TheVariants.{Image, Delta}
@@ -19,8 +19,8 @@ use Rattle.wal_record.specs.declared.record.Kind.{Kind}
 use Rattle.wal_record.specs.declared.record.Kind.TheVariants.{Shutdown, Online, RedoMark, NoOp, BackupEnd, Images, Generic, Create, Truncate, Commit}
 use Rattle.wal_record.specs.declared.record.Why.{Why}
 use Rattle.wal_record.specs.declared.record.Why.TheVariants.{CommitBits, Compressed, NotApplied, Tablespace, Fork, Relation as NoRelation, BlockRange, ImagePage, Fragments, Shape}
-use Rattle.wal_heads.specs.Announcements.{named_at}
-use Rattle.wal_heads.specs.Heads.{has_bit, is_compressed, image_size, block_size, main_size}
+use Rattle.wal_pages.specs.wal_heads.Announcements.{named_at}
+use Rattle.wal_pages.specs.wal_heads.Heads.{has_bit, is_compressed, image_size, block_size, main_size}
 use Rattle.wal_record.specs.Outcome.{◌>>=◌, or_fault}
 use Rattle.wal_record.specs.Parts.{last_of, page_at, delta_at, checkpoint_at, mark_at, start_at, creation_at, truncation_at, other_bits_at, commit_time_at, commit_at}
 

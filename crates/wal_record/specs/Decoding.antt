@@ -2,7 +2,7 @@
 use Rattle.std.specs.Prelude.{ℕ, Bool, true, false, List, take, Option, Some, None, Result, Ok, Err, not, ◌==◌, if◌then◌else◌}
 use Rattle.lsn_core.specs.declared.lsn.Lsn.{Lsn}
 use Rattle.lsn_core.specs.declared.lsn.Place.{Place}
-use Rattle.wal_heads.specs.declared.header.Header.{Header}
+use Rattle.wal_pages.specs.declared.wal_heads.header.Header.{Header}
 use Rattle.wal_record.specs.declared.record.Record.{Record}
 use Rattle.wal_record.specs.declared.record.Kind.{Kind}
 use Rattle.wal_record.specs.declared.record.Kind.TheVariants.{Shutdown, Online, RedoMark, NoOp, BackupEnd, Images, Generic, Create, Truncate, Commit}
@@ -10,8 +10,8 @@ use Rattle.wal_record.specs.declared.record.RecordFault.{RecordFault}
 use Rattle.wal_record.specs.declared.record.RecordFault.TheVariants as faults
 use Rattle.wal_record.specs.declared.record.Why.TheVariants.{First}
 use Rattle.wal_record.specs.Outcome.{◌>>=◌, or_fault, refused}
-use Rattle.wal_heads.specs.Header.{parts_at, entry_sum, is_linked, form_of}
-use Rattle.wal_heads.specs.Announcements.{heads_at}
+use Rattle.wal_pages.specs.wal_heads.Header.{parts_at, entry_sum, is_linked, form_of}
+use Rattle.wal_pages.specs.wal_heads.Announcements.{heads_at}
 use Rattle.wal_record.specs.Content.{said}
 
 -- what the bytes behind a header of this manager and info byte say

@@ -3,12 +3,12 @@ use Rattle.std.specs.Prelude.{◌≡◌, ℕ, ◌<◌, ◌≤◌, ◌^◌, true,
 use Rattle.std.specs.Int.{w8, w16, w32, w64, to_le_bytes}
 use Rattle.lsn_core.specs.declared.lsn.Lsn.{Lsn}
 use Rattle.lsn_core.specs.declared.lsn.Place.{Place}
-use Rattle.wal_heads.specs.declared.header.Header.{Header}
-use Rattle.wal_heads.specs.declared.header.Form.{Form}
+use Rattle.wal_pages.specs.declared.wal_heads.header.Header.{Header}
+use Rattle.wal_pages.specs.declared.wal_heads.header.Form.{Form}
 use Rattle.wal_record.specs.declared.record.Record.{Record}
-use Rattle.wal_heads.specs.Header.{most_total, entry_sum, is_linked, form_of}
-use Rattle.wal_heads.specs.Heads.{heads_bytes, AreHeads}
-use Rattle.wal_heads.specs.Announcements.{Heads}
+use Rattle.wal_pages.specs.wal_heads.Header.{most_total, entry_sum, is_linked, form_of}
+use Rattle.wal_pages.specs.wal_heads.Heads.{heads_bytes, AreHeads}
+use Rattle.wal_pages.specs.wal_heads.Announcements.{Heads}
 use Rattle.wal_record.specs.Content.{said}
 use Rattle.wal_record.specs.Decoding.{may_come}
 

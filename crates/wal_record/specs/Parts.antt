@@ -2,12 +2,12 @@
 use Rattle.std.specs.Prelude.{ℕ, zero, suc, ◌*◌, ◌-◌, Bool, false, ℤ, not, List, [], ◌∷◌, length, take, drop, Option, Some, None, nat_lt, nat_le, ◌==◌, ◌&&◌, if◌then◌else◌}
 use Rattle.std.specs.Option.{is_none}
 use Rattle.std.specs.Int.{w16, w32, w64, cast_signed}
-use Rattle.byte_words.specs.Numbers.{◌>>=◌, number_at}
+use Rattle.lsn_core.specs.byte_words.Numbers.{◌>>=◌, number_at}
 use Rattle.lsn_core.specs.declared.lsn.Lsn.{Lsn}
 use Rattle.pg_page.specs.Frags.{Fragment, bad_frag, is_good}
 use Rattle.pg_page.specs.Image.{restored}
-use Rattle.wal_heads.specs.declared.announce.RelName.{RelName}
-use Rattle.wal_heads.specs.Announcements.{named_at}
+use Rattle.wal_pages.specs.declared.wal_heads.announce.RelName.{RelName}
+use Rattle.wal_pages.specs.wal_heads.Announcements.{named_at}
 
 -- what stands at the end of the bytes, so much
 abbrev pub last_of : ℕ → List ℕ → List ℕ

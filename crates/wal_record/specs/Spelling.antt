@@ -18,12 +18,12 @@ use Rattle.wal_record.specs.declared.record.Kind.TheVariants.{Shutdown, Online, 
 use Rattle.wal_record.specs.declared.record.BlockRef.{BlockRef}
 use Rattle.wal_record.specs.declared.record.Body.{Body}
 use Rattle.wal_record.specs.declared.record.Body.TheVariants.{Image, Delta}
-use Rattle.wal_heads.specs.declared.announce.ImageHead.{ImageHead}
-use Rattle.wal_heads.specs.declared.announce.RelName.{RelName}
-use Rattle.wal_heads.specs.declared.announce.BlockHead.{BlockHead}
-use Rattle.wal_heads.specs.declared.announce.MainHead.{MainHead}
-use Rattle.wal_heads.specs.declared.announce.MainHead.TheVariants.{Absent, Short, Long}
-use Rattle.wal_heads.specs.Heads.{heads_bytes}
+use Rattle.wal_pages.specs.declared.wal_heads.announce.ImageHead.{ImageHead}
+use Rattle.wal_pages.specs.declared.wal_heads.announce.RelName.{RelName}
+use Rattle.wal_pages.specs.declared.wal_heads.announce.BlockHead.{BlockHead}
+use Rattle.wal_pages.specs.declared.wal_heads.announce.MainHead.{MainHead}
+use Rattle.wal_pages.specs.declared.wal_heads.announce.MainHead.TheVariants.{Absent, Short, Long}
+use Rattle.wal_pages.specs.wal_heads.Heads.{heads_bytes}
 
 abbrev pub fork_number : ForkKind → ℕ
 fork_number Main = 0

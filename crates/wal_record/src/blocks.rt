@@ -4,7 +4,7 @@ ghost use Rattle.std.specs.Prelude.{◌≡◌, ◌+◌, ◌≤◌, [], ◌++◌,
 ghost use Rattle.std.specs.List.{All};
 ghost use Rattle.pg_page.specs.Image.{image_of, without_hole};
 ghost use Rattle.wal_record.specs.declared.record.Kind.TheVariants.{Generic};
-ghost use Rattle.wal_heads.specs.Heads.{image_bytes, rel_bytes, block_bytes};
+ghost use Rattle.wal_pages.specs.wal_heads.Heads.{image_bytes, rel_bytes, block_bytes};
 ghost use Rattle.wal_record.specs.Spelling.{image_head_of, frag_bytes, frags_bytes, body_image, body_flag, body_bytes, body_data_len, is_same, same_flag, told_name, head_of, all_heads, bodies_bytes, body_of, IsWritableBody, IsWritableBlock, IsBlockList};
 
 use crate::names::{fork_number, relation};
@@ -12,7 +12,7 @@ use crate::record::{BlockRef, Body};
 use lsn_core::Rel;
 use pg_page::{Frag, Page};
 use std::alloc::AllocError;
-use wal_heads::ImageHead;
+use wal_pages::wal_heads::ImageHead;
 
 /// Adds what stands behind the header of an entry without main data: its blocks, announced and then
 /// with their bodies.

@@ -1,7 +1,7 @@
 //! What an entry says, by its announcements and the bytes behind them.
 
 ghost use Rattle.std.specs.Prelude.{◌≡◌, ◌≢◌};
-ghost use Rattle.wal_heads.specs.declared.header.Form.TheVariants.{CommitMore};
+ghost use Rattle.wal_pages.specs.declared.wal_heads.header.Form.TheVariants.{CommitMore};
 ghost use Rattle.wal_record.specs.Outcome.{Gives, refused};
 ghost use Rattle.wal_record.specs.Content.{fork_numbered, relation_of, is_packed, is_applied, id_said, has_blocks, has_deltas, image_said, delta_said, body_by, block_said, own_name, blocks_said, no_name, creation_said, truncation_said, rel_said, rels_said, commit_said, has_other_bits, blocks_alone, kind_said, said};
 
@@ -12,7 +12,7 @@ use crate::parts::{
 use crate::record::{BlockRef, Blocks, Body, Kind, RecordFault, Rels, Why};
 use lsn_core::{BlockId, ForkId, ForkKind, MOST_BLOCKS, Rel};
 use std::alloc::Global;
-use wal_heads::{
+use wal_pages::wal_heads::{
     BlockHead, Form, Heads, ImageHead, MainHead, RelName, block_size, has_bit, image_size,
     is_compressed, main_size, named_of,
 };

@@ -9,7 +9,7 @@ use crate::content::said;
 use crate::record::{Kind, Record, RecordFault, Why};
 use lsn_core::{Lsn, Place};
 use std::alloc::Global;
-use wal_heads::{Header, form_of, heads_of, is_linked, parts_of, sum_of, summed_front};
+use wal_pages::wal_heads::{Header, form_of, heads_of, is_linked, parts_of, sum_of, summed_front};
 
 /// The entry at the front of the bytes, at its place, behind one that starts at `prev`; None asks
 /// for no link, and a `prev` of 0 for the archive's first entry.

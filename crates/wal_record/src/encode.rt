@@ -2,17 +2,17 @@
 
 ghost use Rattle.std.specs.Prelude.{◌≡◌, ◌+◌, ◌<◌, ◌≤◌, ◌^◌, ◌++◌, [], length, IfOk, OnOk};
 ghost use Rattle.std.specs.List.{All};
-ghost use Rattle.wal_heads.specs.Heads.{main_bytes};
+ghost use Rattle.wal_pages.specs.wal_heads.Heads.{main_bytes};
 ghost use Rattle.wal_record.specs.declared.record.Kind.TheVariants.{Commit};
 ghost use Rattle.wal_record.specs.Spelling.{manager_of, info_of, checkpoint_bytes, creation_bytes, truncation_bytes, commit_info, rels_bytes, sized_head, main_head_of, most_drops, body_of, total_of, front_of, sealed, IsWritable};
 
 use crate::blocks::add_blocks;
 use crate::names::{fork_number, relation};
 use crate::record::{Kind, Record};
-use byte_words::{overwrite, zeros};
+use lsn_core::byte_words::{overwrite, zeros};
 use lsn_core::{ForkId, Lsn, NoMemory, Rel};
 use std::alloc::{AllocError, Global};
-use wal_heads::{LEAST_TOTAL, sum_of};
+use wal_pages::wal_heads::{LEAST_TOTAL, sum_of};
 
 /// The written form of an entry with its sum, without padding. The entry's kind is one that can be
 /// written; it then has from 24 to 4,194,304 bytes.

@@ -1,12 +1,12 @@
 //! Laws of entries, for all lists of bytes: contracts of functions that do nothing.
 
 ghost use Rattle.std.specs.Prelude.{◌≡◌, ◌<◌, ◌≤◌, ◌^◌, ◌++◌, ℕ, List, Option, Some, Ok, length, true};
-ghost use Rattle.byte_words.specs.Numbers.{IsBytes, u32_in};
+ghost use Rattle.lsn_core.specs.byte_words.Numbers.{IsBytes, u32_in};
 ghost use Rattle.lsn_core.specs.declared.lsn.Lsn.{Lsn};
 ghost use Rattle.lsn_core.specs.declared.lsn.Place.{Place};
 ghost use Rattle.wal_record.specs.declared.record.Kind.{Kind};
 ghost use Rattle.wal_record.specs.declared.record.Record.{Record};
-ghost use Rattle.wal_heads.specs.Header.{least_total, most_total, is_linked};
+ghost use Rattle.wal_pages.specs.wal_heads.Header.{least_total, most_total, is_linked};
 ghost use Rattle.wal_record.specs.Spelling.{sealed, IsWritable};
 ghost use Rattle.wal_record.specs.Decoding.{may_come, record_at};
 ghost use Rattle.wal_record.specs.Sound.{IsSound};

@@ -4,12 +4,12 @@ ghost use Rattle.std.specs.Prelude.{◌≡◌, length, take, drop, box_value, If
 ghost use Rattle.std.specs.Option.{option_map};
 ghost use Rattle.wal_record.specs.Parts.{last_of, good_page, page_at, frag_at, frags_at, delta_at, checkpoint_at, mark_at, start_at, creation_at, truncation_at, bits_at, other_bits_at, commit_time_at, commit_at};
 
-use byte_words::{u16_at, u32_at, u64_at};
 use lsn_core::Lsn;
+use lsn_core::byte_words::{u16_at, u32_at, u64_at};
 use pg_page::{Frag, Frags, Page, check_frags, restored_page};
 use std::alloc::{AllocError, Global};
 use std::boxed::Box;
-use wal_heads::{RelName, named_of};
+use wal_pages::wal_heads::{RelName, named_of};
 
 /// What stands at the end of the bytes, so much.
 pub fn last_of(size: usize, bytes: &[u8]) -> &[u8]

@@ -16,9 +16,9 @@ use Rattle.history.specs.Entry.{Act, Truncate, Mark, IdleCut, Entry}
 use Rattle.history.specs.Apply.{is_same_block, is_same_fork, main_fork, init_fork, is_fork_of, is_of_any}
 use Rattle.history.specs.Whole.{item_of, is_named, is_patch, is_repeat, said_behind, said, cuts_main, commit_act, act_of, entry_of}
 use Rattle.history.proofs.Names.{named_more, named_again}
-use Rattle.fuzzy_copies.specs.Touches.{is_at, act_touches, limit_of}
-use Rattle.fuzzy_copies.specs.Sound.{is_in, window}
-use Rattle.fuzzy_copies.specs.Summary.{BlockRefTable, least, limit_in, is_listed, table_of, summed, both_summed, summary_of}
+use Rattle.history.specs.fuzzy_copies.Touches.{is_at, act_touches, limit_of}
+use Rattle.history.specs.fuzzy_copies.Sound.{is_in, window}
+use Rattle.history.specs.fuzzy_copies.Summary.{BlockRefTable, least, limit_in, is_listed, table_of, summed, both_summed, summary_of}
 use Rattle.wal_summary.specs.Inside.{table_of_ref, limit_table, rel_table}
 use Rattle.wal_summary.proofs.Tables.{same_table, one_summed, lists_summed, added_more}
 use Rattle.wal_summary.proofs.Sums.{blocks_summed}

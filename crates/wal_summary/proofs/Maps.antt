@@ -17,7 +17,7 @@ use Rattle.lsn_core.specs.Store.{fork_cmp}
 use Rattle.lsn_core.proofs.ForkOrder.{fork_cmp_total, derived_cmp, derived_is}
 use Rattle.history.specs.Apply.{is_same_fork}
 use Rattle.history.proofs.Stores.{fork_is, fork_self}
-use Rattle.fuzzy_copies.specs.Summary.{BlockRefTable, least, is_at_most, summed, both_summed}
+use Rattle.history.specs.fuzzy_copies.Summary.{BlockRefTable, least, is_at_most, summed, both_summed}
 use Rattle.wal_summary.specs.declared.fork_marks.ForkMarks.{ForkMarks}
 use Rattle.wal_summary.specs.Marks.{has_block, limit_found, has_block_found, table_in}
 use Rattle.wal_summary.specs.Inside.{block_table, limit_table}

@@ -7,12 +7,12 @@ use Rattle.std.proofs.lemmas.List.{append-nil}
 use Rattle.std.proofs.lemmas.List.Elements.{filter-append}
 use Rattle.history.specs.Entry.{Entry}
 use Rattle.history.specs.Whole.{entry_of}
-use Rattle.fuzzy_copies.specs.Logged.{history_of, log_of}
-use Rattle.fuzzy_copies.specs.Orderly.{IsOrderly}
-use Rattle.fuzzy_copies.specs.Sound.{entries_before, is_in, window}
-use Rattle.fuzzy_copies.specs.Summary.{table_of, summed, both_summed, summary_of}
-use Rattle.fuzzy_copies.proofs.Summaries.{meet}
-use Rattle.fuzzy_copies.proofs.SummedAlike.{summed_alike}
+use Rattle.history.specs.fuzzy_copies.Logged.{history_of, log_of}
+use Rattle.history.specs.fuzzy_copies.Orderly.{IsOrderly}
+use Rattle.history.specs.fuzzy_copies.Sound.{entries_before, is_in, window}
+use Rattle.history.specs.fuzzy_copies.Summary.{table_of, summed, both_summed, summary_of}
+use Rattle.history.proofs.fuzzy_copies.Summaries.{meet}
+use Rattle.history.proofs.fuzzy_copies.SummedAlike.{summed_alike}
 use Rattle.wal_summary.specs.declared.summary.Summary.{Summary}
 use Rattle.wal_summary.specs.Summary.{IsSummary, table_of_forks, table_of_summary}
 use Rattle.wal_summary.specs.Kept.{covers, is_covered, AreInOrder, overlaps, overlapping, AreNeighbours, last_made, IsCovering, AreHonest}

@@ -15,8 +15,8 @@ use Rattle.lsn_core.specs.Store.{fork_cmp}
 use Rattle.lsn_core.proofs.ForkOrder.{derived_cmp, derived_is}
 use Rattle.history.specs.Apply.{is_same_fork}
 use Rattle.history.proofs.Stores.{fork_is}
-use Rattle.fuzzy_copies.specs.Summary.{BlockRefTable, least, is_at_most, limits, limit_in, is_listed, summed, both_summed, SayTheSame}
-use Rattle.fuzzy_copies.proofs.Summaries.{any_limits}
+use Rattle.history.specs.fuzzy_copies.Summary.{BlockRefTable, least, is_at_most, limits, limit_in, is_listed, summed, both_summed, SayTheSame}
+use Rattle.history.proofs.fuzzy_copies.Summaries.{any_limits}
 use Rattle.wal_summary.specs.declared.fork_marks.ForkMarks.{ForkMarks}
 use Rattle.wal_summary.specs.declared.summary.ForkSummary.{ForkSummary}
 use Rattle.wal_summary.specs.Summary.{limit_at, lists_at, table_of_forks, is_told, IsForkSummary, AreSorted, IsSummary}

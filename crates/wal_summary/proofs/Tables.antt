@@ -3,8 +3,8 @@ use Rattle.std.proofs.Common.{◌≡◌, ℕ, ◌+◌, ◌<◌, min, Bool, true,
 use Rattle.std.proofs.Math.Bool.{or-false}
 use Rattle.std.proofs.lemmas.List.{take_more, map-append}
 use Rattle.lsn_core.specs.declared.ids.ForkId.{ForkId}
-use Rattle.fuzzy_copies.specs.Summary.{BlockRefTable, least, is_at_most, limits, is_listed, summed, both_summed, SayTheSame}
-use Rattle.fuzzy_copies.proofs.Summaries.{any_limits}
+use Rattle.history.specs.fuzzy_copies.Summary.{BlockRefTable, least, is_at_most, limits, is_listed, summed, both_summed, SayTheSame}
+use Rattle.history.proofs.fuzzy_copies.Summaries.{any_limits}
 
 -- tables that say the same are equal
 pub same_table : (a b : BlockRefTable) → SayTheSame a b → a ≡ b

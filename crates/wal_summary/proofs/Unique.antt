@@ -14,7 +14,7 @@ use Rattle.lsn_core.specs.Store.{fork_cmp}
 use Rattle.lsn_core.proofs.ForkOrder.{fork_cmp_total, fork_cmp-IsAntisymmetric}
 use Rattle.history.specs.Apply.{is_same_fork}
 use Rattle.history.proofs.Stores.{fork_is, fork_self, by_test}
-use Rattle.fuzzy_copies.specs.Summary.{BlockRefTable}
+use Rattle.history.specs.fuzzy_copies.Summary.{BlockRefTable}
 use Rattle.wal_summary.specs.declared.summary.ForkSummary.{ForkSummary}
 use Rattle.wal_summary.specs.Summary.{limit_at, lists_at, table_of_forks, is_told, IsForkSummary}
 use Rattle.wal_summary.specs.Laws.{SummariesAreOne, SameTablesAreSummedUp}

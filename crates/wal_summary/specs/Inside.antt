@@ -4,7 +4,7 @@ use Rattle.lsn_core.specs.Relation.{Relation}
 use Rattle.lsn_core.specs.declared.ids.ForkId.{ForkId}
 use Rattle.wal_record.specs.declared.record.BlockRef.{BlockRef}
 use Rattle.history.specs.Apply.{is_same_fork, is_fork_of}
-use Rattle.fuzzy_copies.specs.Summary.{BlockRefTable}
+use Rattle.history.specs.fuzzy_copies.Summary.{BlockRefTable}
 use Rattle.wal_summary.specs.declared.fork_marks.ForkMarks.{ForkMarks}
 use Rattle.wal_summary.specs.declared.summary.ForkSummary.{ForkSummary}
 use Rattle.wal_summary.specs.declared.summary.Summary.{Summary}

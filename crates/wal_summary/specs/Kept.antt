@@ -2,7 +2,7 @@
 use Rattle.std.specs.Prelude.{◌≡◌, ◌<◌, ◌≤◌, ℕ, ◌&&◌, Bool, true, false, List, [], ◌∷◌, map, nat_le, nat_lt, Result, Ok, Err}
 use Rattle.std.specs.List.{list_any, filter, AllByRecursion}
 use Rattle.history.specs.Entry.{Entry}
-use Rattle.fuzzy_copies.specs.Summary.{summed, summary_of}
+use Rattle.history.specs.fuzzy_copies.Summary.{summed, summary_of}
 use Rattle.wal_summary.specs.declared.summary.Summary.{Summary}
 use Rattle.wal_summary.specs.declared.kept.CoverFault.{CoverFault}
 use Rattle.wal_summary.specs.declared.kept.CoverFault.TheVariants.{Gap, NoMemory}

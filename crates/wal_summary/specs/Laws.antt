@@ -4,10 +4,10 @@ use Rattle.std.specs.List.{AllByRecursion}
 use Rattle.wal_record.specs.declared.record.Record.{Record}
 use Rattle.history.specs.Entry.{Entry}
 use Rattle.history.specs.Whole.{entry_of}
-use Rattle.fuzzy_copies.specs.Logged.{history_of, log_of, AreLogged}
-use Rattle.fuzzy_copies.specs.Orderly.{IsOrderly}
-use Rattle.fuzzy_copies.specs.Sound.{entries_before}
-use Rattle.fuzzy_copies.specs.Summary.{BlockRefTable, SayTheSame, both_summed, summed, summary_of}
+use Rattle.history.specs.fuzzy_copies.Logged.{history_of, log_of, AreLogged}
+use Rattle.history.specs.fuzzy_copies.Orderly.{IsOrderly}
+use Rattle.history.specs.fuzzy_copies.Sound.{entries_before}
+use Rattle.history.specs.fuzzy_copies.Summary.{BlockRefTable, SayTheSame, both_summed, summed, summary_of}
 use Rattle.wal_summary.specs.declared.summary.ForkSummary.{ForkSummary}
 use Rattle.wal_summary.specs.declared.summary.Summary.{Summary}
 use Rattle.wal_summary.specs.Summary.{AreSorted, IsSummary, table_of_forks, table_of_summary}

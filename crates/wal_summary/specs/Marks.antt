@@ -6,7 +6,7 @@ use Rattle.std.specs.BTreeMap as tree
 use Rattle.std.specs.BTreeSet as sorted
 use Rattle.lsn_core.specs.Store.{fork_cmp}
 use Rattle.lsn_core.specs.declared.ids.ForkId.{ForkId}
-use Rattle.fuzzy_copies.specs.Summary.{BlockRefTable}
+use Rattle.history.specs.fuzzy_copies.Summary.{BlockRefTable}
 use Rattle.wal_summary.specs.declared.fork_marks.ForkMarks.{ForkMarks}
 use Rattle.wal_summary.specs.declared.mark_map.MarkMap.{MarkMap}
 

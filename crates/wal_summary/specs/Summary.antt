@@ -6,7 +6,7 @@ use Rattle.std.specs.Ordering.{nat_cmp}
 use Rattle.lsn_core.specs.Store.{fork_cmp}
 use Rattle.lsn_core.specs.declared.ids.ForkId.{ForkId}
 use Rattle.history.specs.Apply.{is_same_fork}
-use Rattle.fuzzy_copies.specs.Summary.{BlockRefTable}
+use Rattle.history.specs.fuzzy_copies.Summary.{BlockRefTable}
 use Rattle.wal_summary.specs.declared.summary.ForkSummary.{ForkSummary}
 use Rattle.wal_summary.specs.declared.summary.Summary.{Summary}
 

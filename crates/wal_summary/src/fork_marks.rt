@@ -1,7 +1,7 @@
 //! What is marked of one fork.
 
 ghost use Rattle.std.specs.Prelude.{◌≡◌, ◌&&◌, ◌||◌, ◌==◌, ℕ, false, None, Some, not, nat_le, OnOk};
-ghost use Rattle.fuzzy_copies.specs.Summary.{least};
+ghost use Rattle.history.specs.fuzzy_copies.Summary.{least};
 ghost use Rattle.wal_summary.specs.Marks.{has_block};
 
 use lsn_core::NoMemory;

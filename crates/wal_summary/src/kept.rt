@@ -2,7 +2,7 @@
 
 ghost use Rattle.std.specs.Prelude.{◌≡◌, ◌<◌, ◌≤◌, true, false, fold, length, map, nat_le, nat_lt, IfOk};
 ghost use Rattle.std.specs.List.Sorted.{IsPartitionPoint};
-ghost use Rattle.fuzzy_copies.specs.Summary.{summed};
+ghost use Rattle.history.specs.fuzzy_copies.Summary.{summed};
 ghost use Rattle.wal_summary.specs.Summary.{IsSummary, table_of_summary};
 ghost use Rattle.wal_summary.specs.Kept.{overlapping, AreInOrder, CoverAnswers};
 ghost use Rattle.wal_summary.specs.Inside.{past};

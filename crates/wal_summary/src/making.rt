@@ -2,7 +2,7 @@
 
 ghost use Rattle.std.specs.Prelude.{◌≡◌, map, IfOk};
 ghost use Rattle.history.specs.Whole.{entry_of};
-ghost use Rattle.fuzzy_copies.specs.Summary.{both_summed, summary_of};
+ghost use Rattle.history.specs.fuzzy_copies.Summary.{both_summed, summary_of};
 ghost use Rattle.wal_summary.specs.Summary.{AreSorted, IsSummary, table_of_summary};
 
 use crate::mark_map::MarkMap;

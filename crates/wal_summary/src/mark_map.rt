@@ -4,7 +4,7 @@ ghost use Rattle.std.specs.Prelude.{◌≡◌, [], ◌∷◌, ◌++◌, List, No
 ghost use Rattle.std.specs.List.Sorted.{IsStrictlySortedBy};
 ghost use Rattle.std.specs.Ordering.{nat_cmp};
 ghost use Rattle.history.specs.Whole.{entry_of};
-ghost use Rattle.fuzzy_copies.specs.Summary.{table_of, both_summed, summed, summary_of};
+ghost use Rattle.history.specs.fuzzy_copies.Summary.{table_of, both_summed, summed, summary_of};
 ghost use Rattle.wal_summary.specs.Summary.{AreSorted, IsSummary, table_of_forks, table_of_summary};
 ghost use Rattle.wal_summary.specs.Marks.{table_in, table_of_marks};
 ghost use Rattle.wal_summary.specs.Inside.{block_table, table_of_ref, limit_table, rel_table, forks_of};

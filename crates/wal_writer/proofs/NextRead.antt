@@ -2,7 +2,7 @@
 use Rattle.std.proofs.Common.{◌≡◌, ◌<◌, ◌≤◌, ◌^◌, true, [], length, Some, Ok, refl, sym, ap, ◌∙◌, arith}
 use Rattle.std.proofs.lemmas.Bool.{eq-eqb}
 use Rattle.std.proofs.lemmas.List.{append-nil}
-use Rattle.byte_words.specs.Numbers.{u32_in}
+use Rattle.lsn_core.specs.byte_words.Numbers.{u32_in}
 use Rattle.lsn_core.specs.declared.lsn.Place.{Place}
 use Rattle.wal_pages.specs.Places.{start_after, end_of}
 use Rattle.wal_record.specs.Decoding.{may_come, record_at}

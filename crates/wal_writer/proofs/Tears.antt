@@ -9,7 +9,7 @@ use Rattle.lsn_core.specs.Names.{segment_name_bytes}
 use Rattle.lsn_core.specs.declared.fault.AreaFault.{AreaFault}
 use Rattle.lsn_core.specs.declared.fault.AreaFault.TheVariants.{Failed, NoMemory}
 use Rattle.vault.specs.Area.{Related, IsTorn, Writes, MayTear}
-use Rattle.byte_words.specs.Told.{when_told}
+use Rattle.lsn_core.specs.byte_words.Told.{when_told}
 use Rattle.vault.specs.Stops.{Event, Made, MayLeave, wrote, synced, noted, Notes, Tries}
 use Rattle.vault.specs.Frame.{Each, Adds, AgreeBut, LeavesOnly}
 use Rattle.vault.specs.declared.area.Vault.{Ghosts}

@@ -3,7 +3,7 @@ use Rattle.std.proofs.lemmas.Bool.Decides.{Decides-eqb}
 use Rattle.std.proofs.lemmas.List.{append_cancel_left}
 use Rattle.std.proofs.lemmas.Option.{IfSome_then}
 use Rattle.std.proofs.lemmas.Slice.Eq.{strip_suffix_is}
-use Rattle.byte_words.proofs.Cutting.{found_of, none_of}
+use Rattle.lsn_core.proofs.byte_words.Cutting.{found_of, none_of}
 use Rattle.backup_label.proofs.LineTexts.{when_none}
 use Rattle.backup_label.proofs.values.file_in.Goals as goal
 

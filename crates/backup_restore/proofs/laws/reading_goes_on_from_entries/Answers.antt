@@ -1,5 +1,5 @@
 -- A WAL is read from the start of each of its entries on as it is from its beginning.
-use Rattle.wal_pieces.proofs.Onwards.{entry_found, goes_on, rest_read}
+use Rattle.wal_reader.proofs.wal_pieces.Onwards.{entry_found, goes_on, rest_read}
 use Rattle.backup_restore.proofs.laws.reading_goes_on_from_entries.Goals as goal
 
 pub returns-clause-found : goal.returns-clause-found

@@ -1,5 +1,5 @@
 use Rattle.std.proofs.Common.{IfSome, ◌≡◌, ◌∙◌, List, Option, None, Result, Err, sym, ap, subst, length}
-use Rattle.byte_words.specs.Told.{when_told, when_both_told}
+use Rattle.lsn_core.specs.byte_words.Told.{when_told, when_both_told}
 use Rattle.lsn_core.specs.Files.{Files}
 use Rattle.backup_label.specs.declared.label.Label.{Label}
 use Rattle.manifest.specs.Listing.{Listing}

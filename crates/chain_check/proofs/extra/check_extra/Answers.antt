@@ -1,6 +1,6 @@
 use Rattle.std.proofs.Common.{◌≡◌, ◌∙◌, sym, ap, List, ℕ, Some, None}
 use Rattle.std.specs.FinMap.{keys}
-use Rattle.byte_words.specs.Told.{when_told}
+use Rattle.lsn_core.specs.byte_words.Told.{when_told}
 use Rattle.chain_check.specs.Refusals.{extra_fault}
 use Rattle.chain_check.specs.declared.fault.ChainFault.TheVariants.{FileExtra}
 use Rattle.chain_check.proofs.Others.{extra_is}

@@ -4,7 +4,7 @@ use Rattle.vault.specs.Area.{bytes_of}
 use Rattle.chain_check.specs.Inside.{HeadWhy}
 use Rattle.std.specs.FinMap.{get}
 use Rattle.std.specs.Option.{option_map}
-use Rattle.byte_words.specs.Told.{when_told}
+use Rattle.lsn_core.specs.byte_words.Told.{when_told}
 use Rattle.chain_check.proofs.ForkFiles.{both_forms, told_form}
 use Rattle.chain_check.proofs.forms.incremental_fault.Goals as goal
 

@@ -1,5 +1,5 @@
 use Rattle.std.proofs.Common.{◌≡◌, ◌∙◌, ap, subst, List, ℕ, arith}
-use Rattle.byte_words.specs.Told.{when_told}
+use Rattle.lsn_core.specs.byte_words.Told.{when_told}
 use Rattle.chain_check.specs.LaneSums.{IsPiece, IsSeen, holds}
 use Rattle.chain_check.specs.Sums.{says_sum}
 use Rattle.chain_check.proofs.Seen.{last_known}

@@ -1,6 +1,6 @@
 use Rattle.std.proofs.Common.{◌∙◌, sym, ap, subst, Some, Option, List, ℕ, ◌+◌, refl}
 use Rattle.std.proofs.lemmas.Option.{slice_get_read}
-use Rattle.byte_words.specs.Told.{when_told}
+use Rattle.lsn_core.specs.byte_words.Told.{when_told}
 use Rattle.chain_check.specs.LaneSums.{IsPiece, Moves}
 use Rattle.chain_check.specs.declared.lanes.Place.{Place}
 use Rattle.chain_check.proofs.Seen.{moves}

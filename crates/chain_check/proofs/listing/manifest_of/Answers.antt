@@ -1,7 +1,7 @@
 use Rattle.std.proofs.Common.{◌∙◌, sym, ap, List, ℕ, Option, Some}
 use Rattle.std.specs.Global.{Vec}
 use Rattle.std.specs.Option.{option_map}
-use Rattle.byte_words.specs.Told.{when_told}
+use Rattle.lsn_core.specs.byte_words.Told.{when_told}
 use Rattle.backup_files.specs.Directory.{manifest_name}
 use Rattle.chain_check.specs.Inside.{IsFile, ManifestAnswer}
 use Rattle.chain_check.proofs.Manifests.{manifest_is}

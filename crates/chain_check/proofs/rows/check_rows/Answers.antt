@@ -1,6 +1,6 @@
 use Rattle.std.proofs.Common.{◌≡◌, subst, take, drop, Option, Some, None, Err, IfSome}
 use Rattle.std.specs.List.{AllByRecursion}
-use Rattle.byte_words.specs.Told.{when_both_told}
+use Rattle.lsn_core.specs.byte_words.Told.{when_both_told}
 use Rattle.lsn_core.specs.Files.{Files}
 use Rattle.chain_check.specs.Refusals.{rows_fault}
 use Rattle.chain_check.specs.Inside.{RowsAnswer}

@@ -1,6 +1,6 @@
 use Rattle.std.proofs.Common.{sym, subst, List, Option, Bool, IfSome}
 use Rattle.std.specs.List.{AllByRecursion}
-use Rattle.byte_words.specs.Told.{when_both_told}
+use Rattle.lsn_core.specs.byte_words.Told.{when_both_told}
 use Rattle.lsn_core.specs.Files.{Files}
 use Rattle.chain_check.specs.Inside.{RowsAnswer}
 use Rattle.chain_check.specs.LaneSums.{IsSized, AreKnown}

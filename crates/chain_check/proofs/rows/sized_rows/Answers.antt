@@ -1,6 +1,6 @@
 use Rattle.std.proofs.Common.{rules, ◌∙◌, sym, subst, take, Option, IfSome, arith}
 use Rattle.std.specs.List.{AllByRecursion}
-use Rattle.byte_words.specs.Told.{when_both_told}
+use Rattle.lsn_core.specs.byte_words.Told.{when_both_told}
 use Rattle.lsn_core.specs.Files.{Files}
 use Rattle.chain_check.specs.LaneSums.{IsSized, SizeAnswer}
 use Rattle.chain_check.specs.declared.fault.ChainFault.{ChainFault}

@@ -1,5 +1,5 @@
 use Rattle.std.proofs.Common.{subst, List, ℕ, ◌+◌, length, take}
-use Rattle.byte_words.specs.Told.{when_told}
+use Rattle.lsn_core.specs.byte_words.Told.{when_told}
 use Rattle.vault.specs.Area.{bytes_of}
 use Rattle.chain_check.proofs.Pieces.{piece_read}
 use Rattle.chain_check.proofs.sums.hash_piece.Goals as goal

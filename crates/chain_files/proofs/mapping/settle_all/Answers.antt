@@ -1,7 +1,7 @@
 -- Each member is asked in turn.
 use Rattle.std.proofs.Common.{◌≡◌, ◌+◌, ◌-◌, ℕ, List, Option, IfSome, subst, sym, ◌∙◌, arith, rules, inl, inr}
 use Rattle.std.specs.List.{AllByRecursion}
-use Rattle.byte_words.specs.Told.{when_both_told, when_told}
+use Rattle.lsn_core.specs.byte_words.Told.{when_both_told, when_told}
 use Rattle.lsn_core.specs.Files.{Files}
 use Rattle.chain_files.specs.Told.{chain_told, FailsAt}
 use Rattle.chain_files.specs.Inside.{HasPart, AreSaid}

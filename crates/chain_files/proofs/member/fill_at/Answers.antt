@@ -2,7 +2,7 @@
 use Rattle.std.proofs.Common.{rules, sym, subst, Option, IfSome, refl}
 use Rattle.lsn_core.specs.Files.{Files}
 use Rattle.vault.specs.Area.{bytes_of, IsRead}
-use Rattle.byte_words.specs.Told.{when_told}
+use Rattle.lsn_core.specs.byte_words.Told.{when_told}
 use Rattle.chain_files.specs.Told.{told_at}
 use Rattle.chain_files.proofs.Told.{reads_set, told_here, fails_here}
 use Rattle.chain_files.proofs.Overs.{is_over}

@@ -1,6 +1,6 @@
 -- A page is read over zeros.
 use Rattle.std.proofs.Common.{◌≡◌, ◌∙◌, ap₂, List, ℕ}
-use Rattle.byte_words.specs.Told.{when_told}
+use Rattle.lsn_core.specs.byte_words.Told.{when_told}
 use Rattle.chain_files.specs.Told.{chain_told}
 use Rattle.chain_files.specs.Inside.{read_over}
 use Rattle.chain_files.specs.Sources.{member_bytes}

@@ -1,6 +1,6 @@
 -- One page after the other is written behind those before it.
 use Rattle.std.proofs.Common.{◌≡◌, ◌*◌, ◌+◌, List, Option, map, take, drop, length, get_or, IfSome, refl, ap, subst, ◌∙◌, arith}
-use Rattle.byte_words.specs.Told.{when_both_told}
+use Rattle.lsn_core.specs.byte_words.Told.{when_both_told}
 use Rattle.lsn_core.specs.Files.{Files}
 use Rattle.incr_file.specs.Form.{pages_bytes}
 use Rattle.chain_files.specs.Told.{chain_told, FailsAt}

@@ -1,7 +1,7 @@
 -- The paths are those of the segment file.
 use Rattle.std.proofs.Common.{Option, Some, None, IfSome, subst}
 use Rattle.std.specs.List.{AllByRecursion}
-use Rattle.byte_words.specs.Told.{when_told}
+use Rattle.lsn_core.specs.byte_words.Told.{when_told}
 use Rattle.chain_files.specs.Told.{chain_told}
 use Rattle.chain_files.specs.Inside.{HasPart, ArePagesOf}
 use Rattle.chain_files.specs.declared.mapping.SourcePages.{SourcePages}

@@ -1,6 +1,6 @@
 use Rattle.std.proofs.Common.{rules, ◌∙◌, ◌∷◌, ◌++◌, map, ap, sym, subst, List, ℕ, Option, IfSome, All}
 use Rattle.std.proofs.lemmas.List.Elements.{All-push}
-use Rattle.byte_words.specs.Told.{when_both_told}
+use Rattle.lsn_core.specs.byte_words.Told.{when_both_told}
 use Rattle.lsn_core.specs.Files.{Files}
 use Rattle.chain_listing.specs.Shown.{Shows}
 use Rattle.chain_listing.specs.Folders.{EntryShows}

@@ -1,7 +1,7 @@
 -- It holds none just where it has no name.
 use Rattle.std.proofs.Common.{◌≡◌, IsTrue, ◌↔◌, sym, ◌∙◌}
 use Rattle.std.specs.FinMap.{empty, keys}
-use Rattle.byte_words.specs.Told.{when_told}
+use Rattle.lsn_core.specs.byte_words.Told.{when_told}
 use Rattle.command_base.proofs.NoFile.{clear_of_names, names_of_clear}
 use Rattle.command_base.proofs.clear.is_clear.Goals as goal
 

@@ -1,6 +1,6 @@
 -- What the input came to, in the words of a replay.
 use Rattle.std.proofs.Common.{Ok, Err, ap, subst}
-use Rattle.byte_words.specs.Told.{when_told}
+use Rattle.lsn_core.specs.byte_words.Told.{when_told}
 use Rattle.lsn_core.specs.Segment.{IsSegmentMib}
 use Rattle.wal_follow.specs.Following.{Following}
 use Rattle.follow_command.specs.Input.{InputAnswer}

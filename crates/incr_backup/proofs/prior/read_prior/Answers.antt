@@ -1,7 +1,7 @@
 use Rattle.std.proofs.Common.{◌∙◌, sym, ap, List, ℕ, Option, Some}
 use Rattle.std.specs.Global.{Vec}
 use Rattle.std.specs.Option.{option_map}
-use Rattle.byte_words.specs.Told.{when_told}
+use Rattle.lsn_core.specs.byte_words.Told.{when_told}
 use Rattle.backup_files.specs.Directory.{manifest_name}
 use Rattle.incr_backup.specs.IncrInside.{IsFile}
 use Rattle.incr_backup.specs.Prior.{PriorAnswer}

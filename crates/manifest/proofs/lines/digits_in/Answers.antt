@@ -1,9 +1,9 @@
 use Rattle.std.proofs.Common.{◌≡◌, ◌++◌, Some, List, ℕ, ap, ◌∙◌}
 use Rattle.std.proofs.lemmas.Slice.Eq.{strip_prefix_is, strip_suffix_is}
 use Rattle.std.proofs.lemmas.Bool.Decides.{Decides-eqb}
-use Rattle.byte_words.specs.Told.{when_told}
+use Rattle.lsn_core.specs.byte_words.Told.{when_told}
 use Rattle.manifest.specs.Lines.{line_front, line_back}
-use Rattle.byte_words.proofs.Cutting.{found_of}
+use Rattle.lsn_core.proofs.byte_words.Cutting.{found_of}
 use Rattle.manifest.proofs.lines.digits_in.Goals as goal
 
 pub returns-clause-found : goal.returns-clause-found

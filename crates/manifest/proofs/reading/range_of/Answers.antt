@@ -1,6 +1,6 @@
 use Rattle.std.proofs.Common.{List, ℕ, arith, sym, subst, ◌∙◌}
 use Rattle.std.proofs.lemmas.Map.Keys.{ge_from_not_lt}
-use Rattle.byte_words.proofs.Cutting.{none_anyway}
+use Rattle.lsn_core.proofs.byte_words.Cutting.{none_anyway}
 use Rattle.lsn_core.specs.Names.{IsLsnText}
 use Rattle.lsn_core.proofs.LsnTexts.{one_lsn}
 use Rattle.manifest.proofs.reading.range_of.Goals as goal

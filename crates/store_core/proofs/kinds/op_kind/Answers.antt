@@ -7,9 +7,9 @@ use Rattle.history.specs.declared.op.Item.{Item}
 use Rattle.history.specs.declared.op.Op.{Op}
 use Rattle.history.specs.Op.{act_of_op, IsFit}
 use Rattle.history.specs.Written.{kind_of}
-use Rattle.checkpointer.specs.Changes.{blocks_over, AreFitOver}
-use Rattle.checkpointer.specs.Laws.{pages_before}
-use Rattle.checkpointer.proofs.Pages.{by_pages, have_pages}
+use Rattle.history.specs.checkpointer.Changes.{blocks_over, AreFitOver}
+use Rattle.history.specs.checkpointer.Laws.{pages_before}
+use Rattle.history.proofs.checkpointer.Pages.{by_pages, have_pages}
 use Rattle.store_core.proofs.kinds.op_kind.Goals as goal
 
 pub change_kind-requires : goal.change_kind-requires

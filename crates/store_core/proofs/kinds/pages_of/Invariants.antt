@@ -1,5 +1,5 @@
 use Rattle.std.proofs.Common.{◌≡◌, take}
-use Rattle.checkpointer.specs.Laws.{pages_before}
+use Rattle.history.specs.checkpointer.Laws.{pages_before}
 use Rattle.store_core.proofs.kinds.pages_of.Given as goal
 
 abbrev pub invariant-loop-item : goal.invariant-loop-item

@@ -1,4 +1,4 @@
-use Rattle.byte_words.proofs.Cutting.{none_anyway}
+use Rattle.lsn_core.proofs.byte_words.Cutting.{none_anyway}
 use Rattle.summary_file.proofs.Ranges.{no_low}
 use Rattle.summary_file.proofs.name.lsn_front.Goals as goal
 

@@ -1,6 +1,6 @@
 use Rattle.std.proofs.Common.{◌≡◌, ◌+◌, ◌-◌, subst, sym}
 use Rattle.std.specs.Int.{w32}
-use Rattle.byte_words.specs.Numbers.{number_at}
+use Rattle.lsn_core.specs.byte_words.Numbers.{number_at}
 use Rattle.summary_file.specs.Inside.{many}
 use Rattle.summary_file.proofs.Many.{after_many, many_next, many_stops, fails}
 use Rattle.summary_file.proofs.reading.blocks_of.Goals as goal

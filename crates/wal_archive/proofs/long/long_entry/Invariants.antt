@@ -1,5 +1,5 @@
 use Rattle.std.proofs.Common.{◌≡◌, ◌+◌, ◌*◌, ◌%◌, ◌<◌, ◌≤◌, length}
-use Rattle.byte_words.specs.Numbers.{u32_in}
+use Rattle.lsn_core.specs.byte_words.Numbers.{u32_in}
 use Rattle.vault.specs.Frame.{OnlyReads}
 use Rattle.wal_archive.proofs.Longs.{PagesOn}
 use Rattle.wal_archive.proofs.long.long_entry.Given as goal

@@ -1,6 +1,6 @@
 -- A piece of zeros leaves the question to what lies behind it; a byte other than zero answers it.
 use Rattle.std.proofs.Common.{◌≡◌, ◌+◌, ◌≤◌, false, length, take, drop, sym, ◌∙◌, arith, length-take}
-use Rattle.byte_words.specs.Told.{when_both_told}
+use Rattle.lsn_core.specs.byte_words.Told.{when_both_told}
 use Rattle.vault.specs.Area.{bytes_of}
 use Rattle.wal_archive.specs.Scanning.{all_zero}
 use Rattle.wal_archive.specs.Scanning.{IsZeroRun}

@@ -1,6 +1,6 @@
 use Rattle.std.proofs.Common.{◌≡◌, [], ◌++◌, drop}
-use Rattle.wal_heads.specs.declared.announce.MainHead.TheVariants.{Absent}
-use Rattle.wal_heads.specs.Heads.{heads_bytes}
+use Rattle.wal_pages.specs.declared.wal_heads.announce.MainHead.TheVariants.{Absent}
+use Rattle.wal_pages.specs.wal_heads.Heads.{heads_bytes}
 use Rattle.wal_record.specs.Spelling.{heads_of, all_heads}
 use Rattle.wal_record.proofs.blocks.add_heads.Given as goal
 

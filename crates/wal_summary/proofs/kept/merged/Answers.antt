@@ -1,7 +1,7 @@
 use Rattle.std.proofs.Common.{◌≡◌, [], map, subst, sym, ap, ◌∙◌, arith}
 use Rattle.std.proofs.lemmas.List.{take_all}
 use Rattle.std.specs.Result.{IfOk}
-use Rattle.fuzzy_copies.specs.Summary.{both_summed, summed}
+use Rattle.history.specs.fuzzy_copies.Summary.{both_summed, summed}
 use Rattle.wal_summary.specs.Summary.{AreSorted, IsSummary, table_of_summary}
 use Rattle.wal_summary.specs.Marks.{table_of_marks}
 use Rattle.wal_summary.proofs.Tables.{added_next}

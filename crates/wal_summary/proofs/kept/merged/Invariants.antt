@@ -1,5 +1,5 @@
 use Rattle.std.proofs.Common.{◌≡◌, take, map}
-use Rattle.fuzzy_copies.specs.Summary.{summed}
+use Rattle.history.specs.fuzzy_copies.Summary.{summed}
 use Rattle.wal_summary.specs.Summary.{table_of_summary}
 use Rattle.wal_summary.specs.Marks.{table_of_marks}
 use Rattle.wal_summary.proofs.kept.merged.Given as goal

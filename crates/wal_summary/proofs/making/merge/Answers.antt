@@ -1,5 +1,5 @@
 use Rattle.std.proofs.Common.{subst, ap, ◌∙◌}
-use Rattle.fuzzy_copies.specs.Summary.{both_summed}
+use Rattle.history.specs.fuzzy_copies.Summary.{both_summed}
 use Rattle.wal_summary.specs.Summary.{IsSummary, table_of_summary}
 use Rattle.wal_summary.proofs.Tables.{behind_none}
 use Rattle.wal_summary.proofs.making.merge.Goals as goal

@@ -1,6 +1,6 @@
 use Rattle.std.proofs.Common.{map, subst, ap, ◌∙◌}
 use Rattle.history.specs.Whole.{entry_of}
-use Rattle.fuzzy_copies.specs.Summary.{both_summed, summary_of}
+use Rattle.history.specs.fuzzy_copies.Summary.{both_summed, summary_of}
 use Rattle.wal_summary.specs.Summary.{IsSummary}
 use Rattle.wal_summary.proofs.Tables.{behind_none}
 use Rattle.wal_summary.proofs.making.summarise.Goals as goal

@@ -1,6 +1,6 @@
 -- The pages stand in a plain file, or each at its slot.
 use Rattle.std.proofs.Common.{◌≡◌, ◌*◌, ap, List, map, take, drop, ◌∙◌}
-use Rattle.byte_words.specs.Told.{when_told}
+use Rattle.lsn_core.specs.byte_words.Told.{when_told}
 use Rattle.incr_file.specs.Form.{pages_bytes}
 use Rattle.chain_files.specs.Segments.{chain_segments}
 use Rattle.chain_files.specs.Told.{chain_told}

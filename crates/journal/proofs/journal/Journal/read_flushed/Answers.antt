@@ -1,7 +1,7 @@
 use Rattle.std.proofs.Common.{Some, refl, ap, subst}
 use Rattle.lsn_core.specs.declared.lsn.Lsn.{Lsn}
 use Rattle.wal_archive.specs.Rules.{lsn}
-use Rattle.wal_pieces.specs.Piece.{ReadsPiece}
+use Rattle.wal_reader.specs.wal_pieces.Piece.{ReadsPiece}
 use Rattle.wal_writer.specs.declared.state.WalState.{WalState}
 use Rattle.journal.specs.Journal.{Written}
 use Rattle.journal.proofs.Rests.{rests_read}

@@ -1,6 +1,6 @@
 use Rattle.std.proofs.Common.{ℕ, List, Option, sym, ap, ◌∙◌}
 use Rattle.std.specs.Option.{unwrap_or}
-use Rattle.byte_words.specs.Pieces.{zero_page}
+use Rattle.lsn_core.specs.byte_words.Pieces.{zero_page}
 use Rattle.lsn_core.specs.declared.ids.BlockId.{BlockId}
 use Rattle.page_frames.proofs.Overlays.{has_block_true, has_block_false, page_there, page_past}
 use Rattle.page_frames.proofs.frames.Frames.block.Goals as goal

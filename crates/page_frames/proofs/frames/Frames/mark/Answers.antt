@@ -1,5 +1,5 @@
 use Rattle.std.proofs.Common.{Option, Some, None, sym, ap, ◌∙◌}
-use Rattle.byte_words.specs.Numbers.{◌>>=◌}
+use Rattle.lsn_core.specs.byte_words.Numbers.{◌>>=◌}
 use Rattle.page_frames.specs.Framed.{Framed, Held, held_mark}
 use Rattle.page_frames.proofs.Tables.{frame_found}
 use Rattle.page_frames.proofs.frames.Frames.mark.Goals as goal

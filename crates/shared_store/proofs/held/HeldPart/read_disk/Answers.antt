@@ -1,6 +1,6 @@
 use Rattle.lsn_core.specs.declared.fault.StoreArea.TheVariants.{Data}
 use Rattle.std.proofs.Common.{sym, subst, ◌≤◌}
-use Rattle.fuzzy_copies.specs.Taken.{IsBlockCopied}
+use Rattle.history.specs.fuzzy_copies.Taken.{IsBlockCopied}
 use Rattle.shared_store.specs.Locked.{Shown}
 use Rattle.shared_store.specs.Copied.{HasRedoPoint}
 use Rattle.shared_store.proofs.Copies.{read_of, copied}

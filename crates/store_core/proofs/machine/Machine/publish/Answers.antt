@@ -1,7 +1,7 @@
 use Rattle.std.proofs.Common.{List, map, ap, subst, ◌∙◌}
 use Rattle.wal_record.specs.declared.record.Record.{Record}
 use Rattle.history.specs.Whole.{entry_of}
-use Rattle.fuzzy_copies.specs.Summary.{summary_of}
+use Rattle.history.specs.fuzzy_copies.Summary.{summary_of}
 use Rattle.wal_summary.specs.Summary.{IsSummary}
 use Rattle.store_core.specs.Inside.{next_redo_in}
 use Rattle.store_core.proofs.Showing.{publish_idle, publish_done}

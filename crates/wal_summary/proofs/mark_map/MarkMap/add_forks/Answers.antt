@@ -1,6 +1,6 @@
 use Rattle.std.proofs.Common.{◌≡◌, map, subst, ap, ◌∙◌, arith}
 use Rattle.std.proofs.lemmas.List.{take_all}
-use Rattle.fuzzy_copies.specs.Summary.{both_summed, summed}
+use Rattle.history.specs.fuzzy_copies.Summary.{both_summed, summed}
 use Rattle.wal_summary.specs.Marks.{table_of_marks}
 use Rattle.wal_summary.proofs.Tables.{added_next}
 use Rattle.wal_summary.proofs.Sums.{fork_table, forks_say}

@@ -1,5 +1,5 @@
 use Rattle.std.proofs.Common.{◌≡◌, take, map}
-use Rattle.fuzzy_copies.specs.Summary.{both_summed, summed}
+use Rattle.history.specs.fuzzy_copies.Summary.{both_summed, summed}
 use Rattle.wal_summary.specs.Marks.{table_of_marks}
 use Rattle.wal_summary.proofs.Sums.{fork_table}
 use Rattle.wal_summary.proofs.mark_map.MarkMap.add_forks.Given as goal

@@ -1,6 +1,6 @@
 use Rattle.std.proofs.Common.{map, sym, ap, ◌∙◌}
 use Rattle.std.proofs.lemmas.Result.{on_ok_weaker}
-use Rattle.fuzzy_copies.specs.Summary.{both_summed, summed}
+use Rattle.history.specs.fuzzy_copies.Summary.{both_summed, summed}
 use Rattle.wal_summary.specs.Marks.{table_of_marks}
 use Rattle.wal_summary.specs.Inside.{table_of_ref, rel_table}
 use Rattle.wal_summary.proofs.Entries.{table_of_kind, refs_said, commit_said}

@@ -1,6 +1,6 @@
 use Rattle.std.proofs.Common.{◌≡◌, take, map}
 use Rattle.history.specs.Whole.{entry_of}
-use Rattle.fuzzy_copies.specs.Summary.{both_summed, summary_of}
+use Rattle.history.specs.fuzzy_copies.Summary.{both_summed, summary_of}
 use Rattle.wal_summary.specs.Marks.{table_of_marks}
 use Rattle.wal_summary.proofs.mark_map.MarkMap.add_records.Given as goal
 

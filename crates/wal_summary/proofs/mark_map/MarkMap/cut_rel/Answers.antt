@@ -1,6 +1,6 @@
 use Rattle.std.proofs.Common.{Some, ap, ◌∙◌}
 use Rattle.std.proofs.lemmas.Result.{on_ok_weaker}
-use Rattle.fuzzy_copies.specs.Summary.{both_summed}
+use Rattle.history.specs.fuzzy_copies.Summary.{both_summed}
 use Rattle.wal_summary.specs.Marks.{table_of_marks}
 use Rattle.wal_summary.proofs.Entries.{rel_added}
 use Rattle.wal_summary.proofs.mark_map.MarkMap.cut_rel.Goals as goal
