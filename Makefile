@@ -40,6 +40,8 @@ conformance: build
 	python3 conformance/targets.py bin/pgbackup 4
 	python3 conformance/chains.py bin/pgbackup 60
 	python3 conformance/combines.py bin/pgbackup 60
+	python3 conformance/merges.py bin/pgbackup 60
+	python3 conformance/restarts.py bin/pgbackup 200
 	python3 conformance/manifests.py bin/pgbackup 1
 	python3 conformance/views.py bin/pgbackup bin/pgbackup-chains 60
 	cd crates/lsn_core_c && rt lib > /dev/null
