@@ -190,12 +190,17 @@ def spoil(rnd, name):
     shutil.copytree("ours/b/" + name, "theirs/b/" + name)
 
 
-def one_run(path, rnd):
-    """What differs, as a list of texts."""
+def begun(path, rnd):
+    """A new store in both folders: how many blocks a file of it has, and what differs."""
     for folder in ("ours", "theirs"):
         os.mkdir(folder)
     relseg = str(rnd.choice([1, 2, 3, 5, 7, 131072]))
-    differences = both(path, ["init", "--segment-mib", "1", "--system-id", "7", "--relseg", relseg])
+    return relseg, both(path, ["init", "--segment-mib", "1", "--system-id", "7", "--relseg", relseg])
+
+
+def one_run(path, rnd):
+    """What differs, as a list of texts."""
+    relseg, differences = begun(path, rnd)
     store, chains = Store(), Chains()
     scripts = [a_script(rnd, store, chains) for _ in range(rnd.randrange(1, 5))]
     for lines in scripts:

@@ -16,7 +16,7 @@ import os
 import shutil
 import struct
 
-from combines import Chains, a_script
+from combines import Chains, a_script, begun
 from common import compare, files, program
 from restores import a_target, ends_in, restored, wal_end
 from run import Store, both
@@ -158,10 +158,7 @@ def refusals(path, rnd, chain):
 
 def one_run(path, rnd):
     """What differs, as a list of texts."""
-    for folder in ("ours", "theirs"):
-        os.mkdir(folder)
-    relseg = str(rnd.choice([1, 2, 3, 5, 7, 131072]))
-    differences = both(path, ["init", "--segment-mib", "1", "--system-id", "7", "--relseg", relseg])
+    _, differences = begun(path, rnd)
     store, chains = Store(), Chains()
     for _ in range(rnd.randrange(1, 5)):
         differences += both(path, ["run"], "\n".join(a_script(rnd, store, chains)).encode() + b"\n")
