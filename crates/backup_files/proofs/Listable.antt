@@ -148,5 +148,5 @@ lists_rows written system rows sorted start end text are rises s a b moved order
       same = moved;
       order = rows_rise rows sorted are moved order;
       text_is = is;
-      read = subst (λ (x : List ℕ). ReadAnswers 2 x (Ok m)) (sym is) (written m (manifest_good system rows sorted start end are rises moved order) (manifest_small system rows sorted start end are moved s a b));
+      read = subst (λ (x : List ℕ). ReadAnswers x (Ok m)) (sym is) (written m (manifest_good system rows sorted start end are rises moved order) (manifest_small system rows sorted start end are moved s a b));
     }

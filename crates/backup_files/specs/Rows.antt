@@ -38,4 +38,4 @@ pub record ListsRows (system : ℕ) (rows : List FileRow) (start end : Lsn) (tex
   pub same : IsPermutation rows sorted
   pub order : IsStrictlySortedBy (slice_cmp nat_cmp) (map path_of sorted)
   pub text_is : text ≡ manifest_text (listing_with system sorted start end)
-  pub read : ReadAnswers 2 text (Ok (listing_with system sorted start end))
+  pub read : ReadAnswers text (Ok (listing_with system sorted start end))

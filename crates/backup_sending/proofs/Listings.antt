@@ -174,7 +174,7 @@ finished settings redo prior end name when modified old mid new rows more count 
     order = lists.order;
   };
   counted = counted ∙ sym (length_permutation more lists.sorted lists.same);
-  manifest_read = subst (λ (x : List ℕ). ReadAnswers 2 x (Ok (listing_with settings.system lists.sorted redo.redo end))) lists.text_is lists.read;
+  manifest_read = subst (λ (x : List ℕ). ReadAnswers x (Ok (listing_with settings.system lists.sorted redo.redo end))) lists.text_is lists.read;
   files_are =
       subst (λ (o : Option Files). IfSome o (λ m. m ≡ directory_with put adds.text (manifest_text (listing_with settings.system lists.sorted redo.redo end))))
       (sym (stands ∙ (ap (λ (x : List ℕ). with_file manifest_name x mid) lists.text_is ∙ ap (with_file manifest_name (manifest_text (listing_with settings.system lists.sorted redo.redo end))) adds.stands)))

@@ -57,7 +57,7 @@ pub record IsFullBackup (settings : StoreSettings) (name : List ℕ) (when : ℕ
   pub rows : List FileRow
   pub listed : AreRowsOf modified (listed_files settings.relseg copy label) rows
   pub counted : count ≡ length rows
-  pub manifest_read : ReadAnswers 2 (manifest_text (listing_with settings.system rows start end))
+  pub manifest_read : ReadAnswers (manifest_text (listing_with settings.system rows start end))
       (Ok (listing_with settings.system rows start end))
   pub files_are : IfSome files (λ m. m ≡ directory_of settings.relseg copy label
       (manifest_text (listing_with settings.system rows start end)))
@@ -91,7 +91,7 @@ pub record IsDirectory (settings : StoreSettings) (label_of : List ℕ → Label
   pub rows : List FileRow
   pub listed : AreRowsOf modified (put ++ ((label_name, label) ∷ [])) rows
   pub counted : count ≡ length rows
-  pub manifest_read : ReadAnswers 2 (manifest_text (listing_with settings.system rows start end))
+  pub manifest_read : ReadAnswers (manifest_text (listing_with settings.system rows start end))
       (Ok (listing_with settings.system rows start end))
   pub files_are : IfSome files (λ m. m ≡ directory_with put label
       (manifest_text (listing_with settings.system rows start end)))

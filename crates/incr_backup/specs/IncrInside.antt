@@ -15,7 +15,7 @@ use Rattle.store_faults.specs.declared.backup_fault.BackupFault.{BackupFault}
 use Rattle.store_faults.specs.declared.backup_fault.BackupFault.TheVariants as backup
 use Rattle.store_faults.specs.declared.incr_fault.IncrFault.{IncrFault}
 use Rattle.store_faults.specs.declared.incr_fault.IncrFault.TheVariants as fault
-use Rattle.incr_backup.specs.Prior.{IsOfStore}
+use Rattle.incr_backup.specs.Prior.{IsOfStore, RefusesText}
 
 -- ---- faults
 
@@ -31,19 +31,18 @@ IsFile files name found = option_map (λ v. v.items) found ≡ get files name
 
 -- what a text is read as, or refused for
 abbrev pub TextAnswer : List ℕ → Result Listing IncrFault → Type 0
-TextAnswer bytes (Ok m) = ReadAnswers 2 bytes (Ok m)
+TextAnswer bytes (Ok m) = ReadAnswers bytes (Ok m)
 TextAnswer bytes (Err (fault.ManifestRefused why)) =
-    ReadAnswers 2 bytes (Err why) × (why ≡ manifest.NoMemory → ⊥)
+    ReadAnswers bytes (Err why) × (why ≡ manifest.NoMemory → ⊥)
 TextAnswer bytes (Err fault.NoMemory) = Unit {0}
 TextAnswer bytes (Err _) = ⊥
 
--- the same, and a manifest that was read is of a store with this system identifier
+-- the same, and a manifest that was read is of version 2 and of a store with this system identifier
 abbrev pub FileAnswer : List ℕ → ℕ → Result Listing IncrFault → Type 0
-FileAnswer bytes system (Ok m) = ReadAnswers 2 bytes (Ok m) × IsOfStore system m
-FileAnswer bytes system (Err (fault.ManifestRefused why)) =
-    ReadAnswers 2 bytes (Err why) × (why ≡ manifest.NoMemory → ⊥)
+FileAnswer bytes system (Ok m) = ReadAnswers bytes (Ok m) × IsOfStore system m
+FileAnswer bytes system (Err (fault.ManifestRefused why)) = RefusesText bytes why
 FileAnswer bytes system (Err (fault.SystemDiffers have expected)) =
-    (m : Listing) × ReadAnswers 2 bytes (Ok m) × IsOfStore have m × (expected ≡ system)
+    (m : Listing) × ReadAnswers bytes (Ok m) × IsOfStore have m × (expected ≡ system)
     × (have ≡ expected → ⊥)
 FileAnswer bytes system (Err fault.NoMemory) = Unit {0}
 FileAnswer bytes system (Err _) = ⊥

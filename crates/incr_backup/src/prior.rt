@@ -9,7 +9,7 @@ ghost use Rattle.incr_backup.specs.IncrInside.{prior_fault, IsFile, TextAnswer, 
 
 use backup_files::MANIFEST;
 use lsn_core::AreaFault;
-use manifest::{Manifest, read_manifest};
+use manifest::{Manifest, ManifestFault, manifests_are_read_again, read_manifest};
 use std::alloc::Global;
 use store_faults::IncrFault;
 use vault::{Vault, read_whole};
@@ -48,21 +48,26 @@ fn manifest_in(alloc: Global, bytes: &[u8]) -> Result<Manifest, IncrFault>
     }
 }
 
-/// The manifest of a text of a store with this system identifier, or why it is refused.
+/// The manifest of a text of a store with this system identifier, or why it is refused: one of version
+/// 1 tells none.
 fn manifest_for(alloc: Global, bytes: &[u8], system: u64) -> Result<Manifest, IncrFault>
     ensures answer { FileAnswer bytes.now system result }
     ensures ours { IfOk result (IsOfStore system) }
 {
     let manifest = manifest_in(alloc, bytes)?;
-    let have = manifest.system.unwrap_or(0);
+    // known: the version that tells none is 1
+    manifests_are_read_again();
+    let Some(have) = manifest.system else {
+        return Err(IncrFault::ManifestRefused(ManifestFault::Version(1)));
+    };
     if have != system {
         return Err(IncrFault::SystemDiffers(have, system));
     }
     Ok(manifest)
 }
 
-/// The manifest of the prior backup, where it is of a store with this system identifier, or why it
-/// isn't taken. The area is only read.
+/// The manifest of the prior backup, where it is of version 2 and of a store with this system
+/// identifier, or why it isn't taken. The area is only read.
 pub(crate) fn read_prior<V: Vault>(
     alloc: Global,
     prior: &mut V,

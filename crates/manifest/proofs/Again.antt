@@ -1,5 +1,5 @@
 -- A written manifest is read as itself.
-use Rattle.std.proofs.Common.{◌≡◌, ◌<◌, ◌^◌, ℕ, true, List, [], ◌∷◌, ◌++◌, map, Option, Some, None, IsSome, IfSome, All, Ok, true≢false, refl, sym, ap, ap₂, subst, ◌∙◌, arith}
+use Rattle.std.proofs.Common.{◌≡◌, ◌<◌, ◌^◌, ℕ, true, List, [], ◌∷◌, ◌++◌, map, Option, Some, None, IsSome, IfSome, All, Ok, true≢false, inr, refl, sym, ap, ap₂, subst, ◌∙◌, arith}
 use Rattle.std.specs.List.Sorted.{IsStrictlySortedBy}
 use Rattle.std.specs.Ordering.{nat_cmp}
 use Rattle.std.specs.Cmp.Lexicographic.{slice_cmp}
@@ -78,15 +78,15 @@ whole m system e =
     ∙ text-is system m.files (lsn_bytes m.start) (lsn_bytes m.end) (encode_lower sum) (digits_plain (encode_lower sum) sum (spelled (lines_text m)))
 
 abbrev parts_of : Listing → ℕ → Parts
-parts_of m system = record { system = system; rows = map raw_of m.files; timeline = 1; start = m.start; end = m.end }
+parts_of m system = record { version = 2; system = Some system; rows = map raw_of m.files; timeline = 1; start = m.start; end = m.end }
 
 is_manifest : (m : Listing) (system : ℕ) (sum : List ℕ) → m.system ≡ Some system → IsWritable m → HasSmallNumbers m
-    → IsManifest 2 (top_data system m.files (lsn_bytes m.start) (lsn_bytes m.end) sum) m
+    → IsManifest (top_data system m.files (lsn_bytes m.start) (lsn_bytes m.end) sum) m
 is_manifest m system sum e is small =
     let d = top_data system m.files (lsn_bytes m.start) (lsn_bytes m.end) sum in
     let order : IsStrictlySortedBy (slice_cmp nat_cmp) (map path_of (map raw_of m.files)) = subst (IsStrictlySortedBy (slice_cmp nat_cmp)) (same_paths m.files) is.order in
     let parts : IsParts d (parts_of m system) = record {
-      top = record { system = system; rows = map raw_of m.files; range = range_with (lsn_bytes m.start) (lsn_bytes m.end) };
+      top = record { system = Some system; rows = map raw_of m.files; range = range_with (lsn_bytes m.start) (lsn_bytes m.end) };
       read = top-again system m.files (lsn_bytes m.start) (lsn_bytes m.end) sum (have_paths m.files is.rows);
       system = refl;
       rows = (IsPermutation-refl (map raw_of m.files), order);
@@ -95,13 +95,13 @@ is_manifest m system sum e is small =
     } in (
       parts_of m system,
       m.files,
-      (refl, parts),
+      record { version = refl; known = inr refl; shape = parts },
       files_again m.files is.rows,
       refl,
       ap₂ (λ (v : ℕ) (s : Option ℕ). record { version = v; system = s; files = m.files; start = m.start; end = m.end }) is.version e,
     )
 
-read_again : (m : Listing) (system : ℕ) → m.system ≡ Some system → IsWritable m → HasSmallNumbers m → system < 2 ^ 64 → ReadAnswers 2 (manifest_text m) (Ok m)
+read_again : (m : Listing) (system : ℕ) → m.system ≡ Some system → IsWritable m → HasSmallNumbers m → system < 2 ^ 64 → ReadAnswers (manifest_text m) (Ok m)
 read_again m system e is small fits =
     let sum = encode_lower (sha256 (lines_text m)) in (
       (lines_text m, lined m),
@@ -112,9 +112,9 @@ read_again m system e is small fits =
       ),
     )
 
-by_system : (m : Listing) (o : Option ℕ) → m.system ≡ o → IsSome o → IfSome o (λ n. n < 2 ^ 64) → IsWritable m → HasSmallNumbers m → ReadAnswers 2 (manifest_text m) (Ok m)
+by_system : (m : Listing) (o : Option ℕ) → m.system ≡ o → IsSome o → IfSome o (λ n. n < 2 ^ 64) → IsWritable m → HasSmallNumbers m → ReadAnswers (manifest_text m) (Ok m)
 by_system m None e some fits is small = absurd (true≢false (sym some))
 by_system m (Some system) e some fits is small = read_again m system e is small fits
 
-pub written_is_read : (m : Listing) → IsWritable m → HasSmallNumbers m → ReadAnswers 2 (manifest_text m) (Ok m)
+pub written_is_read : (m : Listing) → IsWritable m → HasSmallNumbers m → ReadAnswers (manifest_text m) (Ok m)
 written_is_read m is small = by_system m m.system refl is.system small.system is small

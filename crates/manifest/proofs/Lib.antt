@@ -9,4 +9,5 @@ mod Parts
 mod ReadBack
 mod Rows
 mod Texts
+pub mod Versions
 mod Written

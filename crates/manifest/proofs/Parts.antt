@@ -4,7 +4,7 @@ use Rattle.std.specs.Result.{IsErrAnd}
 use Rattle.serde_json.specs.Data.{Data}
 use Rattle.serde_json.specs.View.{items_view}
 use Rattle.serde_json.specs.declared.value.Value.{Value}
-use Rattle.manifest.specs.Shape.{Top, top_in, only_range, Parts, IsParts, IsRange, version_in}
+use Rattle.manifest.specs.Shape.{Top, top_in, only_range, Parts, IsParts, IsRange, version_in, IsKnown}
 use Rattle.manifest.specs.Answers.{PartsAnswers}
 use Rattle.manifest.specs.Listing.{Listing}
 use Rattle.manifest.specs.Reading.{ValueAnswers}
@@ -15,13 +15,13 @@ abbrev top_or : Top → Option Top → Top
 top_or top None = top
 top_or top (Some other) = other
 
-same_top : (d : Data) (top : Top) (parts : Parts) → top_in d ≡ Some top → (is : IsParts d parts) → is.top ≡ top
-same_top d top parts e is = ap (top_or top) (sym is.read ∙ e)
+same_top : (version : ℕ) (d : Data) (top : Top) (parts : Parts) → parts.version ≡ version → top_in version d ≡ Some top → (is : IsParts d parts) → is.top ≡ top
+same_top version d top parts v e is = ap (top_or top) (sym (subst (λ (n : ℕ). top_in n d ≡ Some is.top) v is.read) ∙ e)
 
 -- its range isn't good
-pub no_range : (d : Data) (top : Top) → top_in d ≡ Some top → ((start end : ℕ) → IsRange top.range start end → ⊥) → (parts : Parts) → IsParts d parts → ⊥
-no_range d top e none parts is =
-    none parts.start parts.end (subst (λ (t : Top). IsRange t.range parts.start parts.end) (same_top d top parts e is) is.range)
+pub no_range : (version : ℕ) (d : Data) (top : Top) → top_in version d ≡ Some top → ((start end : ℕ) → IsRange top.range start end → ⊥) → (parts : Parts) → parts.version ≡ version → IsParts d parts → ⊥
+no_range version d top e none parts v is =
+    none parts.start parts.end (subst (λ (t : Top). IsRange t.range parts.start parts.end) (same_top version d top parts v e is) is.range)
 
 -- several ranges
 pub several : (list : List Value) → 2 ≤ length list → only_range (items_view list) ≡ None
@@ -33,17 +33,18 @@ abbrev number_or : ℕ → Option ℕ → ℕ
 number_or n None = n
 number_or n (Some other) = other
 
--- a value of the wanted version without parts
-pub no_parts : (wanted : ℕ) (d : Data) (fault : ManifestFault) → version_in d ≡ Some wanted → PartsAnswers d (Err fault) → ValueAnswers wanted d (Err fault)
-no_parts wanted d Lines is none = absurd none
-no_parts wanted d Sum is none = absurd none
-no_parts wanted d Json is none = absurd none
-no_parts wanted d (Version v) is none = absurd none
-no_parts wanted d Shape is none = (λ v other. ap (number_or wanted) (sym other ∙ is), λ parts shaped. none parts shaped.1)
-no_parts wanted d SumKind is none = absurd none
-no_parts wanted d (TimelineIs v) is none = absurd none
-no_parts wanted d NoMemory is none = tt
+-- a value of a version that is read, without parts
+pub no_parts : (version : ℕ) (d : Data) (fault : ManifestFault) → version_in d ≡ Some version → IsKnown version → PartsAnswers version d (Err fault) → ValueAnswers d (Err fault)
+no_parts version d Lines is known none = absurd none
+no_parts version d Sum is known none = absurd none
+no_parts version d Json is known none = absurd none
+no_parts version d (Version v) is known none = absurd none
+no_parts version d Shape is known none =
+    (λ v other. subst IsKnown (sym (ap (number_or version) (sym other ∙ is))) known, λ parts shaped. none parts (ap (number_or version) (sym shaped.version ∙ is)) shaped.shape)
+no_parts version d SumKind is known none = absurd none
+no_parts version d (TimelineIs v) is known none = absurd none
+no_parts version d NoMemory is known none = tt
 
-pub passed_on : (wanted : ℕ) (d : Data) (fault : ManifestFault) (r : Result Listing ManifestFault) → IsErrAnd r (λ x. x ≡ fault) → ValueAnswers wanted d (Err fault) → ValueAnswers wanted d r
-passed_on wanted d fault (Ok m) err h = absurd err
-passed_on wanted d fault (Err x) err h = subst (λ (y : ManifestFault). ValueAnswers wanted d (Err y)) (sym err) h
+pub passed_on : (d : Data) (fault : ManifestFault) (r : Result Listing ManifestFault) → IsErrAnd r (λ x. x ≡ fault) → ValueAnswers d (Err fault) → ValueAnswers d r
+passed_on d fault (Ok m) err h = absurd err
+passed_on d fault (Err x) err h = subst (λ (y : ManifestFault). ValueAnswers d (Err y)) (sym err) h

@@ -81,6 +81,6 @@ rows-again [] good = refl
 rows-again (row ∷ rows) good = rw (good.0, rows-again rows good.1) refl
 
 pub top-again : (system : ℕ) (rows : List FileRow) (start end sum : List ℕ) → HavePaths rows
-    → top_in (top_data system rows start end sum) ≡ Some (record { system = system; rows = map raw_of rows; range = range_with start end })
+    → top_in 2 (top_data system rows start end sum) ≡ Some (record { system = Some system; rows = map raw_of rows; range = range_with start end })
 unfolding top_in range_in
 top-again system rows start end sum good = rw (rows-again rows good) refl

@@ -9,7 +9,7 @@ use Rattle.manifest.specs.Kinds.{all_files}
 use Rattle.manifest.specs.Lines.{IsLined, IsSummed}
 use Rattle.manifest.specs.Listing.{Listing, listing_of}
 use Rattle.manifest.specs.Reading.{IsJson}
-use Rattle.manifest.specs.Shape.{Parts, IsParts, version_in}
+use Rattle.manifest.specs.Shape.{Parts, IsParts, version_in, IsKnown, IsUnknown}
 use Rattle.manifest.specs.declared.fault.ManifestFault.{ManifestFault}
 use Rattle.manifest.specs.declared.fault.ManifestFault.TheVariants.{Lines, Sum, Json, Version, Shape, SumKind, TimelineIs, NoMemory}
 use Rattle.manifest.specs.declared.listing.FileRow.{FileRow}
@@ -44,18 +44,20 @@ TextAnswers bytes (Err Json) = IsSummed bytes × ((d : Data) → ¬ IsJson bytes
 TextAnswers bytes (Err NoMemory) = Unit {0}
 TextAnswers bytes (Err _) = ⊥
 
-abbrev pub VersionAnswers : ℕ → Data → Result (Unit {0}) ManifestFault → Type 0
-VersionAnswers wanted d (Ok x) = version_in d ≡ Some wanted
-VersionAnswers wanted d (Err (Version v)) = (version_in d ≡ Some v) × (v ≢ wanted)
-VersionAnswers wanted d (Err Shape) = version_in d ≡ None
-VersionAnswers wanted d (Err NoMemory) = Unit {0}
-VersionAnswers wanted d (Err _) = ⊥
+abbrev pub VersionAnswers : Data → Result ℕ ManifestFault → Type 0
+VersionAnswers d (Ok v) = (version_in d ≡ Some v) × IsKnown v
+VersionAnswers d (Err (Version v)) = (version_in d ≡ Some v) × IsUnknown v
+VersionAnswers d (Err Shape) = version_in d ≡ None
+VersionAnswers d (Err NoMemory) = Unit {0}
+VersionAnswers d (Err _) = ⊥
 
-abbrev pub PartsAnswers : Data → Result Parts ManifestFault → Type 0
-PartsAnswers d (Ok parts) = IsParts d parts
-PartsAnswers d (Err Shape) = (parts : Parts) → ¬ IsParts d parts
-PartsAnswers d (Err NoMemory) = Unit {0}
-PartsAnswers d (Err _) = ⊥
+-- the parts of an object of a version
+abbrev pub PartsAnswers : ℕ → Data → Result Parts ManifestFault → Type 0
+PartsAnswers version d (Ok parts) = (parts.version ≡ version) × IsParts d parts
+PartsAnswers version d (Err Shape) =
+    (parts : Parts) → parts.version ≡ version → ¬ IsParts d parts
+PartsAnswers version d (Err NoMemory) = Unit {0}
+PartsAnswers version d (Err _) = ⊥
 
 abbrev pub KindsAnswers : Option (List FileRow) → Result (Vec FileRow) ManifestFault → Type 0
 KindsAnswers found (Ok v) = found ≡ Some v.items
@@ -64,12 +66,11 @@ KindsAnswers found (Err NoMemory) = Unit {0}
 KindsAnswers found (Err _) = ⊥
 
 -- the sums of the rows before the timeline
-abbrev pub ListingAnswers : ℕ → Parts → Result Listing ManifestFault → Type 0
-ListingAnswers version parts (Ok m) = (files : List FileRow)
-    × (all_files parts.rows ≡ Some files) × (parts.timeline ≡ 1)
-    × (m ≡ listing_of version parts files)
-ListingAnswers version parts (Err SumKind) = all_files parts.rows ≡ None
-ListingAnswers version parts (Err (TimelineIs v)) = (files : List FileRow)
+abbrev pub ListingAnswers : Parts → Result Listing ManifestFault → Type 0
+ListingAnswers parts (Ok m) = (files : List FileRow)
+    × (all_files parts.rows ≡ Some files) × (parts.timeline ≡ 1) × (m ≡ listing_of parts files)
+ListingAnswers parts (Err SumKind) = all_files parts.rows ≡ None
+ListingAnswers parts (Err (TimelineIs v)) = (files : List FileRow)
     × (all_files parts.rows ≡ Some files) × (parts.timeline ≡ v) × (v ≢ 1)
-ListingAnswers version parts (Err NoMemory) = Unit {0}
-ListingAnswers version parts (Err _) = ⊥
+ListingAnswers parts (Err NoMemory) = Unit {0}
+ListingAnswers parts (Err _) = ⊥

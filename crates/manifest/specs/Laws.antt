@@ -1,5 +1,5 @@
 -- What holds of written manifests.
-use Rattle.std.specs.Prelude.{◌≡◌, ◌⊎◌, ℕ, ◌<◌, ◌^◌, List, All, IfSome, Result, Ok, Err}
+use Rattle.std.specs.Prelude.{◌≡◌, ◌⊎◌, ℕ, ◌<◌, ◌^◌, List, All, None, IfSome, IsSome, Result, Ok, Err}
 use Rattle.manifest.specs.Listing.{Listing}
 use Rattle.manifest.specs.Reading.{ReadAnswers}
 use Rattle.manifest.specs.Text.{IsWritable, manifest_text}
@@ -16,10 +16,15 @@ pub record HasSmallNumbers (m : Listing) : Type 0 where
 -- the text of a manifest is read as that manifest
 abbrev pub WrittenManifestsAreRead : Type 0
 WrittenManifestsAreRead = (m : Listing) → IsWritable m → HasSmallNumbers m
-    → ReadAnswers 2 (manifest_text m) (Ok m)
+    → ReadAnswers (manifest_text m) (Ok m)
 
 -- bytes that are read as a manifest are read as no other one, and aren't refused
 abbrev pub TextsHaveOneManifest : Type 0
-TextsHaveOneManifest = (wanted : ℕ) (bytes : List ℕ) (m : Listing) (r : Result Listing ManifestFault)
-    → ReadAnswers wanted bytes (Ok m) → ReadAnswers wanted bytes r
+TextsHaveOneManifest = (bytes : List ℕ) (m : Listing) (r : Result Listing ManifestFault)
+    → ReadAnswers bytes (Ok m) → ReadAnswers bytes r
     → (r ≡ Ok m) ⊎ (r ≡ Err NoMemory)
+
+-- a manifest that is read is of version 1 and has no system identifier, or of version 2 and has one
+abbrev pub VersionsTellSystems : Type 0
+VersionsTellSystems = (bytes : List ℕ) (m : Listing) → ReadAnswers bytes (Ok m)
+    → ((m.version ≡ 1) × (m.system ≡ None)) ⊎ ((m.version ≡ 2) × IsSome m.system)

@@ -1,5 +1,5 @@
 -- What a manifest says.
-use Rattle.std.specs.Prelude.{ℕ, List, Option, Some}
+use Rattle.std.specs.Prelude.{ℕ, List, Option}
 use Rattle.manifest.specs.declared.listing.FileRow.{FileRow}
 use Rattle.manifest.specs.Shape.{Parts}
 
@@ -11,11 +11,11 @@ pub record Listing : Type 0 where
   pub start : ℕ
   pub end : ℕ
 
--- the manifest of a version with these parts and files
-abbrev pub listing_of : ℕ → Parts → List FileRow → Listing
-listing_of version parts files = record {
-  version = version;
-  system = Some parts.system;
+-- the manifest with these parts and files
+abbrev pub listing_of : Parts → List FileRow → Listing
+listing_of parts files = record {
+  version = parts.version;
+  system = parts.system;
   files = files;
   start = parts.start;
   end = parts.end;

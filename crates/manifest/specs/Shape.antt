@@ -1,7 +1,7 @@
 -- What a JSON value must be to be a manifest (Backup Manifest Format, Backup Manifest Top-level
 -- Object, File Object, WAL Range Object). A whole number is one below 2^64 without sign, point or
 -- exponent.
-use Rattle.std.specs.Prelude.{◌≡◌, ℕ, ◌<◌, Bool, false, List, [], ◌∷◌, length, map, codes, Option, Some, None, is_some, option_and_then, option_map, ◌==◌, ◌&&◌, not, if◌then◌else◌}
+use Rattle.std.specs.Prelude.{◌≡◌, ◌≢◌, ◌⊎◌, ℕ, ◌<◌, Bool, false, List, [], ◌∷◌, length, map, codes, Option, Some, None, is_some, option_and_then, option_map, ◌==◌, ◌&&◌, not, if◌then◌else◌}
 use Rattle.std.specs.List.{list_all, slice_split}
 use Rattle.std.specs.List.Sorted.{IsPermutation, IsStrictlySortedBy}
 use Rattle.std.specs.Ordering.{nat_cmp}
@@ -89,23 +89,39 @@ range_at d = do
 
 -- what a manifest's object says, its rows as they stand
 pub record Top : Type 0 where
-  pub system : ℕ
+  pub system : Option ℕ
   pub rows : List RawRow
   pub range : RawRange
 
--- a manifest's object: exactly these keys, with that of the version
-unfoldable pub top_in : Data → Option Top
-top_in d = do
-  system ← number_at (codes "System-Identifier") d
+-- the system identifier of a manifest's object: one of version 1 has none
+abbrev pub system_in : ℕ → Data → Option (Option ℕ)
+system_in version d =
+    if version == 1 then Some None else option_map Some (number_at (codes "System-Identifier") d)
+
+-- how many keys a manifest's object has: in version 1 that of the system identifier isn't there
+abbrev pub top_keys : ℕ → ℕ
+top_keys version = if version == 1 then 4 else 5
+
+-- a manifest's object of a version: exactly these keys, with that of the version
+unfoldable pub top_in : ℕ → Data → Option Top
+top_in version d = do
+  system ← system_in version d
   rows ← files_in d
   range ← range_at d
-  if is_some (text_at (codes "Manifest-Checksum") d) && has_keys 5 d
+  if is_some (text_at (codes "Manifest-Checksum") d) && has_keys (top_keys version) d
       then Some (record { system = system; rows = rows; range = range })
       else None
 
 -- what an object says its version is
 abbrev pub version_in : Data → Option ℕ
 version_in d = number_at (codes "PostgreSQL-Backup-Manifest-Version") d
+
+-- the versions that are read, and those that aren't
+abbrev pub IsKnown : ℕ → Type 0
+IsKnown v = (v ≡ 1) ⊎ (v ≡ 2)
+
+abbrev pub IsUnknown : ℕ → Type 0
+IsUnknown v = (v ≢ 1) × (v ≢ 2)
 
 abbrev pub path_of : RawRow → List ℕ
 path_of row = row.path
@@ -123,16 +139,17 @@ pub record IsRange (range : RawRange) (start end : ℕ) : Type 0 where
 
 -- what a manifest's object says, with rows in order and LSNs as places
 pub record Parts : Type 0 where
-  pub system : ℕ
+  pub version : ℕ
+  pub system : Option ℕ
   pub rows : List RawRow
   pub timeline : ℕ
   pub start : ℕ
   pub end : ℕ
 
--- the parts of a manifest's object
+-- the parts of a manifest's object, by its version
 pub record IsParts (d : Data) (parts : Parts) : Type 0 where
   pub top : Top
-  pub read : top_in d ≡ Some top
+  pub read : top_in parts.version d ≡ Some top
   pub system : parts.system ≡ top.system
   pub rows : IsArranged top.rows parts.rows
   pub timeline : parts.timeline ≡ top.range.timeline

@@ -20,7 +20,7 @@ pub enum ManifestFault {
     /// The text is no JSON.
     #[error("no JSON")]
     Json,
-    /// The version is this one, and another one is wanted.
+    /// The version is this one, and neither 1 nor 2.
     #[error("version {0}")]
     Version(u64),
     /// The JSON value isn't that of a manifest.

@@ -5,7 +5,8 @@
 //! `write_manifest` gives exactly the text of `specs/Text.antt`. `read_manifest` gives a manifest
 //! exactly where the bytes are of the grammar, and otherwise the first cause to refuse them, in the
 //! order of `specs/Reading.antt`: the lines, their sum, the JSON text, the version, the shape, the
-//! kinds of sums, the timeline. `laws` says that what is written is read back.
+//! kinds of sums, the timeline. Versions 1 and 2 are read, and 2 is written. `laws` says that what
+//! is written is read back.
 //!
 //! Left to others: the sums of files and whether a directory holds what is listed, the label of a
 //! backup, and JSON itself (the kit's `serde_json`).

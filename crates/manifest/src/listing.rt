@@ -24,7 +24,7 @@ pub struct FileRow {
 pub struct Manifest {
     /// The version of the manifest's form.
     pub version: u32,
-    /// The system identifier of the store, where the version has one.
+    /// The system identifier of the store, where the version has one: version 2 has, 1 hasn't.
     pub system: Option<u64>,
     /// The files, in byte order of their paths.
     pub files: Vec<FileRow>,

@@ -20,14 +20,12 @@ use sha2::{Digest, Sha256};
 use std::alloc::Global;
 use std::marker::Model;
 
-/// The version that is read and written.
-const VERSION: u32 = 2;
-
 /// What a manifest's object says, with its rows in byte order of their paths. Contracts see a
 /// `Parts`.
 #[derive(Drop)]
 pub struct RawParts {
-    pub system: u64,
+    pub version: u32,
+    pub system: Option<u64>,
     pub rows: Vec<RawRow>,
     pub timeline: u64,
     pub start: Lsn,
@@ -40,6 +38,7 @@ impl Model for RawParts {
     ghost Value = { Parts };
 
     ghost view = { λ p. record {
+      version = p.version;
       system = p.system;
       rows = p.rows.items;
       timeline = p.timeline;
@@ -63,15 +62,15 @@ fn value_in(alloc: Global, bytes: &[u8]) -> Result<Value, ManifestFault>
     json_of(alloc, bytes)
 }
 
-/// Whether a value has the wanted version.
-fn check_version(value: &Value, wanted: u32) -> Result<(), ManifestFault>
-    ensures { VersionAnswers wanted (view value.now) result }
+/// The version of a value, where it is one that is read.
+fn version_in(value: &Value) -> Result<u32, ManifestFault>
+    ensures { VersionAnswers (view value.now) result }
 {
-    let version = number_at(value, "PostgreSQL-Backup-Manifest-Version")?;
-    if version != u64::from(wanted) {
-        return Err(ManifestFault::Version(version));
+    match number_at(value, "PostgreSQL-Backup-Manifest-Version")? {
+        1 => Ok(1),
+        2 => Ok(2),
+        version => Err(ManifestFault::Version(version)),
     }
-    Ok(())
 }
 
 /// The two LSNs of a range. None exactly where a text is no LSN, or the start isn't below the end.
@@ -88,11 +87,11 @@ fn range_of(range: &RawRange) -> Option<(Lsn, Lsn)>
     }
 }
 
-/// The parts of a value of a manifest's shape.
-fn parts_in(alloc: Global, value: &Value) -> Result<RawParts, ManifestFault>
-    ensures { PartsAnswers (view value.now) result }
+/// The parts of a value of the shape of a manifest of this version.
+fn parts_in(alloc: Global, value: &Value, version: u32) -> Result<RawParts, ManifestFault>
+    ensures { PartsAnswers version (view value.now) result }
 {
-    let top = top_in(alloc, value)?;
+    let top = top_in(alloc, value, version)?;
     let Some((start, end)) = range_of(&top.range) else {
         return Err(ManifestFault::Shape);
     };
@@ -100,6 +99,7 @@ fn parts_in(alloc: Global, value: &Value) -> Result<RawParts, ManifestFault>
         return Err(ManifestFault::Shape);
     };
     Ok(RawParts {
+        version,
         system: top.system,
         rows,
         timeline: top.range.timeline,
@@ -140,37 +140,37 @@ fn all_files(alloc: Global, rows: Vec<RawRow>) -> Result<Vec<FileRow>, ManifestF
     Ok(files)
 }
 
-/// The manifest of a version with these parts.
-fn listed(alloc: Global, parts: RawParts, version: u32) -> Result<Manifest, ManifestFault>
-    ensures { ListingAnswers version parts result }
+/// The manifest with these parts.
+fn listed(alloc: Global, parts: RawParts) -> Result<Manifest, ManifestFault>
+    ensures { ListingAnswers parts result }
 {
     let files = all_files(alloc, parts.rows)?;
     if parts.timeline != 1 {
         return Err(ManifestFault::TimelineIs(parts.timeline));
     }
     Ok(Manifest {
-        version,
-        system: Some(parts.system),
+        version: parts.version,
+        system: parts.system,
         files,
         start: parts.start,
         end: parts.end,
     })
 }
 
-/// The manifest of a JSON value that has the wanted version.
-fn judged(alloc: Global, value: &Value, wanted: u32) -> Result<Manifest, ManifestFault>
-    ensures { ValueAnswers wanted (view value.now) result }
+/// The manifest of a JSON value.
+fn judged(alloc: Global, value: &Value) -> Result<Manifest, ManifestFault>
+    ensures { ValueAnswers (view value.now) result }
 {
-    check_version(value, wanted)?;
-    let parts = parts_in(alloc, value)?;
-    listed(alloc, parts, wanted)
+    let version = version_in(value)?;
+    let parts = parts_in(alloc, value, version)?;
+    listed(alloc, parts)
 }
 
-/// Reads a manifest of version 2. Errs with the first cause to refuse it, in the order of
-/// `ManifestFault`, or with `NoMemory`.
+/// Reads a manifest of version 1 or 2; one of version 1 tells no system identifier. Errs with the
+/// first cause to refuse it, in the order of `ManifestFault`, or with `NoMemory`.
 pub fn read_manifest(alloc: Global, bytes: &[u8]) -> Result<Manifest, ManifestFault>
-    ensures { ReadAnswers 2 bytes.now result }
+    ensures { ReadAnswers bytes.now result }
 {
     let value = value_in(alloc, bytes)?;
-    judged(alloc, &value, VERSION)
+    judged(alloc, &value)
 }

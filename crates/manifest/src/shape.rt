@@ -2,7 +2,7 @@
 
 ghost use Rattle.std.specs.Prelude.{◌≡◌};
 ghost use Rattle.serde_json.specs.View.{view, items_view};
-ghost use Rattle.manifest.specs.Shape.{row_in, rows_in, files_in, range_in, only_range, range_at, top_in};
+ghost use Rattle.manifest.specs.Shape.{row_in, rows_in, files_in, range_in, only_range, range_at, system_in, top_keys, top_in};
 ghost use Rattle.manifest.specs.Answers.{Answers, AnswersAll};
 
 use crate::fault::ManifestFault;
@@ -34,7 +34,7 @@ pub struct RawRange {
 /// What a manifest's object says, its rows as they stand. Contracts see a `Top`.
 #[derive(Drop)]
 pub struct RawTop {
-    pub system: u64,
+    pub system: Option<u64>,
     pub rows: Vec<RawRow>,
     pub range: RawRange,
 }
@@ -129,15 +129,32 @@ fn range_at(alloc: Global, value: &Value) -> Result<RawRange, ManifestFault>
     only_range(alloc, list)
 }
 
-/// What an object of the five keys of a manifest says.
-#[tactic(auto, unfolding(crate::specs::Shape::top_in))]
-pub(crate) fn top_in(alloc: Global, value: &Value) -> Result<RawTop, ManifestFault>
-    ensures { Answers (top_in (view value.now)) result }
+/// The system identifier of an object, where its version has one.
+fn system_in(value: &Value, version: u32) -> Result<Option<u64>, ManifestFault>
+    ensures { Answers (system_in version (view value.now)) result }
 {
-    let system = number_at(value, "System-Identifier")?;
+    if version == 1 {
+        return Ok(None);
+    }
+    Ok(Some(number_at(value, "System-Identifier")?))
+}
+
+/// How many keys an object of a version has.
+fn top_keys(version: u32) -> usize
+    ensures { result ≡ top_keys version }
+{
+    if version == 1 { 4 } else { 5 }
+}
+
+/// What an object of the keys of a manifest of this version says.
+#[tactic(auto, unfolding(crate::specs::Shape::top_in))]
+pub(crate) fn top_in(alloc: Global, value: &Value, version: u32) -> Result<RawTop, ManifestFault>
+    ensures { Answers (top_in version (view value.now)) result }
+{
+    let system = system_in(value, version)?;
     let rows = files_in(alloc, value)?;
     let range = range_at(alloc, value)?;
-    if !has_text(value, "Manifest-Checksum") || !has_keys(value, 5) {
+    if !has_text(value, "Manifest-Checksum") || !has_keys(value, top_keys(version)) {
         return Err(ManifestFault::Shape);
     }
     Ok(RawTop {

@@ -6,4 +6,5 @@ pub returns-in_err-parts : goal.returns-in_err-parts
 returns-in_err-parts c =
     let d = view c.args.value.now in
     let fault = c.in_err-parts.field-0.0 in
-    passed_on c.args.wanted d fault c.from_residual-in_err-parts.result c.from_residual-in_err-parts.ensures.1 (no_parts c.args.wanted d fault c.in_ok-check_version.ensures c.in_err-parts.ensures)
+    let of = c.in_ok-version.ensures in
+    passed_on d fault c.from_residual-in_err-parts.result c.from_residual-in_err-parts.ensures.1 (no_parts c.in_ok-version.version d fault of.0 of.1 c.in_err-parts.ensures)

@@ -7,4 +7,4 @@ use Rattle.manifest.proofs.reading.parts_in.Goals as goal
 pub returns-in_default : goal.returns-in_default
 returns-in_default c =
     let top : Top = record { system = c.top.inside.system; rows = c.top.inside.rows.items; range = c.top.inside.range } in
-    no_range (view c.args.value.now) top (c.in_ok-top.ensures ∙ ap (λ (t : Top). Some t) (sym c.top.view_is)) c.in_default.ensures.none
+    no_range c.args.version (view c.args.value.now) top (c.in_ok-top.ensures ∙ ap (λ (t : Top). Some t) (sym c.top.view_is)) c.in_default.ensures.none
