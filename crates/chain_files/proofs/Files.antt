@@ -11,9 +11,8 @@ use Rattle.std.specs.FinMap.{get}
 use Rattle.std.specs.Global.{Vec}
 use Rattle.lsn_core.specs.Files.{Files}
 use Rattle.lsn_core.specs.Store.{ForkPages}
-use Rattle.lsn_core.specs.declared.ids.ForkId.{ForkId}
 use Rattle.incr_file.specs.Form.{form_in, pages_in_chain, pieces_in, whole_pages, pages_bytes}
-use Rattle.chain_files.specs.Segments.{forms_of, chain_segments, AllHaveForms}
+use Rattle.chain_files.specs.Segments.{forms_at, chain_pages, AllHaveForms}
 use Rattle.chain_files.specs.Sources.{GivesPages, AreRead, member_bytes, bytes_at, slot_page, source_pages, page_count}
 use Rattle.chain_files.specs.Inside.{ArePathsOf, forms_by, HasPart, ArePagesOf}
 use Rattle.chain_files.specs.declared.paths.FilePaths.{FilePaths}
@@ -26,25 +25,25 @@ use Rattle.chain_files.specs.declared.source.SegmentSource.{SegmentSource}
 
 -- ---- by its paths
 
-forms_same : (chain : List Files) (fork : ForkId) (seg : ℕ) (paths : FilePaths) → ArePathsOf fork seg paths → forms_of chain fork seg ≡ forms_by paths chain
-forms_same chain fork seg paths is =
+forms_same : (chain : List Files) (folder name : List ℕ) (paths : FilePaths) → ArePathsOf folder name paths → forms_at chain folder name ≡ forms_by paths chain
+forms_same chain folder name paths is =
     sym (ap₂ (λ (incr plain : List ℕ). map (λ files. form_in (get files incr) (get files plain)) (reverse chain)) is.incr is.plain)
 
-pub have_parts : (fork : ForkId) (seg : ℕ) (paths : FilePaths) (chain : List Files) → ArePathsOf fork seg paths → AllHaveForms chain → AllByRecursion (HasPart paths) chain
-have_parts fork seg paths [] is all = tt
-have_parts fork seg paths (m ∷ chain) is all = (
-  λ bytes e. all.0.incremental fork seg bytes is.named (ap (get m) (sym is.incr) ∙ e),
-  have_parts fork seg paths chain is all.1,
+pub have_parts : (folder name : List ℕ) (paths : FilePaths) (chain : List Files) → ArePathsOf folder name paths → AllHaveForms chain → AllByRecursion (HasPart paths) chain
+have_parts folder name paths [] is all = tt
+have_parts folder name paths (m ∷ chain) is all = (
+  λ bytes e. all.0.incremental folder name bytes is.placed (ap (get m) (sym is.incr) ∙ e),
+  have_parts folder name paths chain is all.1,
 )
 
-pub source_of : (chain : List Files) (fork : ForkId) (seg : ℕ) (paths : FilePaths) (pages : SourcePages) → ArePathsOf fork seg paths → ArePagesOf chain paths (Some pages) → GivesPages (chain_segments chain fork seg) chain (record { paths = paths; pages = pages })
-source_of chain fork seg paths pages is found = record {
-  are = ap pages_in_chain (forms_same chain fork seg paths is) ∙ found.0;
+pub source_of : (chain : List Files) (folder name : List ℕ) (paths : FilePaths) (pages : SourcePages) → ArePathsOf folder name paths → ArePagesOf chain paths (Some pages) → GivesPages (chain_pages chain folder name) chain (record { paths = paths; pages = pages })
+source_of chain folder name paths pages is found = record {
+  are = ap pages_in_chain (forms_same chain folder name paths is) ∙ found.0;
   counted = found.1;
 }
 
-pub source_none : (chain : List Files) (fork : ForkId) (seg : ℕ) (paths : FilePaths) → ArePathsOf fork seg paths → ArePagesOf chain paths None → chain_segments chain fork seg ≡ None
-source_none chain fork seg paths is found = ap pages_in_chain (forms_same chain fork seg paths is) ∙ found
+pub source_none : (chain : List Files) (folder name : List ℕ) (paths : FilePaths) → ArePathsOf folder name paths → ArePagesOf chain paths None → chain_pages chain folder name ≡ None
+source_none chain folder name paths is found = ap pages_in_chain (forms_same chain folder name paths is) ∙ found
 
 -- ---- pages as they are read
 

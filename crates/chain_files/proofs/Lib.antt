@@ -6,3 +6,4 @@ mod Shown
 mod Slots
 mod Blocks
 mod Files
+pub mod Placed

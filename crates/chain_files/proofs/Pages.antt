@@ -10,13 +10,12 @@ use Rattle.std.proofs.Math.Seq.{drop-append_seam}
 use Rattle.std.proofs.lemmas.List.{append_assoc, length-append, length-take-le, length-drop, length-replicate, take_at}
 use Rattle.lsn_core.specs.byte_words.Pieces.{zero_page}
 use Rattle.lsn_core.specs.Files.{Files}
-use Rattle.lsn_core.specs.Names.{fork_path_bytes}
 use Rattle.lsn_core.specs.Store.{ForkPages}
-use Rattle.lsn_core.specs.declared.ids.ForkId.{ForkId}
 use Rattle.lsn_core.proofs.AnyAll.{all_range}
 use Rattle.incr_file.specs.declared.head.IncrHead.{IncrHead}
 use Rattle.incr_file.specs.Form.{Form, Absent, Plain, Part, form_in, pieces_in, whole_pages, pages_bytes, sent_page, block_in_chain, rebuilt_length, rebuilt_pages, pages_in_chain}
-use Rattle.chain_files.specs.Segments.{form_of, chain_segments}
+use Rattle.chain_files.specs.Paths.{file_path}
+use Rattle.chain_files.specs.Segments.{form_at, chain_pages}
 
 -- ---- pages
 
@@ -58,10 +57,10 @@ form_sized (Some bytes) plain = whole_sized _
 form_sized None (Some bytes) = whole_sized bytes
 form_sized None None = tt
 
-forms_sized : (fork : ForkId) (seg : ℕ) (chain : List Files) → AllByRecursion IsSized (map (form_of fork seg) chain)
-forms_sized fork seg [] = tt
-forms_sized fork seg (files ∷ chain) =
-    (form_sized (get files (fork_path_bytes fork seg true)) (get files (fork_path_bytes fork seg false)), forms_sized fork seg chain)
+forms_sized : (folder name : List ℕ) (chain : List Files) → AllByRecursion IsSized (map (form_at folder name) chain)
+forms_sized folder name [] = tt
+forms_sized folder name (files ∷ chain) =
+    (form_sized (get files (file_path folder name true)) (get files (file_path folder name false)), forms_sized folder name chain)
 
 -- a page that may be asked for
 abbrev MaySize : Option (List ℕ) → Type 0
@@ -108,8 +107,8 @@ pages_sized (Absent ∷ older) all = tt
 pages_sized (Plain pages ∷ older) all = all.0
 pages_sized (Part head pages ∷ older) all = rebuilt_sized (Part head pages ∷ older) head all
 
-pub chain_sized : (chain : List Files) (fork : ForkId) (seg : ℕ) → IfSome (chain_segments chain fork seg) (HaveSize 8192)
-chain_sized chain fork seg = pages_sized (map (form_of fork seg) (reverse chain)) (forms_sized fork seg (reverse chain))
+pub chain_sized : (chain : List Files) (folder name : List ℕ) → IfSome (chain_pages chain folder name) (HaveSize 8192)
+chain_sized chain folder name = pages_sized (map (form_at folder name) (reverse chain)) (forms_sized folder name (reverse chain))
 
 -- ---- their bytes
 

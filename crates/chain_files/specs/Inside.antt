@@ -4,13 +4,12 @@ use Rattle.std.specs.Option.{unwrap_or}
 use Rattle.std.specs.FinMap.{get}
 use Rattle.lsn_core.specs.byte_words.Pieces.{zero_page}
 use Rattle.lsn_core.specs.Files.{Files}
-use Rattle.lsn_core.specs.Names.{fork_path_bytes, IsNamed}
 use Rattle.lsn_core.specs.Sizes.{page_size}
-use Rattle.lsn_core.specs.declared.ids.ForkId.{ForkId}
 use Rattle.incr_file.specs.Form.{Form, form_in, block_in_chain, pages_in_chain}
 use Rattle.incr_file.specs.Head.{IsHead, body_place}
 use Rattle.incr_file.specs.Reading.{head_in, listed_count, HasPlaces, place_in}
 use Rattle.incr_file.specs.declared.head.HeadView.{HeadView}
+use Rattle.chain_files.specs.Paths.{file_path, IsRelationFile}
 use Rattle.chain_files.specs.Segments.{IsIncrFile}
 use Rattle.chain_files.specs.Sources.{member_bytes, bytes_at, slot_page, source_pages, page_count}
 use Rattle.chain_files.specs.declared.form.FileForm.{FileForm}
@@ -35,11 +34,11 @@ abbrev pub read_over : List ℕ → ℕ → List ℕ → List ℕ
 read_over file at before =
     take (length before) (drop at file) ++ drop (length file - at) before
 
--- the paths of a segment file in its two forms
-pub record ArePathsOf (fork : ForkId) (seg : ℕ) (paths : FilePaths) : Type 0 where
-  pub named : IsNamed fork seg
-  pub plain : paths.plain ≡ fork_path_bytes fork seg false
-  pub incr : paths.incr ≡ fork_path_bytes fork seg true
+-- the paths of a file in its two forms
+pub record ArePathsOf (folder name : List ℕ) (paths : FilePaths) : Type 0 where
+  pub placed : IsRelationFile folder name
+  pub plain : paths.plain ≡ file_path folder name false
+  pub incr : paths.incr ≡ file_path folder name true
 
 -- ---- forms
 

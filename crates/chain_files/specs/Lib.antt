@@ -1,3 +1,4 @@
+pub mod Paths
 pub mod Segments
 pub mod Held
 pub mod Told

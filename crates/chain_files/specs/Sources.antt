@@ -1,5 +1,5 @@
--- From where the pages of a combined segment file are read.
-use Rattle.std.specs.Prelude.{◌≡◌, ℕ, ◌-◌, ◌*◌, min, List, [], map, take, drop, length, slice_get, Option, Some, None, IfSome}
+-- From where the pages of a combined file are read.
+use Rattle.std.specs.Prelude.{◌≡◌, ◌≤◌, ℕ, ◌+◌, ◌-◌, ◌*◌, min, List, [], map, take, drop, length, slice_get, Option, Some, None, IfSome}
 use Rattle.std.specs.Option.{option_map, unwrap_or}
 use Rattle.lsn_core.specs.byte_words.Pieces.{zero_filled, zero_page}
 use Rattle.lsn_core.specs.Files.{Files}
@@ -8,7 +8,8 @@ use Rattle.lsn_core.specs.Store.{ForkPages}
 use Rattle.lsn_core.specs.declared.ids.ForkId.{ForkId}
 use Rattle.vault.specs.Area.{bytes_of}
 use Rattle.incr_file.specs.Form.{pages_bytes, whole_pages}
-use Rattle.chain_files.specs.Segments.{chain_segments, AllHaveForms}
+use Rattle.chain_files.specs.Paths.{fork_folder, fork_name}
+use Rattle.chain_files.specs.Segments.{chain_pages, AllHaveForms}
 use Rattle.chain_files.specs.declared.paths.FilePaths.{FilePaths}
 use Rattle.chain_files.specs.declared.slot.Slot.{Slot}
 use Rattle.chain_files.specs.declared.slot.Slot.TheVariants.{Open, Zeros, Plain as InPlain, Part as InPart}
@@ -21,7 +22,12 @@ pub record AreRead (pages : ForkPages) (number most : ℕ) (piece : List ℕ) (c
   pub counted : count ≡ min most (length pages - number)
   pub are : take (count * 8192) piece ≡ pages_bytes (take count (drop number pages))
 
--- what is told of a chain of directories, where each is told and its files of forks are of their
+-- these are bytes of a file from a place on
+pub record IsPiece (files : Files) (name : List ℕ) (at : ℕ) (piece : List ℕ) : Type 0 where
+  pub bytes : piece ≡ take (length piece) (drop at (bytes_of files name))
+  pub within : at ≤ length (bytes_of files name) → at + length piece ≤ length (bytes_of files name)
+
+-- what is told of a chain of directories, where each is told and its incremental files are of their
 -- grammar
 abbrev pub OfChain : Option (List Files) → (List Files → Type 0) → Type 0
 OfChain told P = IfSome told (λ chain. AllHaveForms chain → P chain)
@@ -63,9 +69,13 @@ pub record GivesPages (combined : Option ForkPages) (chain : List Files) (source
   pub are : combined ≡ Some (source_pages chain source.paths source.pages)
   pub counted : page_count source.pages ≡ length (source_pages chain source.paths source.pages)
 
--- what is found of a segment file of a fork in a chain: nothing where it is combined to no such
--- file, or a source that gives its pages
+-- what is found of a file in a chain: nothing where it is combined to no such file, or a source that
+-- gives its pages
+abbrev pub IsSourceAt : List Files → List ℕ → List ℕ → Option SegmentSource → Type 0
+IsSourceAt chain folder name None = chain_pages chain folder name ≡ None
+IsSourceAt chain folder name (Some source) =
+    GivesPages (chain_pages chain folder name) chain source
+
+-- the same of a segment file of a fork
 abbrev pub IsSourceOf : List Files → ForkId → ℕ → Option SegmentSource → Type 0
-IsSourceOf chain fork seg None = chain_segments chain fork seg ≡ None
-IsSourceOf chain fork seg (Some source) =
-    GivesPages (chain_segments chain fork seg) chain source
+IsSourceOf chain fork seg = IsSourceAt chain (fork_folder fork) (fork_name fork seg)

@@ -1,12 +1,13 @@
 //! The heads of incremental files.
 
-ghost use Rattle.std.specs.Prelude.{◌≡◌, ◌≢◌, ◌^◌, ◌<◌, ◌≤◌, length, Ok, Err, IfOk, IfSome, OnOk};
+ghost use Rattle.std.specs.Prelude.{◌≡◌, ◌≢◌, ◌^◌, ◌<◌, ◌≤◌, true, length, Ok, Err, IfOk, IfSome, OnOk};
 ghost use Rattle.lsn_core.specs.Causes.{HasCause};
 ghost use Rattle.vault.specs.Area.{bytes_of};
 ghost use Rattle.vault.specs.Frame.{OnlyReads};
 ghost use Rattle.incr_file.specs.Reading.{HoldsHead, HeadAnswers, HasPlaces};
 ghost use Rattle.incr_file.specs.Head.{IsHead};
 ghost use Rattle.incr_file.specs.declared.decode.HeadFault.TheVariants.{NoMemory as OutOfMemory};
+ghost use Rattle.chain_files.specs.Sources.{IsPiece};
 ghost use Rattle.chain_files.specs.Inside.{ShowsFrom, GoesOn};
 
 use incr_file::{HeadFault, HeadView, decode_head, head_size};
@@ -20,6 +21,24 @@ const PIECE: u64 = 65536;
 
 /// How many bytes of a head tell the count of its block numbers.
 const FRONT: u64 = 12;
+
+/// Reads the piece of a file from a place on. Whether the file has so many bytes.
+pub fn read_piece<V: Vault>(
+    area: &mut V,
+    path: &[u8],
+    at: u64,
+    buffer: &mut [u8],
+) -> Result<bool, AreaFault>
+    requires { length buffer.old ≤ 2 ^ 20 }
+    ensures piece { IfOk result (λ whole. whole ≡ true
+        → IfSome (V.files area.old) (λ m. IsPiece m path.now at buffer.new)) }
+    ensures long { length buffer.new ≡ length buffer.old }
+    ensures reads { OnlyReads V.Vault area.old area.new }
+    ensures cause { HasCause (V.faults area.old) (V.faults area.new) result }
+{
+    let count = area.read_at(path, at, buffer)?;
+    Ok(count as usize == buffer.len())
+}
 
 /// So many bytes of a file from a place on; zeros for those that the area doesn't give.
 fn piece_at<V: Vault>(

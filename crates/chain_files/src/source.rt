@@ -1,21 +1,22 @@
-//! The pages of a combined segment file, by where they stand.
+//! The pages of a combined file, by where they stand.
 
 ghost use Rattle.std.specs.Prelude.{◌≡◌, ◌≤◌, ◌-◌, ℕ, List, Some, length, min, IfOk, IfErr, IfSome};
 ghost use Rattle.lsn_core.specs.Files.{Files};
-ghost use Rattle.lsn_core.specs.declared.ids.ForkId.{ForkId as Fork};
-ghost use Rattle.chain_files.specs.Segments.{chain_segments};
-ghost use Rattle.chain_files.specs.Sources.{AreRead, OfChain, IsSourceOf, page_count};
+ghost use Rattle.chain_files.specs.Paths.{IsRelationFile};
+ghost use Rattle.chain_files.specs.Segments.{chain_pages};
+ghost use Rattle.chain_files.specs.Sources.{AreRead, OfChain, IsSourceAt, IsSourceOf, page_count};
+ghost use Rattle.chain_files.specs.Inside.{ArePathsOf};
 ghost use Rattle.chain_files.specs.Told.{chain_told, ArePlaces, AllOnlyRead, FailsAt};
 
 use crate::fault::MemberFault;
 use crate::mapping::{SourcePages, pages_of};
-use crate::paths::{FilePaths, paths_of};
+use crate::paths::{FilePaths, paths_at, paths_of};
 use crate::reading::{read_plain, read_slots};
 use lsn_core::ForkId;
 use std::alloc::Global;
 use vault::{Held, Vault};
 
-/// The pages of a segment file that a chain is combined to, by where they stand. It holds 16 bytes a
+/// The pages of a file that a chain is combined to, by where they stand. It holds 16 bytes a
 /// page at most, and no page.
 #[derive(Debug, Drop)]
 pub struct SegmentSource {
@@ -23,10 +24,50 @@ pub struct SegmentSource {
     pages: SourcePages,
 }
 
-/// What a chain has of a segment file of a fork (PostgreSQL manual, pg_combinebackup): `places` says
-/// of each member, the oldest one first, which of the areas is its own. None exactly where the chain
-/// is combined to no such file. A block that no member has, and one that its area doesn't give, is
-/// zeros; a file whose head is none counts as one without blocks.
+/// What a chain has of the file of these paths.
+fn open_paths<V: Vault>(
+    alloc: Global,
+    areas: &mut [Held<V>],
+    places: &[u32],
+    paths: FilePaths,
+) -> Result<Option<SegmentSource>, MemberFault>
+    requires places { ArePlaces (length areas.old) places.now }
+    ensures source { IfOk result (λ found.
+        OfChain (chain_told V.Vault areas.old places.now) (λ chain. (folder name : List ℕ)
+        → ArePathsOf folder name paths → IsSourceAt chain folder name found)) }
+    ensures reads { AllOnlyRead V.Vault areas.old areas.new }
+    ensures cause { IfErr result (FailsAt V.Vault areas.old areas.new) }
+{
+    match pages_of(alloc, areas, places, &paths)? {
+        Some(pages) => Ok(Some(SegmentSource { paths, pages })),
+        None => Ok(None),
+    }
+}
+
+/// What a chain has of the file of a folder and a plain name (PostgreSQL manual, pg_combinebackup):
+/// `places` says of each member, the oldest one first, which of the areas is its own. None exactly
+/// where the chain is combined to no such file. A block that no member has, and one that its area
+/// doesn't give, is zeros; a file whose head is none counts as one without blocks.
+pub fn open_file<V: Vault>(
+    alloc: Global,
+    areas: &mut [Held<V>],
+    places: &[u32],
+    folder: &[u8],
+    name: &[u8],
+) -> Result<Option<SegmentSource>, MemberFault>
+    requires places { ArePlaces (length areas.old) places.now }
+    requires placed { IsRelationFile folder.now name.now }
+    ensures source { IfOk result (λ found.
+        OfChain (chain_told V.Vault areas.old places.now) (λ chain.
+        IsSourceAt chain folder.now name.now found)) }
+    ensures reads { AllOnlyRead V.Vault areas.old areas.new }
+    ensures cause { IfErr result (FailsAt V.Vault areas.old areas.new) }
+{
+    let paths = paths_at(alloc, folder, name)?;
+    open_paths(alloc, areas, places, paths)
+}
+
+/// The same of a segment file of a fork.
 pub fn open_segment<V: Vault>(
     alloc: Global,
     areas: &mut [Held<V>],
@@ -42,10 +83,7 @@ pub fn open_segment<V: Vault>(
     ensures cause { IfErr result (FailsAt V.Vault areas.old areas.new) }
 {
     let paths = paths_of(alloc, fork, seg)?;
-    match pages_of(alloc, areas, places, &paths)? {
-        Some(pages) => Ok(Some(SegmentSource { paths, pages })),
-        None => Ok(None),
-    }
+    open_paths(alloc, areas, places, paths)
 }
 
 /// How many pages these are.
@@ -69,9 +107,9 @@ fn count_from(pages: &SourcePages, number: u32, most: u32) -> u32
 impl SegmentSource {
     /// How many pages the file has.
     pub fn pages(&self) -> u64
-        ensures { (chain : List Files) (fork : Fork) (seg : ℕ)
-            → IsSourceOf chain fork seg (Some self.now)
-            → IfSome (chain_segments chain fork seg) (λ pages. result ≡ length pages) }
+        ensures { (chain : List Files) (folder name : List ℕ)
+            → IsSourceAt chain folder name (Some self.now)
+            → IfSome (chain_pages chain folder name) (λ pages. result ≡ length pages) }
     {
         page_count(&self.pages)
     }
@@ -90,8 +128,8 @@ impl SegmentSource {
         requires most { most ≤ 8 }
         ensures pages { IfOk result (λ count.
             OfChain (chain_told V.Vault areas.old places.now) (λ chain.
-            (fork : Fork) (seg : ℕ) → IsSourceOf chain fork seg (Some self.now)
-            → IfSome (chain_segments chain fork seg) (λ pages.
+            (folder name : List ℕ) → IsSourceAt chain folder name (Some self.now)
+            → IfSome (chain_pages chain folder name) (λ pages.
             AreRead pages number most into.new count))) }
         ensures few { IfOk result (λ count. count ≤ most) }
         ensures reads { AllOnlyRead V.Vault areas.old areas.new }

@@ -103,7 +103,7 @@ whole_relisted rule content m targets when count modified text mid new rows mome
       rows = sorted;
       listed = record { same = subst (λ (l : List FileRow). IsPermutation l sorted) puts.listed lists.lists.same; order = lists.lists.order };
       counted = counted ∙ sym (length_permutation rows sorted lists.lists.same);
-      read = subst (λ (l : Listing). ReadAnswers 2 (manifest_text l) (Ok l)) same (subst (λ (x : List ℕ). ReadAnswers 2 x (Ok (listing_with lists.system sorted (record { 0 = m.start }) (record { 0 = m.end })))) lists.lists.text_is lists.lists.read);
+      read = subst (λ (l : Listing). ReadAnswers (manifest_text l) (Ok l)) same (subst (λ (x : List ℕ). ReadAnswers x (Ok (listing_with lists.system sorted (record { 0 = m.start }) (record { 0 = m.end })))) lists.lists.text_is lists.lists.read);
       files_are = ap (λ (x : List ℕ). insert (with_files empty puts.files) manifest_name x) is;
     })
 

@@ -8,12 +8,11 @@ use Rattle.std.proofs.Math.Seq.{take-add}
 use Rattle.lsn_core.specs.byte_words.Told.{when_told, when_both_told}
 use Rattle.lsn_core.specs.Files.{Files}
 use Rattle.lsn_core.specs.Store.{ForkPages}
-use Rattle.lsn_core.specs.declared.ids.ForkId.{ForkId}
 use Rattle.vault.specs.Area.{IsRead, IsSizeIn, bytes_of}
 use Rattle.incr_file.specs.Form.{pages_bytes}
 use Rattle.backup_files.specs.Area.{with_file}
-use Rattle.chain_files.specs.Segments.{chain_segments, AllHaveForms}
-use Rattle.chain_files.specs.Sources.{AreRead, OfChain, IsSourceOf}
+use Rattle.chain_files.specs.Segments.{chain_pages, AllHaveForms}
+use Rattle.chain_files.specs.Sources.{AreRead, OfChain, IsSourceAt}
 use Rattle.chain_files.specs.declared.source.SegmentSource.{SegmentSource}
 use Rattle.directory_files.specs.Written.{AddsPages, AddsPiece, Holds, IsMade}
 use Rattle.directory_files.specs.declared.growing.Growing.{Growing}
@@ -37,20 +36,20 @@ pages_are pages number most now count read =
     read.are ∙ ap pages_bytes (ap (λ (n : ℕ). take n (drop number pages)) few ∙ take_min most (drop number pages))
 
 abbrev pub OfSource : Option (List Files) → SegmentSource → (ForkPages → Type 0) → Type 0
-OfSource told source P = OfChain told (λ chain. (fork : ForkId) (seg : ℕ) → IsSourceOf chain fork seg (Some source) → IfSome (chain_segments chain fork seg) P)
+OfSource told source P = OfChain told (λ chain. (folder name : List ℕ) → IsSourceAt chain folder name (Some source) → IfSome (chain_pages chain folder name) P)
 
 pub source_more : (told : Option (List Files)) (source : SegmentSource) (P Q : ForkPages → Type 0) → ((pages : ForkPages) → P pages → Q pages) → OfSource told source P → OfSource told source Q
 source_more told source P Q more held =
-    when_told told (λ chain. AllHaveForms chain → (fork : ForkId) (seg : ℕ) → IsSourceOf chain fork seg (Some source) → IfSome (chain_segments chain fork seg) P)
-    (λ chain. AllHaveForms chain → (fork : ForkId) (seg : ℕ) → IsSourceOf chain fork seg (Some source) → IfSome (chain_segments chain fork seg) Q)
-    (λ chain is forms fork seg source_is. when_told (chain_segments chain fork seg) P Q more (is forms fork seg source_is)) held
+    when_told told (λ chain. AllHaveForms chain → (folder name : List ℕ) → IsSourceAt chain folder name (Some source) → IfSome (chain_pages chain folder name) P)
+    (λ chain. AllHaveForms chain → (folder name : List ℕ) → IsSourceAt chain folder name (Some source) → IfSome (chain_pages chain folder name) Q)
+    (λ chain is forms folder name source_is. when_told (chain_pages chain folder name) P Q more (is forms folder name source_is)) held
 
 pub source_both : (told : Option (List Files)) (source : SegmentSource) (P Q R : ForkPages → Type 0) → ((pages : ForkPages) → P pages → Q pages → R pages) → OfSource told source P → OfSource told source Q → OfSource told source R
 source_both told source P Q R both left right =
-    when_both_told told (λ chain. AllHaveForms chain → (fork : ForkId) (seg : ℕ) → IsSourceOf chain fork seg (Some source) → IfSome (chain_segments chain fork seg) P)
-    (λ chain. AllHaveForms chain → (fork : ForkId) (seg : ℕ) → IsSourceOf chain fork seg (Some source) → IfSome (chain_segments chain fork seg) Q)
-    (λ chain. AllHaveForms chain → (fork : ForkId) (seg : ℕ) → IsSourceOf chain fork seg (Some source) → IfSome (chain_segments chain fork seg) R)
-    (λ chain p q forms fork seg source_is. when_both_told (chain_segments chain fork seg) P Q R both (p forms fork seg source_is) (q forms fork seg source_is)) left right
+    when_both_told told (λ chain. AllHaveForms chain → (folder name : List ℕ) → IsSourceAt chain folder name (Some source) → IfSome (chain_pages chain folder name) P)
+    (λ chain. AllHaveForms chain → (folder name : List ℕ) → IsSourceAt chain folder name (Some source) → IfSome (chain_pages chain folder name) Q)
+    (λ chain. AllHaveForms chain → (folder name : List ℕ) → IsSourceAt chain folder name (Some source) → IfSome (chain_pages chain folder name) R)
+    (λ chain p q forms folder name source_is. when_both_told (chain_pages chain folder name) P Q R both (p forms folder name source_is) (q forms folder name source_is)) left right
 
 pub pages_read : (told : Option (List Files)) (source : SegmentSource) (number most count : ℕ) (now : List ℕ) → OfSource told source (λ pages. AreRead pages number most now count) → OfSource told source (λ pages. take (count * 8192) now ≡ pages_bytes (take most (drop number pages)))
 pages_read told source number most count now read =
@@ -111,7 +110,7 @@ no_pages (Some pages) = refl
 
 no_source : (told : Option (List Files)) (source : SegmentSource) → OfSource told source (λ pages. [] ≡ pages_bytes (take 0 pages))
 no_source None source = tt
-no_source (Some chain) source = λ forms fork seg is. no_pages (chain_segments chain fork seg)
+no_source (Some chain) source = λ forms folder name is. no_pages (chain_pages chain folder name)
 
 pub rebuilding_begun : (told : Option (List Files)) (source : SegmentSource) (path : List ℕ) (old new : Option Files) (file : Growing) → Holds file [] → new ≡ with_file path [] old → RebuiltSoFar told source 0 path old new file
 rebuilding_begun told source path old new file holds stands = record { bytes = []; holds = holds; read = no_source told source; stands = stands }
@@ -126,8 +125,8 @@ rebuilding_further told source number most sum path old mid new before now sum_i
   stands = adds.written far.bytes old far.holds far.stands;
 }
 
-abbrev Rebuilt : Option (List Files) → ForkId → ℕ → List ℕ → Type 0
-Rebuilt told fork seg bytes = OfChain told (λ chain. IfSome (chain_segments chain fork seg) (λ pages. bytes ≡ pages_bytes (take 131072 pages)))
+abbrev Rebuilt : Option (List Files) → List ℕ → List ℕ → List ℕ → Type 0
+Rebuilt told folder name bytes = OfChain told (λ chain. IfSome (chain_pages chain folder name) (λ pages. bytes ≡ pages_bytes (take 131072 pages)))
 
 -- the source gives all pages, so many; at most as many as a segment file has were written
 all_pages : (pages : ForkPages) (count number : ℕ) (bytes : List ℕ) → count ≡ length pages → number ≡ min count 131072 → bytes ≡ pages_bytes (take number pages) → bytes ≡ pages_bytes (take 131072 pages)
@@ -135,26 +134,26 @@ all_pages pages count number bytes count_is number_is is =
     let few : number ≡ min 131072 (length pages) = omega (arith, count_is, number_is) in
     is ∙ ap pages_bytes (ap (λ (n : ℕ). take n pages) few ∙ take_min 131072 pages)
 
-pub rebuilding_made : (told : Option (List Files)) (source : SegmentSource) (fork : ForkId) (seg count number : ℕ) (path : List ℕ) (old new : Option Files) (file : Growing) → OfChain told (λ chain. IsSourceOf chain fork seg (Some source))
-    → ((chain : List Files) (f : ForkId) (s : ℕ) → IsSourceOf chain f s (Some source) → IfSome (chain_segments chain f s) (λ pages. count ≡ length pages))
-    → number ≡ min count 131072 → RebuiltSoFar told source number path old new file → IsMade (Rebuilt told fork seg) path old new file
-rebuilding_made told source fork seg count number path old new file is counted number_is far = record {
+pub rebuilding_made : (told : Option (List Files)) (source : SegmentSource) (folder name : List ℕ) (count number : ℕ) (path : List ℕ) (old new : Option Files) (file : Growing) → OfChain told (λ chain. IsSourceAt chain folder name (Some source))
+    → ((chain : List Files) (f s : List ℕ) → IsSourceAt chain f s (Some source) → IfSome (chain_pages chain f s) (λ pages. count ≡ length pages))
+    → number ≡ min count 131072 → RebuiltSoFar told source number path old new file → IsMade (Rebuilt told folder name) path old new file
+rebuilding_made told source folder name count number path old new file is counted number_is far = record {
   bytes = far.bytes;
   holds = far.holds;
-  content = when_both_told told (λ chain. AllHaveForms chain → IsSourceOf chain fork seg (Some source)) (λ chain. AllHaveForms chain → (f : ForkId) (s : ℕ) → IsSourceOf chain f s (Some source) → IfSome (chain_segments chain f s) (λ pages. far.bytes ≡ pages_bytes (take number pages)))
-      (λ chain. AllHaveForms chain → IfSome (chain_segments chain fork seg) (λ pages. far.bytes ≡ pages_bytes (take 131072 pages)))
+  content = when_both_told told (λ chain. AllHaveForms chain → IsSourceAt chain folder name (Some source)) (λ chain. AllHaveForms chain → (f s : List ℕ) → IsSourceAt chain f s (Some source) → IfSome (chain_pages chain f s) (λ pages. far.bytes ≡ pages_bytes (take number pages)))
+      (λ chain. AllHaveForms chain → IfSome (chain_pages chain folder name) (λ pages. far.bytes ≡ pages_bytes (take 131072 pages)))
       (λ chain source_is read forms.
-      when_both_told (chain_segments chain fork seg) (λ pages. count ≡ length pages) (λ pages. far.bytes ≡ pages_bytes (take number pages)) (λ pages. far.bytes ≡ pages_bytes (take 131072 pages)) (λ pages p q. all_pages pages count number far.bytes p number_is q)
-      (counted chain fork seg (source_is forms)) (read forms fork seg (source_is forms)))
+      when_both_told (chain_pages chain folder name) (λ pages. count ≡ length pages) (λ pages. far.bytes ≡ pages_bytes (take number pages)) (λ pages. far.bytes ≡ pages_bytes (take 131072 pages)) (λ pages p q. all_pages pages count number far.bytes p number_is q)
+      (counted chain folder name (source_is forms)) (read forms folder name (source_is forms)))
       is far.read;
   stands = far.stands;
 }
 
-no_file : (told : Option (List Files)) (fork : ForkId) (seg : ℕ) → OfChain told (λ chain. chain_segments chain fork seg ≡ None) → Rebuilt told fork seg []
-no_file told fork seg none =
-    when_told told (λ chain. AllHaveForms chain → chain_segments chain fork seg ≡ None) (λ chain. AllHaveForms chain → IfSome (chain_segments chain fork seg) (λ pages. [] ≡ pages_bytes (take 131072 pages)))
+no_file : (told : Option (List Files)) (folder name : List ℕ) → OfChain told (λ chain. chain_pages chain folder name ≡ None) → Rebuilt told folder name []
+no_file told folder name none =
+    when_told told (λ chain. AllHaveForms chain → chain_pages chain folder name ≡ None) (λ chain. AllHaveForms chain → IfSome (chain_pages chain folder name) (λ pages. [] ≡ pages_bytes (take 131072 pages)))
     (λ chain is forms. subst (λ (o : Option ForkPages). IfSome o (λ pages. [] ≡ pages_bytes (take 131072 pages))) (sym (is forms)) tt) none
 
 -- the chain has no such file
-pub nothing_made : (told : Option (List Files)) (fork : ForkId) (seg : ℕ) (path : List ℕ) (old new : Option Files) (file : Growing) → OfChain told (λ chain. chain_segments chain fork seg ≡ None) → Holds file [] → new ≡ with_file path [] old → IsMade (Rebuilt told fork seg) path old new file
-nothing_made told fork seg path old new file none holds stands = record { bytes = []; holds = holds; content = no_file told fork seg none; stands = stands }
+pub nothing_made : (told : Option (List Files)) (folder name : List ℕ) (path : List ℕ) (old new : Option Files) (file : Growing) → OfChain told (λ chain. chain_pages chain folder name ≡ None) → Holds file [] → new ≡ with_file path [] old → IsMade (Rebuilt told folder name) path old new file
+nothing_made told folder name path old new file none holds stands = record { bytes = []; holds = holds; content = no_file told folder name none; stands = stands }

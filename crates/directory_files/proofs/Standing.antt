@@ -11,7 +11,8 @@ use Rattle.std.proofs.lemmas.List.Sorted.{All-permutation, IsPermutation-map, Is
 use Rattle.std.proofs.lemmas.Map.Keys.{IsDistinct-from_sorted, IsDistinct-IsPermutation}
 use Rattle.std.proofs.lemmas.Slice.Eq.{bytes_eq-Decides}
 use Rattle.lsn_core.specs.Files.{Files}
-use Rattle.lsn_core.specs.Names.{fork_path_bytes}
+use Rattle.chain_files.specs.Paths.{file_path}
+use Rattle.chain_files.proofs.Placed.{folder_apart}
 use Rattle.lsn_core.specs.Store.{with_files}
 use Rattle.lsn_core.specs.declared.ids.ForkId.{ForkId}
 use Rattle.lsn_core.proofs.StoreFiles.{same_name, names_tie}
@@ -25,11 +26,11 @@ use Rattle.directory_files.proofs.Among.{Among, name_of, AreApart, found, there}
 
 -- ---- paths
 
-pub fork_apart : (fork : ForkId) (seg : ℕ) (incr : Bool) → fork_path_bytes fork seg incr ≢ manifest_name
-fork_apart fork seg incr e = let differ : 115 ≡ 99 = ap (λ (x : List ℕ). get_or x 2 0) e in omega (arith, differ)
+pub never_manifest : (folder name : List ℕ) (incr : Bool) → file_path folder name incr ≢ manifest_name
+never_manifest folder name incr = folder_apart folder name incr manifest_name refl
 
-pub fork_unlike : (fork : ForkId) (seg : ℕ) (incr : Bool) → fork_path_bytes fork seg incr ≢ label_name
-fork_unlike fork seg incr e = let differ : 115 ≡ 99 = ap (λ (x : List ℕ). get_or x 2 0) e in omega (arith, differ)
+pub never_label : (folder name : List ℕ) (incr : Bool) → file_path folder name incr ≢ label_name
+never_label folder name incr = folder_apart folder name incr label_name refl
 
 pub label_apart : label_name ≢ manifest_name
 label_apart e = let differ : 108 ≡ 109 = ap (λ (x : List ℕ). get_or x 7 0) e in omega (arith, differ)

@@ -8,7 +8,6 @@ use Rattle.std.specs.FinMap.{empty}
 use Rattle.sha2.specs.Hashers.{Holds256}
 use Rattle.lsn_core.specs.Files.{Files}
 use Rattle.lsn_core.specs.Store.{with_files}
-use Rattle.lsn_core.specs.declared.ids.ForkId.{ForkId}
 use Rattle.vault.specs.Area.{bytes_of}
 use Rattle.incr_file.specs.Form.{pages_bytes}
 use Rattle.manifest.specs.Listing.{Listing}
@@ -17,8 +16,8 @@ use Rattle.manifest.specs.declared.listing.FileRow.{FileRow}
 use Rattle.backup_files.specs.Directory.{row_of}
 use Rattle.backup_files.specs.Area.{with_file}
 use Rattle.backup_files.specs.Rows.{ListsRows}
-use Rattle.chain_files.specs.Segments.{chain_segments}
-use Rattle.chain_files.specs.Sources.{OfChain, IsSourceOf}
+use Rattle.chain_files.specs.Segments.{chain_pages}
+use Rattle.chain_files.specs.Sources.{OfChain, IsSourceAt}
 use Rattle.chain_files.specs.declared.source.SegmentSource.{SegmentSource}
 use Rattle.directory_files.specs.Relisted.{File}
 use Rattle.directory_files.specs.declared.growing.Growing.{Growing}
@@ -70,9 +69,9 @@ pub record AddsPages (told : Option (List Files)) (source : SegmentSource) (numb
     (path : List ℕ) (old new : Option Files) (before now : Growing) : Type 0 where
   pub piece : List ℕ
   pub few : now.size < before.size + most * 8192 + 1
-  pub read : OfChain told (λ chain. (fork : ForkId) (seg : ℕ)
-      → IsSourceOf chain fork seg (Some source)
-      → IfSome (chain_segments chain fork seg) (λ pages.
+  pub read : OfChain told (λ chain. (folder name : List ℕ)
+      → IsSourceAt chain folder name (Some source)
+      → IfSome (chain_pages chain folder name) (λ pages.
       piece ≡ pages_bytes (take most (drop number pages))))
   pub holds : (bytes : List ℕ) → Holds before bytes → Holds now (bytes ++ piece)
   pub written : (bytes : List ℕ) (empty : Option Files) → Holds before bytes

@@ -9,19 +9,18 @@ use Rattle.std.proofs.lemmas.List.{take_more, take_all, reverse-append, get_or-r
 use Rattle.std.proofs.lemmas.Option.{slice_get-get_or}
 use Rattle.lsn_core.specs.byte_words.Numbers.{◌>>=◌}
 use Rattle.lsn_core.specs.Files.{Files}
-use Rattle.lsn_core.specs.Names.{IsNamed}
 use Rattle.lsn_core.specs.Store.{ForkPages}
-use Rattle.lsn_core.specs.declared.ids.ForkId.{ForkId}
 use Rattle.vault.specs.declared.area.Vault.{Ghosts}
 use Rattle.vault.specs.declared.lending.Held.{Held}
 use Rattle.incr_file.specs.declared.head.IncrHead.{IncrHead}
 use Rattle.incr_file.specs.Form.{Form, Absent, Plain, Part, sent_page, block_in_chain}
 use Rattle.incr_file.specs.Head.{head_with}
 use Rattle.incr_file.specs.Plan.{has_block}
-use Rattle.chain_files.specs.Segments.{form_of, forms_of, HasForms, AllHaveForms}
+use Rattle.chain_files.specs.Segments.{form_at, forms_at, HasForms, AllHaveForms}
 use Rattle.chain_files.specs.Sources.{OfChain}
 use Rattle.chain_files.specs.Told.{told_at, chain_told, AllOnlyRead}
 use Rattle.chain_files.proofs.Told.{member_told, members_told, reads_told}
+use Rattle.chain_files.specs.Paths.{IsRelationFile}
 use Rattle.merged_forms.specs.Merged.{rests_on_plain, least_length}
 use Rattle.series_files.specs.Heads.{merged_head_of}
 use Rattle.series_files.specs.Inside.{IsSeen, AreMarked, had_blocks, Leaves, IsAsked}
@@ -66,14 +65,14 @@ all_members g areas places chain left told e = take_all left chain (omega (arith
 
 -- ---- their forms
 
-pub forms_more : (chain : List Files) (fork : ForkId) (seg k : ℕ) (m : Files) → slice_get chain k ≡ Some m → forms_of (take (k + 1) chain) fork seg ≡ form_of fork seg m ∷ forms_of (take k chain) fork seg
-forms_more chain fork seg k m e =
+pub forms_more : (chain : List Files) (folder name : List ℕ) (k : ℕ) (m : Files) → slice_get chain k ≡ Some m → forms_at (take (k + 1) chain) folder name ≡ form_at folder name m ∷ forms_at (take k chain) folder name
+forms_more chain folder name k m e =
     let at = there_at chain k m e in
-    ap (λ (l : List Files). forms_of l fork seg) (take_more chain k m at.0 ∙ ap (λ (x : Files). take k chain ++ x ∷ []) at.1)
-    ∙ ap (map (form_of fork seg)) (reverse-append (take k chain) (m ∷ []))
+    ap (λ (l : List Files). forms_at l folder name) (take_more chain k m at.0 ∙ ap (λ (x : Files). take k chain ++ x ∷ []) at.1)
+    ∙ ap (map (form_at folder name)) (reverse-append (take k chain) (m ∷ []))
 
-pub forms_none : (chain : List Files) (fork : ForkId) (seg left : ℕ) → left ≡ 0 → forms_of (take left chain) fork seg ≡ []
-forms_none chain fork seg left e = ap (λ (n : ℕ). forms_of (take n chain) fork seg) e
+pub forms_none : (chain : List Files) (folder name : List ℕ) (left : ℕ) → left ≡ 0 → forms_at (take left chain) folder name ≡ []
+forms_none chain folder name left e = ap (λ (n : ℕ). forms_at (take n chain) folder name) e
 
 pub member_forms : (chain : List Files) (k : ℕ) (m : Files) → AllHaveForms chain → slice_get chain k ≡ Some m → HasForms m
 member_forms [] k m all e = absurd cc
@@ -197,63 +196,63 @@ module _ (forms : List Form) where
 
 -- ---- the next member
 
-module _ (fork : ForkId) (seg : ℕ) (chain : List Files) (left : ℕ) (m : Files) (some : 0 < left) (all : AllHaveForms chain) (there : slice_get chain (left - 1) ≡ Some m) where
-  forms_here : forms_of (take left chain) fork seg ≡ form_of fork seg m ∷ forms_of (take (left - 1) chain) fork seg
-  forms_here = ap (λ (n : ℕ). forms_of (take n chain) fork seg) (let z : left ≡ left - 1 + 1 = omega (arith, some) in z) ∙ forms_more chain fork seg (left - 1) m there
+module _ (folder name : List ℕ) (chain : List Files) (left : ℕ) (m : Files) (some : 0 < left) (all : AllHaveForms chain) (there : slice_get chain (left - 1) ≡ Some m) where
+  forms_here : forms_at (take left chain) folder name ≡ form_at folder name m ∷ forms_at (take (left - 1) chain) folder name
+  forms_here = ap (λ (n : ℕ). forms_at (take n chain) folder name) (let z : left ≡ left - 1 + 1 = omega (arith, some) in z) ∙ forms_more chain folder name (left - 1) m there
 
-  so_far_here : (forms : List Form) (answered : Answered) → Leaves forms (forms_of (take left chain) fork seg) answered → Leaves forms (form_of fork seg m ∷ forms_of (take (left - 1) chain) fork seg) answered
+  so_far_here : (forms : List Form) (answered : Answered) → Leaves forms (forms_at (take left chain) folder name) answered → Leaves forms (form_at folder name m ∷ forms_at (take (left - 1) chain) folder name) answered
   so_far_here forms answered is = subst (λ (l : List Form). Leaves forms l answered) forms_here is
 
-  pub next_absent : (forms : List Form) (answered : Answered) → IsSeen (form_of fork seg m) seen.Absent → Leaves forms (forms_of (take left chain) fork seg) answered → IsAsked forms false answered
-  next_absent forms answered is so_far = asked_absent forms (form_of fork seg m) (forms_of (take (left - 1) chain) fork seg) answered is (so_far_here forms answered so_far)
+  pub next_absent : (forms : List Form) (answered : Answered) → IsSeen (form_at folder name m) seen.Absent → Leaves forms (forms_at (take left chain) folder name) answered → IsAsked forms false answered
+  next_absent forms answered is so_far = asked_absent forms (form_at folder name m) (forms_at (take (left - 1) chain) folder name) answered is (so_far_here forms answered so_far)
 
-  pub next_plain : (forms : List Form) (answered : Answered) → IsSeen (form_of fork seg m) seen.Plain → Leaves forms (forms_of (take left chain) fork seg) answered → IsAsked forms true answered
-  next_plain forms answered is so_far = asked_plain forms (form_of fork seg m) (forms_of (take (left - 1) chain) fork seg) answered is (so_far_here forms answered so_far)
+  pub next_plain : (forms : List Form) (answered : Answered) → IsSeen (form_at folder name m) seen.Plain → Leaves forms (forms_at (take left chain) folder name) answered → IsAsked forms true answered
+  next_plain forms answered is so_far = asked_plain forms (form_at folder name m) (forms_at (take (left - 1) chain) folder name) answered is (so_far_here forms answered so_far)
 
-  pub next_part : (forms : List Form) (listed : IncrHead) (old new : Answered) → IsNamed fork seg → IsSeen (form_of fork seg m) (seen.Part listed) → Leaves forms (forms_of (take left chain) fork seg) old → new.least ≡ min old.least listed.truncation → AreMarked old.least listed.blocks old.had.items new.had.items
-      → Leaves forms (forms_of (take (left - 1) chain) fork seg) new
+  pub next_part : (forms : List Form) (listed : IncrHead) (old new : Answered) → IsRelationFile folder name → IsSeen (form_at folder name m) (seen.Part listed) → Leaves forms (forms_at (take left chain) folder name) old → new.least ≡ min old.least listed.truncation → AreMarked old.least listed.blocks old.had.items new.had.items
+      → Leaves forms (forms_at (take (left - 1) chain) folder name) new
   next_part forms listed old new named is so_far least marked =
-      asked_part forms (form_of fork seg m) (forms_of (take (left - 1) chain) fork seg) listed old new is (form_counted fork seg m named (member_forms chain (left - 1) m all there)) (so_far_here forms old so_far) least marked
+      asked_part forms (form_at folder name m) (forms_at (take (left - 1) chain) folder name) listed old new is (form_counted folder name m named (member_forms chain (left - 1) m all there)) (so_far_here forms old so_far) least marked
 
-module _ {V : Type 0} (g : Ghosts V) (areas now : List (Held V)) (places : List ℕ) (fork : ForkId) (seg left : ℕ) (first answered : Answered) where
+module _ {V : Type 0} (g : Ghosts V) (areas now : List (Held V)) (places : List ℕ) (folder name : List ℕ) (left : ℕ) (first answered : Answered) where
   -- what follows for a chain from what is seen of its next member
   pub asked_next : (s : Seen) (Q : List Files → Type 0) → AllOnlyRead g areas now → 0 < left → left ≤ length places
-      → OfChain (chain_told g areas places) (λ chain. Leaves (forms_of chain fork seg) (forms_of chain fork seg) first → Leaves (forms_of chain fork seg) (forms_of (take left chain) fork seg) answered)
-      → IfSome (told_at g now (get_or places (left - 1) 0)) (λ m. HasForms m → IsSeen (form_of fork seg m) s)
-      → ((chain : List Files) (m : Files) → AllHaveForms chain → slice_get chain (left - 1) ≡ Some m → IsSeen (form_of fork seg m) s → Leaves (forms_of chain fork seg) (forms_of (take left chain) fork seg) answered → Q chain)
-      → OfChain (chain_told g areas places) (λ chain. Leaves (forms_of chain fork seg) (forms_of chain fork seg) first → Q chain)
+      → OfChain (chain_told g areas places) (λ chain. Leaves (forms_at chain folder name) (forms_at chain folder name) first → Leaves (forms_at chain folder name) (forms_at (take left chain) folder name) answered)
+      → IfSome (told_at g now (get_or places (left - 1) 0)) (λ m. HasForms m → IsSeen (form_at folder name m) s)
+      → ((chain : List Files) (m : Files) → AllHaveForms chain → slice_get chain (left - 1) ≡ Some m → IsSeen (form_at folder name m) s → Leaves (forms_at chain folder name) (forms_at (take left chain) folder name) answered → Q chain)
+      → OfChain (chain_told g areas places) (λ chain. Leaves (forms_at chain folder name) (forms_at chain folder name) first → Q chain)
   asked_next s Q reads some within so_far sees step =
-      when_all (chain_told g areas places) (λ chain. AllHaveForms chain → Leaves (forms_of chain fork seg) (forms_of chain fork seg) first → Q chain)
+      when_all (chain_told g areas places) (λ chain. AllHaveForms chain → Leaves (forms_at chain folder name) (forms_at chain folder name) first → Q chain)
       (λ chain told forms begun.
-      let here = some_of (chain_told g areas places) chain (λ ch. AllHaveForms ch → Leaves (forms_of ch fork seg) (forms_of ch fork seg) first → Leaves (forms_of ch fork seg) (forms_of (take left ch) fork seg) answered) told so_far forms begun in
+      let here = some_of (chain_told g areas places) chain (λ ch. AllHaveForms ch → Leaves (forms_at ch folder name) (forms_at ch folder name) first → Leaves (forms_at ch folder name) (forms_at (take left ch) folder name) answered) told so_far forms begun in
       let then = reads_told g areas now reads places ∙ told in
-      let is = member_seen g now places (λ m. HasForms m → IsSeen (form_of fork seg m) s) chain (left - 1) then (omega (arith, some, within)) sees in
+      let is = member_seen g now places (λ m. HasForms m → IsSeen (form_at folder name m) s) chain (left - 1) then (omega (arith, some, within)) sees in
       step chain is.0 forms is.1 (is.2 (member_forms chain (left - 1) is.0 forms is.1)) here)
 
   -- all were asked
-  pub asked_end : left ≡ 0 → OfChain (chain_told g areas places) (λ chain. Leaves (forms_of chain fork seg) (forms_of chain fork seg) first → Leaves (forms_of chain fork seg) (forms_of (take left chain) fork seg) answered)
-      → OfChain (chain_told g areas places) (λ chain. Leaves (forms_of chain fork seg) (forms_of chain fork seg) first → IsAsked (forms_of chain fork seg) false answered)
+  pub asked_end : left ≡ 0 → OfChain (chain_told g areas places) (λ chain. Leaves (forms_at chain folder name) (forms_at chain folder name) first → Leaves (forms_at chain folder name) (forms_at (take left chain) folder name) answered)
+      → OfChain (chain_told g areas places) (λ chain. Leaves (forms_at chain folder name) (forms_at chain folder name) first → IsAsked (forms_at chain folder name) false answered)
   asked_end none so_far =
-      when_all (chain_told g areas places) (λ chain. AllHaveForms chain → Leaves (forms_of chain fork seg) (forms_of chain fork seg) first → IsAsked (forms_of chain fork seg) false answered)
+      when_all (chain_told g areas places) (λ chain. AllHaveForms chain → Leaves (forms_at chain folder name) (forms_at chain folder name) first → IsAsked (forms_at chain folder name) false answered)
       (λ chain told forms begun.
-      asked_all (forms_of chain fork seg) (forms_of (take left chain) fork seg) answered (forms_none chain fork seg left none)
-      (some_of (chain_told g areas places) chain (λ ch. AllHaveForms ch → Leaves (forms_of ch fork seg) (forms_of ch fork seg) first → Leaves (forms_of ch fork seg) (forms_of (take left ch) fork seg) answered) told so_far forms begun))
+      asked_all (forms_at chain folder name) (forms_at (take left chain) folder name) answered (forms_none chain folder name left none)
+      (some_of (chain_told g areas places) chain (λ ch. AllHaveForms ch → Leaves (forms_at ch folder name) (forms_at ch folder name) first → Leaves (forms_at ch folder name) (forms_at (take left ch) folder name) answered) told so_far forms begun))
 
 -- ---- the calls
 
 -- whether the series has the file whole
-pub whole_is : (told : Option (List Files)) (fork : ForkId) (seg : ℕ) (whole : Bool) (first answered : Answered) → first.least ≡ 131072 → first.had.items ≡ replicate 0 false → OfChain told (λ chain. Leaves (forms_of chain fork seg) (forms_of chain fork seg) first → IsAsked (forms_of chain fork seg) whole answered)
-    → OfChain told (λ chain. whole ≡ rests_on_plain (forms_of chain fork seg))
-whole_is None fork seg whole first answered least none asked = tt
-whole_is (Some chain) fork seg whole first answered least none asked = λ forms.
-    asked_rests (forms_of chain fork seg) whole answered (asked forms (leaves_begun (forms_of chain fork seg) first 0 least none (omega arith)))
+pub whole_is : (told : Option (List Files)) (folder name : List ℕ) (whole : Bool) (first answered : Answered) → first.least ≡ 131072 → first.had.items ≡ replicate 0 false → OfChain told (λ chain. Leaves (forms_at chain folder name) (forms_at chain folder name) first → IsAsked (forms_at chain folder name) whole answered)
+    → OfChain told (λ chain. whole ≡ rests_on_plain (forms_at chain folder name))
+whole_is None folder name whole first answered least none asked = tt
+whole_is (Some chain) folder name whole first answered least none asked = λ forms.
+    asked_rests (forms_at chain folder name) whole answered (asked forms (leaves_begun (forms_at chain folder name) first 0 least none (omega arith)))
 
-pub head_is : (told : Option (List Files)) (fork : ForkId) (seg count : ℕ) (whole : Bool) (first answered : Answered) (head : IncrHead) → first.least ≡ 131072 → first.had.items ≡ replicate count false → count ≤ 131072
-    → OfChain told (λ chain. Leaves (forms_of chain fork seg) (forms_of chain fork seg) first → IsAsked (forms_of chain fork seg) whole answered) → length answered.had.items ≡ count → head ≡ head_with answered.least (had_blocks answered.had.items answered.least)
-    → OfChain told (λ chain. rests_on_plain (forms_of chain fork seg) ≡ false → head ≡ merged_head_of (forms_of chain fork seg) count)
-head_is None fork seg count whole first answered head least none few asked long made = tt
-head_is (Some chain) fork seg count whole first answered head least none few asked long made = λ forms rests.
-    asked_head (forms_of chain fork seg) whole answered count head rests (asked forms (leaves_begun (forms_of chain fork seg) first count least none few)) long made
+pub head_is : (told : Option (List Files)) (folder name : List ℕ) (count : ℕ) (whole : Bool) (first answered : Answered) (head : IncrHead) → first.least ≡ 131072 → first.had.items ≡ replicate count false → count ≤ 131072
+    → OfChain told (λ chain. Leaves (forms_at chain folder name) (forms_at chain folder name) first → IsAsked (forms_at chain folder name) whole answered) → length answered.had.items ≡ count → head ≡ head_with answered.least (had_blocks answered.had.items answered.least)
+    → OfChain told (λ chain. rests_on_plain (forms_at chain folder name) ≡ false → head ≡ merged_head_of (forms_at chain folder name) count)
+head_is None folder name count whole first answered head least none few asked long made = tt
+head_is (Some chain) folder name count whole first answered head least none few asked long made = λ forms rests.
+    asked_head (forms_at chain folder name) whole answered count head rests (asked forms (leaves_begun (forms_at chain folder name) first count least none few)) long made
 
 -- a fault that is passed on
 pub handed_on : {T E : Type 0} (result : Result T E) (fault : E) (P : E → Type 0) → IsErrAnd result (λ x. x ≡ fault) → P fault → IfErr result P

@@ -6,14 +6,13 @@ use Rattle.std.specs.Option.{is_some}
 use Rattle.std.proofs.lemmas.List.{length-drop}
 use Rattle.std.proofs.lemmas.List.FromFn.{length-map-range_with_len}
 use Rattle.lsn_core.specs.Files.{Files}
-use Rattle.lsn_core.specs.Names.{fork_path_bytes, IsNamed}
 use Rattle.lsn_core.specs.Store.{ForkPages}
-use Rattle.lsn_core.specs.declared.ids.ForkId.{ForkId}
 use Rattle.incr_file.specs.Form.{Form, Absent, Plain, Part, form_in, whole_pages, sent_page}
 use Rattle.incr_file.specs.Head.{body_place, file_size}
 use Rattle.incr_file.specs.Plan.{has_block}
 use Rattle.incr_file.specs.Reading.{head_in, listed_count, block_numbers}
-use Rattle.chain_files.specs.Segments.{form_of, HasForms, IsIncrFile}
+use Rattle.chain_files.specs.Segments.{form_at, HasForms, IsIncrFile}
+use Rattle.chain_files.specs.Paths.{file_path, IsRelationFile}
 
 abbrev pub IsCounted : Form → Type 0
 IsCounted Absent = Unit {0}
@@ -41,9 +40,9 @@ counted_by (Some bytes) plain is = part_counted bytes (is bytes refl)
 counted_by None (Some bytes) is = tt
 counted_by None None is = tt
 
-pub form_counted : (fork : ForkId) (seg : ℕ) (m : Files) → IsNamed fork seg → HasForms m → IsCounted (form_of fork seg m)
-form_counted fork seg m named has =
-    counted_by (get m (fork_path_bytes fork seg true)) (get m (fork_path_bytes fork seg false)) (λ bytes e. has.incremental fork seg bytes named e)
+pub form_counted : (folder name : List ℕ) (m : Files) → IsRelationFile folder name → HasForms m → IsCounted (form_at folder name m)
+form_counted folder name m named has =
+    counted_by (get m (file_path folder name true)) (get m (file_path folder name false)) (λ bytes e. has.incremental folder name bytes named e)
 
 pub sent_has : (blocks : List ℕ) (pages : ForkPages) (b : ℕ) → length pages ≡ length blocks → is_some (sent_page blocks pages b) ≡ has_block blocks b
 sent_has [] pages b e = refl

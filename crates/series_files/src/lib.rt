@@ -1,5 +1,4 @@
-//! The segment files of the forks that a series of incremental backups is merged to, but for their
-//! pages.
+//! The files that a series of incremental backups is merged to, but for their pages.
 //!
 //! `is_rebuilt` says whether the merged file is plain, `merged_head` what its head is where it is
 //! incremental (`specs/Heads.antt`). Both ask the members' files, the newest one first, down to the

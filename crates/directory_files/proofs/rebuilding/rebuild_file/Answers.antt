@@ -1,7 +1,7 @@
 use Rattle.std.proofs.Common.{◌+◌, List, Option, subst, refl, arith}
 use Rattle.lsn_core.specs.Files.{Files}
 use Rattle.backup_files.proofs.Kept.{spares_on}
-use Rattle.chain_files.specs.Sources.{OfChain, IsSourceOf}
+use Rattle.chain_files.specs.Sources.{OfChain, IsSourceAt}
 use Rattle.chain_files.specs.declared.source.SegmentSource.{SegmentSource}
 use Rattle.chain_files.specs.Told.{chain_told}
 use Rattle.chain_files.proofs.Told.{places_kept, reads_told, reads_trans}
@@ -37,6 +37,6 @@ loop-number-preserved g c =
 pub returns-clause-made : goal.returns-clause-made
 returns-clause-made g c =
     let told = chain_told g.V.Vault c.args.areas.now c.args.places.now in
-    rebuilding_made told c.in-Some.source c.args.fork.now c.args.seg c.pages.result c.loop-number.number c.args.path.now (g.V.Vault.files c.args.out.now) (g.V.Vault.files c.loop-number.out) c.loop-number.file
-    (subst (λ (o : Option SegmentSource). OfChain told (λ chain. IsSourceOf chain c.args.fork.now c.args.seg o)) c.in-Some.is c.in_ok-source.ensures.source) c.pages.ensures
+    rebuilding_made told c.in-Some.source c.args.folder.now c.args.name.now c.pages.result c.loop-number.number c.args.path.now (g.V.Vault.files c.args.out.now) (g.V.Vault.files c.loop-number.out) c.loop-number.file
+    (subst (λ (o : Option SegmentSource). OfChain told (λ chain. IsSourceAt chain c.args.folder.now c.args.name.now o)) c.in-Some.is c.in_ok-source.ensures.source) c.pages.ensures
     (omega (arith, c.loop-number.invariant.within, c.loop-number-test.false, c.min-count.ensures)) c.loop-number.invariant.far

@@ -1,7 +1,7 @@
 -- Each member is asked in turn.
 use Rattle.std.proofs.Common.{◌-◌, List, IfSome, length, take, get_or, true, false, refl, subst, sym, ◌∙◌, arith}
 use Rattle.lsn_core.specs.Files.{Files}
-use Rattle.chain_files.specs.Segments.{HasForms, form_of, forms_of}
+use Rattle.chain_files.specs.Segments.{HasForms, form_at, forms_at}
 use Rattle.chain_files.specs.Told.{chain_told, told_at, FailsAt}
 use Rattle.chain_files.proofs.Told.{reads_refl, reads_trans, places_kept, fails_later}
 use Rattle.series_files.specs.Inside.{Leaves, IsAsked, IsSeen}
@@ -15,7 +15,7 @@ loop-left-init g c = record {
   within = omega arith;
   places = c.requires.places;
   asked = when_all (chain_told g.V.Vault c.args.areas.now c.args.places.now) _ (λ chain told forms so_far.
-      subst (λ (l : List Files). Leaves (forms_of chain c.args.fork.now c.args.seg) (forms_of l c.args.fork.now c.args.seg) c.args.answered.now)
+      subst (λ (l : List Files). Leaves (forms_at chain c.args.folder.now c.args.name.now) (forms_at l c.args.folder.now c.args.name.now) c.args.answered.now)
       (sym (all_members g.V.Vault c.args.areas.now c.args.places.now chain (length c.args.places.now) told refl)) so_far);
   long = refl;
   least = omega arith;
@@ -38,26 +38,26 @@ returns-in-Plain-clause-reads g c = reads_trans g.V.Vault c.args.areas.now c.loo
 
 pub returns-in-Absent-clause-asked : goal.returns-in-Absent-clause-asked
 returns-in-Absent-clause-asked g c =
-    asked_next g.V.Vault c.args.areas.now c.loop-left.areas c.args.places.now c.args.fork.now c.args.seg c.loop-left.left c.args.answered.now c.loop-left.answered seen.Absent (λ chain. IsAsked (forms_of chain c.args.fork.now c.args.seg) false c.loop-left.answered)
+    asked_next g.V.Vault c.args.areas.now c.loop-left.areas c.args.places.now c.args.folder.now c.args.name.now c.loop-left.left c.args.answered.now c.loop-left.answered seen.Absent (λ chain. IsAsked (forms_at chain c.args.folder.now c.args.name.now) false c.loop-left.answered)
     c.loop-left.invariant.reads (omega (arith, c.loop-left-test.true)) c.loop-left.invariant.within c.loop-left.invariant.asked
-    (subst (λ (s : Seen). IfSome (told_at g.V.Vault c.loop-left.areas (get_or c.args.places.now (c.loop-left.left - 1) 0)) (λ m. HasForms m → IsSeen (form_of c.args.fork.now c.args.seg m) s)) c.in-Absent.is c.in_ok-seen_at.ensures.seen)
-    (λ chain m all there is so_far. next_absent c.args.fork.now c.args.seg chain c.loop-left.left m (omega (arith, c.loop-left-test.true)) all there (forms_of chain c.args.fork.now c.args.seg) c.loop-left.answered is so_far)
+    (subst (λ (s : Seen). IfSome (told_at g.V.Vault c.loop-left.areas (get_or c.args.places.now (c.loop-left.left - 1) 0)) (λ m. HasForms m → IsSeen (form_at c.args.folder.now c.args.name.now m) s)) c.in-Absent.is c.in_ok-seen_at.ensures.seen)
+    (λ chain m all there is so_far. next_absent c.args.folder.now c.args.name.now chain c.loop-left.left m (omega (arith, c.loop-left-test.true)) all there (forms_at chain c.args.folder.now c.args.name.now) c.loop-left.answered is so_far)
 
 pub returns-in-Plain-clause-asked : goal.returns-in-Plain-clause-asked
 returns-in-Plain-clause-asked g c =
-    asked_next g.V.Vault c.args.areas.now c.loop-left.areas c.args.places.now c.args.fork.now c.args.seg c.loop-left.left c.args.answered.now c.loop-left.answered seen.Plain (λ chain. IsAsked (forms_of chain c.args.fork.now c.args.seg) true c.loop-left.answered)
+    asked_next g.V.Vault c.args.areas.now c.loop-left.areas c.args.places.now c.args.folder.now c.args.name.now c.loop-left.left c.args.answered.now c.loop-left.answered seen.Plain (λ chain. IsAsked (forms_at chain c.args.folder.now c.args.name.now) true c.loop-left.answered)
     c.loop-left.invariant.reads (omega (arith, c.loop-left-test.true)) c.loop-left.invariant.within c.loop-left.invariant.asked
-    (subst (λ (s : Seen). IfSome (told_at g.V.Vault c.loop-left.areas (get_or c.args.places.now (c.loop-left.left - 1) 0)) (λ m. HasForms m → IsSeen (form_of c.args.fork.now c.args.seg m) s)) c.in-Plain.is c.in_ok-seen_at.ensures.seen)
-    (λ chain m all there is so_far. next_plain c.args.fork.now c.args.seg chain c.loop-left.left m (omega (arith, c.loop-left-test.true)) all there (forms_of chain c.args.fork.now c.args.seg) c.loop-left.answered is so_far)
+    (subst (λ (s : Seen). IfSome (told_at g.V.Vault c.loop-left.areas (get_or c.args.places.now (c.loop-left.left - 1) 0)) (λ m. HasForms m → IsSeen (form_at c.args.folder.now c.args.name.now m) s)) c.in-Plain.is c.in_ok-seen_at.ensures.seen)
+    (λ chain m all there is so_far. next_plain c.args.folder.now c.args.name.now chain c.loop-left.left m (omega (arith, c.loop-left-test.true)) all there (forms_at chain c.args.folder.now c.args.name.now) c.loop-left.answered is so_far)
 
 pub loop-left-preserved : goal.loop-left-preserved
 loop-left-preserved g c = record {
   within = omega (arith, c.loop-left.invariant.within);
   places = places_kept g.V.Vault c.loop-left.areas c.seen_at.new.areas c.seen_at.ensures.reads c.args.places.now c.loop-left.invariant.places;
-  asked = asked_next g.V.Vault c.args.areas.now c.loop-left.areas c.args.places.now c.args.fork.now c.args.seg c.loop-left.left c.args.answered.now c.loop-left.answered (seen.Part c.in-Part.head) (λ chain. Leaves (forms_of chain c.args.fork.now c.args.seg) (forms_of (take (c.loop-left.left - 1) chain) c.args.fork.now c.args.seg) c.add.new.self)
+  asked = asked_next g.V.Vault c.args.areas.now c.loop-left.areas c.args.places.now c.args.folder.now c.args.name.now c.loop-left.left c.args.answered.now c.loop-left.answered (seen.Part c.in-Part.head) (λ chain. Leaves (forms_at chain c.args.folder.now c.args.name.now) (forms_at (take (c.loop-left.left - 1) chain) c.args.folder.now c.args.name.now) c.add.new.self)
       c.loop-left.invariant.reads (omega (arith, c.loop-left-test.true)) c.loop-left.invariant.within c.loop-left.invariant.asked
-      (subst (λ (s : Seen). IfSome (told_at g.V.Vault c.loop-left.areas (get_or c.args.places.now (c.loop-left.left - 1) 0)) (λ m. HasForms m → IsSeen (form_of c.args.fork.now c.args.seg m) s)) c.in-Part.is c.in_ok-seen_at.ensures.seen)
-      (λ chain m all there is so_far. next_part c.args.fork.now c.args.seg chain c.loop-left.left m (omega (arith, c.loop-left-test.true)) all there (forms_of chain c.args.fork.now c.args.seg) c.in-Part.head c.loop-left.answered c.add.new.self c.requires.named is so_far c.add.ensures.least c.add.ensures.had);
+      (subst (λ (s : Seen). IfSome (told_at g.V.Vault c.loop-left.areas (get_or c.args.places.now (c.loop-left.left - 1) 0)) (λ m. HasForms m → IsSeen (form_at c.args.folder.now c.args.name.now m) s)) c.in-Part.is c.in_ok-seen_at.ensures.seen)
+      (λ chain m all there is so_far. next_part c.args.folder.now c.args.name.now chain c.loop-left.left m (omega (arith, c.loop-left-test.true)) all there (forms_at chain c.args.folder.now c.args.name.now) c.in-Part.head c.loop-left.answered c.add.new.self c.requires.placed is so_far c.add.ensures.least c.add.ensures.had);
   long = c.add.ensures.had.long ∙ c.loop-left.invariant.long;
   least = omega (arith, c.add.ensures.least, c.loop-left.invariant.least);
   reads = reads_trans g.V.Vault c.args.areas.now c.loop-left.areas c.seen_at.new.areas c.loop-left.invariant.reads c.seen_at.ensures.reads;
@@ -65,4 +65,4 @@ loop-left-preserved g c = record {
 
 pub returns-clause-asked : goal.returns-clause-asked
 returns-clause-asked g c =
-    asked_end g.V.Vault c.args.areas.now c.loop-left.areas c.args.places.now c.args.fork.now c.args.seg c.loop-left.left c.args.answered.now c.loop-left.answered (omega (arith, c.loop-left-test.false)) c.loop-left.invariant.asked
+    asked_end g.V.Vault c.args.areas.now c.loop-left.areas c.args.places.now c.args.folder.now c.args.name.now c.loop-left.left c.args.answered.now c.loop-left.answered (omega (arith, c.loop-left-test.false)) c.loop-left.invariant.asked

@@ -1,5 +1,5 @@
 use Rattle.std.proofs.Common.{◌≡◌, ◌≤◌, length, take}
-use Rattle.chain_files.specs.Segments.{forms_of}
+use Rattle.chain_files.specs.Segments.{forms_at}
 use Rattle.chain_files.specs.Sources.{OfChain}
 use Rattle.chain_files.specs.Told.{chain_told, ArePlaces, AllOnlyRead}
 use Rattle.series_files.specs.Inside.{Leaves}
@@ -10,7 +10,7 @@ abbrev pub invariant-loop-left : goal.invariant-loop-left
 invariant-loop-left g l = record {
   within : l.left ≤ length l.places;
   places : ArePlaces (length l.areas) l.places;
-  asked : OfChain (chain_told g.V.Vault l.fn.areas l.places) (λ chain. Leaves (forms_of chain l.fork l.seg) (forms_of chain l.fork l.seg) l.fn.answered → Leaves (forms_of chain l.fork l.seg) (forms_of (take l.left chain) l.fork l.seg) l.answered);
+  asked : OfChain (chain_told g.V.Vault l.fn.areas l.places) (λ chain. Leaves (forms_at chain l.folder l.name) (forms_at chain l.folder l.name) l.fn.answered → Leaves (forms_at chain l.folder l.name) (forms_at (take l.left chain) l.folder l.name) l.answered);
   long : length l.answered.had.items ≡ length l.fn.answered.had.items;
   least : l.answered.least ≤ l.fn.answered.least;
   reads : AllOnlyRead g.V.Vault l.fn.areas l.areas;

@@ -1,6 +1,6 @@
 -- Whether the first that isn't incremental is plain.
 use Rattle.std.proofs.Common.{◌≡◌}
-use Rattle.chain_files.specs.Segments.{forms_of}
+use Rattle.chain_files.specs.Segments.{forms_at}
 use Rattle.chain_files.specs.Sources.{OfChain}
 use Rattle.chain_files.specs.Told.{chain_told}
 use Rattle.merged_forms.specs.Merged.{rests_on_plain}
@@ -16,6 +16,6 @@ returns-in_err-answered-clause-reads g c = reads_refl g.V.Vault c.args.areas.now
 pub returns-clause-whole : goal.returns-clause-whole
 returns-clause-whole g c =
     let told = chain_told g.V.Vault c.args.areas.now c.args.places.now in
-    ok_more c.ask.result (λ plain. OfChain told (λ chain. Leaves (forms_of chain c.args.fork.now c.args.seg) (forms_of chain c.args.fork.now c.args.seg) c.in_ok-answered.answered → IsAsked (forms_of chain c.args.fork.now c.args.seg) plain c.ask.new.answered))
-    (λ whole. OfChain told (λ chain. whole ≡ rests_on_plain (forms_of chain c.args.fork.now c.args.seg)))
-    (λ whole asked. whole_is told c.args.fork.now c.args.seg whole c.in_ok-answered.answered c.ask.new.answered c.in_ok-answered.ensures.least c.in_ok-answered.ensures.had asked) c.ask.ensures.asked
+    ok_more c.ask.result (λ plain. OfChain told (λ chain. Leaves (forms_at chain c.args.folder.now c.args.name.now) (forms_at chain c.args.folder.now c.args.name.now) c.in_ok-answered.answered → IsAsked (forms_at chain c.args.folder.now c.args.name.now) plain c.ask.new.answered))
+    (λ whole. OfChain told (λ chain. whole ≡ rests_on_plain (forms_at chain c.args.folder.now c.args.name.now)))
+    (λ whole asked. whole_is told c.args.folder.now c.args.name.now whole c.in_ok-answered.answered c.ask.new.answered c.in_ok-answered.ensures.least c.in_ok-answered.ensures.had asked) c.ask.ensures.asked

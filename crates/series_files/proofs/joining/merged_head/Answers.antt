@@ -17,5 +17,5 @@ head-requires-clause-few g c =
 pub returns-clause-head : goal.returns-clause-head
 returns-clause-head g c =
     let long : length c.in_ok-answered.answered.had.items ≡ c.args.count = ap (λ (l : List Bool). length l) c.in_ok-answered.ensures.had ∙ length-replicate c.args.count false in
-    head_is (chain_told g.V.Vault c.args.areas.now c.args.places.now) c.args.fork.now c.args.seg c.args.count c.in_ok-ask.field-0 c.in_ok-answered.answered c.ask.new.answered c.in_ok-head.field-0 c.in_ok-answered.ensures.least c.in_ok-answered.ensures.had c.requires.few
+    head_is (chain_told g.V.Vault c.args.areas.now c.args.places.now) c.args.folder.now c.args.name.now c.args.count c.in_ok-ask.field-0 c.in_ok-answered.answered c.ask.new.answered c.in_ok-head.field-0 c.in_ok-answered.ensures.least c.in_ok-answered.ensures.had c.requires.few
     c.in_ok-ask.ensures.asked (c.ask.ensures.long ∙ long) c.in_ok-head.ensures.head
