@@ -50,13 +50,13 @@ lines_same files other m n lines more sum has too a b =
     same_or_collision Sha256 lines more (sym (says_sum files m lines sum has a) ∙ says_sum other n more sum too b)
 
 -- what is read of the lines and of a last line with these digits
-reads : (files : Files) (m : Listing) (lines sum : List ℕ) → HasManifest files m → (is : EndsInSum files lines sum) → ReadAnswers 2 (lines ++ (line_front ++ (is.lined.digits ++ line_back))) (Ok m)
+reads : (files : Files) (m : Listing) (lines sum : List ℕ) → HasManifest files m → (is : EndsInSum files lines sum) → ReadAnswers (lines ++ (line_front ++ (is.lined.digits ++ line_back))) (Ok m)
 reads files m lines sum has is =
-    subst (λ (t : List ℕ). ReadAnswers 2 t (Ok m)) (one_value (get files manifest_name) has.0 is.text has.1 is.there ∙ is.lined.spelled) has.2
+    subst (λ (t : List ℕ). ReadAnswers t (Ok m)) (one_value (get files manifest_name) has.0 is.text has.1 is.there ∙ is.lined.spelled) has.2
 
 listing_same : TextsHaveOneManifest → (files other : Files) (m n : Listing) (lines more sum : List ℕ) → lines ≡ more → HasManifest files m → HasManifest other n → EndsInSum files lines sum → EndsInSum other more sum → m ≡ n
 listing_same law files other m n lines more sum same has too a b =
-    let there = subst (λ (l : List ℕ). ReadAnswers 2 (l ++ (line_front ++ (b.lined.digits ++ line_back))) (Ok n)) (sym same) (reads other n more sum too b) in
+    let there = subst (λ (l : List ℕ). ReadAnswers (l ++ (line_front ++ (b.lined.digits ++ line_back))) (Ok n)) (sym same) (reads other n more sum too b) in
     one_listing law a.lined.digits b.lined.digits (decoded_plain a.lined.digits sum a.lined.said) (decoded_plain b.lined.digits sum b.lined.said) m n lines a.lined.ended (reads files m lines sum has a) there
 
 -- ---- listed files

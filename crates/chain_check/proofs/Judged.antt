@@ -5,13 +5,14 @@ use Rattle.chain_check.specs.Chain.{label_fault}
 use Rattle.chain_check.specs.Inside.{HeldAnswer, LaterAnswer}
 use Rattle.chain_check.specs.declared.member.Member.{Member}
 use Rattle.chain_check.specs.declared.link.LinkFault.{LinkFault}
-use Rattle.chain_check.specs.declared.link.LinkFault.TheVariants.{TooManyMembers, TimelineDiffers, FirstIncremental, LaterFull, SystemDiffers, WrongPrior, Overlap, NoPriorFile, NoMemory}
+use Rattle.chain_check.specs.declared.link.LinkFault.TheVariants.{TooManyMembers, ManifestVersion, TimelineDiffers, FirstIncremental, LaterFull, SystemDiffers, WrongPrior, Overlap, NoPriorFile, NoMemory}
 use Rattle.chain_check.proofs.Links.{linked}
 
 by_files_in : (prior member : Member) (r : Result (Unit {0}) LinkFault) → label_fault prior member ≡ None → HeldAnswer prior.manifest.files member.manifest.files r → LaterAnswer prior member r
 by_files_in prior member (Ok done) none is = linked prior member none is
 by_files_in prior member (Err (NoPriorFile path)) none is = λ told. (none, is)
 by_files_in prior member (Err TooManyMembers) none is = λ told. absurd (told is)
+by_files_in prior member (Err (ManifestVersion v)) none is = λ told. absurd (told is)
 by_files_in prior member (Err (TimelineDiffers v)) none is = λ told. absurd (told is)
 by_files_in prior member (Err FirstIncremental) none is = λ told. absurd (told is)
 by_files_in prior member (Err LaterFull) none is = λ told. absurd (told is)

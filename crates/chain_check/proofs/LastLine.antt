@@ -167,9 +167,9 @@ same_at q d e ms apart =
 same_version : (d e : List ℕ) (ms : Members) → version_in (value_with d ms) ≡ version_in (value_with e ms)
 same_version d e ms = rw (same_at (codes "PostgreSQL-Backup-Manifest-Version") d e ms refl) refl
 
-same_top : (d e : List ℕ) (ms : Members) → top_in (value_with d ms) ≡ top_in (value_with e ms)
+same_top : (version : ℕ) (d e : List ℕ) (ms : Members) → top_in version (value_with d ms) ≡ top_in version (value_with e ms)
 unfolding top_in
-same_top d e ms = rw (
+same_top version d e ms = rw (
   same_at (codes "System-Identifier") d e ms refl,
   same_at (codes "Files") d e ms refl,
   same_at (codes "WAL-Ranges") d e ms refl,
@@ -178,22 +178,23 @@ same_top d e ms = rw (
   len_put key (string d) (string e) ms,
 ) refl
 
-same_manifest : (c d : Data) (m : Listing) → version_in c ≡ version_in d → top_in c ≡ top_in d → IsManifest 2 c m → IsManifest 2 d m
+same_manifest : (c d : Data) (m : Listing) → version_in c ≡ version_in d → ((version : ℕ) → top_in version c ≡ top_in version d) → IsManifest c m → IsManifest d m
 same_manifest c d m version top is =
-    let parts = is.2.1 in (
+    let parts = is.2.shape in (
       is.0,
       is.1,
-      (
-        sym version ∙ is.2.0,
-        record {
+      record {
+        version = sym version ∙ is.2.version;
+        known = is.2.known;
+        shape = record {
           top = parts.top;
-          read = sym top ∙ parts.read;
+          read = sym (top is.0.version) ∙ parts.read;
           system = parts.system;
           rows = parts.rows;
           timeline = parts.timeline;
           range = parts.range;
-        },
-      ),
+        };
+      },
       is.3,
       is.4,
       is.5,
@@ -203,16 +204,16 @@ cut : (lines d : List ℕ) (ends : EndsLine lines) → lines ++ line d ≡ text 
 cut lines d ends = ap (λ l. l ++ line d) ends.1 ∙ append_assoc ends.0 (10 ∷ []) (line d)
 
 module _ (law : TextsHaveOneManifest) (d e : List ℕ) (plain : IsPlain d) (also : IsPlain e) (m n : Listing) where
-  one_value_with : (xs : List ℕ) → Values xs → ReadAnswers 2 (text xs d) (Ok m) → ReadAnswers 2 (text xs e) (Ok n) → m ≡ n
+  one_value_with : (xs : List ℕ) → Values xs → ReadAnswers (text xs d) (Ok m) → ReadAnswers (text xs e) (Ok n) → m ≡ n
   one_value_with xs (inr none) is was = let never : None ≡ Some is.1.0 = sym (none d plain) ∙ is.1.1.1 in absurd (cc)
   one_value_with xs (inl (ms, reads)) is was =
       let here : is.1.0 ≡ value_with d ms = one_value (read (text xs d)) is.1.0 (value_with d ms) is.1.1.1 (reads d plain) in
       let there : was.1.0 ≡ value_with e ms = one_value (read (text xs e)) was.1.0 (value_with e ms) was.1.1.1 (reads e also) in
-      let said : IsManifest 2 (value_with d ms) m = subst (λ (x : Data). IsManifest 2 x m) here is.1.2 in
-      let same : IsManifest 2 was.1.0 m = subst (λ (x : Data). IsManifest 2 x m) (sym there) (same_manifest (value_with d ms) (value_with e ms) m (same_version d e ms) (same_top d e ms) said) in
-      same_ok m n (law 2 (text xs e) m (Ok n) (was.0, (was.1.0, was.1.1, same)) was)
+      let said : IsManifest (value_with d ms) m = subst (λ (x : Data). IsManifest x m) here is.1.2 in
+      let same : IsManifest was.1.0 m = subst (λ (x : Data). IsManifest x m) (sym there) (same_manifest (value_with d ms) (value_with e ms) m (same_version d e ms) (λ version. same_top version d e ms) said) in
+      same_ok m n (law (text xs e) m (Ok n) (was.0, (was.1.0, was.1.1, same)) was)
 
   -- manifests that differ in the digits of the last line alone say the same
-  pub one_listing : (lines : List ℕ) → EndsLine lines → ReadAnswers 2 (lines ++ (line_front ++ (d ++ line_back))) (Ok m) → ReadAnswers 2 (lines ++ (line_front ++ (e ++ line_back))) (Ok n) → m ≡ n
+  pub one_listing : (lines : List ℕ) → EndsLine lines → ReadAnswers (lines ++ (line_front ++ (d ++ line_back))) (Ok m) → ReadAnswers (lines ++ (line_front ++ (e ++ line_back))) (Ok n) → m ≡ n
   one_listing lines ends is was =
-      one_value_with ends.0 (values_are ends.0) (subst (λ (b : List ℕ). ReadAnswers 2 b (Ok m)) (cut lines d ends) is) (subst (λ (b : List ℕ). ReadAnswers 2 b (Ok n)) (cut lines e ends) was)
+      one_value_with ends.0 (values_are ends.0) (subst (λ (b : List ℕ). ReadAnswers b (Ok m)) (cut lines d ends) is) (subst (λ (b : List ℕ). ReadAnswers b (Ok n)) (cut lines e ends) was)

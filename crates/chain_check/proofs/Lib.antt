@@ -12,7 +12,7 @@ mod Once
 mod Links
 mod HeldForms
 mod Judged
-mod ListedForms
+pub mod ListedForms
 mod Known
 mod Seen
 mod Sized

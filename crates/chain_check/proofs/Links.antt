@@ -6,11 +6,11 @@ use Rattle.std.proofs.lemmas.Bool.{eq-eqb, ltb-false, le-ltb}
 use Rattle.lsn_core.specs.declared.lsn.Lsn.{Lsn}
 use Rattle.backup_label.specs.declared.label.Label.{Label}
 use Rattle.manifest.specs.declared.listing.FileRow.{FileRow}
-use Rattle.chain_check.specs.Chain.{timelines_of, IsOnOneTimeline, system_of, IsFirst, IsHeld, IsLinked, AreLinked, IsChain, IsAccepted, timeline_fault, first_fault, system_fault, prior_fault, overlap_fault, named_fault, label_fault, IsFirstUnheld, RefusesLater, IsFirstUnlinked, RefusesMember, IsChainRefused}
+use Rattle.chain_check.specs.Chain.{timelines_of, IsOnOneTimeline, system_of, IsFirst, IsHeld, IsLinked, AreLinked, IsChain, IsAccepted, version_fault, timeline_fault, first_fault, system_fault, prior_fault, overlap_fault, named_fault, label_fault, IsFirstUnheld, RefusesLater, IsFirstUnlinked, RefusesMember, IsChainRefused}
 use Rattle.chain_check.specs.declared.member.Member.{Member}
 use Rattle.chain_check.specs.declared.chain.ChainRefusal.{ChainRefusal}
 use Rattle.chain_check.specs.declared.link.LinkFault.{LinkFault}
-use Rattle.chain_check.specs.declared.link.LinkFault.TheVariants.{TooManyMembers, TimelineDiffers, FirstIncremental, LaterFull, SystemDiffers, WrongPrior, Overlap, NoPriorFile, NoMemory}
+use Rattle.chain_check.specs.declared.link.LinkFault.TheVariants.{TooManyMembers, ManifestVersion, TimelineDiffers, FirstIncremental, LaterFull, SystemDiffers, WrongPrior, Overlap, NoPriorFile, NoMemory}
 use Rattle.chain_check.proofs.OneText.{one_value}
 use Rattle.chain_check.proofs.Turns.{neither, both_none, some_none, passes, passed, fails, failed}
 
@@ -44,23 +44,37 @@ no_prior : (p : Option (Lsn × ℕ)) → option_map (λ prior. FirstIncremental)
 no_prior None e = refl
 no_prior (Some p) e = absurd (cc)
 
+abbrev label_part : Label → Option LinkFault
+label_part label = option_or (timeline_fault label) (option_map (λ prior. FirstIncremental) label.prior)
+
 abbrev Full : Label → Type 0
 Full label = IsOnOneTimeline label × (label.prior ≡ None)
 
-full : (label : Label) → first_fault label ≡ None → Full label
+full : (label : Label) → label_part label ≡ None → Full label
 full label e =
     let both = neither (timeline_fault label) (option_map (λ prior. FirstIncremental) label.prior) e in
     (all_one (timelines_of label) both.0, no_prior label.prior both.1)
 
-not_first : (label : Label) → Full label → first_fault label ≡ None
+not_first : (label : Label) → Full label → label_part label ≡ None
 not_first label is =
     both_none (timeline_fault label) (option_map (λ prior. FirstIncremental) label.prior) (no_other (timelines_of label) is.0) (ap (λ (p : Option (Lsn × ℕ)). option_map (λ prior. FirstIncremental) p) is.1)
 
-pub first_is : (member : Member) → first_fault member.label ≡ None → IsFirst member
-first_is member e = let is = full member.label e in record { timelines = is.0; full = is.1 }
+-- the version is 2
+new_version : (member : Member) → version_fault member ≡ None → member.manifest.version ≡ 2
+new_version member e = eqb-true _ _ (passes (member.manifest.version == 2) (ManifestVersion member.manifest.version) e)
 
-first_none : (member : Member) → IsFirst member → first_fault member.label ≡ None
-first_none member is = not_first member.label (is.timelines, is.full)
+no_version : (member : Member) → member.manifest.version ≡ 2 → version_fault member ≡ None
+no_version member e = passed (member.manifest.version == 2) (ManifestVersion member.manifest.version) (eq-eqb _ _ e)
+
+pub first_is : (member : Member) → first_fault member ≡ None → IsFirst member
+first_is member e =
+    let both = neither (version_fault member) (label_part member.label) e in
+    let is = full member.label both.1 in
+    record { version = new_version member both.0; timelines = is.0; full = is.1 }
+
+first_none : (member : Member) → IsFirst member → first_fault member ≡ None
+first_none member is =
+    both_none (version_fault member) (label_part member.label) (no_version member is.version) (not_first member.label (is.timelines, is.full))
 
 -- ---- labels of later members
 
@@ -97,9 +111,11 @@ not_named prior member timeline system behind =
 
 pub linked : (prior member : Member) → label_fault prior member ≡ None → AllByRecursion (λ row. IsHeld prior.manifest.files row.path) member.manifest.files → IsLinked prior member
 linked prior member e held =
-    let both = neither (timeline_fault member.label) (named_fault prior member member.label.prior) e in
+    let first = neither (version_fault member) (option_or (timeline_fault member.label) (named_fault prior member member.label.prior)) e in
+    let both = neither (timeline_fault member.label) (named_fault prior member member.label.prior) first.1 in
     let is = follows prior member member.label.prior both.1 in
     record {
+      version = new_version member first.0;
       timelines = all_one (timelines_of member.label) both.0;
       system = is.system;
       timeline = is.timeline;
@@ -110,8 +126,9 @@ linked prior member e held =
 
 no_label : (prior member : Member) → IsLinked prior member → label_fault prior member ≡ None
 no_label prior member is =
-    both_none (timeline_fault member.label) (named_fault prior member member.label.prior) (no_other (timelines_of member.label) is.timelines)
-    (ap (λ (p : Option (Lsn × ℕ)). named_fault prior member p) is.named ∙ not_named prior member is.timeline is.system is.behind)
+    both_none (version_fault member) (option_or (timeline_fault member.label) (named_fault prior member member.label.prior)) (no_version member is.version)
+    (both_none (timeline_fault member.label) (named_fault prior member member.label.prior) (no_other (timelines_of member.label) is.timelines)
+    (ap (λ (p : Option (Lsn × ℕ)). named_fault prior member p) is.named ∙ not_named prior member is.timeline is.system is.behind))
 
 -- ---- files of later members
 
@@ -137,6 +154,7 @@ LaterPart prior member why =
 
 part_of : (prior member : Member) (why : LinkFault) → RefusesLater prior member why → LaterPart prior member why
 part_of prior member TooManyMembers is = inl is
+part_of prior member (ManifestVersion v) is = inl is
 part_of prior member (TimelineDiffers v) is = inl is
 part_of prior member FirstIncremental is = inl is
 part_of prior member LaterFull is = inl is
@@ -183,14 +201,14 @@ unlinked_once place prior (m ∷ later) r s (inr is) (inr was) = unlinked_once (
 
 chain_or_member : (members : List Member) (r : ChainRefusal) → IsChain members → RefusesMember members r → ⊥
 chain_or_member [] r is was = was
-chain_or_member (m ∷ later) r is (inl was) = some_none (first_fault m.label) r.why (first_none m is.0) was.1
+chain_or_member (m ∷ later) r is (inl was) = some_none (first_fault m) r.why (first_none m is.0) was.1
 chain_or_member (m ∷ later) r is (inr was) = all_linked 1 m later r is.1 was.1
 
 member_once : (members : List Member) (r s : ChainRefusal) → RefusesMember members r → RefusesMember members s → r ≡ s
 member_once [] r s is was = absurd is
-member_once (m ∷ later) r s (inl is) (inl was) = same_refusal r s (is.0 ∙ sym was.0) (one_value (first_fault m.label) r.why s.why is.1 was.1)
-member_once (m ∷ later) r s (inl is) (inr was) = absurd (some_none (first_fault m.label) r.why (first_none m was.0) is.1)
-member_once (m ∷ later) r s (inr is) (inl was) = absurd (some_none (first_fault m.label) s.why (first_none m is.0) was.1)
+member_once (m ∷ later) r s (inl is) (inl was) = same_refusal r s (is.0 ∙ sym was.0) (one_value (first_fault m) r.why s.why is.1 was.1)
+member_once (m ∷ later) r s (inl is) (inr was) = absurd (some_none (first_fault m) r.why (first_none m was.0) is.1)
+member_once (m ∷ later) r s (inr is) (inl was) = absurd (some_none (first_fault m) s.why (first_none m is.0) was.1)
 member_once (m ∷ later) r s (inr is) (inr was) = unlinked_once 1 m later r s is.1 was.1
 
 pub accepted_or_refused : (members : List Member) (r : ChainRefusal) → IsAccepted members → IsChainRefused members r → ⊥

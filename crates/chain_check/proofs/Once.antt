@@ -3,6 +3,8 @@ use Rattle.std.proofs.Common.{◌≡◌, ◌≢◌, ℕ, ◌%◌, false, List, [
 use Rattle.std.specs.FinMap.{get}
 use Rattle.std.specs.List.{AllByRecursion}
 use Rattle.lsn_core.specs.Files.{Files}
+use Rattle.chain_files.specs.Paths.{IsForkFile}
+use Rattle.chain_files.proofs.Placed.{one_form}
 use Rattle.vault.specs.Area.{bytes_of}
 use Rattle.backup_label.specs.declared.label.Label.{Label}
 use Rattle.backup_label.proofs.OneReading.{one_label, one_refused, not_refused}
@@ -17,7 +19,7 @@ use Rattle.manifest.specs.declared.fault.ManifestFault.{ManifestFault}
 use Rattle.manifest.specs.declared.fault.ManifestFault.TheVariants as manifest
 use Rattle.manifest.specs.declared.listing.FileRow.{FileRow}
 use Rattle.backup_files.specs.Directory.{manifest_name, label_name}
-use Rattle.chain_check.specs.Directory.{HasManifest, IsForkFile, HasForm, IsLabelFrom, IsAsListed}
+use Rattle.chain_check.specs.Directory.{HasManifest, HasForm, IsLabelFrom, IsAsListed}
 use Rattle.chain_check.specs.Refusals.{fault_of, chain_fault_read, RefusesManifest, RefusesLine, HasBoth, HasHeadFault, HasFormFault, IsFirstForm, listing_fault, rows_checked, RefusedFor, IsCheckedBefore, HasRefusal, IsOfFiles}
 use Rattle.chain_check.specs.declared.fault.ManifestWhy.{ManifestWhy}
 use Rattle.chain_check.specs.declared.fault.ManifestWhy.TheVariants.{Lines, Sum, Json, Shape, SumKind}
@@ -27,7 +29,7 @@ use Rattle.chain_check.specs.declared.refusal.Refusal.{Refusal}
 use Rattle.chain_check.specs.declared.fault.ChainFault.{ChainFault}
 use Rattle.chain_check.specs.declared.fault.ChainFault.TheVariants.{NoManifest, ManifestDamaged, ManifestVersion, TimelineDiffers, FileMissing, FileSize, FileSum, FileExtra, LabelDamaged, FileDamaged, Failed, NoMemory}
 use Rattle.chain_check.specs.declared.member.Member.{Member}
-use Rattle.chain_check.proofs.ForkFiles.{one_form, alone_or_both}
+use Rattle.chain_check.proofs.ForkFiles.{alone_or_both}
 use Rattle.chain_check.proofs.Listed.{no_listing_fault}
 use Rattle.chain_check.proofs.Turns.{some_none}
 use Rattle.chain_check.proofs.OneText.{one_value, refused_once}
@@ -49,17 +51,17 @@ module _ (law : TextsHaveOneManifest) where
   pub manifest_once : (files : Files) (m n : Listing) → HasManifest files m → HasManifest files n → m ≡ n
   manifest_once files m n is was =
       let same = one_value (get files manifest_name) was.0 is.0 was.1 is.1 in
-      same_ok m n (law 2 is.0 m (Ok n) is.2 (subst (λ (b : List ℕ). ReadAnswers 2 b (Ok n)) same was.2))
+      same_ok m n (law is.0 m (Ok n) is.2 (subst (λ (b : List ℕ). ReadAnswers b (Ok n)) same was.2))
 
   pub read_or_refused : (files : Files) (m : Listing) (f : ManifestFault) → f ≢ manifest.NoMemory → HasManifest files m → RefusesManifest files f → ⊥
   read_or_refused files m f nf is was =
       let same = one_value (get files manifest_name) was.0 is.0 was.1 is.1 in
-      not_ok m f nf (law 2 is.0 m (Err f) is.2 (subst (λ (b : List ℕ). ReadAnswers 2 b (Err f)) same was.2))
+      not_ok m f nf (law is.0 m (Err f) is.2 (subst (λ (b : List ℕ). ReadAnswers b (Err f)) same was.2))
 
 refusal_once : (files : Files) (f g : ManifestFault) → f ≢ manifest.NoMemory → g ≢ manifest.NoMemory → RefusesManifest files f → RefusesManifest files g → f ≡ g
 refusal_once files f g nf ng is was =
     let same = one_value (get files manifest_name) is.0 was.0 is.1 was.1 in
-    refused_once was.0 f g nf ng (subst (λ (b : List ℕ). ReadAnswers 2 b (Err f)) same is.2) was.2
+    refused_once was.0 f g nf ng (subst (λ (b : List ℕ). ReadAnswers b (Err f)) same is.2) was.2
 
 -- ---- labels
 
@@ -92,7 +94,7 @@ abbrev FormPart : Files → FileRow → FileWhy → Type 0
 FormPart files row why =
     (HasBoth files row.path × (why ≡ Both))
     ⊎ (((h : HeadFault) × (refused h ≢ refused head.NoMemory) × HasHeadFault files row h × (why ≡ why_from h))
-    ⊎ (IsForkFile row.path false × (row.size % 8192 ≢ 0) × (why ≡ PageLength)))
+    ⊎ (IsForkFile row.path × (row.size % 8192 ≢ 0) × (why ≡ PageLength)))
 
 told_length : refused head.Length ≢ refused head.NoMemory
 told_length e = cc

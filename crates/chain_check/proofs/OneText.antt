@@ -12,8 +12,8 @@ use Rattle.serde_json.specs.Data.{Data}
 use Rattle.serde_json.specs.Read.{read}
 use Rattle.manifest.specs.Kinds.{file_in, all_files}
 use Rattle.manifest.specs.Lines.{line_front, line_back, IsLined, IsSummed}
-use Rattle.manifest.specs.Reading.{IsJson, ValueAnswers, IsJudged, ReadAnswers}
-use Rattle.manifest.specs.Shape.{Top, top_in, Parts, IsParts, IsArranged, version_in}
+use Rattle.manifest.specs.Reading.{IsJson, IsShaped, ValueAnswers, IsJudged, ReadAnswers}
+use Rattle.manifest.specs.Shape.{Top, top_in, Parts, IsArranged, version_in, IsKnown, IsUnknown}
 use Rattle.manifest.specs.declared.fault.ManifestFault.{ManifestFault}
 use Rattle.manifest.specs.declared.fault.ManifestFault.TheVariants.{Lines, Sum, Json, Version, Shape, SumKind, TimelineIs, NoMemory}
 use Rattle.manifest.specs.declared.listing.FileRow.{FileRow}
@@ -87,25 +87,38 @@ each_file (first ∷ rows) files row (suc k) e within is none =
     let rest = bound (all_files rows) _ files file.2 in
     each_file rows rest.0 row k rest.1 (omega (arith, within)) is none
 
-same_rows : (d : Data) (p q : Parts) → IsParts d p → IsParts d q → IsPermutation p.rows q.rows
-same_rows d p q is was =
-    let top = one_value (top_in d) is.top was.top is.read was.read in
-    let rows = subst (λ (t : Top). IsArranged t.rows p.rows) top is.rows in
-    IsPermutation-trans p.rows was.top.rows q.rows (IsPermutation-sym was.top.rows p.rows rows.0) was.rows.0
+same_top : (d : Data) (p q : Parts) (is : IsShaped d p) (was : IsShaped d q) → is.shape.top ≡ was.shape.top
+same_top d p q is was =
+    let version = one_value (version_in d) p.version q.version is.version was.version in
+    one_value (top_in q.version d) is.shape.top was.shape.top (subst (λ (v : ℕ). top_in v d ≡ Some is.shape.top) version is.shape.read) was.shape.read
 
-sums_once : (d : Data) (p q : Parts) (files : List FileRow) → IsParts d p → IsParts d q → all_files p.rows ≡ None → all_files q.rows ≡ Some files → ⊥
+same_rows : (d : Data) (p q : Parts) → IsShaped d p → IsShaped d q → IsPermutation p.rows q.rows
+same_rows d p q is was =
+    let rows = subst (λ (t : Top). IsArranged t.rows p.rows) (same_top d p q is was) is.shape.rows in
+    IsPermutation-trans p.rows was.shape.top.rows q.rows (IsPermutation-sym was.shape.top.rows p.rows rows.0) was.shape.rows.0
+
+sums_once : (d : Data) (p q : Parts) (files : List FileRow) → IsShaped d p → IsShaped d q → all_files p.rows ≡ None → all_files q.rows ≡ Some files → ⊥
 sums_once d p q files is was none some =
     let bad = no_file p.rows none in
     let there = Contains-permutation p.rows q.rows bad.0 (same_rows d p q is was) bad.1 in
     each_file q.rows files bad.0 there.0 some there.1 there.2 bad.2
 
-timelines_once : (d : Data) (p q : Parts) → IsParts d p → IsParts d q → p.timeline ≡ q.timeline
+timelines_once : (d : Data) (p q : Parts) → IsShaped d p → IsShaped d q → p.timeline ≡ q.timeline
 timelines_once d p q is was =
-    is.timeline ∙ (ap (λ (t : Top). t.range.timeline) (one_value (top_in d) is.top was.top is.read was.read) ∙ sym was.timeline)
+    is.shape.timeline ∙ (ap (λ (t : Top). t.range.timeline) (same_top d p q is was) ∙ sym was.shape.timeline)
+
+-- a version isn't both
+not_known : (v : ℕ) → IsUnknown v → IsKnown v → ⊥
+not_known v un (inl one) = un.0 one
+not_known v un (inr two) = un.1 two
+
+other_version : (d : Data) (v : ℕ) (p : Parts) → version_in d ≡ Some v → IsUnknown v → IsShaped d p → ⊥
+other_version d v p e un is =
+    not_known v un (subst IsKnown (sym (one_value (version_in d) v p.version e is.version)) is.known)
 
 -- ---- the value
 
-value_once : (d : Data) (f g : ManifestFault) → f ≢ NoMemory → g ≢ NoMemory → ValueAnswers 2 d (Err f) → ValueAnswers 2 d (Err g) → f ≡ g
+value_once : (d : Data) (f g : ManifestFault) → f ≢ NoMemory → g ≢ NoMemory → ValueAnswers d (Err f) → ValueAnswers d (Err g) → f ≡ g
 value_once d Lines g nf ng is was = absurd is
 value_once d Sum g nf ng is was = absurd is
 value_once d Json g nf ng is was = absurd is
@@ -115,14 +128,14 @@ value_once d (Version v) Sum nf ng is was = absurd was
 value_once d (Version v) Json nf ng is was = absurd was
 value_once d (Version v) NoMemory nf ng is was = absurd (ng refl)
 value_once d (Version v) (Version w) nf ng is was = ap (λ (x : ℕ). Version x) (one_value (version_in d) v w is.0 was.0)
-value_once d (Version v) Shape nf ng is was = absurd (is.1 (was.0 v is.0))
-value_once d (Version v) SumKind nf ng is was = absurd (is.1 (one_value (version_in d) v 2 is.0 was.1.0))
-value_once d (Version v) (TimelineIs w) nf ng is was = absurd (is.1 (one_value (version_in d) v 2 is.0 was.2.0))
+value_once d (Version v) Shape nf ng is was = absurd (not_known v is.1 (was.0 v is.0))
+value_once d (Version v) SumKind nf ng is was = absurd (other_version d v was.0 is.0 is.1 was.1)
+value_once d (Version v) (TimelineIs w) nf ng is was = absurd (other_version d v was.0 is.0 is.1 was.2)
 value_once d Shape Lines nf ng is was = absurd was
 value_once d Shape Sum nf ng is was = absurd was
 value_once d Shape Json nf ng is was = absurd was
 value_once d Shape NoMemory nf ng is was = absurd (ng refl)
-value_once d Shape (Version w) nf ng is was = absurd (was.1 (is.0 w was.0))
+value_once d Shape (Version w) nf ng is was = absurd (not_known w was.1 (is.0 w was.0))
 value_once d Shape Shape nf ng is was = refl
 value_once d Shape SumKind nf ng is was = absurd (is.1 was.0 was.1)
 value_once d Shape (TimelineIs w) nf ng is was = absurd (is.1 was.0 was.2)
@@ -130,19 +143,19 @@ value_once d SumKind Lines nf ng is was = absurd was
 value_once d SumKind Sum nf ng is was = absurd was
 value_once d SumKind Json nf ng is was = absurd was
 value_once d SumKind NoMemory nf ng is was = absurd (ng refl)
-value_once d SumKind (Version w) nf ng is was = absurd (was.1 (one_value (version_in d) w 2 was.0 is.1.0))
+value_once d SumKind (Version w) nf ng is was = absurd (other_version d w is.0 was.0 was.1 is.1)
 value_once d SumKind Shape nf ng is was = absurd (was.1 is.0 is.1)
 value_once d SumKind SumKind nf ng is was = refl
-value_once d SumKind (TimelineIs w) nf ng is was = absurd (sums_once d is.0 was.0 was.1 is.1.1 was.2.1 is.2 was.3)
+value_once d SumKind (TimelineIs w) nf ng is was = absurd (sums_once d is.0 was.0 was.1 is.1 was.2 is.2 was.3)
 value_once d (TimelineIs v) Lines nf ng is was = absurd was
 value_once d (TimelineIs v) Sum nf ng is was = absurd was
 value_once d (TimelineIs v) Json nf ng is was = absurd was
 value_once d (TimelineIs v) NoMemory nf ng is was = absurd (ng refl)
-value_once d (TimelineIs v) (Version w) nf ng is was = absurd (was.1 (one_value (version_in d) w 2 was.0 is.2.0))
+value_once d (TimelineIs v) (Version w) nf ng is was = absurd (other_version d w is.0 was.0 was.1 is.2)
 value_once d (TimelineIs v) Shape nf ng is was = absurd (was.1 is.0 is.2)
-value_once d (TimelineIs v) SumKind nf ng is was = absurd (sums_once d was.0 is.0 is.1 was.1.1 is.2.1 was.2 is.3)
+value_once d (TimelineIs v) SumKind nf ng is was = absurd (sums_once d was.0 is.0 is.1 was.1 is.2 was.2 is.3)
 value_once d (TimelineIs v) (TimelineIs w) nf ng is was =
-    ap (λ (x : ℕ). TimelineIs x) (sym is.4 ∙ (timelines_once d is.0 was.0 is.2.1 was.2.1 ∙ was.4))
+    ap (λ (x : ℕ). TimelineIs x) (sym is.4 ∙ (timelines_once d is.0 was.0 is.2 was.2 ∙ was.4))
 
 -- ---- the text
 
@@ -151,9 +164,9 @@ abbrev pub Part : List ℕ → ManifestFault → Type 0
 Part bytes f =
     ((f ≡ Lines) × ((lines sum : List ℕ) → ¬ IsLined bytes lines sum))
     ⊎ (((f ≡ Sum) × ((lines sum : List ℕ) × IsLined bytes lines sum × (sum ≢ sha256 lines)))
-    ⊎ (((f ≡ Json) × IsSummed bytes × ((d : Data) → ¬ IsJson bytes d)) ⊎ IsJudged 2 bytes (Err f)))
+    ⊎ (((f ≡ Json) × IsSummed bytes × ((d : Data) → ¬ IsJson bytes d)) ⊎ IsJudged bytes (Err f)))
 
-part_of : (bytes : List ℕ) (f : ManifestFault) → f ≢ NoMemory → ReadAnswers 2 bytes (Err f) → Part bytes f
+part_of : (bytes : List ℕ) (f : ManifestFault) → f ≢ NoMemory → ReadAnswers bytes (Err f) → Part bytes f
 part_of bytes Lines nf is = inl (refl, is)
 part_of bytes Sum nf is = inr (inl (refl, is))
 part_of bytes Json nf is = inr (inr (inl (refl, is.0, is.1)))
@@ -181,7 +194,7 @@ one_part bytes f g nf ng (inr (inr (inr is))) (inr (inl was)) = absurd (other_su
 one_part bytes f g nf ng (inr (inr (inr is))) (inr (inr (inl was))) = absurd (was.2 is.1.0 is.1.1)
 one_part bytes f g nf ng (inr (inr (inr is))) (inr (inr (inr was))) =
     let same = one_value (read bytes) is.1.0 was.1.0 is.1.1.1 was.1.1.1 in
-    value_once was.1.0 f g nf ng (subst (λ (d : Data). ValueAnswers 2 d (Err f)) same is.1.2) was.1.2
+    value_once was.1.0 f g nf ng (subst (λ (d : Data). ValueAnswers d (Err f)) same is.1.2) was.1.2
 
-pub refused_once : (bytes : List ℕ) (f g : ManifestFault) → f ≢ NoMemory → g ≢ NoMemory → ReadAnswers 2 bytes (Err f) → ReadAnswers 2 bytes (Err g) → f ≡ g
+pub refused_once : (bytes : List ℕ) (f g : ManifestFault) → f ≢ NoMemory → g ≢ NoMemory → ReadAnswers bytes (Err f) → ReadAnswers bytes (Err g) → f ≡ g
 refused_once bytes f g nf ng is was = one_part bytes f g nf ng (part_of bytes f nf is) (part_of bytes g ng was)

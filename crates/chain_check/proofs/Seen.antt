@@ -13,7 +13,8 @@ use Rattle.manifest.specs.declared.kinds.SumKind.{SumKind}
 use Rattle.manifest.specs.declared.kinds.SumKind.TheVariants.{Sha256}
 use Rattle.manifest.specs.declared.listing.FileRow.{FileRow}
 use Rattle.chain_check.specs.Sums.{sum_of, says_sum}
-use Rattle.chain_check.specs.LaneSums.{holds, IsPiece, IsSeen, RowIsSeen, IsAt, Moves, IsHashing}
+use Rattle.chain_files.specs.Sources.{IsPiece}
+use Rattle.chain_check.specs.LaneSums.{holds, IsSeen, RowIsSeen, IsAt, Moves, IsHashing}
 use Rattle.chain_check.specs.declared.lanes.Place.{Place}
 use Rattle.chain_check.specs.declared.lanes.Hashing.{Hashing}
 

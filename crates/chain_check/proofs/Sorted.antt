@@ -66,9 +66,9 @@ same_paths (row ∷ rows) files e =
     let is : file.0 ∷ rest.0 ≡ files = cc in
     subst (λ (x : List FileRow). map path_of x ≡ row.path ∷ map raw_path rows) is (ap₂ (λ (p : List ℕ) (ps : List (List ℕ)). p ∷ ps) (file_path row file.0 file.1) (same_paths rows rest.0 rest.1))
 
-pub read_sorted : (bytes : List ℕ) (m : Listing) → ReadAnswers 2 bytes (Ok m) → IsSortedByKey path_of path_cmp m.files
+pub read_sorted : (bytes : List ℕ) (m : Listing) → ReadAnswers bytes (Ok m) → IsSortedByKey path_of path_cmp m.files
 read_sorted bytes m is =
-    let read : IsManifest 2 is.1.0 m = is.1.2 in
+    let read : IsManifest is.1.0 m = is.1.2 in
     let paths = same_paths read.0.rows read.1 read.3 in
     let files : read.1 ≡ m.files = sym (ap (λ (x : Listing). x.files) read.5) in
-    rising m.files (subst (λ (x : List FileRow). IsStrictlySortedBy path_cmp (map path_of x)) files (subst (λ (x : List (List ℕ)). IsStrictlySortedBy path_cmp x) (sym paths) read.2.1.rows.1))
+    rising m.files (subst (λ (x : List FileRow). IsStrictlySortedBy path_cmp (map path_of x)) files (subst (λ (x : List (List ℕ)). IsStrictlySortedBy path_cmp x) (sym paths) read.2.shape.rows.1))

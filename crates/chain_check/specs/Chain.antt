@@ -3,14 +3,14 @@
 use Rattle.std.specs.Prelude.{◌≡◌, ◌≤◌, ◌<◌, ◌⊎◌, ℕ, ◌+◌, true, false, List, [], ◌∷◌, length, not, ◌==◌, ◌||◌, nat_lt, Option, Some, None, if◌then◌else◌}
 use Rattle.std.specs.List.{AllByRecursion, find}
 use Rattle.std.specs.Option.{option_map, option_or, unwrap_or}
-use Rattle.lsn_core.specs.Names.{fork_path_bytes}
 use Rattle.lsn_core.specs.declared.lsn.Lsn.{Lsn}
 use Rattle.backup_label.specs.declared.label.Label.{Label}
 use Rattle.manifest.specs.declared.listing.FileRow.{FileRow}
-use Rattle.chain_check.specs.Directory.{is_listed, IsForkFile}
+use Rattle.chain_files.specs.Paths.{file_path, IsIncrementalPath}
+use Rattle.chain_check.specs.Directory.{is_listed}
 use Rattle.chain_check.specs.declared.member.Member.{Member}
 use Rattle.chain_check.specs.declared.link.LinkFault.{LinkFault}
-use Rattle.chain_check.specs.declared.link.LinkFault.TheVariants.{TooManyMembers, TimelineDiffers, FirstIncremental, LaterFull, SystemDiffers, WrongPrior, Overlap, NoPriorFile}
+use Rattle.chain_check.specs.declared.link.LinkFault.TheVariants.{TooManyMembers, ManifestVersion, TimelineDiffers, FirstIncremental, LaterFull, SystemDiffers, WrongPrior, Overlap, NoPriorFile}
 use Rattle.chain_check.specs.declared.chain.ChainRefusal.{ChainRefusal}
 
 -- ---- what label and manifest of a member tell
@@ -34,20 +34,23 @@ system_of member = unwrap_or member.manifest.system 0
 
 -- ---- chains that are accepted
 
--- the first member: a full backup
+-- the first member: a full backup, whose manifest is of version 2
 pub record IsFirst (member : Member) : Type 0 where
+  pub version : member.manifest.version ≡ 2
   pub timelines : IsOnOneTimeline member.label
   pub full : member.label.prior ≡ None
 
 -- a file of this path can be rebuilt from a backup with these rows: where it is incremental, they
 -- list it in one of its two forms
 pub record IsHeld (rows : List FileRow) (path : List ℕ) : Type 0 where
-  pub listed : (f : IsForkFile path true)
-      → (is_listed rows path || is_listed rows (fork_path_bytes f.fork f.seg false)) ≡ true
+  pub listed : (f : IsIncrementalPath path)
+      → (is_listed rows path || is_listed rows (file_path f.folder f.name false)) ≡ true
 
--- a later member and its predecessor: it names the predecessor's start, is of the same store, starts
--- where the predecessor has ended, and the predecessor has its incremental files in a form
+-- a later member and its predecessor: its manifest is of version 2, it names the predecessor's start,
+-- is of the same store, starts where the predecessor has ended, and the predecessor has its
+-- incremental files in a form
 pub record IsLinked (prior member : Member) : Type 0 where
+  pub version : member.manifest.version ≡ 2
   pub timelines : IsOnOneTimeline member.label
   pub system : system_of member ≡ system_of prior
   pub timeline : ℕ
@@ -75,15 +78,22 @@ pub record IsAccepted (members : List Member) : Type 0 where
 
 -- ---- the first fault of a chain that isn't
 
+-- the version of its manifest isn't 2
+abbrev pub version_fault : Member → Option LinkFault
+version_fault member =
+    if member.manifest.version == 2 then None else Some (ManifestVersion member.manifest.version)
+
 -- the first timeline that isn't 1
 abbrev pub timeline_fault : Label → Option LinkFault
 timeline_fault label =
     option_map (λ t. TimelineDiffers t) (find (λ t. not (t == 1)) (timelines_of label))
 
--- what the first member is refused for: a timeline, or else that it names a prior
-abbrev pub first_fault : Label → Option LinkFault
-first_fault label =
-    option_or (timeline_fault label) (option_map (λ prior. FirstIncremental) label.prior)
+-- what the first member is refused for: its version, a timeline, or that it names a prior
+abbrev pub first_fault : Member → Option LinkFault
+first_fault member =
+    option_or (version_fault member)
+    (option_or (timeline_fault member.label)
+    (option_map (λ prior. FirstIncremental) member.label.prior))
 
 -- what a later member that names this prior start is refused for: another system identifier than
 -- its predecessor's, another start, or a start before the predecessor's end
@@ -107,11 +117,12 @@ named_fault prior member (Some named) =
     option_or (system_fault prior member)
     (option_or (prior_fault prior named.0) (overlap_fault prior member))
 
--- what it is refused for by the two labels and system identifiers: a timeline, that it names no
--- prior, or one of these
+-- what it is refused for by its version, the two labels and system identifiers: the version, a
+-- timeline, that it names no prior, or one of these
 abbrev pub label_fault : Member → Member → Option LinkFault
 label_fault prior member =
-    option_or (timeline_fault member.label) (named_fault prior member member.label.prior)
+    option_or (version_fault member)
+    (option_or (timeline_fault member.label) (named_fault prior member member.label.prior))
 
 -- the first of some rows, in their order, whose incremental file isn't held by these
 abbrev pub IsFirstUnheld : List FileRow → List FileRow → List ℕ → Type 0
@@ -137,7 +148,7 @@ IsFirstUnlinked place prior (member ∷ later) refusal =
 abbrev pub RefusesMember : List Member → ChainRefusal → Type 0
 RefusesMember [] refusal = ⊥
 RefusesMember (first ∷ later) refusal =
-    ((refusal.member ≡ 0) × (first_fault first.label ≡ Some refusal.why))
+    ((refusal.member ≡ 0) × (first_fault first ≡ Some refusal.why))
     ⊎ (IsFirst first × IsFirstUnlinked 1 first later refusal)
 
 -- the chain is refused so: for its length, and else for the first member that is refused

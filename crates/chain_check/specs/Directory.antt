@@ -4,12 +4,11 @@ use Rattle.std.specs.Str.{bytes_eq}
 use Rattle.std.specs.List.{AllByRecursion, list_any, starts_with}
 use Rattle.std.specs.FinMap.{get}
 use Rattle.lsn_core.specs.Files.{Files}
-use Rattle.lsn_core.specs.Names.{fork_path_bytes, IsNamed}
-use Rattle.lsn_core.specs.declared.ids.ForkId.{ForkId}
 use Rattle.vault.specs.Area.{bytes_of}
 use Rattle.backup_label.specs.Label.{IsLabel}
 use Rattle.backup_label.specs.declared.label.Label.{Label}
 use Rattle.backup_files.specs.Directory.{manifest_name, label_name}
+use Rattle.chain_files.specs.Paths.{file_path, IsIncrementalPath, IsForkFile}
 use Rattle.chain_files.specs.Segments.{IsIncrFile}
 use Rattle.manifest.specs.Listing.{Listing}
 use Rattle.manifest.specs.Reading.{ReadAnswers}
@@ -19,10 +18,10 @@ use Rattle.chain_check.specs.declared.member.Member.{Member}
 
 -- ---- what the manifest lists
 
--- the directory's manifest is of version 2 and of its grammar, and says this
+-- the directory's manifest is of a version that is read and of its grammar, and says this
 abbrev pub HasManifest : Files → Listing → Type 0
 HasManifest files m =
-    (bytes : List ℕ) × (get files manifest_name ≡ Some bytes) × ReadAnswers 2 bytes (Ok m)
+    (bytes : List ℕ) × (get files manifest_name ≡ Some bytes) × ReadAnswers bytes (Ok m)
 
 -- the file of a row is there, and has the row's size and sum
 pub record IsRowAsListed (files : Files) (row : FileRow) : Type 0 where
@@ -52,22 +51,14 @@ HasNoOther files rows = (name : List ℕ) → may_stand rows name ≡ false → 
 abbrev pub IsLabelFrom : ℕ → List ℕ → Label → Type 0
 IsLabelFrom start text label = IsLabel text label × (label.start.0 ≡ start)
 
--- ---- the files of forks
+-- ---- the forms of files
 
--- a path is that of a segment of a fork, in its incremental form or its plain one
-pub record IsForkFile (path : List ℕ) (incr : Bool) : Type 0 where
-  pub fork : ForkId
-  pub seg : ℕ
-  pub named : IsNamed fork seg
-  pub spelled : path ≡ fork_path_bytes fork seg incr
-
--- the file of a row, where it is that of a fork's segment, has its form: an incremental file is one
--- by its head, and isn't there in the plain form too; a plain one is of whole pages
+-- the file of a row has its form: an incremental file is one by its head, and isn't there in the
+-- plain form too; the plain file of a fork's segment is of whole pages
 pub record HasForm (files : Files) (row : FileRow) : Type 0 where
-  pub alone : (f : IsForkFile row.path true)
-      → get files (fork_path_bytes f.fork f.seg false) ≡ None
-  pub incremental : IsForkFile row.path true → IsIncrFile (bytes_of files row.path) row.size
-  pub pages : IsForkFile row.path false → row.size % 8192 ≡ 0
+  pub alone : (f : IsIncrementalPath row.path) → get files (file_path f.folder f.name false) ≡ None
+  pub incremental : IsIncrementalPath row.path → IsIncrFile (bytes_of files row.path) row.size
+  pub pages : IsForkFile row.path → row.size % 8192 ≡ 0
 
 -- ---- the whole
 

@@ -62,10 +62,10 @@ RowsAnswer files rows (Err refusal) =
 
 -- what a text is read as, or refused for
 abbrev pub TextAnswer : List ℕ → Result Listing ChainFault → Type 0
-TextAnswer bytes (Ok m) = ReadAnswers 2 bytes (Ok m)
-TextAnswer bytes (Err (ManifestDamaged why)) = ReadAnswers 2 bytes (Err (fault_of why))
-TextAnswer bytes (Err (ManifestVersion v)) = ReadAnswers 2 bytes (Err (manifest.Version v))
-TextAnswer bytes (Err (TimelineDiffers v)) = ReadAnswers 2 bytes (Err (manifest.TimelineIs v))
+TextAnswer bytes (Ok m) = ReadAnswers bytes (Ok m)
+TextAnswer bytes (Err (ManifestDamaged why)) = ReadAnswers bytes (Err (fault_of why))
+TextAnswer bytes (Err (ManifestVersion v)) = ReadAnswers bytes (Err (manifest.Version v))
+TextAnswer bytes (Err (TimelineDiffers v)) = ReadAnswers bytes (Err (manifest.TimelineIs v))
 TextAnswer bytes (Err NoMemory) = Unit {0}
 TextAnswer bytes (Err fault) = ⊥
 

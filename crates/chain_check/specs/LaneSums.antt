@@ -66,11 +66,6 @@ KnowsRow files (Some row) same = Knows files row same
 
 -- ---- lanes
 
--- these are bytes of a file from a place on
-pub record IsPiece (files : Files) (name : List ℕ) (at : ℕ) (piece : List ℕ) : Type 0 where
-  pub bytes : piece ≡ take (length piece) (drop at (bytes_of files name))
-  pub within : at ≤ length (bytes_of files name) → at + length piece ≤ length (bytes_of files name)
-
 -- a lane has seen the file of a row up to a place
 pub record IsSeen (files : Files) (row : FileRow) (at : ℕ) (lanes : Lanes) (j : ℕ) : Type 0 where
   pub within : at ≤ length (bytes_of files row.path)

@@ -29,7 +29,7 @@ RefusalsAreOne =
     (files : Files) (refusal other : Refusal) → IsOfFiles refusal.fault → IsOfFiles other.fault
     → HasRefusal files refusal → HasRefusal files other → refusal ≡ other
 
--- in a directory that is as listed the incremental files of forks have their form: each is a row's
+-- in a directory that is as listed the incremental files have their form: each is a row's
 abbrev pub ListedHaveForms : Type 0
 ListedHaveForms = (files : Files) (member : Member) → IsAsListed files member → HasForms files
 

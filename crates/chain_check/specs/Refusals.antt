@@ -14,7 +14,7 @@ use Rattle.backup_label.specs.declared.label.Label.{Label}
 use Rattle.incr_file.specs.Reading.{HeadAnswers}
 use Rattle.incr_file.specs.declared.decode.HeadFault.{HeadFault}
 use Rattle.incr_file.specs.declared.decode.HeadFault.TheVariants as head
-use Rattle.lsn_core.specs.Names.{fork_path_bytes}
+use Rattle.chain_files.specs.Paths.{file_path, IsIncrementalPath, IsForkFile}
 use Rattle.manifest.specs.Listing.{Listing}
 use Rattle.manifest.specs.Reading.{ReadAnswers}
 use Rattle.manifest.specs.declared.fault.ManifestFault.{ManifestFault}
@@ -22,7 +22,7 @@ use Rattle.manifest.specs.declared.fault.ManifestFault.TheVariants as manifest
 use Rattle.manifest.specs.declared.listing.FileRow.{FileRow}
 use Rattle.chain_check.specs.Sums.{has_sum}
 use Rattle.backup_files.specs.Directory.{manifest_name, label_name}
-use Rattle.chain_check.specs.Directory.{HasManifest, is_listed, may_stand, IsLabelFrom, IsForkFile, HasForm, IsAsListed}
+use Rattle.chain_check.specs.Directory.{HasManifest, is_listed, may_stand, IsLabelFrom, HasForm, IsAsListed}
 use Rattle.chain_check.specs.declared.member.Member.{Member}
 use Rattle.chain_check.specs.declared.fault.ManifestWhy.{ManifestWhy}
 use Rattle.chain_check.specs.declared.fault.ManifestWhy.TheVariants.{Lines, Sum, Json, Shape, SumKind}
@@ -45,7 +45,7 @@ fault_of SumKind = manifest.SumKind
 -- the directory's manifest is refused so
 abbrev pub RefusesManifest : Files → ManifestFault → Type 0
 RefusesManifest files fault =
-    (bytes : List ℕ) × (get files manifest_name ≡ Some bytes) × ReadAnswers 2 bytes (Err fault)
+    (bytes : List ℕ) × (get files manifest_name ≡ Some bytes) × ReadAnswers bytes (Err fault)
 
 -- ---- the files that it lists
 
@@ -95,16 +95,16 @@ RefusesLine start text line =
     IsLabelRefusedAt text line
     ⊎ ((label : Label) × IsLabel text label × (label.start.0 ≢ start) × (line ≡ 1))
 
--- ---- the files of forks
+-- ---- the forms of files
 
 -- a path is that of an incremental file, which is there in the plain form too, or isn't
 abbrev pub HasBoth : Files → List ℕ → Type 0
 HasBoth files path =
-    (f : IsForkFile path true) × (get files (fork_path_bytes f.fork f.seg false) ≢ None)
+    (f : IsIncrementalPath path) × (get files (file_path f.folder f.name false) ≢ None)
 
 abbrev pub IsAlone : Files → List ℕ → Type 0
 IsAlone files path =
-    (f : IsForkFile path true) × (get files (fork_path_bytes f.fork f.seg false) ≡ None)
+    (f : IsIncrementalPath path) × (get files (file_path f.folder f.name false) ≡ None)
 
 -- the file of a row is incremental, isn't there in the plain form, and has a head that is refused so
 abbrev pub HasHeadFault : Files → FileRow → HeadFault → Type 0
@@ -118,7 +118,7 @@ HasFormFault files row Length = HasHeadFault files row head.Length
 HasFormFault files row Magic = HasHeadFault files row head.Magic
 HasFormFault files row Range = HasHeadFault files row head.Range
 HasFormFault files row Order = HasHeadFault files row head.Order
-HasFormFault files row PageLength = IsForkFile row.path false × (row.size % 8192 ≢ 0)
+HasFormFault files row PageLength = IsForkFile row.path × (row.size % 8192 ≢ 0)
 
 -- the first row, in their order, of which something is
 abbrev pub IsFirstForm : Files → List FileRow → List ℕ → FileWhy → Type 0

@@ -65,14 +65,13 @@ fn listed_label<V: Vault>(
 /// profile). Its answer is the member that it is, exactly where it is as its manifest lists it:
 /// there is a manifest of version 2 whose sum holds, each listed file is there with its size and
 /// its sum, `backup_label` is listed, no other file is there but `backup_manifest` and those below
-/// `pg_wal/`, the label is of its grammar and tells the manifest's start, and the files of forks
-/// have their forms: plain ones are of whole pages, incremental ones have a head of its grammar that
-/// gives their size, and aren't there in the plain form too. Otherwise it errs with the first fault,
-/// in the order of `ChainFault`, and with how many files were found as listed before it. `Failed`
-/// comes only where the area's count of faults rose. The area is only read, each listed file in
-/// pieces of at most 262,144 bytes, and of an incremental file the head once more. All sizes are
-/// looked at before any sum, and files with sums of SHA-256 are summed four side by side, the
-/// largest first.
+/// `pg_wal/`, the label is of its grammar and tells the manifest's start, and the files have their
+/// forms: plain ones of forks are of whole pages, incremental ones have a head of its grammar that
+/// gives their size, and aren't there in the plain form too. Otherwise it errs with the first
+/// fault, in the order of `ChainFault`, and with how many files were found as listed before it.
+/// `Failed` comes only where the area's count of faults rose. The area is only read, each listed
+/// file in pieces of at most 262,144 bytes, and of an incremental file the head once more. All
+/// sizes are looked at before any sum.
 pub fn check_dir<V: Vault>(alloc: Global, area: &mut V, name: &Text) -> Result<Member, Refusal>
     ensures answer { IfSome (V.files area.old) (λ m. DirAnswer m name.now result) }
     ensures reads { OnlyReads V.Vault area.old area.new }

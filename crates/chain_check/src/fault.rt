@@ -50,7 +50,7 @@ pub enum ChainFault {
     NoManifest,
     /// The manifest isn't of its grammar.
     ManifestDamaged(ManifestWhy),
-    /// The manifest's version is this one, and not 2.
+    /// The manifest's version is this one, and neither 1 nor 2.
     ManifestVersion(u64),
     /// The timeline of the manifest is this one, and not 1.
     TimelineDiffers(u64),

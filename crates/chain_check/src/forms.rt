@@ -1,17 +1,17 @@
-//! The forms of the files of forks.
+//! The forms of files.
 
 ghost use Rattle.std.specs.Prelude.{◌≡◌, true, IfOk, IfSome};
 ghost use Rattle.lsn_core.specs.Causes.{HasCause};
-ghost use Rattle.lsn_core.specs.Names.{fork_path_bytes, IsNamed};
+ghost use Rattle.chain_files.specs.Paths.{file_path, IsRelationFile};
 ghost use Rattle.vault.specs.Area.{bytes_of};
 ghost use Rattle.vault.specs.Frame.{OnlyReads};
 ghost use Rattle.chain_check.specs.Refusals.{FailsRisen};
 ghost use Rattle.chain_check.specs.Inside.{FormsAnswer, FormWhy, HeadWhy};
 
 use crate::fault::{ChainFault, FileWhy};
-use chain_files::read_head;
+use chain_files::{file_path, incremental, is_fork_file, read_head};
 use incr_file::HeadFault;
-use lsn_core::{AreaFault, ForkId, PAGE, Text, fork_path, path_fork};
+use lsn_core::{AreaFault, PAGE, Text};
 use manifest::FileRow;
 use std::alloc::Global;
 use vault::Vault;
@@ -37,22 +37,21 @@ fn head_why<V: Vault>(
     }
 }
 
-/// What is wrong with a row's file, which is that of this segment of a fork in the incremental form,
-/// if anything.
+/// What is wrong with a row's file, an incremental one of this folder and plain name, if anything.
 fn incremental_fault<V: Vault>(
     alloc: Global,
     area: &mut V,
     row: &FileRow,
-    fork: ForkId,
-    seg: u32,
+    folder: &[u8],
+    name: &[u8],
 ) -> Result<Option<FileWhy>, AreaFault>
-    requires named { IsNamed fork seg }
-    requires spelled { row.now.path ≡ fork_path_bytes fork seg true }
+    requires placed { IsRelationFile folder.now name.now }
+    requires spelled { row.now.path ≡ file_path folder.now name.now true }
     ensures why { IfOk result (λ why. IfSome (V.files area.old) (λ m. FormWhy m row.now why)) }
     ensures reads { OnlyReads V.Vault area.old area.new }
     ensures cause { HasCause (V.faults area.old) (V.faults area.new) result }
 {
-    let plain = fork_path(alloc, fork, seg, false)?;
+    let plain = file_path(alloc, folder, name, false)?;
     if area.size(plain.as_bytes())?.is_some() {
         return Ok(Some(FileWhy::Both));
     }
@@ -69,11 +68,11 @@ fn form_fault<V: Vault>(
     ensures reads { OnlyReads V.Vault area.old area.new }
     ensures cause { HasCause (V.faults area.old) (V.faults area.new) result }
 {
-    let Some((fork, seg, incr)) = path_fork(row.path.as_bytes()) else {
+    if let Some((folder, name)) = incremental(row.path.as_bytes()) {
+        return incremental_fault(alloc, area, row, folder, name);
+    }
+    if !is_fork_file(row.path.as_bytes()) {
         return Ok(None);
-    };
-    if incr {
-        return incremental_fault(alloc, area, row, fork, seg);
     }
     if row.size % PAGE as u64 != 0 {
         return Ok(Some(FileWhy::PageLength));

@@ -10,7 +10,8 @@ ghost use Rattle.chain_check.specs.Inside.{path_of, HeldAnswer};
 
 use crate::extra::is_listed;
 use crate::link::LinkFault;
-use lsn_core::{ForkId, NoMemory, Text, fork_path, path_fork};
+use chain_files::{file_path, incremental};
+use lsn_core::{NoMemory, Text};
 use manifest::FileRow;
 use std::alloc::Global;
 
@@ -39,16 +40,13 @@ fn is_held(alloc: Global, rows: &[FileRow], rising: bool, path: &[u8]) -> Result
     ensures held { IfOk result (λ held. held ≡ true → IsHeld rows.now path.now) }
     ensures lacks { IfOk result (λ held. held ≡ false → IsHeld rows.now path.now → ⊥) }
 {
-    let Some((fork, seg, incr)) = path_fork(path) else {
+    let Some((folder, name)) = incremental(path) else {
         return Ok(true);
     };
-    if !incr {
-        return Ok(true);
-    }
     if has_path(rows, rising, path) {
         return Ok(true);
     }
-    let plain = fork_path(alloc, fork, seg, false)?;
+    let plain = file_path(alloc, folder, name, false)?;
     Ok(has_path(rows, rising, plain.as_bytes()))
 }
 

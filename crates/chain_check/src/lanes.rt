@@ -7,10 +7,11 @@ ghost use Rattle.lsn_core.specs.Causes.{HasCause};
 ghost use Rattle.vault.specs.Frame.{OnlyReads};
 ghost use Rattle.manifest.specs.declared.kinds.SumKind.TheVariants.{Sha256};
 ghost use Rattle.manifest.specs.declared.listing.FileRow.{FileRow};
-ghost use Rattle.chain_check.specs.LaneSums.{Knows, AreKnown, KnowsRow, IsPiece, IsSeen, IsAt};
+ghost use Rattle.chain_check.specs.LaneSums.{Knows, AreKnown, KnowsRow, IsSeen, IsAt};
 ghost use Rattle.chain_check.specs.LaneSums.{Moves, IsHashing};
 
 use crate::sums::says_sum;
+use chain_files::read_piece;
 use lsn_core::byte_words::zeros;
 use lsn_core::{AreaFault, NoMemory};
 use manifest::{FileRow, SumKind};
@@ -45,24 +46,6 @@ struct Buffers {
     second: Vec<u8>,
     third: Vec<u8>,
     fourth: Vec<u8>,
-}
-
-/// Reads the piece of a file from a place on. Whether the file has so many bytes.
-fn read_piece<V: Vault>(
-    area: &mut V,
-    path: &[u8],
-    at: u64,
-    buffer: &mut [u8],
-) -> Result<bool, AreaFault>
-    requires { length buffer.old ≤ 2 ^ 20 }
-    ensures piece { IfOk result (λ whole. whole ≡ true
-        → IfSome (V.files area.old) (λ m. IsPiece m path.now at buffer.new)) }
-    ensures long { length buffer.new ≡ length buffer.old }
-    ensures reads { OnlyReads V.Vault area.old area.new }
-    ensures cause { HasCause (V.faults area.old) (V.faults area.new) result }
-{
-    let count = area.read_at(path, at, buffer)?;
-    Ok(count as usize == buffer.len())
 }
 
 /// Reads the piece that a lane sees next. Its place behind it, or none where the file ends before.

@@ -5,11 +5,10 @@
 //! as listed (`specs/Directory.antt`), and otherwise a `Refusal`: its first fault, in the order of
 //! `specs/Refusals.antt`, and how many files were found as listed before it. Each listed file is
 //! read whole, in pieces, four side by side where that is faster (`lanes`), and of an incremental
-//! file the head once more.
-//! `check_chain` judges members by their labels and manifests (`specs/Chain.antt`). `laws` say that
-//! a directory and a chain have one answer, that in a directory that is as listed the incremental
-//! files of forks have their form, and that such a directory is told by the sum in which its
-//! manifest ends (`specs/Collisions.antt`). `Member` stands here, since `manifest` knows no label.
+//! file the head once more. `check_chain` judges members by their labels and manifests
+//! (`specs/Chain.antt`). `laws` say that a directory and a chain have one answer, that in a directory
+//! that is as listed the incremental files have their form, and that such a directory is told by the
+//! sum in which its manifest ends (`specs/Collisions.antt`).
 //!
 //! Left to others: what manifest, label and the head of an incremental file say (`manifest`,
 //! `backup_label`, `incr_file`), how a head is read (`chain_files`), what the pages of the files

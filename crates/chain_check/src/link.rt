@@ -1,11 +1,10 @@
 //! What a member of a chain is refused for, by what labels and manifests tell.
 
-ghost use Rattle.std.specs.Prelude.{◌≡◌};
+ghost use Rattle.std.specs.Prelude.{◌≡◌, not, ◌==◌};
 ghost use Rattle.std.specs.Option.{option_map};
 ghost use Rattle.std.specs.List.{find};
-ghost use Rattle.std.specs.Prelude.{not, ◌==◌};
 ghost use Rattle.chain_check.specs.declared.link.LinkFault.TheVariants as link;
-ghost use Rattle.chain_check.specs.Chain.{timelines_of, system_of, first_fault, label_fault};
+ghost use Rattle.chain_check.specs.Chain.{timelines_of, system_of, version_fault, first_fault, label_fault};
 ghost use Rattle.chain_check.specs.Chain.{system_fault, prior_fault, overlap_fault};
 
 use crate::member::Member;
@@ -19,6 +18,8 @@ use std::alloc::AllocError;
 pub enum LinkFault {
     /// The chain has more than 64 members.
     TooManyMembers,
+    /// The version of the member's manifest is this one, and not 2.
+    ManifestVersion(u32),
     /// A timeline of the member's label is this one, and not 1: that on which the backup was begun,
     /// or else that of its prior.
     TimelineDiffers(u32),
@@ -70,14 +71,28 @@ fn other_timeline(label: &Label) -> Option<u32>
     }
 }
 
-/// What the first member of a chain is refused for by its label, if anything.
-pub(crate) fn first_fault(label: &Label) -> Option<LinkFault>
-    ensures { result ≡ first_fault label.now }
+/// What a member is refused for by the version of its manifest, if anything.
+fn version_fault(member: &Member) -> Option<LinkFault>
+    ensures { result ≡ version_fault member.now }
 {
-    if let Some(timeline) = other_timeline(label) {
+    let version = member.manifest.version;
+    if version == 2 {
+        return None;
+    }
+    Some(LinkFault::ManifestVersion(version))
+}
+
+/// What the first member of a chain is refused for by its version and its label, if anything.
+pub(crate) fn first_fault(member: &Member) -> Option<LinkFault>
+    ensures { result ≡ first_fault member.now }
+{
+    if let Some(why) = version_fault(member) {
+        return Some(why);
+    }
+    if let Some(timeline) = other_timeline(&member.label) {
         return Some(LinkFault::TimelineDiffers(timeline));
     }
-    label.prior.map(|_| LinkFault::FirstIncremental)
+    member.label.prior.map(|_| LinkFault::FirstIncremental)
 }
 
 /// The system identifier that a member's manifest tells; that of version 2 tells one.
@@ -123,11 +138,14 @@ fn overlap_fault(prior: &Member, member: &Member) -> Option<LinkFault>
     Some(LinkFault::Overlap(start, end))
 }
 
-/// What a later member of a chain is refused for by what its label and its predecessor's tell, and
-/// by their system identifiers, if anything.
+/// What a later member of a chain is refused for by its version, by what its label and its
+/// predecessor's tell, and by their system identifiers, if anything.
 pub(crate) fn label_fault(prior: &Member, member: &Member) -> Option<LinkFault>
     ensures { result ≡ label_fault prior.now member.now }
 {
+    if let Some(why) = version_fault(member) {
+        return Some(why);
+    }
     if let Some(timeline) = other_timeline(&member.label) {
         return Some(LinkFault::TimelineDiffers(timeline));
     }

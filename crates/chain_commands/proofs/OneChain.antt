@@ -166,6 +166,7 @@ RefusalsAsAreOne joining = (ms : List Member) (refusal other : ChainRefusal) →
 pub of_link : (why : LinkFault) → is_decided (link_status why) ≡ true → why ≢ link.NoMemory
 of_link link.NoMemory own = absurd cc
 of_link link.TooManyMembers own = λ e. absurd cc
+of_link (link.ManifestVersion v) own = λ e. absurd cc
 of_link (link.TimelineDiffers v) own = λ e. absurd cc
 of_link link.FirstIncremental own = λ e. absurd cc
 of_link link.LaterFull own = λ e. absurd cc

@@ -10,6 +10,7 @@ use Rattle.command_base.specs.declared.status.Status.TheVariants as status
 -- the member of this name isn't taken
 abbrev pub link_text : List ℕ → LinkFault → List ℕ
 link_text name link.TooManyMembers = codes "37 TooManyMembers"
+link_text name (link.ManifestVersion v) = with_number (codes "22 ManifestVersion") name v
 link_text name (link.TimelineDiffers v) = with_number (codes "34 TimelineDiffers") name v
 link_text name link.FirstIncremental = codes "30 FirstIncremental " ++ name
 link_text name link.LaterFull = codes "31 LaterFull " ++ name
@@ -24,6 +25,7 @@ link_text name link.NoMemory = memory_text
 -- the status of a member that isn't taken
 abbrev pub link_status : LinkFault → Status
 link_status link.TooManyMembers = status.Refused
+link_status (link.ManifestVersion v) = status.Refused
 link_status (link.TimelineDiffers v) = status.Refused
 link_status link.FirstIncremental = status.Refused
 link_status link.LaterFull = status.Refused

@@ -14,6 +14,9 @@ pub fn link_text(alloc: Global, name: &[u8], why: &LinkFault) -> Result<Text, No
 {
     match why {
         LinkFault::TooManyMembers => joined(alloc, &[b"37 TooManyMembers"]),
+        LinkFault::ManifestVersion(v) => {
+            with_number(alloc, b"22 ManifestVersion", name, u64::from(*v))
+        }
         LinkFault::TimelineDiffers(v) => {
             with_number(alloc, b"34 TimelineDiffers", name, u64::from(*v))
         }
@@ -35,6 +38,7 @@ pub fn link_status(why: &LinkFault) -> Status
 {
     match why {
         LinkFault::TooManyMembers
+        | LinkFault::ManifestVersion(_)
         | LinkFault::TimelineDiffers(_)
         | LinkFault::FirstIncremental
         | LinkFault::LaterFull

@@ -10,7 +10,7 @@ use Rattle.chain_listing.specs.Shown.{Shows, TextsTell, manifest_path, label_pat
 use Rattle.chain_listing.specs.Folders.{IsFile, TellsIn}
 use Rattle.chain_listing.specs.declared.backup.Backup.{Backup}
 use Rattle.chain_listing.specs.declared.shown.FolderFault.{FolderFault}
-use Rattle.chain_listing.specs.declared.shown.FolderFault.TheVariants.{Name, NoManifest, Manifest, Label, Timeline, NoMemory}
+use Rattle.chain_listing.specs.declared.shown.FolderFault.TheVariants.{Name, NoManifest, Manifest, Label, Version, Timeline, NoMemory}
 use Rattle.chain_listing.specs.declared.reading.Folder.{Folder}
 
 pub names_pushed : (folders : List Folder) (folder : Folder) (rest : List (List ℕ)) → map (λ f. f.name) (folders ++ folder ∷ []) ++ rest ≡ map (λ f. f.name) folders ++ (folder.name ∷ rest)
@@ -33,5 +33,6 @@ shows_told m folder (Err Name) named told = absurd told
 shows_told m folder (Err NoManifest) named told = (named, told)
 shows_told m folder (Err (Manifest why)) named told = (named, told)
 shows_told m folder (Err (Label line)) named told = (named, told)
+shows_told m folder (Err (Version v)) named told = (named, told)
 shows_told m folder (Err (Timeline v)) named told = (named, told)
 shows_told m folder (Err NoMemory) named told = (named, told)

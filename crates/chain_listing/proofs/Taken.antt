@@ -3,7 +3,7 @@ use Rattle.std.proofs.Common.{◌≡◌, ap, sym, subst, ℕ, Bool, true, false,
 use Rattle.std.specs.Option.{option_map, option_or, is_none}
 use Rattle.std.proofs.lemmas.Bool.{and_parts}
 use Rattle.lsn_core.specs.declared.lsn.Lsn.{Lsn}
-use Rattle.chain_check.specs.Chain.{timeline_fault, named_fault, system_fault, prior_fault, overlap_fault, system_of}
+use Rattle.chain_check.specs.Chain.{version_fault, timeline_fault, named_fault, system_fault, prior_fault, overlap_fault, system_of}
 use Rattle.chain_check.specs.declared.link.LinkFault.{LinkFault}
 use Rattle.chain_check.specs.declared.link.LinkFault.TheVariants.{TimelineDiffers, FirstIncremental}
 use Rattle.chain_check.specs.declared.member.Member.{Member}
@@ -30,6 +30,9 @@ same a b e = grind (arith, e)
 not_below : (end start : ℕ) → nat_le end start ≡ true → nat_lt start end ≡ false
 not_below end start e = grind (arith, e)
 
+new : (m : Member) → IsShown m → version_fault m ≡ None
+new m shown = rw shown.version refl
+
 timely : (m : Member) → IsShown m → timeline_fault m.label ≡ None
 timely m shown = ap (λ (o : Option ℕ). option_map (λ t. TimelineDiffers t) o) shown.timelines
 
@@ -38,7 +41,7 @@ first_by None e = refl
 first_by (Some p) e = absurd (false_true e)
 
 pub full_first : FullAreFirst
-full_first m shown full = neither (timeline_fault m.label) _ (timely m shown) (first_by m.label.prior full)
+full_first m shown full = neither (version_fault m) _ (new m shown) (neither (timeline_fault m.label) _ (timely m shown) (first_by m.label.prior full))
 
 before_by : (p m : Member) (named : Option (Lsn × ℕ)) → p.label.start.0 ≡ p.manifest.start → m.label.start.0 ≡ m.manifest.start
     → (names_start (option_map (λ x. x.0) named) p.manifest.start && (nat_le p.manifest.end m.manifest.start && (system_of p == system_of m))) ≡ true
@@ -53,4 +56,4 @@ before_by p m (Some named) ps ms e =
     (else_none (nat_lt m.label.start.0 p.manifest.end) _ (subst (λ (x : ℕ). nat_lt x p.manifest.end ≡ false) (sym ms) (not_below p.manifest.end m.manifest.start inner.0))))
 
 pub priors_before : PriorsAreBefore
-priors_before p m ps ms e = neither (timeline_fault m.label) _ (timely m ms) (before_by p m m.label.prior ps.start ms.start e)
+priors_before p m ps ms e = neither (version_fault m) _ (new m ms) (neither (timeline_fault m.label) _ (timely m ms) (before_by p m m.label.prior ps.start ms.start e))

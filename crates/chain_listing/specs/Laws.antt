@@ -59,6 +59,7 @@ FoundIsNewest = (backups : List Backup) (upto : ℕ) (other : Backup)
 
 -- a member's label and manifest are such as a folder shows
 pub record IsShown (member : Member) : Type 0 where
+  pub version : member.manifest.version ≡ 2
   pub timelines : other_timeline member.label ≡ None
   pub start : member.label.start.0 ≡ member.manifest.start
 
@@ -69,7 +70,7 @@ seen member = backup_of member.name member.manifest member.label
 -- a full backup may be the first member
 abbrev pub FullAreFirst : Type 0
 FullAreFirst = (member : Member) → IsShown member → is_full (seen member) ≡ true
-    → first_fault member.label ≡ None
+    → first_fault member ≡ None
 
 -- and one that stands on another may come behind it
 abbrev pub PriorsAreBefore : Type 0

@@ -1,5 +1,5 @@
 -- What a folder shows: the backup that its manifest and its label tell of, or its first fault.
-use Rattle.std.specs.Prelude.{◌≡◌, ℕ, true, false, not, ◌==◌, List, ◌∷◌, ◌++◌, Option, Some, None, Result, Ok, Err}
+use Rattle.std.specs.Prelude.{◌≡◌, ◌≢◌, ℕ, true, false, not, ◌==◌, List, ◌∷◌, ◌++◌, Option, Some, None, Result, Ok, Err}
 use Rattle.std.specs.List.{find}
 use Rattle.std.specs.FinMap.{get}
 use Rattle.lsn_core.specs.Files.{Files}
@@ -15,22 +15,31 @@ use Rattle.chain_listing.specs.Words.{is_name}
 use Rattle.chain_listing.specs.Backups.{backup_of}
 use Rattle.chain_listing.specs.declared.backup.Backup.{Backup}
 use Rattle.chain_listing.specs.declared.shown.FolderFault.{FolderFault}
-use Rattle.chain_listing.specs.declared.shown.FolderFault.TheVariants.{Name, NoManifest, Manifest, Label as LabelLine, Timeline, NoMemory}
+use Rattle.chain_listing.specs.declared.shown.FolderFault.TheVariants.{Name, NoManifest, Manifest, Label as LabelLine, Version, Timeline, NoMemory}
 
 -- ---- the two texts
 
 -- a text is a manifest's, where there is one
 abbrev pub IsManifest : Option (List ℕ) → Listing → Type 0
-IsManifest text m = (bytes : List ℕ) × (text ≡ Some bytes) × ReadAnswers 2 bytes (Ok m)
+IsManifest text m = (bytes : List ℕ) × (text ≡ Some bytes) × ReadAnswers bytes (Ok m)
 
 -- the first timeline that isn't 1, of those that a label tells
 abbrev pub other_timeline : Label → Option ℕ
 other_timeline label = find (λ t. not (t == 1)) (timelines_of label)
 
--- the texts are those of a manifest and of its label, whose timelines are these
+-- the texts are those of a manifest and of its label
+abbrev pub AreTexts : Option (List ℕ) → List ℕ → Listing → Label → Type 0
+AreTexts manifest text m label = IsManifest manifest m × IsLabelFrom m.start text label
+
+-- the version is 2, and the first other timeline than 1 is this
 abbrev pub AreHeads : Option (List ℕ) → List ℕ → Listing → Label → Option ℕ → Type 0
 AreHeads manifest text m label other =
-    IsManifest manifest m × IsLabelFrom m.start text label × (other_timeline label ≡ other)
+    AreTexts manifest text m label × (m.version ≡ 2) × (other_timeline label ≡ other)
+
+-- the version is this one, and not 2
+abbrev pub AreOld : Option (List ℕ) → List ℕ → ℕ → Type 0
+AreOld manifest text v = (m : Listing) × (label : Label) × AreTexts manifest text m label
+    × (m.version ≡ v) × (v ≢ 2)
 
 -- what the texts of a folder of this name tell: the backup, or the first fault
 abbrev pub TextsTell :
@@ -40,9 +49,10 @@ TextsTell folder manifest text (Ok backup) = (m : Listing) × (label : Label)
 TextsTell folder manifest text (Err Name) = ⊥
 TextsTell folder manifest text (Err NoManifest) = manifest ≡ None
 TextsTell folder manifest text (Err (Manifest why)) =
-    (bytes : List ℕ) × (manifest ≡ Some bytes) × ReadAnswers 2 bytes (Err why)
+    (bytes : List ℕ) × (manifest ≡ Some bytes) × ReadAnswers bytes (Err why)
 TextsTell folder manifest text (Err (LabelLine line)) =
     (m : Listing) × IsManifest manifest m × RefusesLine m.start text line
+TextsTell folder manifest text (Err (Version v)) = AreOld manifest text v
 TextsTell folder manifest text (Err (Timeline v)) =
     (m : Listing) × (label : Label) × AreHeads manifest text m label (Some v)
 TextsTell folder manifest text (Err NoMemory) = ⊥
@@ -68,7 +78,7 @@ abbrev pub ManifestAnswer : Option (List ℕ) → Result Listing FolderFault →
 ManifestAnswer text (Ok m) = IsManifest text m
 ManifestAnswer text (Err NoManifest) = text ≡ None
 ManifestAnswer text (Err (Manifest why)) =
-    (bytes : List ℕ) × (text ≡ Some bytes) × ReadAnswers 2 bytes (Err why)
+    (bytes : List ℕ) × (text ≡ Some bytes) × ReadAnswers bytes (Err why)
 ManifestAnswer text (Err NoMemory) = Unit {0}
 ManifestAnswer text (Err why) = ⊥
 
@@ -83,9 +93,10 @@ abbrev pub HeadsAnswer :
 HeadsAnswer manifest text (Ok heads) = AreHeads manifest text heads.0 heads.1 None
 HeadsAnswer manifest text (Err NoManifest) = manifest ≡ None
 HeadsAnswer manifest text (Err (Manifest why)) =
-    (bytes : List ℕ) × (manifest ≡ Some bytes) × ReadAnswers 2 bytes (Err why)
+    (bytes : List ℕ) × (manifest ≡ Some bytes) × ReadAnswers bytes (Err why)
 HeadsAnswer manifest text (Err (LabelLine line)) =
     (m : Listing) × IsManifest manifest m × RefusesLine m.start text line
+HeadsAnswer manifest text (Err (Version v)) = AreOld manifest text v
 HeadsAnswer manifest text (Err (Timeline v)) =
     (m : Listing) × (label : Label) × AreHeads manifest text m label (Some v)
 HeadsAnswer manifest text (Err NoMemory) = Unit {0}

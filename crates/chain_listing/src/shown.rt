@@ -26,6 +26,8 @@ pub enum FolderFault {
     /// This line of the label, from 1, is the first outside its grammar; or line 1 tells another
     /// start than the manifest.
     Label(u32),
+    /// The version of the manifest is this one, and not 2.
+    Version(u32),
     /// A timeline of the label is this one, and not 1: that of the backup, or else of its prior.
     Timeline(u32),
     /// Memory ran out.
@@ -79,7 +81,7 @@ fn other_timeline(label: &Label) -> Option<u32>
     }
 }
 
-/// The manifest and the label of two texts, which belong to one backup on timeline 1.
+/// The manifest, of version 2, and the label of two texts, which belong to one backup on timeline 1.
 fn heads_in(
     alloc: Global,
     manifest: Option<&[u8]>,
@@ -89,6 +91,9 @@ fn heads_in(
 {
     let manifest = manifest_in(alloc, manifest)?;
     let label = label_in(alloc, label, manifest.start)?;
+    if manifest.version != 2 {
+        return Err(FolderFault::Version(manifest.version));
+    }
     match other_timeline(&label) {
         Some(timeline) => Err(FolderFault::Timeline(timeline)),
         None => Ok((manifest, label)),

@@ -33,6 +33,7 @@ fault_text folder.Name = codes "Name"
 fault_text folder.NoManifest = codes "NoManifest"
 fault_text (folder.Manifest why) = manifest_why why
 fault_text (folder.Label line) = codes "LabelDamaged " ++ decimal line
+fault_text (folder.Version v) = codes "ManifestVersion " ++ decimal v
 fault_text (folder.Timeline v) = codes "TimelineDiffers " ++ decimal v
 fault_text folder.NoMemory = codes "NoMemory"
 

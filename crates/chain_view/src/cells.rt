@@ -87,6 +87,9 @@ fn fault_text(alloc: Global, fault: FolderFault) -> Result<Word, NoMemory>
         FolderFault::Label(line) => {
             Ok(Word::from_string(format!(in alloc; "LabelDamaged {line}")?))
         }
+        FolderFault::Version(v) => {
+            Ok(Word::from_string(format!(in alloc; "ManifestVersion {v}")?))
+        }
         FolderFault::Timeline(v) => {
             Ok(Word::from_string(format!(in alloc; "TimelineDiffers {v}")?))
         }

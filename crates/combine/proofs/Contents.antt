@@ -6,21 +6,19 @@ use Rattle.std.proofs.lemmas.List.{length-append}
 use Rattle.lsn_core.specs.byte_words.Told.{when_told}
 use Rattle.lsn_core.specs.byte_words.Numbers.{◌>>=◌}
 use Rattle.lsn_core.specs.Files.{Files}
-use Rattle.lsn_core.specs.Names.{fork_path_bytes, IsNamed}
-use Rattle.lsn_core.specs.declared.ids.ForkId.{ForkId}
-use Rattle.lsn_core.proofs.ForkPaths.{one_place}
 use Rattle.vault.specs.Area.{bytes_of}
 use Rattle.vault.specs.declared.area.Vault.{Ghosts}
 use Rattle.vault.specs.declared.lending.Held.{Held}
 use Rattle.incr_file.specs.Form.{pages_bytes}
 use Rattle.backup_files.specs.Directory.{label_name}
 use Rattle.backup_files.proofs.Passed.{ok_more}
-use Rattle.chain_check.specs.Directory.{IsForkFile}
-use Rattle.chain_check.proofs.ForkFiles.{fork_file}
-use Rattle.chain_files.specs.Segments.{chain_segments, AllHaveForms}
+use Rattle.chain_files.specs.Segments.{chain_pages, AllHaveForms}
 use Rattle.chain_files.specs.Sources.{OfChain}
 use Rattle.chain_files.specs.Told.{chain_told, told_at}
 use Rattle.chain_files.proofs.Told.{member_told, members_told}
+use Rattle.chain_files.specs.Paths.{file_path, IsRelationFile, IsIncrementalPath}
+use Rattle.chain_files.proofs.Placed.{one_file}
+use Rattle.chain_check.proofs.ForkFiles.{placed_path}
 use Rattle.directory_files.specs.Labels.{first_lines}
 use Rattle.combine.specs.Combined.{EndsWith, kept_bytes}
 use Rattle.combine.specs.Inside.{IsContent, IsContentOf, IsLast, IsTarget}
@@ -66,7 +64,7 @@ when_all (Some x) P step = step x refl
 
 -- ---- files that stand for others
 
-pub kept_content : {V : Type 0} (g : Ghosts V) (areas : List (Held V)) (places : List ℕ) (place : ℕ) (target : Target) (bytes : List ℕ) → IsLast places place → IsTarget target.from target → (IsForkFile target.from true → ⊥) → IfSome (told_at g areas place) (λ m. bytes ≡ kept_bytes m target.to)
+pub kept_content : {V : Type 0} (g : Ghosts V) (areas : List (Held V)) (places : List ℕ) (place : ℕ) (target : Target) (bytes : List ℕ) → IsLast places place → IsTarget target.from target → (IsIncrementalPath target.from → ⊥) → IfSome (told_at g areas place) (λ m. bytes ≡ kept_bytes m target.to)
     → IsContent (chain_told g areas places) target bytes
 kept_content g areas places place target bytes last is none kept =
     when_all (chain_told g areas places) (λ chain. AllHaveForms chain → IsContentOf chain target bytes) (λ chain told forms. record {
@@ -76,16 +74,16 @@ kept_content g areas places place target bytes last is none kept =
           here ∙ ap (kept_bytes newest) (is.to.kept none);
     })
 
-abbrev RebuiltOf : List Files → List ℕ → ForkId → ℕ → Type 0
-RebuiltOf chain bytes fork seg = IfSome (chain_segments chain fork seg) (λ pages. bytes ≡ pages_bytes (take 131072 pages))
+abbrev RebuiltOf : List Files → List ℕ → List ℕ → List ℕ → Type 0
+RebuiltOf chain bytes folder name = IfSome (chain_pages chain folder name) (λ pages. bytes ≡ pages_bytes (take 131072 pages))
 
-pub rebuilt_content : (told : Option (List Files)) (target : Target) (bytes : List ℕ) (fork : ForkId) (seg : ℕ) → IsNamed fork seg → target.from ≡ fork_path_bytes fork seg true → OfChain told (λ chain. RebuiltOf chain bytes fork seg) → IsContent told target bytes
-rebuilt_content told target bytes fork seg named spelled rebuilt =
-    when_told told (λ chain. AllHaveForms chain → RebuiltOf chain bytes fork seg) (λ chain. AllHaveForms chain → IsContentOf chain target bytes)
+pub rebuilt_content : (told : Option (List Files)) (target : Target) (bytes : List ℕ) (folder name : List ℕ) → IsRelationFile folder name → target.from ≡ file_path folder name true → OfChain told (λ chain. RebuiltOf chain bytes folder name) → IsContent told target bytes
+rebuilt_content told target bytes folder name named spelled rebuilt =
+    when_told told (λ chain. AllHaveForms chain → RebuiltOf chain bytes folder name) (λ chain. AllHaveForms chain → IsContentOf chain target bytes)
     (λ chain is forms. record {
       rebuilt = λ f.
-          let same = one_place fork f.fork seg f.seg true true named f.named (sym spelled ∙ f.spelled) in
-          subst (RebuiltOf chain bytes f.fork) same.1.0 (subst (λ (x : ForkId). RebuiltOf chain bytes x seg) same.0 (is forms));
-      kept = λ none. absurd (none (fork_file fork seg named spelled));
+          let same = one_file folder f.folder name f.name true true named f.placed (sym spelled ∙ f.spelled) in
+          subst (RebuiltOf chain bytes f.folder) same.1.0 (subst (λ (x : List ℕ). RebuiltOf chain bytes x name) same.0 (is forms));
+      kept = λ none. absurd (none (placed_path folder name named spelled));
     })
     rebuilt

@@ -2,15 +2,14 @@
 use Rattle.std.proofs.Common.{◌≡◌, ◌≢◌, ℕ, true, false, List, [], ◌∷◌, length, codes, Option, Some, None, IfSome, ap, subst, ◌∙◌}
 use Rattle.std.specs.FinMap.{get}
 use Rattle.lsn_core.specs.Files.{Files}
-use Rattle.lsn_core.specs.Names.{fork_path_bytes}
 use Rattle.backup_label.specs.Time.{IsTimeText}
 use Rattle.manifest.specs.Listing.{Listing}
 use Rattle.manifest.specs.declared.listing.FileRow.{FileRow}
 use Rattle.backup_files.specs.Directory.{manifest_name}
 use Rattle.backup_files.specs.Area.{with_file}
-use Rattle.chain_check.specs.Directory.{IsForkFile}
 use Rattle.chain_files.specs.Segments.{AllHaveForms}
 use Rattle.chain_files.specs.Sources.{OfChain}
+use Rattle.chain_files.specs.Paths.{file_path, IsIncrementalPath}
 use Rattle.directory_files.specs.Relisted.{File, AreFilesBy}
 use Rattle.directory_files.specs.Written.{AreFilesFor, PutsFiles, Relists}
 use Rattle.directory_files.specs.declared.targets.Target.{Target}
@@ -24,12 +23,12 @@ use Rattle.combine.proofs.Rebuilt.{rebuilds, rebuilt_bytes}
 combined_file : (chain : List Files) (newest : Files) (path : List ℕ) (target : Target) (bytes : List ℕ) → EndsWith chain newest → AllHaveForms chain → get newest path ≢ None → IsTarget path target → IsContentOf chain target bytes → IsCombinedFile chain newest path (target.to, bytes)
 combined_file chain newest path target bytes ends forms there is content = record {
   rebuilt = λ f.
-      let from : IsForkFile target.from true = record { fork = f.fork; seg = f.seg; named = f.named; spelled = is.from ∙ f.spelled } in
-      let r = rebuilds chain newest f.fork f.seg ends forms f.named (λ none. there (ap (get newest) f.spelled ∙ none)) in
-      let whole = rebuilt_bytes chain f.fork f.seg bytes r (content.rebuilt from) in
-      (r.0, r.1, ap (λ (p : List ℕ). (p, bytes)) (is.to.plain f) ∙ ap (λ (b : List ℕ). (fork_path_bytes f.fork f.seg false, b)) whole);
+      let from : IsIncrementalPath target.from = record { folder = f.folder; name = f.name; placed = f.placed; spelled = is.from ∙ f.spelled } in
+      let r = rebuilds chain newest f.folder f.name ends forms f.placed (λ none. there (ap (get newest) f.spelled ∙ none)) in
+      let whole = rebuilt_bytes chain f.folder f.name bytes r (content.rebuilt from) in
+      (r.0, r.1, ap (λ (p : List ℕ). (p, bytes)) (is.to.plain f) ∙ ap (λ (b : List ℕ). (file_path f.folder f.name false, b)) whole);
   kept = λ none.
-      let kept : bytes ≡ kept_bytes newest target.from = content.kept (λ f. none (subst (λ (p : List ℕ). IsForkFile p true) is.from f)) newest ends in
+      let kept : bytes ≡ kept_bytes newest target.from = content.kept (λ f. none (subst (λ (p : List ℕ). IsIncrementalPath p) is.from f)) newest ends in
       ap (λ (p : List ℕ). (p, bytes)) (is.to.kept none) ∙ ap (λ (b : List ℕ). (path, b)) (kept ∙ ap (kept_bytes newest) is.from);
 }
 

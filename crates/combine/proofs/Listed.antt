@@ -5,7 +5,6 @@ use Rattle.std.specs.FinMap.{get}
 use Rattle.std.specs.List.{AllByRecursion, starts_with}
 use Rattle.std.proofs.lemmas.Nat.{mod-mul-add}
 use Rattle.lsn_core.specs.Files.{Files}
-use Rattle.lsn_core.specs.Names.{fork_path_bytes}
 use Rattle.lsn_core.specs.Store.{ForkPages}
 use Rattle.manifest.specs.Text.{manifest_text}
 use Rattle.vault.specs.Area.{bytes_of}
@@ -15,19 +14,21 @@ use Rattle.backup_files.proofs.Appended.{get_here}
 use Rattle.backup_files.proofs.Digests.{spelled}
 use Rattle.backup_files.proofs.Listable.{all_map}
 use Rattle.incr_file.specs.Form.{pages_bytes}
-use Rattle.chain_check.specs.Directory.{HasManifest, IsRowAsListed, is_listed, HasNoOther, IsForkFile, HasForm, IsAsListed}
+use Rattle.chain_check.specs.Directory.{HasManifest, IsRowAsListed, is_listed, HasNoOther, HasForm, IsAsListed}
 use Rattle.chain_check.specs.Chain.{IsOnOneTimeline, AreLinked, IsAccepted}
 use Rattle.chain_check.specs.declared.member.Member.{Member}
-use Rattle.chain_check.proofs.ForkFiles.{fork_file}
 use Rattle.directory_files.specs.Labels.{first_lines}
 use Rattle.combine.specs.Combined.{IsCombined, IsCombinedFile, kept_bytes, other_rows, relisted}
 use Rattle.combine.specs.Laws.{CombinedIsAsListed, FullMembersAreChains, full_label}
 use Rattle.directory_files.specs.Relisted.{File, Rule}
 use Rattle.directory_files.proofs.Among.{Among, of_all, all_among, all_of_map, name_of}
-use Rattle.directory_files.proofs.Standing.{fork_unlike, label_apart, same_path, neither, none_if, other_row, is_other, file_for, put_in, stands_in, all_listed, all_made}
+use Rattle.directory_files.proofs.Standing.{never_label, label_apart, same_path, neither, none_if, other_row, is_other, file_for, put_in, stands_in, all_listed, all_made}
 use Rattle.combine.proofs.FullLabels.{full_text}
 use Rattle.combine.proofs.SameSegments.{kept_whole}
 use Rattle.chain_files.proofs.Pages.{HaveSize, chain_sized, bytes_length}
+use Rattle.chain_files.specs.Paths.{IsIncrementalPath, fork_folder, fork_name, IsForkFile}
+use Rattle.lsn_core.specs.Names.{fork_path_bytes}
+use Rattle.chain_files.proofs.Placed.{fork_file}
 use Rattle.combine.proofs.Standing.{row_at, none_listed, no_part, found_in}
 
 -- a remainder that can't be other than none is none
@@ -84,7 +85,7 @@ module _ (chain : List Files) (newest : Files) (member : Member) (when count : �
       let row = row_at rows label_name listed.label_row in
       let other = other_row rows row.0 row.1 (λ m. label_apart (sym row.2 ∙ m)) in
       let file = file_for rule (other_rows rows) is.files row.0 is.stand other in
-      let plain : IsForkFile row.0.path true → ⊥ = λ f. fork_unlike f.fork f.seg true (sym f.spelled ∙ row.2) in
+      let plain : IsIncrementalPath row.0.path → ⊥ = λ f. never_label f.folder f.name true (sym f.spelled ∙ row.2) in
       let same : file.0 ≡ (label_name, kept_bytes newest label_name) = file.2.kept plain ∙ ap (λ (p : List ℕ). (p, kept_bytes newest p)) row.2 in
       subst (λ (f : File). Among f is.files) same file.1
 
@@ -108,26 +109,26 @@ module _ (chain : List Files) (newest : Files) (member : Member) (when count : �
       let long : length (pages_bytes pages) ≡ length pages * 8192 + 0 = bytes_length 8192 pages sized ∙ omega arith in
       ap (λ (n : ℕ). n % 8192) long ∙ mod-mul-add (length pages) 8192 0 (omega arith)
 
-  plain_whole : (file : File) → Among file is.files → IsForkFile file.0 false → length file.1 % 8192 ≡ 0
+  plain_whole : (file : File) → Among file is.files → IsForkFile file.0 → length file.1 % 8192 ≡ 0
   plain_whole file among plain = none_left (length file.1 % 8192) (λ never.
       let row = stands_in rule member.manifest when count out is file among in
       let here = (is_other member.manifest.files row.0 row.1).0 in
       let there = of_all (IsRowAsListed newest) row.0 member.manifest.files listed.rows here in
       let form = of_all (HasForm newest) row.0 member.manifest.files listed.forms here in
-      let kept : IsForkFile row.0.path true → ⊥ = λ f.
+      let kept : IsIncrementalPath row.0.path → ⊥ = λ f.
       (let made = row.2.rebuilt f in
-      let sized : HaveSize 8192 made.0 = subst (λ (o : Option ForkPages). IfSome o (HaveSize 8192)) made.1 (chain_sized chain f.fork f.seg) in
+      let sized : HaveSize 8192 made.0 = subst (λ (o : Option ForkPages). IfSome o (HaveSize 8192)) made.1 (chain_sized chain f.folder f.name) in
       never (ap (λ (g : File). length g.1 % 8192) made.2 ∙ made_whole made.0 sized)) in
       let same = row.2.kept kept in
       let spelled : row.0.path ≡ fork_path_bytes plain.fork plain.seg false = sym (ap name_of same) ∙ plain.spelled in
-      let apart : row.0.path ≢ label_name = λ l. fork_unlike plain.fork plain.seg false (sym spelled ∙ l) in
+      let apart : row.0.path ≢ label_name = λ l. never_label (fork_folder plain.fork) (fork_name plain.fork plain.seg) false (sym spelled ∙ l) in
       let bytes : file.1 ≡ there.bytes = ap (λ (g : File). g.1) same ∙ (kept_whole newest row.0.path apart ∙ ap (λ (o : Option (List ℕ)). unwrap_or o []) there.there) in
       never (ap (λ (b : List ℕ). length b % 8192) bytes ∙ (ap (λ (n : ℕ). n % 8192) there.size ∙ form.pages (fork_file plain.fork plain.seg plain.named spelled))))
 
   file_form : (file : File) → Among file is.files → HasForm out (row_of is.modified file)
   file_form file among = record {
-    alone = λ f. absurd (no_part chain newest member when count out is f.fork f.seg file f.named f.spelled among);
-    incremental = λ f. absurd (no_part chain newest member when count out is f.fork f.seg file f.named f.spelled among);
+    alone = λ f. absurd (no_part chain newest member when count out is f.folder f.name file f.placed f.spelled among);
+    incremental = λ f. absurd (no_part chain newest member when count out is f.folder f.name file f.placed f.spelled among);
     pages = λ f. plain_whole file among f;
   }
 
@@ -166,5 +167,5 @@ last_timeline (first ∷ older) member is = last_linked first older member is.ch
 pub chains_of_one : FullMembersAreChains
 chains_of_one older member name rows is = record {
   few = omega arith;
-  chain = (record { timelines = ((last_timeline older member is).0, tt); full = refl }, tt);
+  chain = (record { version = refl; timelines = ((last_timeline older member is).0, tt); full = refl }, tt);
 }

@@ -7,11 +7,11 @@ use Rattle.std.proofs.lemmas.List.{append-nil}
 use Rattle.std.proofs.lemmas.Slice.Eq.{bytes_eq-Decides}
 use Rattle.manifest.specs.declared.listing.FileRow.{FileRow}
 use Rattle.backup_files.proofs.Passed.{no_items}
-use Rattle.lsn_core.specs.Names.{fork_path_bytes, IsNamed, NamesNoFork}
-use Rattle.lsn_core.specs.declared.ids.ForkId.{ForkId}
+use Rattle.chain_files.specs.Paths.{file_path, IsRelationFile}
+use Rattle.chain_files.proofs.Placed.{one_plain}
+use Rattle.chain_check.proofs.ForkFiles.{placed_path}
+use Rattle.directory_files.proofs.Standing.{never_manifest}
 use Rattle.backup_files.specs.Directory.{manifest_name}
-use Rattle.chain_check.specs.Directory.{IsForkFile}
-use Rattle.chain_check.proofs.ForkFiles.{fork_file, one_form, one_plain}
 use Rattle.combine.specs.Calls.{IsPathFor, ArePathsFor}
 use Rattle.combine.specs.Combined.{other_rows}
 use Rattle.directory_files.specs.Written.{to_of}
@@ -19,28 +19,20 @@ use Rattle.directory_files.specs.declared.targets.Target.{Target}
 use Rattle.directory_files.proofs.Directories.{AreOthers}
 use Rattle.combine.specs.Inside.{AreTargets, IsTarget}
 
--- ---- whether a file is incremental
-
-pub no_fork : (path : List ℕ) → NamesNoFork path → IsForkFile path true → ⊥
-no_fork path none f = none f.fork f.seg true f.named f.spelled
-
-pub plain_fork : (path : List ℕ) (fork : ForkId) (seg : ℕ) → IsNamed fork seg → path ≡ fork_path_bytes fork seg false → IsForkFile path true → ⊥
-plain_fork path fork seg named is f = one_form path (fork_file fork seg named is) f
-
 -- ---- the paths
 
-pub path_of_part : (path to : List ℕ) (fork : ForkId) (seg : ℕ) → IsNamed fork seg → path ≡ fork_path_bytes fork seg true → to ≡ fork_path_bytes fork seg false → IsPathFor path to
-path_of_part path to fork seg named is to_is = record {
-  plain = λ f. to_is ∙ one_plain path (fork_file fork seg named is) f;
-  kept = λ no. absurd (no (fork_file fork seg named is));
+pub path_of_part : (path to : List ℕ) (folder name : List ℕ) → IsRelationFile folder name → path ≡ file_path folder name true → to ≡ file_path folder name false → IsPathFor path to
+path_of_part path to folder name named is to_is = record {
+  plain = λ f. to_is ∙ one_plain path (placed_path folder name named is) f;
+  kept = λ no. absurd (no (placed_path folder name named is));
 }
 
-pub only_part : (path to : List ℕ) (fork : ForkId) (seg : ℕ) → IsNamed fork seg → path ≡ fork_path_bytes fork seg true → to ≡ fork_path_bytes fork seg false → (other : List ℕ) → IsPathFor path other → other ≡ to
-only_part path to fork seg named is to_is other for = for.plain (fork_file fork seg named is) ∙ sym to_is
+pub only_part : (path to : List ℕ) (folder name : List ℕ) → IsRelationFile folder name → path ≡ file_path folder name true → to ≡ file_path folder name false → (other : List ℕ) → IsPathFor path other → other ≡ to
+only_part path to folder name named is to_is other for = for.plain (placed_path folder name named is) ∙ sym to_is
 
--- a fork's path is another one than the manifest's
-pub part_apart : (fork : ForkId) (seg : ℕ) (to : List ℕ) → to ≡ fork_path_bytes fork seg false → to ≢ manifest_name
-part_apart fork seg to is e = let differ : 115 ≡ 99 = ap (λ (x : List ℕ). get_or x 2 0) (sym is ∙ e) in omega (arith, differ)
+-- a folder's path is another one than the manifest's
+pub part_apart : (folder name : List ℕ) (to : List ℕ) → to ≡ file_path folder name false → to ≢ manifest_name
+part_apart folder name to is e = never_manifest folder name false (sym is ∙ e)
 
 -- ---- the files of rows
 

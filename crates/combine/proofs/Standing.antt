@@ -4,16 +4,16 @@ use Rattle.std.specs.FinMap.{get}
 use Rattle.std.specs.List.{AllByRecursion}
 use Rattle.std.proofs.lemmas.Slice.Eq.{bytes_eq-Decides}
 use Rattle.lsn_core.specs.Files.{Files}
-use Rattle.lsn_core.specs.Names.{fork_path_bytes, IsNamed}
-use Rattle.lsn_core.specs.declared.ids.ForkId.{ForkId}
-use Rattle.lsn_core.proofs.ForkPaths.{one_place}
+use Rattle.chain_files.specs.Paths.{file_path, IsRelationFile, IsIncrementalPath}
+use Rattle.chain_files.proofs.Placed.{one_file}
+use Rattle.chain_check.proofs.ForkFiles.{placed_path}
+use Rattle.chain_check.proofs.ListedForms.{stands_listed}
 use Rattle.manifest.specs.declared.listing.FileRow.{FileRow}
-use Rattle.chain_check.specs.Directory.{IsForkFile, is_listed, may_stand, HasNoOther, IsAsListed}
+use Rattle.chain_check.specs.Directory.{is_listed, may_stand, HasNoOther, IsAsListed}
 use Rattle.chain_check.specs.declared.member.Member.{Member}
-use Rattle.chain_check.proofs.ForkFiles.{fork_file}
 use Rattle.directory_files.specs.Relisted.{File, Rule}
 use Rattle.directory_files.proofs.Among.{Among, name_of}
-use Rattle.directory_files.proofs.Standing.{NamesOthers, fork_apart, none_if, never_both, put_in as relisted_put_in, stands_in as relisted_stands_in, found_in as relisted_found_in}
+use Rattle.directory_files.proofs.Standing.{NamesOthers, never_manifest, none_if, never_both, put_in as relisted_put_in, stands_in as relisted_stands_in, found_in as relisted_found_in}
 use Rattle.combine.specs.Combined.{IsCombined, IsCombinedFile}
 
 -- ---- rows
@@ -46,7 +46,7 @@ none_listed (row ∷ rows) path e =
 -- a file that stands for another one has another name than the manifest
 spares : (chain : List Files) (newest : Files) → NamesOthers (IsCombinedFile chain newest)
 spares chain newest path file apart is e =
-    let plain : IsForkFile path true → ⊥ = λ f. fork_apart f.fork f.seg false (sym (ap name_of (is.rebuilt f).2) ∙ e) in
+    let plain : IsIncrementalPath path → ⊥ = λ f. never_manifest f.folder f.name false (sym (ap name_of (is.rebuilt f).2) ∙ e) in
     apart (sym (ap name_of (is.kept plain)) ∙ e)
 
 module _ (chain : List Files) (newest : Files) (member : Member) (when count : ℕ) (out : Files) (is : IsCombined chain newest member.manifest when count out) where
@@ -57,24 +57,20 @@ module _ (chain : List Files) (newest : Files) (member : Member) (when count : �
   found_in file among = relisted_found_in rule member.manifest when count out is (spares chain newest) file among
 
   -- none of them has the name of an incremental file
-  pub no_part : (fork : ForkId) (seg : ℕ) (file : File) → IsNamed fork seg → file.0 ≡ fork_path_bytes fork seg true → Among file is.files → ⊥
-  no_part fork seg file named e among =
+  pub no_part : (folder name : List ℕ) (file : File) → IsRelationFile folder name → file.0 ≡ file_path folder name true → Among file is.files → ⊥
+  no_part folder name file named e among =
       let row = relisted_stands_in rule member.manifest when count out is file among in
-      let plain : IsForkFile row.0.path true → ⊥ = λ f.
-      (let same = one_place f.fork fork f.seg seg false true f.named named (sym (ap name_of (row.2.rebuilt f).2) ∙ e) in
+      let plain : IsIncrementalPath row.0.path → ⊥ = λ f.
+      (let same = one_file f.folder folder f.name name false true f.placed named (sym (ap name_of (row.2.rebuilt f).2) ∙ e) in
       let never : false ≡ true = same.1.1 in cc) in
-      plain (fork_file fork seg named (sym (ap name_of (row.2.kept plain)) ∙ e))
+      plain (placed_path folder name named (sym (ap name_of (row.2.kept plain)) ∙ e))
 
-  pub no_part_in : (fork : ForkId) (seg : ℕ) → IsNamed fork seg → get out (fork_path_bytes fork seg true) ≡ None
-  no_part_in fork seg named =
-      let path = fork_path_bytes fork seg true in
-      none_if (get out path) (λ bytes e. no_part fork seg (path, bytes) named refl (relisted_put_in rule member.manifest when count out is path bytes (fork_apart fork seg true) e))
+  pub no_part_in : (folder name : List ℕ) → IsRelationFile folder name → get out (file_path folder name true) ≡ None
+  no_part_in folder name named =
+      let path = file_path folder name true in
+      none_if (get out path) (λ bytes e. no_part folder name (path, bytes) named refl (relisted_put_in rule member.manifest when count out is path bytes (never_manifest folder name true) e))
 
 -- ---- what the newest directory has
-
--- a segment file of a fork is no manifest, and isn't in the folder of the WAL
-stands_listed : (rows : List FileRow) (fork : ForkId) (seg : ℕ) (incr : Bool) → may_stand rows (fork_path_bytes fork seg incr) ≡ is_listed rows (fork_path_bytes fork seg incr)
-stands_listed rows fork seg incr = refl
 
 there_listed : (files : Files) (rows : List FileRow) (path bytes : List ℕ) → HasNoOther files rows → may_stand rows path ≡ is_listed rows path → get files path ≡ Some bytes → is_listed rows path ≡ true
 there_listed files rows path bytes none stands e =
@@ -83,8 +79,8 @@ there_listed files rows path bytes none stands e =
       | false ↦ λ t. absurd (never_both (get files path) bytes (none path (stands ∙ t)) e)
     ] refl
 
-pub fork_row : (newest : Files) (member : Member) (fork : ForkId) (seg : ℕ) (incr : Bool) (bytes : List ℕ) → IsAsListed newest member → get newest (fork_path_bytes fork seg incr) ≡ Some bytes → HasRow member.manifest.files (fork_path_bytes fork seg incr)
-fork_row newest member fork seg incr bytes listed e =
+pub file_row : (newest : Files) (member : Member) (folder name : List ℕ) (incr : Bool) (bytes : List ℕ) → IsRelationFile folder name → IsAsListed newest member → get newest (file_path folder name incr) ≡ Some bytes → HasRow member.manifest.files (file_path folder name incr)
+file_row newest member folder name incr bytes placed listed e =
     let rows = member.manifest.files in
-    let path = fork_path_bytes fork seg incr in
-    row_at rows path (there_listed newest rows path bytes listed.others (stands_listed rows fork seg incr) e)
+    let path = file_path folder name incr in
+    row_at rows path (there_listed newest rows path bytes listed.others (stands_listed rows folder name incr placed) e)

@@ -3,23 +3,23 @@ use Rattle.std.specs.Prelude.{◌≡◌, ◌≢◌, ◌⊎◌, ℕ, true, false,
 use Rattle.std.specs.FinMap.{empty}
 use Rattle.lsn_core.specs.Causes.{Rose}
 use Rattle.lsn_core.specs.Files.{Files}
-use Rattle.lsn_core.specs.Names.{fork_path_bytes}
 use Rattle.vault.specs.declared.area.Vault.{Ghosts}
 use Rattle.vault.specs.declared.lending.Held.{Held}
 use Rattle.manifest.specs.Listing.{Listing}
 use Rattle.manifest.specs.declared.listing.FileRow.{FileRow}
 use Rattle.backup_files.specs.Area.{HoldsNothing, HoldsSomething, KeepsManifest, RoseTwice}
-use Rattle.chain_check.specs.Directory.{IsAsListed, IsForkFile}
+use Rattle.chain_check.specs.Directory.{IsAsListed}
 use Rattle.chain_check.specs.declared.member.Member.{Member}
 use Rattle.chain_files.specs.Sources.{OfChain}
 use Rattle.chain_files.specs.Told.{chain_told, faults_at}
+use Rattle.chain_files.specs.Paths.{file_path, IsIncrementalPath}
 use Rattle.directory_files.specs.Written.{CanList}
 use Rattle.combine.specs.Combined.{EndsWith, IsCombined, other_rows}
 use Rattle.combine.specs.declared.fault.CombineFault.{CombineFault}
 use Rattle.combine.specs.declared.fault.CombineFault.TheVariants.{NotEmpty, Unlisted, MemberFailed, OutFailed, NoMemory}
 
--- the area holds what the chain is combined to, where all areas tell, the chain's files of forks are
--- of their grammar, and the newest directory is as the member lists it
+-- the area holds what the chain is combined to, where all areas tell, the chain's incremental files
+-- are of their grammar, and the newest directory is as the member lists it
 abbrev pub Combines : {V : Type 0} → Ghosts V → List ℕ → Member → ℕ → List (Held V) → V → ℕ → Type 0
 Combines g places member when areas out count =
     OfChain (chain_told g areas places) (λ chain. (newest : Files) → EndsWith chain newest
@@ -30,8 +30,8 @@ Combines g places member when areas out count =
 
 -- the path of the file that stands for that of a path
 pub record IsPathFor (path out : List ℕ) : Type 0 where
-  pub plain : (f : IsForkFile path true) → out ≡ fork_path_bytes f.fork f.seg false
-  pub kept : (IsForkFile path true → ⊥) → out ≡ path
+  pub plain : (f : IsIncrementalPath path) → out ≡ file_path f.folder f.name false
+  pub kept : (IsIncrementalPath path → ⊥) → out ≡ path
 
 -- those for the files of rows
 abbrev pub ArePathsFor : List FileRow → List (List ℕ) → Type 0

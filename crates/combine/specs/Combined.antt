@@ -2,15 +2,13 @@
 use Rattle.std.specs.Prelude.{◌≡◌, ℕ, true, false, List, [], ◌∷◌, ◌++◌, Some, if◌then◌else◌}
 use Rattle.std.specs.Str.{bytes_eq}
 use Rattle.lsn_core.specs.Files.{Files}
-use Rattle.lsn_core.specs.Names.{fork_path_bytes}
 use Rattle.lsn_core.specs.Store.{ForkPages}
-use Rattle.lsn_core.specs.declared.ids.ForkId.{ForkId}
 use Rattle.vault.specs.Area.{bytes_of}
 use Rattle.incr_file.specs.Form.{pages_bytes}
 use Rattle.manifest.specs.Listing.{Listing}
 use Rattle.backup_files.specs.Directory.{label_name}
-use Rattle.chain_check.specs.Directory.{IsForkFile}
-use Rattle.chain_files.specs.Segments.{chain_segments}
+use Rattle.chain_files.specs.Segments.{chain_pages}
+use Rattle.chain_files.specs.Paths.{file_path, IsIncrementalPath}
 use Rattle.directory_files.specs.Labels.{first_lines}
 use Rattle.directory_files.specs.Relisted.{IsRelisted}
 -- which rows are listed again, and how
@@ -28,18 +26,18 @@ abbrev pub kept_bytes : Files → List ℕ → List ℕ
 kept_bytes newest path =
     if bytes_eq path label_name then first_lines 7 (bytes_of newest path) else bytes_of newest path
 
--- a segment file of a fork, with its path: it is plain, and has the pages that the chain is combined to
-abbrev pub IsRebuilt : List Files → ForkId → ℕ → List ℕ × List ℕ → Type 0
-IsRebuilt chain fork seg file =
-    (pages : ForkPages) × (chain_segments chain fork seg ≡ Some pages)
-    × (file ≡ (fork_path_bytes fork seg false, pages_bytes pages))
+-- a file of a folder, with its path: it is plain, and has the pages that the chain is combined to
+abbrev pub IsRebuilt : List Files → List ℕ → List ℕ → List ℕ × List ℕ → Type 0
+IsRebuilt chain folder name file =
+    (pages : ForkPages) × (chain_pages chain folder name ≡ Some pages)
+    × (file ≡ (file_path folder name false, pages_bytes pages))
 
 -- the file that stands for the newest member's file of a path: an incremental one is rebuilt, any
 -- other keeps its path
 pub record IsCombinedFile (chain : List Files) (newest : Files) (path : List ℕ)
     (file : List ℕ × List ℕ) : Type 0 where
-  pub rebuilt : (f : IsForkFile path true) → IsRebuilt chain f.fork f.seg file
-  pub kept : (IsForkFile path true → ⊥) → file ≡ (path, kept_bytes newest path)
+  pub rebuilt : (f : IsIncrementalPath path) → IsRebuilt chain f.folder f.name file
+  pub kept : (IsIncrementalPath path → ⊥) → file ≡ (path, kept_bytes newest path)
 
 -- ---- its directory
 

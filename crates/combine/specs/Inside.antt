@@ -13,11 +13,11 @@ use Rattle.manifest.specs.Listing.{Listing}
 use Rattle.manifest.specs.declared.listing.FileRow.{FileRow}
 use Rattle.backup_files.specs.Directory.{manifest_name}
 use Rattle.backup_files.specs.Area.{HoldsNothing, HoldsSomething}
-use Rattle.chain_files.specs.Segments.{chain_segments}
+use Rattle.chain_files.specs.Segments.{chain_pages}
 use Rattle.chain_files.specs.Sources.{OfChain}
 use Rattle.chain_files.specs.Told.{chain_told, faults_at}
 use Rattle.chain_files.specs.declared.fault.MemberFault.{MemberFault}
-use Rattle.chain_check.specs.Directory.{IsForkFile}
+use Rattle.chain_files.specs.Paths.{IsIncrementalPath}
 use Rattle.directory_files.specs.Written.{CanList, to_of}
 use Rattle.directory_files.specs.declared.fault.WriteFault.{WriteFault}
 use Rattle.directory_files.specs.declared.fault.WriteFault.TheVariants as write
@@ -96,9 +96,9 @@ IsLast places place = (before : List ℕ) × (places ≡ before ++ (place ∷ []
 -- bytes are what stands for a file, where the chain tells: the pages that it is combined to, at most as
 -- many as a segment file has, or what the newest member's file keeps
 pub record IsContentOf (chain : List Files) (target : Target) (bytes : List ℕ) : Type 0 where
-  pub rebuilt : (f : IsForkFile target.from true)
-      → IfSome (chain_segments chain f.fork f.seg) (λ pages. bytes ≡ pages_bytes (take 131072 pages))
-  pub kept : (IsForkFile target.from true → ⊥) → (newest : Files) → EndsWith chain newest
+  pub rebuilt : (f : IsIncrementalPath target.from)
+      → IfSome (chain_pages chain f.folder f.name) (λ pages. bytes ≡ pages_bytes (take 131072 pages))
+  pub kept : (IsIncrementalPath target.from → ⊥) → (newest : Files) → EndsWith chain newest
       → bytes ≡ kept_bytes newest target.from
 
 abbrev pub IsContent : Option (List Files) → Target → List ℕ → Type 0

@@ -1,24 +1,23 @@
 -- What holds of the directory that a chain is combined to.
 use Rattle.std.specs.Prelude.{◌≡◌, ℕ, List, [], ◌∷◌, ◌++◌, None}
 use Rattle.lsn_core.specs.Files.{Files}
-use Rattle.lsn_core.specs.Names.{IsNamed}
-use Rattle.lsn_core.specs.declared.ids.ForkId.{ForkId}
 use Rattle.backup_label.specs.declared.label.Label.{Label}
 use Rattle.manifest.specs.declared.listing.FileRow.{FileRow}
-use Rattle.chain_files.specs.Segments.{chain_segments}
+use Rattle.chain_files.specs.Segments.{chain_pages}
+use Rattle.chain_files.specs.Paths.{IsRelationFile}
 use Rattle.chain_check.specs.Directory.{IsAsListed}
 use Rattle.chain_check.specs.Chain.{IsAccepted}
 use Rattle.chain_check.specs.declared.member.Member.{Member}
 use Rattle.combine.specs.Combined.{EndsWith, IsCombined, relisted}
 
--- alone it stands for the same segment files as the whole chain
+-- alone it stands for the same files of pages as the whole chain
 abbrev pub CombinedHoldsTheSame : Type 0
 CombinedHoldsTheSame =
     (chain : List Files) (newest : Files) (member : Member) (when count : ℕ) (out : Files)
     → EndsWith chain newest → IsAsListed newest member
     → IsCombined chain newest member.manifest when count out
-    → (fork : ForkId) (seg : ℕ) → IsNamed fork seg
-    → chain_segments (out ∷ []) fork seg ≡ chain_segments chain fork seg
+    → (folder name : List ℕ) → IsRelationFile folder name
+    → chain_pages (out ∷ []) folder name ≡ chain_pages chain folder name
 
 -- a label without what only an incremental backup tells
 abbrev pub full_label : Label → Label

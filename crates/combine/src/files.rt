@@ -13,7 +13,7 @@ ghost use Rattle.combine.specs.Combined.{kept_bytes};
 ghost use Rattle.combine.specs.Inside.{IsContent, IsLast, IsTarget};
 
 use crate::label::copy_label;
-use crate::targets::incremental;
+use chain_files::incremental;
 use directory_files::{Growing, Target, WriteFault, copy_file, list_file, rebuild_file};
 use lsn_core::Text;
 use manifest::FileRow;
@@ -70,7 +70,7 @@ fn combine_file<V: Vault>(
 {
     let to = target.to.as_bytes();
     match incremental(target.from.as_bytes()) {
-        Some((fork, seg)) => rebuild_file(alloc, areas, places, &fork, seg, to, out, buffer),
+        Some((folder, name)) => rebuild_file(alloc, areas, places, folder, name, to, out, buffer),
         None => keep_file(alloc, areas, place, to, out, buffer),
     }
 }

@@ -5,8 +5,8 @@
 //! manifest of its own, which is written last. `specs/Combined.antt` says what a chain is combined to,
 //! `specs/Calls.antt` what the call answers and what stands after each refusal. The members' areas are
 //! lent, and two members may have one. Only the label is held whole, and of an incremental file where
-//! its pages stand. `laws` say that the directory stands for the same segment files as the chain, and is
-//! a chain of one.
+//! its pages stand. `laws` say that the directory stands for the same files of pages as the chain,
+//! and is a chain of one.
 //!
 //! Left to others: whether the chain is one (`chain_check`), where the pages of a file stand
 //! (`chain_files`), how files are written and listed (`directory_files`), and the writing of the
@@ -23,4 +23,3 @@ mod targets;
 pub use combining::combine;
 pub use fault::CombineFault;
 pub use laws::{combined_directories_are_chains, combined_directories_hold_the_same};
-pub use targets::incremental;

@@ -1,31 +1,17 @@
 //! Which files stand for those of the newest member.
 
-ghost use Rattle.std.specs.Prelude.{◌≡◌, ◌≢◌, ℕ, List, true, IfOk, IfSome, IfNone};
-ghost use Rattle.lsn_core.specs.Names.{fork_path_bytes, IsNamed};
-ghost use Rattle.chain_check.specs.Directory.{IsForkFile};
+ghost use Rattle.std.specs.Prelude.{◌≡◌, ◌≢◌, ℕ, List, IfOk};
 ghost use Rattle.backup_files.specs.Directory.{manifest_name};
 ghost use Rattle.combine.specs.Calls.{IsPathFor};
 ghost use Rattle.combine.specs.Combined.{other_rows};
 ghost use Rattle.combine.specs.Inside.{AreTargets, IsTarget};
 
 use backup_files::MANIFEST;
+use chain_files::{file_path, incremental};
 use directory_files::Target;
-use lsn_core::{ForkId, NoMemory, Text, fork_path, path_fork};
+use lsn_core::{NoMemory, Text};
 use manifest::FileRow;
 use std::alloc::Global;
-
-/// The fork and the segment of the incremental file that has this path. None exactly where no fork has
-/// it.
-pub fn incremental(path: &[u8]) -> Option<(ForkId, u32)>
-    ensures found { IfSome result (λ x. path.now ≡ fork_path_bytes x.0 x.1 true) }
-    ensures named { IfSome result (λ x. IsNamed x.0 x.1) }
-    ensures none { IfNone result (IsForkFile path.now true → ⊥) }
-{
-    let Some((fork, seg, incr)) = path_fork(path) else {
-        return None;
-    };
-    if incr { Some((fork, seg)) } else { None }
-}
 
 /// The path of the file that stands for that of a path.
 fn path_for(alloc: Global, path: &[u8]) -> Result<Text, NoMemory>
@@ -35,7 +21,7 @@ fn path_for(alloc: Global, path: &[u8]) -> Result<Text, NoMemory>
     ensures other { IfOk result (λ to. to ≢ manifest_name) }
 {
     match incremental(path) {
-        Some((fork, seg)) => fork_path(alloc, fork, seg, false),
+        Some((folder, name)) => file_path(alloc, folder, name, false),
         None => Text::copied(alloc, path),
     }
 }

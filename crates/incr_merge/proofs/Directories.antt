@@ -7,9 +7,9 @@ use Rattle.manifest.specs.Listing.{Listing}
 use Rattle.manifest.specs.declared.listing.FileRow.{FileRow}
 use Rattle.backup_files.specs.Directory.{manifest_name}
 use Rattle.backup_files.specs.Area.{with_file}
-use Rattle.chain_check.specs.Directory.{IsForkFile}
 use Rattle.chain_files.specs.Segments.{AllHaveForms}
 use Rattle.chain_files.specs.Sources.{OfChain}
+use Rattle.chain_files.specs.Paths.{IsIncrementalPath}
 use Rattle.directory_files.specs.Relisted.{File, AreFilesBy, other_rows}
 use Rattle.directory_files.specs.Written.{AreFilesFor, PutsFiles, Relists}
 use Rattle.directory_files.specs.declared.targets.Target.{Target}
@@ -24,10 +24,10 @@ merged_file : (series : List Files) (first newest : Files) (path : List ℕ) (ta
     → IsMergedFile series first newest path (target.to, bytes)
 merged_file series first newest path target bytes begins ends forms there is content = record {
   merged = λ f.
-      let from : IsForkFile target.from true = record { fork = f.fork; seg = f.seg; named = f.named; spelled = is.from ∙ f.spelled } in
-      file_of_form series newest f.fork f.seg target.to bytes ends forms f.named (λ none. there (ap (get newest) f.spelled ∙ none)) (content.joined from) ((is.to forms).merged f);
+      let from : IsIncrementalPath target.from = record { folder = f.folder; name = f.name; placed = f.placed; spelled = is.from ∙ f.spelled } in
+      file_of_form series newest f.folder f.name target.to bytes ends forms f.placed (λ none. there (ap (get newest) f.spelled ∙ none)) (content.joined from) ((is.to forms).merged f);
   kept = λ none.
-      let kept : bytes ≡ kept_bytes first newest target.from = content.kept (λ f. none (subst (λ (p : List ℕ). IsForkFile p true) is.from f)) first newest begins ends in
+      let kept : bytes ≡ kept_bytes first newest target.from = content.kept (λ f. none (subst (λ (p : List ℕ). IsIncrementalPath p) is.from f)) first newest begins ends in
       ap (λ (p : List ℕ). (p, bytes)) (is.kept none) ∙ ap (λ (b : List ℕ). (path, b)) (kept ∙ ap (kept_bytes first newest) is.from);
 }
 

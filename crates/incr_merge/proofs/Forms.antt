@@ -1,4 +1,4 @@
--- The file of a fork is that of its merged form.
+-- A file is that of its merged form.
 use Rattle.std.proofs.Common.{◌≡◌, ◌≢◌, ℕ, zero, suc, ◌+◌, ◌<◌, ◌≤◌, min, Bool, true, false, cond, not, List, [], ◌∷◌, ◌++◌, map, length, take, drop, reverse, get_or, Option, None, IfSome, unwrap_or, refl, sym, ap, ap₂, subst, ◌∙◌, arith}
 use Rattle.std.specs.List.{AllByRecursion, filter, range_with_len}
 use Rattle.std.specs.FinMap.{get}
@@ -7,14 +7,13 @@ use Rattle.std.proofs.lemmas.List.{take_all, append-nil}
 use Rattle.std.proofs.lemmas.List.FromFn.{length-map-range_with_len, get_or-map-range_with_len}
 use Rattle.lsn_core.specs.byte_words.Pieces.{zero_page}
 use Rattle.lsn_core.specs.Files.{Files}
-use Rattle.lsn_core.specs.Names.{fork_path_bytes, IsNamed}
 use Rattle.lsn_core.specs.Store.{ForkPages}
-use Rattle.lsn_core.specs.declared.ids.ForkId.{ForkId}
 use Rattle.incr_file.specs.declared.head.IncrHead.{IncrHead}
 use Rattle.incr_file.specs.Head.{IsHead, head_bytes, head_with}
 use Rattle.incr_file.specs.Form.{Form, Plain, Part, form_in, part_in, pages_bytes, block_in_chain, pages_in_chain, rebuilt_length, rebuilt_pages}
 use Rattle.incr_file.specs.Reading.{head_in}
-use Rattle.chain_files.specs.Segments.{AllHaveForms, form_of, forms_of}
+use Rattle.chain_files.specs.Segments.{AllHaveForms, form_at, forms_at}
+use Rattle.chain_files.specs.Paths.{file_path, IsRelationFile}
 use Rattle.combine.proofs.Rebuilt.{newest_has, forms_are, few_blocks, found}
 use Rattle.merged_forms.specs.Merged.{rests_on_plain, least_length, merged_blocks, merged_pages, merged_part, merged_form}
 use Rattle.series_files.specs.Heads.{merged_head_of}
@@ -46,7 +45,7 @@ JoinedBy forms head true bytes = bytes ≡ pages_bytes (take 131072 (rebuilt_pag
 JoinedBy forms head false bytes =
     bytes ≡ head_bytes (merged_head_of forms (min (length (rebuilt_pages forms head)) 131072)) ++ listed_bytes (rebuilt_pages forms head) (merged_head_of forms (min (length (rebuilt_pages forms head)) 131072)).blocks
 
-module _ (fork : ForkId) (seg : ℕ) (head : IncrHead) (pages : ForkPages) (older : List Form) (is : IsHead head) (to bytes : List ℕ) where
+module _ (folder name : List ℕ) (head : IncrHead) (pages : ForkPages) (older : List Form) (is : IsHead head) (to bytes : List ℕ) where
   abbrev forms : List Form
   forms = Part head pages ∷ older
 
@@ -74,21 +73,21 @@ module _ (fork : ForkId) (seg : ℕ) (head : IncrHead) (pages : ForkPages) (olde
   blocks_are = listed_are (rebuilt_pages forms head) (λ b. unwrap_or (block_in_chain forms b) zero_page) (merged_blocks forms least count)
       (kept_within (λ b. (b < length (rebuilt_pages forms head)) × (get_or (rebuilt_pages forms head) b [] ≡ unwrap_or (block_in_chain forms b) zero_page)) _ 0 count page_is)
 
-  pub by_part : JoinedBy forms head (rests_on_plain older) bytes → to ≡ fork_path_bytes fork seg (not (rests_on_plain older)) → IsFileOf fork seg (merged_form forms) (to, bytes)
+  pub by_part : JoinedBy forms head (rests_on_plain older) bytes → to ≡ file_path folder name (not (rests_on_plain older)) → IsFileOf folder name (merged_form forms) (to, bytes)
   by_part =
-      elim (rests_on_plain older) as (λ s. JoinedBy forms head s bytes → to ≡ fork_path_bytes fork seg (not s) → IsFileOf fork seg (cond s (Plain (rebuilt_pages forms head)) (merged_part forms least count)) (to, bytes)) [
+      elim (rests_on_plain older) as (λ s. JoinedBy forms head s bytes → to ≡ file_path folder name (not s) → IsFileOf folder name (cond s (Plain (rebuilt_pages forms head)) (merged_part forms least count)) (to, bytes)) [
         | true ↦ λ j t. ap₂ (λ (x y : List ℕ). (x, y)) t (j ∙ ap pages_bytes (take_all 131072 (rebuilt_pages forms head) (omega (arith, long, few))))
         | false ↦ λ j t. ap₂ (λ (x y : List ℕ). (x, y)) t
             (j ∙ ap (λ (h : IncrHead). head_bytes h ++ listed_bytes (rebuilt_pages forms head) h.blocks) head_is
             ∙ ap (λ (l : List ℕ). head_bytes (head_with least (merged_blocks forms least count)) ++ l) blocks_are)
       ]
 
-joined_forms : (fs : List Form) (head : IncrHead) (pages : ForkPages) (older : List Form) → fs ≡ Part head pages ∷ older → (series : List Files) (fork : ForkId) (seg : ℕ) (s : Bool) (bytes : List ℕ) → forms_of series fork seg ≡ fs → IsJoined series fork seg s bytes → JoinedBy (Part head pages ∷ older) head s bytes
-joined_forms fs head pages older is series fork seg true bytes e joined = by_forms (forms_of series fork seg) (e ∙ is) joined
+joined_forms : (fs : List Form) (head : IncrHead) (pages : ForkPages) (older : List Form) → fs ≡ Part head pages ∷ older → (series : List Files) (folder name : List ℕ) (s : Bool) (bytes : List ℕ) → forms_at series folder name ≡ fs → IsJoined series folder name s bytes → JoinedBy (Part head pages ∷ older) head s bytes
+joined_forms fs head pages older is series folder name true bytes e joined = by_forms (forms_at series folder name) (e ∙ is) joined
   where
     by_forms : (l : List Form) → l ≡ Part head pages ∷ older → IfSome (pages_in_chain l) (λ p. bytes ≡ pages_bytes (take 131072 p)) → bytes ≡ pages_bytes (take 131072 (rebuilt_pages (Part head pages ∷ older) head))
     by_forms l e held = subst (λ (x : List Form). IfSome (pages_in_chain x) (λ p. bytes ≡ pages_bytes (take 131072 p))) e held
-joined_forms fs head pages older is series fork seg false bytes e joined = by_forms (forms_of series fork seg) (e ∙ is) joined
+joined_forms fs head pages older is series folder name false bytes e joined = by_forms (forms_at series folder name) (e ∙ is) joined
   where
     by_forms : (l : List Form) → l ≡ Part head pages ∷ older
         → IfSome (pages_in_chain l) (λ p. bytes ≡ head_bytes (merged_head_of l (min (length p) 131072)) ++ listed_bytes p (merged_head_of l (min (length p) 131072)).blocks)
@@ -96,16 +95,16 @@ joined_forms fs head pages older is series fork seg false bytes e joined = by_fo
     by_forms l e held = subst (λ (x : List Form). IfSome (pages_in_chain x) (λ p. bytes ≡ head_bytes (merged_head_of x (min (length p) 131072)) ++ listed_bytes p (merged_head_of x (min (length p) 131072)).blocks)) e held
 
 -- a file that is incremental in the newest member is that of the merged form
-pub file_of_form : (series : List Files) (newest : Files) (fork : ForkId) (seg : ℕ) (to bytes : List ℕ) → EndsWith series newest → AllHaveForms series → IsNamed fork seg → get newest (fork_path_bytes fork seg true) ≢ None
-    → IsJoined series fork seg (rests_on_plain (forms_of series fork seg)) bytes → to ≡ fork_path_bytes fork seg (not (rests_on_plain (forms_of series fork seg))) → IsFileOf fork seg (merged_form (forms_of series fork seg)) (to, bytes)
-file_of_form series newest fork seg to bytes ends forms named there joined to_is =
-    let file = found (get newest (fork_path_bytes fork seg true)) there in
-    let is = (newest_has series newest ends forms).incremental fork seg file.0 named file.1 in
-    let older = map (form_of fork seg) (reverse ends.0) in
-    let form : form_of fork seg newest ≡ part_in file.0 = ap (λ (o : Option (List ℕ)). form_in o (get newest (fork_path_bytes fork seg false))) file.1 in
-    let all : forms_of series fork seg ≡ part_in file.0 ∷ older = forms_are series newest fork seg ends ∙ ap (λ (f : Form). f ∷ older) form in
-    let rests : rests_on_plain (forms_of series fork seg) ≡ rests_on_plain older = ap rests_on_plain all in
-    subst (λ (l : List Form). IsFileOf fork seg (merged_form l) (to, bytes)) (sym all)
-    (by_part fork seg (head_in file.0) _ older is.head to bytes
-    (joined_forms (part_in file.0 ∷ older) (head_in file.0) _ older refl series fork seg (rests_on_plain older) bytes all (subst (λ b. IsJoined series fork seg b bytes) rests joined))
-    (to_is ∙ ap (λ (b : Bool). fork_path_bytes fork seg (not b)) rests))
+pub file_of_form : (series : List Files) (newest : Files) (folder name : List ℕ) (to bytes : List ℕ) → EndsWith series newest → AllHaveForms series → IsRelationFile folder name → get newest (file_path folder name true) ≢ None
+    → IsJoined series folder name (rests_on_plain (forms_at series folder name)) bytes → to ≡ file_path folder name (not (rests_on_plain (forms_at series folder name))) → IsFileOf folder name (merged_form (forms_at series folder name)) (to, bytes)
+file_of_form series newest folder name to bytes ends forms named there joined to_is =
+    let file = found (get newest (file_path folder name true)) there in
+    let is = (newest_has series newest ends forms).incremental folder name file.0 named file.1 in
+    let older = map (form_at folder name) (reverse ends.0) in
+    let form : form_at folder name newest ≡ part_in file.0 = ap (λ (o : Option (List ℕ)). form_in o (get newest (file_path folder name false))) file.1 in
+    let all : forms_at series folder name ≡ part_in file.0 ∷ older = forms_are series newest folder name ends ∙ ap (λ (f : Form). f ∷ older) form in
+    let rests : rests_on_plain (forms_at series folder name) ≡ rests_on_plain older = ap rests_on_plain all in
+    subst (λ (l : List Form). IsFileOf folder name (merged_form l) (to, bytes)) (sym all)
+    (by_part folder name (head_in file.0) _ older is.head to bytes
+    (joined_forms (part_in file.0 ∷ older) (head_in file.0) _ older refl series folder name (rests_on_plain older) bytes all (subst (λ b. IsJoined series folder name b bytes) rests joined))
+    (to_is ∙ ap (λ (b : Bool). file_path folder name (not b)) rests))

@@ -6,14 +6,13 @@ use Rattle.std.proofs.lemmas.List.{append-nil}
 use Rattle.lsn_core.specs.byte_words.Told.{when_told, when_both_told}
 use Rattle.lsn_core.specs.Files.{Files}
 use Rattle.lsn_core.specs.Store.{ForkPages}
-use Rattle.lsn_core.specs.declared.ids.ForkId.{ForkId}
 use Rattle.incr_file.specs.declared.head.IncrHead.{IncrHead}
 use Rattle.incr_file.specs.Form.{Form, pages_bytes}
 use Rattle.incr_file.specs.Head.{IsHead, head_bytes}
 use Rattle.backup_files.specs.Area.{with_file}
 use Rattle.backup_files.proofs.Passed.{no_items}
-use Rattle.chain_files.specs.Segments.{chain_segments, forms_of, AllHaveForms}
-use Rattle.chain_files.specs.Sources.{OfChain, IsSourceOf}
+use Rattle.chain_files.specs.Segments.{chain_pages, forms_at, AllHaveForms}
+use Rattle.chain_files.specs.Sources.{OfChain, IsSourceAt}
 use Rattle.chain_files.specs.declared.source.SegmentSource.{SegmentSource}
 use Rattle.directory_files.specs.Written.{AddsPages, Holds, IsMade}
 use Rattle.directory_files.specs.declared.growing.Growing.{Growing}
@@ -52,7 +51,7 @@ pub record PartSoFar (told : Option (List Files)) (source : SegmentSource) (head
 
 all_of_source : (told : Option (List Files)) (source : SegmentSource) (P : ForkPages → Type 0) → ((pages : ForkPages) → P pages) → OfSource told source P
 all_of_source None source P all = tt
-all_of_source (Some chain) source P all = λ forms fork seg is. each (chain_segments chain fork seg)
+all_of_source (Some chain) source P all = λ forms folder name is. each (chain_pages chain folder name)
   where
     each : (o : Option ForkPages) → IfSome o P
     each None = tt
@@ -92,8 +91,8 @@ part_made told source head left path old new file none far = record {
 
 -- ---- which file it is
 
-abbrev pub IsUnrebuilt : Option (List Files) → ForkId → ℕ → (List Files → Type 0) → Type 0
-IsUnrebuilt told fork seg P = OfChain told (λ series. rests_on_plain (forms_of series fork seg) ≡ false → P series)
+abbrev pub IsUnrebuilt : Option (List Files) → List ℕ → List ℕ → (List Files → Type 0) → Type 0
+IsUnrebuilt told folder name P = OfChain told (λ series. rests_on_plain (forms_at series folder name) ≡ false → P series)
 
 joined_by : (forms : List Form) (pages : ForkPages) (total count : ℕ) (head : IncrHead) (bytes : List ℕ) → head ≡ merged_head_of forms count → count ≡ min total 131072 → total ≡ length pages → bytes ≡ head_bytes head ++ listed_bytes pages head.blocks
     → bytes ≡ head_bytes (merged_head_of forms (min (length pages) 131072)) ++ listed_bytes pages (merged_head_of forms (min (length pages) 131072)).blocks
@@ -101,25 +100,25 @@ joined_by forms pages total count head bytes head_is count_is total_is is =
     let same : head ≡ merged_head_of forms (min (length pages) 131072) = head_is ∙ ap (merged_head_of forms) (count_is ∙ ap (λ (n : ℕ). min n 131072) total_is) in
     is ∙ ap (λ (h : IncrHead). head_bytes h ++ listed_bytes pages h.blocks) same
 
-pub joined_content : (told : Option (List Files)) (source : SegmentSource) (fork : ForkId) (seg total count : ℕ) (head : IncrHead) (bytes : List ℕ) → OfChain told (λ series. IsSourceOf series fork seg (Some source))
-    → ((series : List Files) (f : ForkId) (s : ℕ) → IsSourceOf series f s (Some source) → IfSome (chain_segments series f s) (λ pages. total ≡ length pages))
-    → count ≡ min total 131072 → IsUnrebuilt told fork seg (λ series. head ≡ merged_head_of (forms_of series fork seg) count) → IsPartOf told source head bytes
-    → IsUnrebuilt told fork seg (λ series. IsJoined series fork seg false bytes)
-joined_content None source fork seg total count head bytes is counted count_is heads part = tt
-joined_content (Some series) source fork seg total count head bytes is counted count_is heads part = λ forms none.
-    when_both_told (chain_segments series fork seg) (λ pages. total ≡ length pages) (λ pages. bytes ≡ head_bytes head ++ listed_bytes pages head.blocks)
-    (λ pages. bytes ≡ head_bytes (merged_head_of (forms_of series fork seg) (min (length pages) 131072)) ++ listed_bytes pages (merged_head_of (forms_of series fork seg) (min (length pages) 131072)).blocks)
-    (λ pages p q. joined_by (forms_of series fork seg) pages total count head bytes (heads forms none) count_is p q)
-    (counted series fork seg (is forms)) (part forms fork seg (is forms))
+pub joined_content : (told : Option (List Files)) (source : SegmentSource) (folder name : List ℕ) (total count : ℕ) (head : IncrHead) (bytes : List ℕ) → OfChain told (λ series. IsSourceAt series folder name (Some source))
+    → ((series : List Files) (f s : List ℕ) → IsSourceAt series f s (Some source) → IfSome (chain_pages series f s) (λ pages. total ≡ length pages))
+    → count ≡ min total 131072 → IsUnrebuilt told folder name (λ series. head ≡ merged_head_of (forms_at series folder name) count) → IsPartOf told source head bytes
+    → IsUnrebuilt told folder name (λ series. IsJoined series folder name false bytes)
+joined_content None source folder name total count head bytes is counted count_is heads part = tt
+joined_content (Some series) source folder name total count head bytes is counted count_is heads part = λ forms none.
+    when_both_told (chain_pages series folder name) (λ pages. total ≡ length pages) (λ pages. bytes ≡ head_bytes head ++ listed_bytes pages head.blocks)
+    (λ pages. bytes ≡ head_bytes (merged_head_of (forms_at series folder name) (min (length pages) 131072)) ++ listed_bytes pages (merged_head_of (forms_at series folder name) (min (length pages) 131072)).blocks)
+    (λ pages p q. joined_by (forms_at series folder name) pages total count head bytes (heads forms none) count_is p q)
+    (counted series folder name (is forms)) (part forms folder name (is forms))
 
 -- the series is combined to no such file
-pub nothing_joined : (told : Option (List Files)) (fork : ForkId) (seg : ℕ) (path : List ℕ) (old new : Option Files) (file : Growing) → OfChain told (λ series. chain_segments series fork seg ≡ None) → Holds file [] → new ≡ with_file path [] old
-    → IsMade (λ bytes. IsUnrebuilt told fork seg (λ series. IsJoined series fork seg false bytes)) path old new file
-nothing_joined told fork seg path old new file none holds stands = record {
+pub nothing_joined : (told : Option (List Files)) (folder name : List ℕ) (path : List ℕ) (old new : Option Files) (file : Growing) → OfChain told (λ series. chain_pages series folder name ≡ None) → Holds file [] → new ≡ with_file path [] old
+    → IsMade (λ bytes. IsUnrebuilt told folder name (λ series. IsJoined series folder name false bytes)) path old new file
+nothing_joined told folder name path old new file none holds stands = record {
   bytes = [];
   holds = holds;
-  content = when_told told (λ series. AllHaveForms series → chain_segments series fork seg ≡ None) (λ series. AllHaveForms series → rests_on_plain (forms_of series fork seg) ≡ false → IsJoined series fork seg false [])
-      (λ series is forms rests. by_none (forms_of series fork seg) (chain_segments series fork seg) (is forms)) none;
+  content = when_told told (λ series. AllHaveForms series → chain_pages series folder name ≡ None) (λ series. AllHaveForms series → rests_on_plain (forms_at series folder name) ≡ false → IsJoined series folder name false [])
+      (λ series is forms rests. by_none (forms_at series folder name) (chain_pages series folder name) (is forms)) none;
   stands = stands;
 }
   where

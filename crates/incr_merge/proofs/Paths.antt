@@ -7,24 +7,22 @@ use Rattle.std.proofs.lemmas.List.{append-nil}
 use Rattle.std.proofs.lemmas.Slice.Eq.{bytes_eq-Decides}
 use Rattle.lsn_core.specs.Causes.{Rose}
 use Rattle.lsn_core.specs.Files.{Files}
-use Rattle.lsn_core.specs.Names.{fork_path_bytes, IsNamed}
-use Rattle.lsn_core.specs.declared.ids.ForkId.{ForkId}
 use Rattle.lsn_core.specs.declared.fault.AreaFault.{AreaFault}
 use Rattle.lsn_core.specs.declared.fault.AreaFault.TheVariants as area
-use Rattle.lsn_core.proofs.ForkPaths.{one_place}
 use Rattle.vault.specs.declared.area.Vault.{Ghosts}
 use Rattle.vault.specs.declared.lending.Held.{Held}
 use Rattle.manifest.specs.declared.listing.FileRow.{FileRow}
 use Rattle.backup_files.specs.Directory.{manifest_name}
 use Rattle.backup_files.proofs.Passed.{err_cause, no_items}
 use Rattle.backup_files.proofs.Kept.{rose_later}
-use Rattle.chain_check.specs.Directory.{IsForkFile}
-use Rattle.chain_check.proofs.ForkFiles.{fork_file}
-use Rattle.chain_files.specs.Segments.{AllHaveForms, forms_of}
+use Rattle.chain_files.specs.Segments.{AllHaveForms, forms_at}
 use Rattle.chain_files.specs.Sources.{OfChain}
 use Rattle.chain_files.specs.Told.{faults_at, FailsAt, AllOnlyRead}
 use Rattle.chain_files.specs.declared.fault.MemberFault.{MemberFault}
 use Rattle.chain_files.proofs.Told.{reads_faults}
+use Rattle.chain_files.specs.Paths.{file_path, IsRelationFile, IsIncrementalPath}
+use Rattle.chain_files.proofs.Placed.{one_file}
+use Rattle.chain_check.proofs.ForkFiles.{placed_path}
 use Rattle.directory_files.specs.Faults.{member_fault, why_fault}
 use Rattle.directory_files.specs.Relisted.{other_rows}
 use Rattle.manifest.specs.Listing.{Listing}
@@ -33,34 +31,34 @@ use Rattle.directory_files.specs.declared.fault.WriteFault.{WriteFault}
 use Rattle.directory_files.specs.declared.fault.WriteFault.TheVariants as fault
 use Rattle.directory_files.specs.declared.targets.Target.{Target}
 use Rattle.directory_files.proofs.Directories.{AreOthers}
-use Rattle.directory_files.proofs.Standing.{fork_apart, other_path, same_path}
+use Rattle.directory_files.proofs.Standing.{never_manifest, other_path, same_path}
 use Rattle.merged_forms.specs.Merged.{rests_on_plain}
 use Rattle.incr_merge.specs.Calls.{IsMergedPath, AreMergedPaths}
 use Rattle.incr_merge.specs.Inside.{CanPut, ReadCause, IsTarget, AreTargets}
 
 -- ---- one path
 
-pub kept_path : (told : Option (List Files)) (path to : List ℕ) → (IsForkFile path true → ⊥) → to ≡ path → OfChain told (λ series. IsMergedPath series path to)
+pub kept_path : (told : Option (List Files)) (path to : List ℕ) → (IsIncrementalPath path → ⊥) → to ≡ path → OfChain told (λ series. IsMergedPath series path to)
 kept_path None path to none is = tt
 kept_path (Some series) path to none is = λ forms. record { merged = λ f. absurd (none f); kept = λ no. is }
 
-pub merged_path : (told : Option (List Files)) (path to : List ℕ) (fork : ForkId) (seg : ℕ) (whole : Bool) → IsNamed fork seg → path ≡ fork_path_bytes fork seg true → OfChain told (λ series. whole ≡ rests_on_plain (forms_of series fork seg)) → to ≡ fork_path_bytes fork seg (not whole)
+pub merged_path : (told : Option (List Files)) (path to : List ℕ) (folder name : List ℕ) (whole : Bool) → IsRelationFile folder name → path ≡ file_path folder name true → OfChain told (λ series. whole ≡ rests_on_plain (forms_at series folder name)) → to ≡ file_path folder name (not whole)
     → OfChain told (λ series. IsMergedPath series path to)
-merged_path None path to fork seg whole named spelled is to_is = tt
-merged_path (Some series) path to fork seg whole named spelled is to_is = λ forms. record {
+merged_path None path to folder name whole named spelled is to_is = tt
+merged_path (Some series) path to folder name whole named spelled is to_is = λ forms. record {
   merged = λ f.
-      let same = one_place fork f.fork seg f.seg true true named f.named (sym spelled ∙ f.spelled) in
+      let same = one_file folder f.folder name f.name true true named f.placed (sym spelled ∙ f.spelled) in
       to_is
-      ∙ ap (λ (b : Bool). fork_path_bytes fork seg (not b)) (is forms)
-      ∙ ap₂ (λ (x : ForkId) (s : ℕ). fork_path_bytes x s (not (rests_on_plain (forms_of series x s)))) same.0 same.1.0;
-  kept = λ no. absurd (no (fork_file fork seg named spelled));
+      ∙ ap (λ (b : Bool). file_path folder name (not b)) (is forms)
+      ∙ ap₂ (λ (x s : List ℕ). file_path x s (not (rests_on_plain (forms_at series x s)))) same.0 same.1.0;
+  kept = λ no. absurd (no (placed_path folder name named spelled));
 }
 
-pub part_kept : (path to : List ℕ) (fork : ForkId) (seg : ℕ) → IsNamed fork seg → path ≡ fork_path_bytes fork seg true → (IsForkFile path true → ⊥) → to ≡ path
-part_kept path to fork seg named spelled none = absurd (none (fork_file fork seg named spelled))
+pub part_kept : (path to : List ℕ) (folder name : List ℕ) → IsRelationFile folder name → path ≡ file_path folder name true → (IsIncrementalPath path → ⊥) → to ≡ path
+part_kept path to folder name named spelled none = absurd (none (placed_path folder name named spelled))
 
-pub path_apart : (fork : ForkId) (seg : ℕ) (incr : Bool) (to : List ℕ) → to ≡ fork_path_bytes fork seg incr → to ≢ manifest_name
-path_apart fork seg incr to is e = fork_apart fork seg incr (sym is ∙ e)
+pub path_apart : (folder name : List ℕ) (incr : Bool) (to : List ℕ) → to ≡ file_path folder name incr → to ≢ manifest_name
+path_apart folder name incr to is e = never_manifest folder name incr (sym is ∙ e)
 
 -- paths that can't differ are equal
 stable : (a b : List ℕ) → ((a ≡ b → ⊥) → ⊥) → a ≡ b
@@ -72,7 +70,7 @@ stable a b never =
 
 only_path : (series : List Files) (path a b : List ℕ) → IsMergedPath series path a → IsMergedPath series path b → a ≡ b
 only_path series path a b x y = stable a b (λ apart.
-    let none : IsForkFile path true → ⊥ = λ f. apart (x.merged f ∙ sym (y.merged f)) in
+    let none : IsIncrementalPath path → ⊥ = λ f. apart (x.merged f ∙ sym (y.merged f)) in
     apart (x.kept none ∙ sym (y.kept none)))
 
 -- ---- reading the members fails

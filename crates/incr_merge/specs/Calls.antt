@@ -2,17 +2,17 @@
 use Rattle.std.specs.Prelude.{◌≡◌, ℕ, true, not, List, [], ◌∷◌, IfSome}
 use Rattle.lsn_core.specs.Causes.{Rose}
 use Rattle.lsn_core.specs.Files.{Files}
-use Rattle.lsn_core.specs.Names.{fork_path_bytes}
 use Rattle.vault.specs.declared.area.Vault.{Ghosts}
 use Rattle.vault.specs.declared.lending.Held.{Held}
 use Rattle.manifest.specs.Listing.{Listing}
 use Rattle.manifest.specs.declared.listing.FileRow.{FileRow}
 use Rattle.backup_files.specs.Area.{HoldsNothing, HoldsSomething}
-use Rattle.chain_check.specs.Directory.{IsAsListed, IsForkFile}
+use Rattle.chain_check.specs.Directory.{IsAsListed}
 use Rattle.chain_check.specs.declared.member.Member.{Member}
-use Rattle.chain_files.specs.Segments.{forms_of}
+use Rattle.chain_files.specs.Segments.{forms_at}
 use Rattle.chain_files.specs.Sources.{OfChain}
 use Rattle.chain_files.specs.Told.{chain_told, faults_at}
+use Rattle.chain_files.specs.Paths.{file_path, IsIncrementalPath}
 use Rattle.directory_files.specs.Relisted.{other_rows}
 use Rattle.directory_files.specs.Written.{CanList}
 use Rattle.combine.specs.declared.fault.CombineFault.{CombineFault}
@@ -20,8 +20,8 @@ use Rattle.combine.specs.declared.fault.CombineFault.TheVariants.{NotEmpty, Unli
 use Rattle.merged_forms.specs.Merged.{rests_on_plain}
 use Rattle.merge_laws.specs.Merged.{BeginsWith, EndsWith, IsMerged}
 
--- the area holds what the series is merged to, where all areas tell, the series' files of forks are
--- of their grammar, and the newest directory is as the member lists it
+-- the area holds what the series is merged to, where all areas tell, the series' incremental files
+-- are of their grammar, and the newest directory is as the member lists it
 abbrev pub Merges : {V : Type 0} → Ghosts V → List ℕ → Member → ℕ → List (Held V) → V → ℕ → Type 0
 Merges g places member when areas out count =
     OfChain (chain_told g areas places) (λ series. (first newest : Files)
@@ -33,9 +33,9 @@ Merges g places member when areas out count =
 -- the path of the file that stands for the newest member's file of a path: an incremental one is
 -- plain where it rests on a plain one, and else keeps its path, as any other does
 pub record IsMergedPath (series : List Files) (path out : List ℕ) : Type 0 where
-  pub merged : (f : IsForkFile path true)
-      → out ≡ fork_path_bytes f.fork f.seg (not (rests_on_plain (forms_of series f.fork f.seg)))
-  pub kept : (IsForkFile path true → ⊥) → out ≡ path
+  pub merged : (f : IsIncrementalPath path)
+      → out ≡ file_path f.folder f.name (not (rests_on_plain (forms_at series f.folder f.name)))
+  pub kept : (IsIncrementalPath path → ⊥) → out ≡ path
 
 -- those for the files of rows
 abbrev pub AreMergedPaths : List Files → List FileRow → List (List ℕ) → Type 0
@@ -50,8 +50,8 @@ CannotMerge g places m areas =
     OfChain (chain_told g areas places) (λ series. (paths : List (List ℕ))
     × AreMergedPaths series (other_rows m.files) paths × (CanList m paths → ⊥))
 
--- a manifest can list what the series is merged to, where all areas tell, and the series' files of
--- forks are of their grammar
+-- a manifest can list what the series is merged to, where all areas tell, and the series'
+-- incremental files are of their grammar
 abbrev pub CanMerge : {V : Type 0} → Ghosts V → List ℕ → Listing → List (Held V) → Type 0
 CanMerge g places m areas =
     OfChain (chain_told g areas places) (λ series. (paths : List (List ℕ))

@@ -5,7 +5,6 @@ use Rattle.std.specs.FinMap.{get}
 use Rattle.lsn_core.specs.Causes.{Rose}
 use Rattle.lsn_core.specs.Files.{Files}
 use Rattle.lsn_core.specs.Store.{ForkPages}
-use Rattle.lsn_core.specs.declared.ids.ForkId.{ForkId}
 use Rattle.vault.specs.declared.area.Vault.{Ghosts}
 use Rattle.vault.specs.declared.lending.Held.{Held}
 use Rattle.incr_file.specs.declared.head.IncrHead.{IncrHead}
@@ -15,11 +14,11 @@ use Rattle.manifest.specs.Listing.{Listing}
 use Rattle.manifest.specs.declared.listing.FileRow.{FileRow}
 use Rattle.backup_files.specs.Directory.{manifest_name}
 use Rattle.backup_files.specs.Area.{HoldsNothing}
-use Rattle.chain_files.specs.Segments.{chain_segments, forms_of}
-use Rattle.chain_files.specs.Sources.{OfChain, IsSourceOf}
+use Rattle.chain_files.specs.Segments.{chain_pages, forms_at}
+use Rattle.chain_files.specs.Sources.{OfChain, IsSourceAt}
 use Rattle.chain_files.specs.Told.{chain_told, faults_at}
 use Rattle.chain_files.specs.declared.source.SegmentSource.{SegmentSource}
-use Rattle.chain_check.specs.Directory.{IsForkFile}
+use Rattle.chain_files.specs.Paths.{IsIncrementalPath}
 use Rattle.directory_files.specs.Relisted.{other_rows}
 use Rattle.directory_files.specs.Written.{CanList, to_of}
 use Rattle.directory_files.specs.declared.fault.WriteFault.{WriteFault}
@@ -39,20 +38,20 @@ listed_bytes pages blocks = flat_map (λ b. pages_bytes (take 1 (drop b pages)))
 -- bytes are those of an incremental file with a head, whose blocks are a source's pages
 abbrev pub IsPartOf : Option (List Files) → SegmentSource → IncrHead → List ℕ → Type 0
 IsPartOf told source head bytes =
-    OfChain told (λ series. (fork : ForkId) (seg : ℕ) → IsSourceOf series fork seg (Some source)
-    → IfSome (chain_segments series fork seg) (λ pages.
+    OfChain told (λ series. (folder name : List ℕ) → IsSourceAt series folder name (Some source)
+    → IfSome (chain_pages series folder name) (λ pages.
     bytes ≡ head_bytes head ++ listed_bytes pages head.blocks))
 
--- bytes are those of a segment file of a fork that a series is merged to, whole or incremental, where
+-- bytes are those of a file of a folder that a series is merged to, whole or incremental, where
 -- it is combined to such a file: of as many pages as a segment file has at most
-abbrev pub IsJoined : List Files → ForkId → ℕ → Bool → List ℕ → Type 0
-IsJoined series fork seg true bytes =
-    IfSome (chain_segments series fork seg) (λ pages. bytes ≡ pages_bytes (take 131072 pages))
-IsJoined series fork seg false bytes =
-    IfSome (chain_segments series fork seg) (λ pages.
-    bytes ≡ head_bytes (merged_head_of (forms_of series fork seg) (min (length pages) 131072))
+abbrev pub IsJoined : List Files → List ℕ → List ℕ → Bool → List ℕ → Type 0
+IsJoined series folder name true bytes =
+    IfSome (chain_pages series folder name) (λ pages. bytes ≡ pages_bytes (take 131072 pages))
+IsJoined series folder name false bytes =
+    IfSome (chain_pages series folder name) (λ pages.
+    bytes ≡ head_bytes (merged_head_of (forms_at series folder name) (min (length pages) 131072))
     ++ listed_bytes pages
-    (merged_head_of (forms_of series fork seg) (min (length pages) 131072)).blocks)
+    (merged_head_of (forms_at series folder name) (min (length pages) 131072)).blocks)
 
 -- ---- files that stand for others
 
@@ -67,7 +66,7 @@ ReadCause g areas areas_now NoMemory = Unit {0}
 pub record IsTarget (told : Option (List Files)) (path : List ℕ) (target : Target) : Type 0 where
   pub from : target.from ≡ path
   pub to : OfChain told (λ series. IsMergedPath series path target.to)
-  pub kept : (IsForkFile path true → ⊥) → target.to ≡ path
+  pub kept : (IsIncrementalPath path → ⊥) → target.to ≡ path
   pub other : target.to ≢ manifest_name
 
 -- the files of rows, in their order
@@ -77,12 +76,12 @@ AreTargets told (row ∷ rows) targets =
     (target : Target) × (more : List Target) × (targets ≡ target ∷ more)
     × IsTarget told row.path target × AreTargets told rows more
 
--- bytes are what stands for a file, where the series tells: a segment file of a fork that the series
+-- bytes are what stands for a file, where the series tells: a file of a folder that the series
 -- is merged to, or what a file keeps that isn't incremental
 pub record IsContentOf (series : List Files) (target : Target) (bytes : List ℕ) : Type 0 where
-  pub joined : (f : IsForkFile target.from true)
-      → IsJoined series f.fork f.seg (rests_on_plain (forms_of series f.fork f.seg)) bytes
-  pub kept : (IsForkFile target.from true → ⊥) → (first newest : Files)
+  pub joined : (f : IsIncrementalPath target.from)
+      → IsJoined series f.folder f.name (rests_on_plain (forms_at series f.folder f.name)) bytes
+  pub kept : (IsIncrementalPath target.from → ⊥) → (first newest : Files)
       → BeginsWith series first → EndsWith series newest
       → bytes ≡ kept_bytes first newest target.from
 

@@ -4,10 +4,10 @@ ghost use Rattle.std.specs.Prelude.{◌≡◌, ◌≢◌, ◌<◌, ◌≤◌, le
 ghost use Rattle.std.specs.List.{AllByRecursion, IsDistinct};
 ghost use Rattle.std.specs.Ordering.{nat_cmp, eq_by_cmp};
 ghost use Rattle.std.specs.Cmp.Lexicographic.{slice_cmp};
-ghost use Rattle.lsn_core.specs.Names.{IsNamed};
 ghost use Rattle.backup_files.specs.Directory.{manifest_name};
 ghost use Rattle.backup_files.specs.Area.{HoldsNothing, Lacks, SparesManifest};
-ghost use Rattle.chain_files.specs.Segments.{forms_of};
+ghost use Rattle.chain_files.specs.Paths.{IsRelationFile};
+ghost use Rattle.chain_files.specs.Segments.{forms_at};
 ghost use Rattle.chain_files.specs.Sources.{OfChain};
 ghost use Rattle.chain_files.specs.Told.{chain_told, ArePlaces, AllOnlyRead};
 ghost use Rattle.directory_files.specs.Faults.{WriteCause};
@@ -17,9 +17,9 @@ ghost use Rattle.incr_merge.specs.Inside.{IsContent, IsJoined, IsKept, IsTarget}
 
 use crate::label::write_label;
 use crate::parts::merge_file;
-use combine::incremental;
+use chain_files::incremental;
 use directory_files::{Growing, Target, WriteFault, copy_file, list_file, rebuild_file};
-use lsn_core::{ForkId, Text};
+use lsn_core::Text;
 use manifest::FileRow;
 use series_files::is_rebuilt;
 use std::alloc::Global;
@@ -60,28 +60,29 @@ fn join_file<V: Vault>(
     alloc: Global,
     areas: &mut [Held<V>],
     places: &[u32],
-    fork: &ForkId,
-    seg: u32,
+    folder: &[u8],
+    name: &[u8],
     path: &[u8],
     out: &mut V,
     buffer: &mut [u8; 65536],
 ) -> Result<Growing, WriteFault>
     requires places { ArePlaces (length areas.old) places.now }
-    requires named { IsNamed fork.now seg }
+    requires placed { IsRelationFile folder.now name.now }
     requires other { path.now ≢ manifest_name }
     requires missing { Lacks (V.files out.old) path.now }
     ensures made { IfOk result (IsMade
         (λ bytes. OfChain (chain_told V.Vault areas.old places.now) (λ series.
-        IsJoined series fork.now seg (rests_on_plain (forms_of series fork.now seg)) bytes))
+        IsJoined series folder.now name.now
+        (rests_on_plain (forms_at series folder.now name.now)) bytes))
         path.now (V.files out.old) (V.files out.new)) }
     ensures reads { AllOnlyRead V.Vault areas.old areas.new }
     ensures spares { SparesManifest V.Vault out.old out.new }
     ensures cause { IfErr result (WriteCause V.Vault areas.old out.old areas.new out.new) }
 {
-    if is_rebuilt(alloc, areas, places, fork, seg)? {
-        return rebuild_file(alloc, areas, places, fork, seg, path, out, buffer);
+    if is_rebuilt(alloc, areas, places, folder, name)? {
+        return rebuild_file(alloc, areas, places, folder, name, path, out, buffer);
     }
-    merge_file(alloc, areas, places, fork, seg, path, out, buffer)
+    merge_file(alloc, areas, places, folder, name, path, out, buffer)
 }
 
 /// Writes the file that stands for one of the newest member.
@@ -107,7 +108,7 @@ fn make_file<V: Vault>(
 {
     let to = target.to.as_bytes();
     match incremental(target.from.as_bytes()) {
-        Some((fork, seg)) => join_file(alloc, areas, places, &fork, seg, to, out, buffer),
+        Some((folder, name)) => join_file(alloc, areas, places, folder, name, to, out, buffer),
         None => keep_file(alloc, areas, places, to, out, buffer),
     }
 }

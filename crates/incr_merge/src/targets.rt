@@ -2,7 +2,7 @@
 
 ghost use Rattle.std.specs.Prelude.{◌≡◌, ◌≢◌, true, length, IfOk, IfErr};
 ghost use Rattle.backup_files.specs.Directory.{manifest_name};
-ghost use Rattle.chain_check.specs.Directory.{IsForkFile};
+ghost use Rattle.chain_files.specs.Paths.{IsIncrementalPath};
 ghost use Rattle.chain_files.specs.Sources.{OfChain};
 ghost use Rattle.chain_files.specs.Told.{chain_told, ArePlaces, AllOnlyRead};
 ghost use Rattle.directory_files.specs.Relisted.{other_rows};
@@ -10,9 +10,9 @@ ghost use Rattle.incr_merge.specs.Calls.{IsMergedPath};
 ghost use Rattle.incr_merge.specs.Inside.{AreTargets, IsTarget, ReadCause};
 
 use backup_files::MANIFEST;
-use combine::incremental;
+use chain_files::{file_path, incremental};
 use directory_files::{Target, WriteFault};
-use lsn_core::{Text, fork_path};
+use lsn_core::Text;
 use manifest::FileRow;
 use series_files::is_rebuilt;
 use std::alloc::Global;
@@ -30,16 +30,16 @@ fn path_for<V: Vault>(
     requires other { path.now ≢ manifest_name }
     ensures path { IfOk result (λ to. OfChain (chain_told V.Vault areas.old places.now) (λ series.
         IsMergedPath series path.now to)) }
-    ensures kept { IfOk result (λ to. (IsForkFile path.now true → ⊥) → to ≡ path.now) }
+    ensures kept { IfOk result (λ to. (IsIncrementalPath path.now → ⊥) → to ≡ path.now) }
     ensures other { IfOk result (λ to. to ≢ manifest_name) }
     ensures reads { AllOnlyRead V.Vault areas.old areas.new }
     ensures cause { IfErr result (ReadCause V.Vault areas.old areas.new) }
 {
-    let Some((fork, seg)) = incremental(path) else {
+    let Some((folder, name)) = incremental(path) else {
         return Ok(Text::copied(alloc, path)?);
     };
-    let whole = is_rebuilt(alloc, areas, places, &fork, seg)?;
-    Ok(fork_path(alloc, fork, seg, !whole)?)
+    let whole = is_rebuilt(alloc, areas, places, folder, name)?;
+    Ok(file_path(alloc, folder, name, !whole)?)
 }
 
 /// A file with the path of the one that stands for it.

@@ -6,11 +6,8 @@ use Rattle.std.specs.List.{AllByRecursion, starts_with}
 use Rattle.std.proofs.lemmas.Bool.{cases_eq}
 use Rattle.std.proofs.lemmas.Nat.{mod-mul-add}
 use Rattle.lsn_core.specs.Files.{Files}
-use Rattle.lsn_core.specs.Names.{fork_path_bytes, IsNamed}
 use Rattle.lsn_core.specs.Store.{ForkPages}
-use Rattle.lsn_core.specs.declared.ids.ForkId.{ForkId}
 use Rattle.lsn_core.specs.declared.lsn.Lsn.{Lsn}
-use Rattle.lsn_core.proofs.ForkPaths.{one_place}
 use Rattle.manifest.specs.Listing.{Listing}
 use Rattle.manifest.specs.Reading.{ReadAnswers}
 use Rattle.manifest.specs.Text.{manifest_text}
@@ -26,7 +23,7 @@ use Rattle.incr_file.specs.Head.{IsHead, head_bytes, file_size}
 use Rattle.incr_file.specs.Reading.{HasFront, HeadAnswers, view_of, listed_count, head_in}
 use Rattle.incr_file.specs.Laws.{WrittenHeadsAreRead}
 use Rattle.incr_file.specs.Form.{Form, Absent, Plain, Part, form_in, part_in, pages_bytes}
-use Rattle.chain_files.specs.Segments.{IsIncrFile, HasForms, form_of, forms_of}
+use Rattle.chain_files.specs.Segments.{IsIncrFile, HasForms, forms_at}
 use Rattle.std.proofs.lemmas.List.{length-append}
 use Rattle.lsn_core.specs.byte_words.Numbers.{u32_in}
 use Rattle.incr_file.specs.Head.{head_magic}
@@ -35,9 +32,12 @@ use Rattle.merge_laws.proofs.HeadSizes.{length-head_bytes}
 use Rattle.merge_laws.proofs.NoGaps.{series_heads}
 use Rattle.merge_laws.proofs.Sized.{IsSized, forms_sized}
 use Rattle.chain_files.proofs.Pages.{HaveSize, bytes_length}
-use Rattle.chain_check.specs.Directory.{HasManifest, IsRowAsListed, is_listed, HasNoOther, IsForkFile, HasForm, IsAsListed}
+use Rattle.chain_files.specs.Paths.{file_path, IsRelationFile, IsIncrementalPath, fork_folder, fork_name}
+use Rattle.lsn_core.specs.Names.{IsNamed, fork_path_bytes}
+use Rattle.lsn_core.specs.declared.ids.ForkId.{ForkId}
+use Rattle.chain_files.proofs.Placed.{fork_placed, fork_file}
+use Rattle.chain_check.specs.Directory.{HasManifest, IsRowAsListed, is_listed, HasNoOther, HasForm, IsAsListed}
 use Rattle.chain_check.specs.declared.member.Member.{Member}
-use Rattle.chain_check.proofs.ForkFiles.{fork_file, one_form}
 use Rattle.merged_forms.specs.Merged.{merged_form}
 use Rattle.directory_files.specs.Relisted.{File, IsRelisted, other_rows, relisted}
 use Rattle.merge_laws.specs.Merged.{IsFileOf, kept_bytes, merged_label, IsMergedFile, IsMerged}
@@ -47,8 +47,8 @@ use Rattle.merge_laws.specs.Members.{last_member, merged_member, AreAsListed}
 use Rattle.merge_laws.specs.Laws.{IsMergedOf, MergedIsAsListed}
 use Rattle.directory_files.proofs.Among.{Among, of_all, all_among, all_of_map, name_of}
 use Rattle.merge_laws.proofs.Labels.{merged_text}
-use Rattle.directory_files.proofs.Standing.{fork_apart, fork_unlike, label_apart, same_path, neither, none_if, never_both, other_row, is_other, file_for, put_in, stands_in, found_in, all_listed, all_made}
-use Rattle.merge_laws.proofs.ListedRows.{row_at, none_listed, fork_row}
+use Rattle.directory_files.proofs.Standing.{never_label, label_apart, same_path, neither, none_if, never_both, other_row, is_other, file_for, put_in, stands_in, found_in, all_listed, all_made}
+use Rattle.merge_laws.proofs.ListedRows.{row_at, none_listed, file_row}
 use Rattle.merge_laws.proofs.Same.{Facts, spares, kept_whole, last_listed, merged_is, merged_sized, merged_counted, part_decides, plain_decides, alone_if}
 
 never_true : (b : Bool) → b ≡ true → b ≡ false → ⊥
@@ -59,10 +59,10 @@ stable : (a b : ℕ) → ((a ≡ b → ⊥) → ⊥) → a ≡ b
 stable a b never = elim (cases_eq a b) [ inl e ↦ e | inr apart ↦ absurd (never apart) ]
 
 -- a range of a manifest that was read rises
-pub read_rises : (bytes : List ℕ) (m : Listing) → ReadAnswers 2 bytes (Ok m) → m.start < m.end
+pub read_rises : (bytes : List ℕ) (m : Listing) → ReadAnswers bytes (Ok m) → m.start < m.end
 read_rises bytes m is =
     let man = is.1.2 in
-    let parts = man.2.1 in
+    let parts = man.2.shape in
     subst (λ (l : Listing). l.start < l.end) (sym man.5) parts.range.rises
 
 module _ (facts : Facts) (heads : WrittenHeadsAreRead) (series : List Files) (first : Member) (later : List Member) (when count : ℕ) (out : Files) (m : IsMergedOf series first later when count out) where
@@ -115,7 +115,7 @@ module _ (facts : Facts) (heads : WrittenHeadsAreRead) (series : List Files) (fi
       let row = row_at rows label_name listed.label_row in
       let other = other_row rows row.0 row.1 (λ n. label_apart (sym row.2 ∙ n)) in
       let file = file_for (IsMergedFile series m.oldest m.newest) (other_rows rows) m.is.files row.0 m.is.stand other in
-      let plain : IsForkFile row.0.path true → ⊥ = λ f. fork_unlike f.fork f.seg true (sym f.spelled ∙ row.2) in
+      let plain : IsIncrementalPath row.0.path → ⊥ = λ f. never_label f.folder f.name true (sym f.spelled ∙ row.2) in
       let same : file.0 ≡ (label_name, kept_bytes m.oldest m.newest label_name) = file.2.kept plain ∙ ap (λ (p : List ℕ). (p, kept_bytes m.oldest m.newest p)) row.2 in
       subst (λ (f : File). Among f m.is.files) same file.1
 
@@ -143,12 +143,12 @@ module _ (facts : Facts) (heads : WrittenHeadsAreRead) (series : List Files) (fi
   newest_forms : HasForms m.newest
   newest_forms = facts.forms m.newest newest_member listed
 
-  heads_of : (fork : ForkId) (seg : ℕ) → IsNamed fork seg → AllByRecursion HasHead (forms_of series fork seg)
-  heads_of fork seg named = series_heads fork seg named facts.forms series (first ∷ later) m.listed
+  heads_of : (folder name : List ℕ) → IsRelationFile folder name → AllByRecursion HasHead (forms_at series folder name)
+  heads_of folder name named = series_heads folder name named facts.forms series (first ∷ later) m.listed
 
   -- an incremental file is one by its head
-  part_front : (fork : ForkId) (seg : ℕ) (bytes : List ℕ) → IsNamed fork seg → get out (fork_path_bytes fork seg true) ≡ Some bytes → HasFront bytes (length bytes)
-  part_front fork seg bytes named e = record {
+  part_front : (folder name : List ℕ) (bytes : List ℕ) → IsRelationFile folder name → get out (file_path folder name true) ≡ Some bytes → HasFront bytes (length bytes)
+  part_front folder name bytes named e = record {
     size = stable (length bytes) (file_size (listed_count bytes)) (λ never. decides (λ head pages merged are.
         let front = front_of head pages merged in
         let long = part_long head pages merged in
@@ -158,42 +158,43 @@ module _ (facts : Facts) (heads : WrittenHeadsAreRead) (series : List Files) (fi
         never (ap (λ (b : List ℕ). u32_in b 0) are ∙ front.magic)));
   }
     where
-      decides : ((head : IncrHead) (pages : ForkPages) → merged_form (forms_of series fork seg) ≡ Part head pages → bytes ≡ head_bytes head ++ pages_bytes pages → ⊥) → ⊥
-      decides refuse = part_decides facts.written series m.before m.oldest m.newest newest_member when count out m.ends listed m.is fork seg named (heads_of fork seg named) facts.heads bytes e refuse
+      decides : ((head : IncrHead) (pages : ForkPages) → merged_form (forms_at series folder name) ≡ Part head pages → bytes ≡ head_bytes head ++ pages_bytes pages → ⊥) → ⊥
+      decides refuse = part_decides facts.written series m.before m.oldest m.newest newest_member when count out m.ends listed m.is folder name named (heads_of folder name named) facts.heads bytes e refuse
 
-      front_of : (head : IncrHead) (pages : ForkPages) → merged_form (forms_of series fork seg) ≡ Part head pages → HasFront (head_bytes head ++ pages_bytes pages) (file_size (length head.blocks))
-      front_of head pages merged = (heads head (pages_bytes pages) (subst HasHead merged (facts.heads (forms_of series fork seg) (heads_of fork seg named)))).1.0
+      front_of : (head : IncrHead) (pages : ForkPages) → merged_form (forms_at series folder name) ≡ Part head pages → HasFront (head_bytes head ++ pages_bytes pages) (file_size (length head.blocks))
+      front_of head pages merged = (heads head (pages_bytes pages) (subst HasHead merged (facts.heads (forms_at series folder name) (heads_of folder name named)))).1.0
 
-      part_long : (head : IncrHead) (pages : ForkPages) → merged_form (forms_of series fork seg) ≡ Part head pages → length (head_bytes head ++ pages_bytes pages) ≡ file_size (length head.blocks)
+      part_long : (head : IncrHead) (pages : ForkPages) → merged_form (forms_at series folder name) ≡ Part head pages → length (head_bytes head ++ pages_bytes pages) ≡ file_size (length head.blocks)
       part_long head pages merged =
-          let sized = subst IsSized merged (merged_sized (forms_of series fork seg) (forms_sized fork seg _)) in
-          let counted = merged_counted (forms_of series fork seg) head pages merged in
+          let sized = subst IsSized merged (merged_sized (forms_at series folder name) (forms_sized folder name _)) in
+          let counted = merged_counted (forms_at series folder name) head pages merged in
           let a = length-head_bytes head in
           let b = bytes_length 8192 pages sized in
           length-append (head_bytes head) (pages_bytes pages) ∙ omega (arith, a, b, counted)
 
-  part_head : (fork : ForkId) (seg : ℕ) (bytes : List ℕ) → IsNamed fork seg → get out (fork_path_bytes fork seg true) ≡ Some bytes → IsHead (head_in bytes)
-  part_head fork seg bytes named e =
-      let form = merged_is facts series first later when count out m fork seg named in
-      let is : merged_form (forms_of series fork seg) ≡ part_in bytes = sym form ∙ ap (λ (o : Option (List ℕ)). form_in o (get out (fork_path_bytes fork seg false))) e in
-      subst HasHead is (facts.heads (forms_of series fork seg) (heads_of fork seg named))
+  part_head : (folder name : List ℕ) (bytes : List ℕ) → IsRelationFile folder name → get out (file_path folder name true) ≡ Some bytes → IsHead (head_in bytes)
+  part_head folder name bytes named e =
+      let form = merged_is facts series first later when count out m folder name named in
+      let is : merged_form (forms_at series folder name) ≡ part_in bytes = sym form ∙ ap (λ (o : Option (List ℕ)). form_in o (get out (file_path folder name false))) e in
+      subst HasHead is (facts.heads (forms_at series folder name) (heads_of folder name named))
 
   file_form : (file : File) → Among file m.is.files → HasForm out (row_of m.is.modified file)
   file_form file among = record {
-    alone = λ f. alone_if facts.written series m.before m.oldest m.newest newest_member when count out m.ends listed m.is f.fork f.seg f.named (heads_of f.fork f.seg f.named) facts.heads newest_forms file.1 (ap (get out) (sym f.spelled) ∙ held file among);
+    alone = λ f. alone_if facts.written series m.before m.oldest m.newest newest_member when count out m.ends listed m.is f.folder f.name f.placed (heads_of f.folder f.name f.placed) facts.heads newest_forms file.1 (ap (get out) (sym f.spelled) ∙ held file among);
     incremental = λ f.
-        let at : get out (fork_path_bytes f.fork f.seg true) ≡ Some file.1 = ap (get out) (sym f.spelled) ∙ held file among in
+        let at : get out (file_path f.folder f.name true) ≡ Some file.1 = ap (get out) (sym f.spelled) ∙ held file among in
         let same : bytes_of out file.0 ≡ file.1 = ap (λ (o : Option (List ℕ)). unwrap_or o []) (held file among) in
-        subst (λ (b : List ℕ). IsIncrFile b (length file.1)) (sym same) (record { front = part_front f.fork f.seg file.1 f.named at; head = part_head f.fork f.seg file.1 f.named at });
+        subst (λ (b : List ℕ). IsIncrFile b (length file.1)) (sym same) (record { front = part_front f.folder f.name file.1 f.placed at; head = part_head f.folder f.name file.1 f.placed at });
     pages = λ f. stable (length file.1 % 8192) 0 (λ never.
-        plain_decides facts.written series m.before m.oldest m.newest newest_member when count out m.ends listed m.is f.fork f.seg f.named (heads_of f.fork f.seg f.named) facts.heads file.1 (ap (get out) (sym f.spelled) ∙ held file among)
+        plain_decides facts.written series m.before m.oldest m.newest newest_member when count out m.ends listed m.is (fork_folder f.fork) (fork_name f.fork f.seg) (fork_placed f.fork f.seg f.named) (heads_of (fork_folder f.fork) (fork_name f.fork f.seg) (fork_placed f.fork f.seg f.named)) facts.heads file.1
+        (ap (get out) (sym f.spelled) ∙ held file among)
         (λ pages sized are. never (ap (λ (b : List ℕ). length b % 8192) are ∙ whole_pages pages sized))
         (λ own there are. never (ap (λ (b : List ℕ). length b % 8192) are ∙ plain_whole f.fork f.seg own f.named there)));
   }
     where
       plain_whole : (fork : ForkId) (seg : ℕ) (own : List ℕ) → IsNamed fork seg → get m.newest (fork_path_bytes fork seg false) ≡ Some own → length own % 8192 ≡ 0
       plain_whole fork seg own named there =
-          let row = fork_row m.newest newest_member fork seg false own listed there in
+          let row = file_row m.newest newest_member (fork_folder fork) (fork_name fork seg) false own (fork_placed fork seg named) listed there in
           let own_row = of_all (IsRowAsListed m.newest) row.0 listing.files listed.rows row.1 in
           let form = of_all (HasForm m.newest) row.0 listing.files listed.forms row.1 in
           let held : Some own_row.bytes ≡ Some own = sym own_row.there ∙ (ap (get m.newest) row.2 ∙ there) in

@@ -4,8 +4,8 @@ use Rattle.std.specs.FinMap.{get}
 use Rattle.std.specs.List.{AllByRecursion}
 use Rattle.std.proofs.lemmas.Slice.Eq.{bytes_eq-Decides}
 use Rattle.lsn_core.specs.Files.{Files}
-use Rattle.lsn_core.specs.Names.{fork_path_bytes}
-use Rattle.lsn_core.specs.declared.ids.ForkId.{ForkId}
+use Rattle.chain_files.specs.Paths.{file_path, IsRelationFile}
+use Rattle.chain_check.proofs.ListedForms.{stands_listed}
 use Rattle.manifest.specs.declared.listing.FileRow.{FileRow}
 use Rattle.chain_check.specs.Directory.{is_listed, may_stand, HasNoOther, IsAsListed}
 use Rattle.chain_check.specs.declared.member.Member.{Member}
@@ -35,10 +35,6 @@ none_listed (row ∷ rows) path e =
       | false ↦ λ no. (refl, none_listed rows path no)
     ] e
 
--- a segment file of a fork is no manifest, and isn't in the folder of the WAL
-stands_listed : (rows : List FileRow) (fork : ForkId) (seg : ℕ) (incr : Bool) → may_stand rows (fork_path_bytes fork seg incr) ≡ is_listed rows (fork_path_bytes fork seg incr)
-stands_listed rows fork seg incr = refl
-
 there_listed : (files : Files) (rows : List FileRow) (path bytes : List ℕ) → HasNoOther files rows → may_stand rows path ≡ is_listed rows path → get files path ≡ Some bytes → is_listed rows path ≡ true
 there_listed files rows path bytes none stands e =
     elim (is_listed rows path) as (λ b. is_listed rows path ≡ b → b ≡ true) [
@@ -46,8 +42,8 @@ there_listed files rows path bytes none stands e =
       | false ↦ λ t. absurd (never_both (get files path) bytes (none path (stands ∙ t)) e)
     ] refl
 
-pub fork_row : (newest : Files) (member : Member) (fork : ForkId) (seg : ℕ) (incr : Bool) (bytes : List ℕ) → IsAsListed newest member → get newest (fork_path_bytes fork seg incr) ≡ Some bytes → HasRow member.manifest.files (fork_path_bytes fork seg incr)
-fork_row newest member fork seg incr bytes listed e =
+pub file_row : (newest : Files) (member : Member) (folder name : List ℕ) (incr : Bool) (bytes : List ℕ) → IsRelationFile folder name → IsAsListed newest member → get newest (file_path folder name incr) ≡ Some bytes → HasRow member.manifest.files (file_path folder name incr)
+file_row newest member folder name incr bytes placed listed e =
     let rows = member.manifest.files in
-    let path = fork_path_bytes fork seg incr in
-    row_at rows path (there_listed newest rows path bytes listed.others (stands_listed rows fork seg incr) e)
+    let path = file_path folder name incr in
+    row_at rows path (there_listed newest rows path bytes listed.others (stands_listed rows folder name incr placed) e)

@@ -101,7 +101,7 @@ fn refused_note(alloc: Global, of: &Judged, fault: &ChainFault) -> Result<Text, 
 fn number_note(alloc: Global, of: &Judged, fault: &ChainFault) -> Result<Text, NoMemory> {
     let wrong = match fault {
         ChainFault::ManifestVersion(version) => {
-            format!(in alloc; "its version is {version}, and only 2 is read")?
+            format!(in alloc; "its version is {version}, and only 1 and 2 are read")?
         }
         ChainFault::TimelineDiffers(timeline) => {
             format!(in alloc; "its timeline is {timeline}, and only 1 is read")?
@@ -154,6 +154,24 @@ pub fn unlisted_note(alloc: Global, backup: &[u8]) -> Result<Text, NoMemory> {
 /// A backup of a chain, with what is wrong, and what to do next.
 fn member_note(alloc: Global, backup: &[u8], wrong: &[u8], next: &[u8]) -> Result<Text, NoMemory> {
     note(alloc, &[b"backup ", backup, b" ", wrong], next)
+}
+
+/// The version of the backup's manifest, or a timeline of its label, is another one.
+fn heads_note(alloc: Global, backup: &[u8], why: &LinkFault) -> Result<Text, NoMemory> {
+    let told = match why {
+        LinkFault::ManifestVersion(version) => format!(in alloc;
+            "/backup_manifest is of version {version}, and a chain takes only 2"
+        )?,
+        LinkFault::TimelineDiffers(timeline) => format!(in alloc;
+            "/backup_label tells timeline {timeline}, and only 1 is read"
+        )?,
+        _ => return Err(NoMemory),
+    };
+    note(
+        alloc,
+        &[b"file ", backup, told.as_bytes()],
+        b"use another backup",
+    )
 }
 
 /// The backup isn't of the same store as the one before, or starts elsewhere than it should.
@@ -217,13 +235,8 @@ pub fn link_note(alloc: Global, backup: &[u8], why: &LinkFault) -> Result<Text, 
             &[b"more than 64 backups are named"],
             b"take a full backup",
         ),
-        LinkFault::TimelineDiffers(timeline) => {
-            let told = format!(in alloc; " tells timeline {timeline}, and only 1 is read")?;
-            note(
-                alloc,
-                &[b"file ", backup, b"/backup_label", told.as_bytes()],
-                b"use another backup",
-            )
+        LinkFault::ManifestVersion(_) | LinkFault::TimelineDiffers(_) => {
+            heads_note(alloc, backup, why)
         }
         LinkFault::FirstIncremental => member_note(
             alloc,

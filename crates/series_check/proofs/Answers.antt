@@ -19,9 +19,9 @@ put_back (first ∷ later) = refl
 
 abbrev pub FirstFault : List Member → Option LinkFault
 FirstFault [] = None
-FirstFault (first ∷ later) = series_fault first.label
+FirstFault (first ∷ later) = series_fault first
 
-pub first_none : (members : List Member) (d : Member) → 1 ≤ length members → series_fault (get_or members 0 d).label ≡ None → FirstFault members ≡ None
+pub first_none : (members : List Member) (d : Member) → 1 ≤ length members → series_fault (get_or members 0 d) ≡ None → FirstFault members ≡ None
 first_none [] d some e = absurd (omega (arith, some))
 first_none (first ∷ later) d some e = e
 
@@ -33,7 +33,7 @@ series_answer (first ∷ later) (Err r) some few none is = λ memory. refused (i
   where
     refused : IsChainRefused (with_prior first None ∷ later) r → IsSeriesRefused (first ∷ later) r
     refused (inl was) = inl was
-    refused (inr (few, inl was)) = absurd (some_none (first_fault (with_prior first None).label) r.why (full_none first (incremental_is first none)) was.1)
+    refused (inr (few, inl was)) = absurd (some_none (first_fault (with_prior first None)) r.why (full_none first (incremental_is first none)) was.1)
     refused (inr (few, inr was)) = inr (few, inr (incremental_is first none, unlinked first None later r was.1))
 
 -- ---- the laws
@@ -48,7 +48,7 @@ chain_accepted first later is = record { few = is.few; chain = (full_is first is
 pub accepted_or_refused : AcceptedIsNotRefused → (members : List Member) (r : ChainRefusal) → IsSeriesAccepted members → IsSeriesRefused members r → ⊥
 accepted_or_refused law [] r is was = absurd is.series
 accepted_or_refused law (first ∷ later) r is (inl was) = absurd (omega (arith, is.few, was.0))
-accepted_or_refused law (first ∷ later) r is (inr (few, inl was)) = some_none (series_fault first.label) r.why (incremental_none first is.series.0) was.1
+accepted_or_refused law (first ∷ later) r is (inr (few, inl was)) = some_none (series_fault first) r.why (incremental_none first is.series.0) was.1
 accepted_or_refused law (first ∷ later) r is (inr (few, inr was)) =
     law (with_prior first None ∷ later) r (chain_accepted first later is) (inr (few, inr (full_is first was.0, unlinked_back first None later r was.1)))
 
@@ -57,8 +57,8 @@ refused_once law members r s (inl is) (inl was) = same_refusal r s (is.1 ∙ sym
 refused_once law members r s (inl is) (inr was) = absurd (omega (arith, is.0, was.0))
 refused_once law members r s (inr is) (inl was) = absurd (omega (arith, is.0, was.0))
 refused_once law [] r s (inr is) (inr was) = absurd is.1
-refused_once law (first ∷ later) r s (inr (few, inl is)) (inr (_, inl was)) = same_refusal r s (is.0 ∙ sym was.0) (one_value (series_fault first.label) r.why s.why is.1 was.1)
-refused_once law (first ∷ later) r s (inr (few, inl is)) (inr (_, inr was)) = absurd (some_none (series_fault first.label) r.why (incremental_none first was.0) is.1)
-refused_once law (first ∷ later) r s (inr (few, inr is)) (inr (_, inl was)) = absurd (some_none (series_fault first.label) s.why (incremental_none first is.0) was.1)
+refused_once law (first ∷ later) r s (inr (few, inl is)) (inr (_, inl was)) = same_refusal r s (is.0 ∙ sym was.0) (one_value (series_fault first) r.why s.why is.1 was.1)
+refused_once law (first ∷ later) r s (inr (few, inl is)) (inr (_, inr was)) = absurd (some_none (series_fault first) r.why (incremental_none first was.0) is.1)
+refused_once law (first ∷ later) r s (inr (few, inr is)) (inr (_, inl was)) = absurd (some_none (series_fault first) s.why (incremental_none first is.0) was.1)
 refused_once law (first ∷ later) r s (inr (few, inr is)) (inr (_, inr was)) =
     law (with_prior first None ∷ later) r s (inr (few, inr (full_is first is.0, unlinked_back first None later r is.1))) (inr (few, inr (full_is first was.0, unlinked_back first None later s was.1)))

@@ -1,14 +1,14 @@
 -- The first member of a series, as one of a chain without its prior.
-use Rattle.std.proofs.Common.{eqb-true, ◌≡◌, ◌≤◌, ℕ, ◌+◌, ◌==◌, Bool, true, false, not, cond, List, [], ◌∷◌, Option, Some, None, refl, sym, ap, ◌∙◌, arith}
+use Rattle.std.proofs.Common.{eqb-true, ◌≡◌, ◌≤◌, ℕ, ◌+◌, ◌==◌, Bool, true, false, not, cond, if◌then◌else◌, List, [], ◌∷◌, Option, Some, None, refl, sym, ap, ◌∙◌, arith}
 use Rattle.std.specs.List.{AllByRecursion, find}
 use Rattle.std.specs.Option.{option_map, option_or}
 use Rattle.std.proofs.lemmas.Bool.{eq-eqb}
 use Rattle.std.proofs.lemmas.Option.{none-some}
 use Rattle.lsn_core.specs.declared.lsn.Lsn.{Lsn}
-use Rattle.chain_check.specs.Chain.{timelines_of, prior_timelines, IsOnOneTimeline, IsFirst, timeline_fault, first_fault}
+use Rattle.chain_check.specs.Chain.{timelines_of, prior_timelines, IsOnOneTimeline, IsFirst, version_fault, timeline_fault, first_fault}
 use Rattle.chain_check.specs.declared.member.Member.{Member}
 use Rattle.chain_check.specs.declared.link.LinkFault.{LinkFault}
-use Rattle.chain_check.specs.declared.link.LinkFault.TheVariants.{TimelineDiffers}
+use Rattle.chain_check.specs.declared.link.LinkFault.TheVariants.{ManifestVersion, TimelineDiffers}
 use Rattle.series_check.specs.Series.{IsIncremental, full_fault, series_fault}
 use Rattle.series_check.specs.Priors.{with_prior}
 
@@ -57,19 +57,33 @@ has_prior : (p : Option (Lsn × ℕ)) → full_fault p ≡ None → (prior : Lsn
 has_prior None e = absurd (cc)
 has_prior (Some prior) e = (prior, refl)
 
-pub incremental_is : (member : Member) → series_fault member.label ≡ None → IsIncremental member
-incremental_is member e =
-    let both = neither (timeline_fault member.label) (full_fault member.label.prior) e in
-    let has = has_prior member.label.prior both.1 in
-    record { timelines = all_one (timelines_of member.label) both.0; prior = has.0; named = has.1 }
+is_two : (v : ℕ) (test : Bool) → (v == 2) ≡ test → (if test then None else Some (ManifestVersion v)) ≡ None → v ≡ 2
+is_two v true is e = eqb-true v 2 is
+is_two v false is e = absurd (cc)
 
-pub incremental_none : (member : Member) → IsIncremental member → series_fault member.label ≡ None
+new_version : (member : Member) → version_fault member ≡ None → member.manifest.version ≡ 2
+new_version member e = is_two member.manifest.version (member.manifest.version == 2) refl e
+
+no_version : (member : Member) → member.manifest.version ≡ 2 → version_fault member ≡ None
+no_version member e = rw e refl
+
+pub incremental_is : (member : Member) → series_fault member ≡ None → IsIncremental member
+incremental_is member e =
+    let first = neither (version_fault member) (option_or (timeline_fault member.label) (full_fault member.label.prior)) e in
+    let both = neither (timeline_fault member.label) (full_fault member.label.prior) first.1 in
+    let has = has_prior member.label.prior both.1 in
+    record { version = new_version member first.0; timelines = all_one (timelines_of member.label) both.0; prior = has.0; named = has.1 }
+
+pub incremental_none : (member : Member) → IsIncremental member → series_fault member ≡ None
 incremental_none member is =
-    both_none (timeline_fault member.label) (full_fault member.label.prior) (no_other (timelines_of member.label) is.timelines) (ap full_fault is.named)
+    both_none (version_fault member) (option_or (timeline_fault member.label) (full_fault member.label.prior)) (no_version member is.version)
+    (both_none (timeline_fault member.label) (full_fault member.label.prior) (no_other (timelines_of member.label) is.timelines) (ap full_fault is.named))
 
 -- without its prior it is the first of a chain
 pub full_is : (member : Member) → IsIncremental member → IsFirst (with_prior member None)
-full_is member is = record { timelines = (is.timelines.0, tt); full = refl }
+full_is member is = record { version = is.version; timelines = (is.timelines.0, tt); full = refl }
 
-pub full_none : (member : Member) → IsIncremental member → first_fault (with_prior member None).label ≡ None
-full_none member is = both_none (timeline_fault (with_prior member None).label) None (skipped (member.label.timeline == 1) member.label.timeline [] (eq-eqb member.label.timeline 1 is.timelines.0)) refl
+pub full_none : (member : Member) → IsIncremental member → first_fault (with_prior member None) ≡ None
+full_none member is =
+    both_none (version_fault (with_prior member None)) (option_or (timeline_fault (with_prior member None).label) None) (no_version (with_prior member None) is.version)
+    (both_none (timeline_fault (with_prior member None).label) None (skipped (member.label.timeline == 1) member.label.timeline [] (eq-eqb member.label.timeline 1 is.timelines.0)) refl)

@@ -2,11 +2,11 @@
 use Rattle.std.proofs.Common.{◌≡◌, ℕ, ◌+◌, List, [], ◌∷◌, Option, Some, None, refl, sym, ap, ◌∙◌, inl, inr}
 use Rattle.std.specs.Option.{option_or}
 use Rattle.lsn_core.specs.declared.lsn.Lsn.{Lsn}
-use Rattle.chain_check.specs.Chain.{IsLinked, AreLinked, timeline_fault, named_fault, label_fault, RefusesLater, IsFirstUnlinked}
+use Rattle.chain_check.specs.Chain.{IsLinked, AreLinked, version_fault, timeline_fault, named_fault, label_fault, RefusesLater, IsFirstUnlinked}
 use Rattle.chain_check.specs.declared.member.Member.{Member}
 use Rattle.chain_check.specs.declared.chain.ChainRefusal.{ChainRefusal}
 use Rattle.chain_check.specs.declared.link.LinkFault.{LinkFault}
-use Rattle.chain_check.specs.declared.link.LinkFault.TheVariants.{TooManyMembers, TimelineDiffers, FirstIncremental, LaterFull, SystemDiffers, WrongPrior, Overlap, NoPriorFile, NoMemory}
+use Rattle.chain_check.specs.declared.link.LinkFault.TheVariants.{TooManyMembers, ManifestVersion, TimelineDiffers, FirstIncremental, LaterFull, SystemDiffers, WrongPrior, Overlap, NoPriorFile, NoMemory}
 use Rattle.series_check.specs.Priors.{with_prior}
 
 module _ (first : Member) (prior : Option (Lsn × ℕ)) where
@@ -18,10 +18,11 @@ module _ (first : Member) (prior : Option (Lsn × ℕ)) where
   named_same member (Some named) = refl
 
   label_same : (member : Member) → label_fault other member ≡ label_fault first member
-  label_same member = ap (λ o. option_or (timeline_fault member.label) o) (named_same member member.label.prior)
+  label_same member = ap (λ o. option_or (version_fault member) (option_or (timeline_fault member.label) o)) (named_same member member.label.prior)
 
   linked_same : (member : Member) → IsLinked other member → IsLinked first member
   linked_same member is = record {
+    version = is.version;
     timelines = is.timelines;
     system = is.system;
     timeline = is.timeline;
@@ -32,6 +33,7 @@ module _ (first : Member) (prior : Option (Lsn × ℕ)) where
 
   linked_back : (member : Member) → IsLinked first member → IsLinked other member
   linked_back member is = record {
+    version = is.version;
     timelines = is.timelines;
     system = is.system;
     timeline = is.timeline;
@@ -42,6 +44,7 @@ module _ (first : Member) (prior : Option (Lsn × ℕ)) where
 
   refuses_same : (member : Member) (why : LinkFault) → RefusesLater other member why → RefusesLater first member why
   refuses_same member TooManyMembers is = sym (label_same member) ∙ is
+  refuses_same member (ManifestVersion v) is = sym (label_same member) ∙ is
   refuses_same member (TimelineDiffers v) is = sym (label_same member) ∙ is
   refuses_same member FirstIncremental is = sym (label_same member) ∙ is
   refuses_same member LaterFull is = sym (label_same member) ∙ is
@@ -53,6 +56,7 @@ module _ (first : Member) (prior : Option (Lsn × ℕ)) where
 
   refuses_back : (member : Member) (why : LinkFault) → RefusesLater first member why → RefusesLater other member why
   refuses_back member TooManyMembers is = label_same member ∙ is
+  refuses_back member (ManifestVersion v) is = label_same member ∙ is
   refuses_back member (TimelineDiffers v) is = label_same member ∙ is
   refuses_back member FirstIncremental is = label_same member ∙ is
   refuses_back member LaterFull is = label_same member ∙ is

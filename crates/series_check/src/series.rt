@@ -4,16 +4,21 @@ ghost use Rattle.std.specs.Prelude.{◌≡◌, ◌≤◌, length, None as Nothin
 ghost use Rattle.series_check.specs.Series.{SeriesAnswer, series_fault};
 ghost use Rattle.series_check.specs.Priors.{first_prior, with_first_prior};
 
-use backup_label::Label;
 use chain_check::{ChainRefusal, LinkFault, MOST_MEMBERS, Member, check_chain};
 use lsn_core::Lsn;
 use std::alloc::Global;
 use std::mem;
 
-/// What the first member of a series of incremental backups is refused for by its label, if anything.
-fn series_fault(label: &Label) -> Option<LinkFault>
-    ensures { result ≡ series_fault label.now }
+/// What the first member of a series of incremental backups is refused for by its version and its
+/// label, if anything.
+fn series_fault(member: &Member) -> Option<LinkFault>
+    ensures { result ≡ series_fault member.now }
 {
+    let version = member.manifest.version;
+    if version != 2 {
+        return Some(LinkFault::ManifestVersion(version));
+    }
+    let label = &member.label;
     if label.timeline != 1 {
         return Some(LinkFault::TimelineDiffers(label.timeline));
     }
@@ -34,10 +39,11 @@ fn swap_prior(members: &mut [Member], prior: Option<(Lsn, u32)>) -> Option<(Lsn,
 }
 
 /// Judges a series of incremental backups, the oldest one first, whose directories were found to be
-/// as listed. It is accepted exactly where it has at most 64 members, the first names a prior on
-/// timeline 1, and each later one is linked to the one before as in a chain. Otherwise it is refused
-/// for the first fault, in the order of `LinkFault`, of the first member that has one. The first
-/// member stands for a full backup while the later ones are judged; the members stay as they were.
+/// as listed. It is accepted exactly where it has at most 64 members, the first has a manifest of
+/// version 2 and names a prior on timeline 1, and each later one is linked to the one before as in a
+/// chain. Otherwise it is refused for the first fault, in the order of `LinkFault`, of the first
+/// member that has one. The first member stands for a full backup while the later ones are judged;
+/// the members stay as they were.
 pub fn check_series(alloc: Global, members: &mut [Member]) -> Result<(), ChainRefusal>
     requires { 1 ≤ length members.old }
     ensures answer { SeriesAnswer members.old result }
@@ -49,7 +55,7 @@ pub fn check_series(alloc: Global, members: &mut [Member]) -> Result<(), ChainRe
             why: LinkFault::TooManyMembers,
         });
     }
-    if let Some(why) = series_fault(&members[0].label) {
+    if let Some(why) = series_fault(&members[0]) {
         return Err(ChainRefusal { member: 0, why });
     }
     let prior = swap_prior(members, None);

@@ -1,6 +1,7 @@
 use Rattle.std.proofs.Common.{◌≡◌, ◌∙◌, ap, subst, List, ℕ, arith}
 use Rattle.lsn_core.specs.byte_words.Told.{when_told}
-use Rattle.chain_check.specs.LaneSums.{IsPiece, IsSeen, holds}
+use Rattle.chain_files.specs.Sources.{IsPiece}
+use Rattle.chain_check.specs.LaneSums.{IsSeen, holds}
 use Rattle.chain_check.specs.Sums.{says_sum}
 use Rattle.chain_check.proofs.Seen.{last_known}
 use Rattle.chain_check.proofs.lanes.last_sum.Goals as goal

@@ -1,7 +1,8 @@
 use Rattle.std.proofs.Common.{◌∙◌, sym, ap, subst, Some, Option, List, ℕ, ◌+◌, refl}
 use Rattle.std.proofs.lemmas.Option.{slice_get_read}
 use Rattle.lsn_core.specs.byte_words.Told.{when_told}
-use Rattle.chain_check.specs.LaneSums.{IsPiece, Moves}
+use Rattle.chain_files.specs.Sources.{IsPiece}
+use Rattle.chain_check.specs.LaneSums.{Moves}
 use Rattle.chain_check.specs.declared.lanes.Place.{Place}
 use Rattle.chain_check.proofs.Seen.{moves}
 use Rattle.chain_check.proofs.lanes.next_place.Goals as goal

@@ -2,7 +2,7 @@ use Rattle.std.proofs.Common.{rules, ◌≡◌, List, Option, true, false, take,
 use Rattle.lsn_core.specs.Files.{Files}
 use Rattle.incr_file.specs.Form.{pages_bytes}
 use Rattle.backup_files.proofs.Passed.{err_more}
-use Rattle.chain_files.specs.Segments.{chain_segments}
+use Rattle.chain_files.specs.Segments.{chain_pages}
 use Rattle.chain_files.specs.Sources.{OfChain}
 use Rattle.chain_files.specs.Told.{chain_told}
 use Rattle.chain_files.proofs.Told.{reads_told, reads_trans}
@@ -27,12 +27,12 @@ pub returns-then-branch-clause-made : goal.returns-then-branch-clause-made
 returns-then-branch-clause-made g c =
     let told = chain_told g.V.Vault c.args.areas.now c.args.places.now in
     let whole : c.in_ok-is_rebuilt.field-0 ≡ true = search rules in
-    made_more (λ bytes. OfChain told (λ series. IfSome (chain_segments series c.args.fork.now c.args.seg) (λ pages. bytes ≡ pages_bytes (take 131072 pages)))) (λ bytes. OfChain told (λ series. JoinedFor series bytes c.args.fork.now c.args.seg)) c.args.path.now c.args.path.now (g.V.Vault.files c.args.out.now)
-    (g.V.Vault.files c.rebuild_file.new.out) c.rebuild_file.result refl (λ bytes is. rebuilt_joined told c.args.fork.now c.args.seg c.in_ok-is_rebuilt.field-0 bytes whole c.in_ok-is_rebuilt.ensures.whole is)
+    made_more (λ bytes. OfChain told (λ series. IfSome (chain_pages series c.args.folder.now c.args.name.now) (λ pages. bytes ≡ pages_bytes (take 131072 pages)))) (λ bytes. OfChain told (λ series. JoinedFor series bytes c.args.folder.now c.args.name.now)) c.args.path.now c.args.path.now (g.V.Vault.files c.args.out.now)
+    (g.V.Vault.files c.rebuild_file.new.out) c.rebuild_file.result refl (λ bytes is. rebuilt_joined told c.args.folder.now c.args.name.now c.in_ok-is_rebuilt.field-0 bytes whole c.in_ok-is_rebuilt.ensures.whole is)
     (subst
     (λ (o : Option (List Files)).
     IfOk c.rebuild_file.result
-    (IsMade (λ bytes. OfChain o (λ series. IfSome (chain_segments series c.args.fork.now c.args.seg) (λ pages. bytes ≡ pages_bytes (take 131072 pages)))) c.args.path.now (g.V.Vault.files c.args.out.now) (g.V.Vault.files c.rebuild_file.new.out)))
+    (IsMade (λ bytes. OfChain o (λ series. IfSome (chain_pages series c.args.folder.now c.args.name.now) (λ pages. bytes ≡ pages_bytes (take 131072 pages)))) c.args.path.now (g.V.Vault.files c.args.out.now) (g.V.Vault.files c.rebuild_file.new.out)))
     (reads_told g.V.Vault c.args.areas.now c.is_rebuilt.new.areas c.is_rebuilt.ensures.reads c.args.places.now) c.rebuild_file.ensures.made)
 
 pub returns-clause-reads : goal.returns-clause-reads
@@ -47,9 +47,9 @@ pub returns-clause-made : goal.returns-clause-made
 returns-clause-made g c =
     let told = chain_told g.V.Vault c.args.areas.now c.args.places.now in
     let part : c.in_ok-is_rebuilt.field-0 ≡ false = search rules in
-    made_more (λ bytes. IsUnrebuilt told c.args.fork.now c.args.seg (λ series. IsJoined series c.args.fork.now c.args.seg false bytes)) (λ bytes. OfChain told (λ series. JoinedFor series bytes c.args.fork.now c.args.seg)) c.args.path.now c.args.path.now (g.V.Vault.files c.args.out.now)
-    (g.V.Vault.files c.merge_file.new.out) c.merge_file.result refl (λ bytes is. merged_joined told c.args.fork.now c.args.seg c.in_ok-is_rebuilt.field-0 bytes part c.in_ok-is_rebuilt.ensures.whole is)
+    made_more (λ bytes. IsUnrebuilt told c.args.folder.now c.args.name.now (λ series. IsJoined series c.args.folder.now c.args.name.now false bytes)) (λ bytes. OfChain told (λ series. JoinedFor series bytes c.args.folder.now c.args.name.now)) c.args.path.now c.args.path.now (g.V.Vault.files c.args.out.now)
+    (g.V.Vault.files c.merge_file.new.out) c.merge_file.result refl (λ bytes is. merged_joined told c.args.folder.now c.args.name.now c.in_ok-is_rebuilt.field-0 bytes part c.in_ok-is_rebuilt.ensures.whole is)
     (subst
     (λ (o : Option (List Files)).
-    IfOk c.merge_file.result (IsMade (λ bytes. IsUnrebuilt o c.args.fork.now c.args.seg (λ series. IsJoined series c.args.fork.now c.args.seg false bytes)) c.args.path.now (g.V.Vault.files c.args.out.now) (g.V.Vault.files c.merge_file.new.out)))
+    IfOk c.merge_file.result (IsMade (λ bytes. IsUnrebuilt o c.args.folder.now c.args.name.now (λ series. IsJoined series c.args.folder.now c.args.name.now false bytes)) c.args.path.now (g.V.Vault.files c.args.out.now) (g.V.Vault.files c.merge_file.new.out)))
     (reads_told g.V.Vault c.args.areas.now c.is_rebuilt.new.areas c.is_rebuilt.ensures.reads c.args.places.now) c.merge_file.ensures.made)

@@ -11,4 +11,4 @@ returns-in_default-clause-reads g c = reads_refl g.V.Vault c.args.areas.now
 
 pub returns-clause-path : goal.returns-clause-path
 returns-clause-path g c =
-    merged_path (chain_told g.V.Vault c.args.areas.now c.args.places.now) c.args.path.now c.in_ok-fork_path.field-0 c.in-Some.fork c.in-Some.seg c.in_ok-whole.whole c.in-Some.ensures.named c.in-Some.ensures.found c.in_ok-whole.ensures.whole c.in_ok-fork_path.ensures
+    merged_path (chain_told g.V.Vault c.args.areas.now c.args.places.now) c.args.path.now c.in_ok-file_path.field-0 c.in-Some.folder.now c.in-Some.name.now c.in_ok-whole.whole c.in-Some.ensures.placed c.in-Some.ensures.found c.in_ok-whole.ensures.whole c.in_ok-file_path.ensures
