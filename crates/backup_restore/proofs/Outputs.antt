@@ -57,13 +57,23 @@ only_forks new same path other = same path other ∙ get-empty (slice_cmp nat_cm
 related_to : (R : Files → Files → Type 0) (old new : Option Files) (m n : Files) → old ≡ Some m → new ≡ Some n → Related R old new → R m n
 related_to R old new m n is now related = subst (λ (o : Option Files). Related R (Some m) o) now (subst (λ (o : Option Files). Related R o new) is related)
 
+-- the files of an area that was empty, and in which only segment files changed since, are just those of
+-- the store that its forks show, and hold it
+pub record AreFilesOfStore (relseg : ℕ) (told : Option Files) (store : Store) : Type 0 where
+  pub are : told ≡ Some (files_of relseg store)
+  pub hold : Holds relseg (files_of relseg store) store
+
 pub files_shown : {V : Type 0} (g : Ghosts V) (out : V) (new : Forks V) (relseg : ℕ) (store : Store) → 0 < relseg → new.relseg ≡ relseg → g.files out ≡ Some empty → ChangesOnly g IsForkPath out new.area → ShowsStore g new store
-    → g.files new.area ≡ Some (files_of relseg store)
+    → AreFilesOfStore relseg (g.files new.area) store
 files_shown g out new relseg store some size none changes shown =
     let held = shown.holds.files in
     let same : Holds relseg held.files store = subst (λ (n : ℕ). Holds n held.files store) size held.hold in
     let agree : AgreeBut IsForkPath empty held.files = related_to (AgreeBut IsForkPath) (g.files out) (g.files new.area) empty held.files none held.are_told changes.files in
-    held.are_told ∙ ap (λ (m : Files). Some m) (files_are_exact relseg held.files store some same (only_forks held.files agree))
+    let exact : held.files ≡ files_of relseg store = files_are_exact relseg held.files store some same (only_forks held.files agree) in
+    record {
+      are = held.are_told ∙ ap (λ (m : Files). Some m) exact;
+      hold = subst (λ (m : Files). Holds relseg m store) exact same;
+    }
 
 pub told_empty : (told : Option Files) → IfSome told (λ m. m ≡ empty) → IsSome told → told ≡ Some empty
 told_empty None clear some = absurd (cc)
@@ -118,12 +128,16 @@ module _ {V : Type 0} (g : Ghosts V) (p : Pages (Forks V)) where
         → OfChain (chain_told g areas places) (λ m. MakesOf s.relseg m done.entries (replayed_to upto r.tip) r (g.files c.new.area))
     made_of r done told =
         when_chain (chain_told g areas places) (λ m. IsCopied (p.shows c.old) s.relseg m c.counted) (λ m. MakesOf s.relseg m done.entries (replayed_to upto r.tip) r (g.files c.new.area))
-        (λ m copy. let one = done.redone copy.copy copy.there in record {
+        (λ m copy. let one = done.redone copy.copy copy.there in
+        let shown = c.shown c.new one.next one.shown in
+        let files = files_shown g out c.new s.relseg one.next c.some (c.kept.relseg ∙ c.relseg) (told_empty (g.files out) c.clear told) all_changes shown in record {
           copy = copy.copy;
           held = copy.held;
           store = one.next;
           redone = one.is;
-          written = files_shown g out c.new s.relseg one.next c.some (c.kept.relseg ∙ c.relseg) (told_empty (g.files out) c.clear told) all_changes (c.shown c.new one.next one.shown);
+          written = files.are;
+          holds = files.hold;
+          pages_whole = shown.whole;
           forks = one.forks copy.counted;
           pages = one.pages copy.counted;
         }) (copy_in told)

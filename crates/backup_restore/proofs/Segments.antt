@@ -14,10 +14,11 @@ use Rattle.vault.specs.declared.area.Vault.{Ghosts}
 use Rattle.rel_files.proofs.Pages.{flat}
 use Rattle.rel_files.proofs.Segments.{take_less}
 use Rattle.chain_files.specs.Held.{most_pages, pages_taken}
-use Rattle.chain_files.specs.Segments.{chain_segments}
-use Rattle.chain_files.specs.Sources.{OfChain, AreRead, IsSourceOf}
+use Rattle.chain_files.specs.Segments.{chain_segments, chain_pages}
+use Rattle.chain_files.specs.Sources.{OfChain, AreRead, IsSourceOf, IsSourceAt}
 use Rattle.chain_files.specs.declared.source.SegmentSource.{SegmentSource}
 use Rattle.chain_files.proofs.Pages.{HaveSize, chain_sized}
+use Rattle.chain_files.specs.Paths.{fork_folder, fork_name}
 use Rattle.backup_restore.specs.Inside.{area_shows, taken, PutsPages, PutsSegment}
 use Rattle.backup_restore.proofs.Chains.{when_chain, when_both}
 use Rattle.backup_restore.proofs.Directories.{long_taken}
@@ -43,12 +44,12 @@ taken_read relseg (Some ps) pages n most count piece within is read = first_read
 
 -- a source that reads pages reads those that are taken
 pub read_as : (told now : Option (List Files)) (fork : ForkId) (seg relseg n most count : ℕ) (source : SegmentSource) (piece : List ℕ) → now ≡ told → n + most ≤ relseg → OfChain told (λ chain. IsSourceOf chain fork seg (Some source))
-    → OfChain now (λ chain. (f : ForkId) (k : ℕ) → IsSourceOf chain f k (Some source) → IfSome (chain_segments chain f k) (λ pages. AreRead pages n most piece count)) → OfChain told (λ chain. AreRead (taken relseg chain fork seg) n most piece count)
+    → OfChain now (λ chain. (f k : List ℕ) → IsSourceAt chain f k (Some source) → IfSome (chain_pages chain f k) (λ pages. AreRead pages n most piece count)) → OfChain told (λ chain. AreRead (taken relseg chain fork seg) n most piece count)
 read_as told now fork seg relseg n most count source piece same within is read =
-    when_both told (λ chain. IsSourceOf chain fork seg (Some source)) (λ chain. (f : ForkId) (k : ℕ) → IsSourceOf chain f k (Some source) → IfSome (chain_segments chain f k) (λ pages. AreRead pages n most piece count))
+    when_both told (λ chain. IsSourceOf chain fork seg (Some source)) (λ chain. (f k : List ℕ) → IsSourceAt chain f k (Some source) → IfSome (chain_pages chain f k) (λ pages. AreRead pages n most piece count))
     (λ chain. AreRead (taken relseg chain fork seg) n most piece count)
-    (λ chain one all. taken_read relseg (chain_segments chain fork seg) _ n most count piece within one.are (all fork seg one)) is
-    (subst (λ (o : Option (List Files)). OfChain o (λ chain. (f : ForkId) (k : ℕ) → IsSourceOf chain f k (Some source) → IfSome (chain_segments chain f k) (λ pages. AreRead pages n most piece count))) same read)
+    (λ chain one all. taken_read relseg (chain_segments chain fork seg) _ n most count piece within one.are (all (fork_folder fork) (fork_name fork seg) one)) is
+    (subst (λ (o : Option (List Files)). OfChain o (λ chain. (f k : List ℕ) → IsSourceAt chain f k (Some source) → IfSome (chain_pages chain f k) (λ pages. AreRead pages n most piece count))) same read)
 
 -- ---- the pages that are taken
 
@@ -107,7 +108,7 @@ module _ {V : Type 0} (g : Ghosts V) (relseg : ℕ) (told : Option (List Files))
       let next = piece_shown relseg fork seg some named (g.files b) (g.files c) more s old count
       (written ∙ ap (λ (p : List ℕ). option_map (after_write (fork_path_bytes fork seg false) (count * 8192) p) (g.files b)) spelled)
       (omega (arith, long_more, one)) (omega (arith, long_more, within, few)) (size ∙ omega (arith, place)) (omega (arith, long_more, size, fits))
-      (more_sized all count got (sized_taken relseg (chain_segments chain fork seg) (chain_sized chain fork seg))) (put pages long s shown) in
+      (more_sized all count got (sized_taken relseg (chain_segments chain fork seg) (chain_sized chain (fork_folder fork) (fork_name fork seg)))) (put pages long s shown) in
       subst (λ (l : ForkPages). area_shows g relseg c (insert s fork l))
       (append_assoc pages (take count all) more ∙ ap (λ (l : ForkPages). pages ++ l) (sym (take-add count got all))) next
 

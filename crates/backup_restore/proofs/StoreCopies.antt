@@ -29,6 +29,8 @@ use Rattle.incr_file.specs.Form.{Form, form_in, pages_in_chain}
 use Rattle.chain_files.specs.Held.{IsForkOf}
 use Rattle.chain_files.specs.Segments.{form_of, chain_segments, HasForms, AllHaveForms}
 use Rattle.chain_files.specs.Sources.{OfChain}
+use Rattle.chain_files.specs.Paths.{fork_folder, fork_name}
+use Rattle.chain_files.proofs.Placed.{fork_placed}
 use Rattle.backup_restore.specs.Inside.{IsForkPut, PutsFork, IsFirstOf, IsNamedPut, AddsNamed, newest_of, newest_names, IsCopied, CopiesStore}
 use Rattle.backup_restore.proofs.Chains.{when_formed, when_chain, when_both, always, no_names, newest_holds}
 
@@ -160,10 +162,10 @@ some_there (Some bytes) there = (bytes, refl)
 other_missing : (m : Files) (fork : ForkId) (incr : Bool) → HasForms m → IsNamed fork 0 → contains_key m (fork_path_bytes fork 0 incr) ≡ true → contains_key m (fork_path_bytes fork 0 (not incr)) ≡ false
 other_missing m fork true forms named there =
     let one = some_there (get m (fork_path_bytes fork 0 true)) there in
-    ap is_some (forms.alone fork 0 one.0 named one.1)
+    ap is_some (forms.alone (fork_folder fork) (fork_name fork 0) one.0 (fork_placed fork 0 named) one.1)
 other_missing m fork false forms named there =
     not_some (get m (fork_path_bytes fork 0 true)) (λ bytes is.
-    true≢false (sym there ∙ ap is_some (forms.alone fork 0 bytes named is)))
+    true≢false (sym there ∙ ap is_some (forms.alone (fork_folder fork) (fork_name fork 0) bytes (fork_placed fork 0 named) is)))
 
 abbrev IsAlone : List (List ℕ) → ForkId → Bool → Type 0
 IsAlone names fork incr = list_any (same_name (fork_path_bytes fork 0 (not incr))) names ≡ false

@@ -14,6 +14,7 @@ use Rattle.wal_archive.specs.Rules.{End}
 use Rattle.wal_record.specs.declared.record.Record.{Record}
 use Rattle.history.specs.Pages.{page_count}
 use Rattle.history.specs.Redo.{redo_all}
+use Rattle.rel_files.specs.Forks.{Holds, HasWholePages}
 use Rattle.recovery.specs.declared.reading.Beginning.TheVariants.{AtPlace}
 use Rattle.recovery.specs.declared.replaying.Replayed.{Replayed}
 use Rattle.recovery.specs.Onward.{IsReadFrom, IsReadFromTo, replayed_to, ending_by, end_from}
@@ -33,7 +34,8 @@ pub record RestoreAreas : Type 0 where
   pub out : AreaState
 
 -- the entries that end at a place or before it were redone over the store that the chain holds, and
--- the output's files are those of what they made, with so many forks and pages
+-- the output's files are those of what they made, a store of whole pages, and hold just that, with
+-- so many forks and pages
 pub record MakesOf
     (relseg : ℕ) (chain : List Files) (entries : List Record) (place : ℕ) (replayed : Replayed)
     (out : Option Files)
@@ -43,6 +45,8 @@ pub record MakesOf
   pub store : Store
   pub redone : redo_all copy (ending_by place entries) ≡ Some store
   pub written : out ≡ Some (files_of relseg store)
+  pub holds : Holds relseg (files_of relseg store) store
+  pub pages_whole : HasWholePages store
   pub forks : replayed.forks ≡ len store
   pub pages : replayed.pages ≡ page_count store
 

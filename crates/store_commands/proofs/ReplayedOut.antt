@@ -97,7 +97,7 @@ module _ {V : Type 0} (g : Ghosts V) (p : Pages (Forks V)) where
     done r report c told =
         let made = c.into.fresh (fresh (Ok r) (Ok report) c told) in
         let files : g.files c.new.area ≡ Some (files_of s.relseg made.last) =
-        files_shown g c.old.area c.new s.relseg made.last c.some (c.kept.relseg ∙ c.relseg) (empty_there (Ok r) (Ok report) c told) c.kept.area (c.shown c.new made.last made.shown) in
+        (files_shown g c.old.area c.new s.relseg made.last c.some (c.kept.relseg ∙ c.relseg) (empty_there (Ok r) (Ok report) c told) c.kept.area (c.shown c.new made.last made.shown)).are in
         record {
           clear = c.clear;
           settings = s;
