@@ -20,7 +20,7 @@ use Rattle.history.proofs.Stores.{by_test, block_is}
 use Rattle.history.specs.fuzzy_copies.Touches.{is_at, act_touches, act_cuts}
 use Rattle.store_core.specs.Parts.{block_cmp, placed_by, with_dirty, items_dirty, dirty_after}
 use Rattle.store_core.specs.Facts.{is_dirty}
-use Rattle.store_core.specs.Inside.{uncut}
+use Rattle.store_core.specs.InMemory.{uncut}
 
 -- blocks that tie are one
 then_equal : (a b : Ordering) → ordering_then a b ≡ Equal → (a ≡ Equal) × (b ≡ Equal)

@@ -8,11 +8,6 @@ pub mod Planned
 pub mod Publishing
 pub mod Copies
 pub mod Logs
-pub mod Crews
-pub mod Showing
-pub mod Good
-pub mod Taking
-pub mod Accepting
 pub mod Stored
 pub mod Overlaid
 pub mod Extending

@@ -9,7 +9,7 @@ use Rattle.wal_summary.specs.declared.summary.Summary.{Summary}
 use Rattle.wal_summary.proofs.Tables.{before_none, one_summed, lists_summed}
 use Rattle.store_core.specs.State.{Published}
 use Rattle.store_core.specs.Increments.{overlaps, table_between}
-use Rattle.store_core.specs.Inside.{published_in, limit_past, listed_past}
+use Rattle.store_core.specs.InMemory.{published_in, limit_past, listed_past}
 
 abbrev pub with_table : Bool → BlockRefTable → BlockRefTable → BlockRefTable
 with_table true table more = both_summed table more

@@ -5,5 +5,4 @@ pub mod Increments
 pub mod Steps
 pub mod Facts
 pub mod Laws
-pub mod Inside
-pub mod Shown
+pub mod InMemory

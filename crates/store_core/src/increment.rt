@@ -4,7 +4,7 @@ ghost use Rattle.std.specs.Prelude.{◌≡◌, ◌*◌, ◌==◌, ◌≤◌, map
 ghost use Rattle.std.specs.List.{list_any};
 ghost use Rattle.std.specs.List.Sorted.{IsStrictlyIncreasing};
 ghost use Rattle.store_core.specs.Increments.{table_between, listed_blocks, has_file, file_plan, plan_sends, rebuilt_count, raised_length};
-ghost use Rattle.store_core.specs.Inside.{published_in};
+ghost use Rattle.store_core.specs.InMemory.{published_in};
 
 use crate::stores::{blocks_in, number};
 use crate::summaries::{is_listed_between, limit_between};
@@ -16,7 +16,7 @@ use wal_summary::Summary;
 
 /// A backup that an incremental one is made over: where it starts, and its copy.
 #[derive(Drop)]
-pub(crate) struct PriorBackup {
+pub struct PriorBackup {
     pub start: Lsn,
     pub copy: PageMap,
 }
@@ -111,7 +111,7 @@ impl PriorBackup {
 }
 
 /// Whether a plan sends a block of its file.
-pub(crate) fn plan_sends(plan: &FilePlan, block: u32) -> bool
+pub fn plan_sends(plan: &FilePlan, block: u32) -> bool
     ensures { result ≡ plan_sends plan.now block }
 {
     match plan {

@@ -8,7 +8,7 @@ ghost use Rattle.pg_page.specs.Header.{zero_page};
 ghost use Rattle.history.specs.declared.op.Op.TheVariants as op;
 ghost use Rattle.history.specs.Apply.{page_at, edited, apply_item};
 ghost use Rattle.store_core.specs.Refusals.{most_items, judged_form, judged_blocks, judged_edits, judged_edit, judged_length, judged_found, judged_items, judged_op};
-ghost use Rattle.store_core.specs.Inside.{HasGoodFrags, done_items};
+ghost use Rattle.store_core.specs.InMemory.{HasGoodFrags, done_items};
 
 use crate::form::{judge_blocks, judge_edits, judge_form};
 use crate::reply::Refusal;
@@ -20,7 +20,7 @@ use std::alloc::Global;
 
 /// The first refusal of a command by the pages of its partition, behind so many entries. None where
 /// it may be done.
-pub(crate) fn judge(
+pub fn judge(
     alloc: Global,
     frames: &PageMap,
     entries: u64,
@@ -164,7 +164,7 @@ fn judge_edit(
 }
 
 /// Does items in turn, by an entry that ends at a place; one that can't be done is passed over.
-pub(crate) fn do_items(pages: &mut PageMap, items: &[Item], end: u64) -> Result<(), NoMemory>
+pub fn do_items(pages: &mut PageMap, items: &[Item], end: u64) -> Result<(), NoMemory>
     requires { judged_edits 0 items.now ≡ None }
     ensures { OnOk result (pages.new ≡ done_items end pages.old items.now) }
 {

@@ -14,7 +14,7 @@ use wal_record::Kind;
 
 /// The kind of entry that a command is written as, by the pages before it and the latest redo
 /// point.
-pub(crate) fn op_kind(alloc: Global, frames: &PageMap, op: &Op, redo: Lsn) -> Result<Kind, NoMemory>
+pub fn op_kind(alloc: Global, frames: &PageMap, op: &Op, redo: Lsn) -> Result<Kind, NoMemory>
     requires { IsFit frames.now op.now }
     ensures kind { IfOk result (λ k. k ≡ kind_of frames.now redo.0 (act_of_op op.now)) }
     ensures writable { IfOk result IsWritable }

@@ -6,37 +6,29 @@
 //! `Increments.antt`, and why a command is refused in `Refusals.antt`. Laws of their own
 //! (`Laws.antt`) say of every list of steps that each finished full backup is sound and that each
 //! incremental one extends sound copies to sound ones, also for each later history, and that replay
-//! of the WAL over a chain of backups gives what the whole WAL gives. `Machine` is the machine in
-//! memory, made to be plain and not fast: it holds and answers what the specs say (`Shown.antt`).
+//! of the WAL over a chain of backups gives what the whole WAL gives. The other modules do in memory
+//! what a step has to do with pages, items, records and summaries (`InMemory.antt`).
 //!
-//! Left to others: the running store, its locks, devices and flushes, which stand on the same laws
-//! of `history` and `fuzzy_copies` and not on this machine.
+//! Left to others: the machine in memory that takes the steps (`core_machine`); and the running
+//! store, its locks, devices and flushes, which stand on the same laws of `history` and
+//! `fuzzy_copies` and not on this machine.
 #![tactic(auto)]
 
-mod backup;
-mod crew;
 mod form;
-mod increment;
-mod inserting;
-mod judge;
-mod kinds;
+pub mod increment;
+pub mod judge;
+pub mod kinds;
 mod laws;
-mod log;
-mod machine;
-mod over;
-mod pool;
+pub mod log;
 mod reply;
-mod running;
 mod step;
-mod stores;
-mod summaries;
-mod touching;
+pub mod stores;
+pub mod summaries;
+pub mod touching;
 
 pub use laws::{
     finished_backups_are_sound, finished_backups_stay, machines_keep_their_facts,
     published_summaries_are_honest, restored_chains_are_whole,
 };
-pub use machine::Machine;
-pub use over::{FinishedBackup, SentBlocks};
 pub use reply::{Lengths, Receipt, Refusal, Reply, Wrote};
 pub use step::{Asked, Step, Work};

@@ -3,7 +3,7 @@
 ghost use Rattle.std.specs.Prelude.{◌≡◌, IfOk};
 ghost use Rattle.lsn_core.specs.Tip.{tip_with};
 ghost use Rattle.wal_record.specs.Spelling.{IsWritable};
-ghost use Rattle.store_core.specs.Inside.{IsNext};
+ghost use Rattle.store_core.specs.InMemory.{IsNext};
 
 use crate::stores::number;
 use lsn_core::{Lsn, NoMemory, Settings};
@@ -13,7 +13,7 @@ use wal_record::{Kind, Record, encode_record, wal_limit};
 
 /// The record of a kind that comes next behind a WAL that ends at a place, with its last entry's
 /// start. None where it would end past the WAL's room.
-pub(crate) fn next_record(
+pub fn next_record(
     alloc: Global,
     settings: &Settings,
     last: Lsn,

@@ -12,7 +12,7 @@ use pg_page::zero_page;
 use std::alloc::Global;
 
 /// A store once more.
-pub(crate) fn copied(alloc: Global, from: &PageMap) -> Result<PageMap, NoMemory>
+pub fn copied(alloc: Global, from: &PageMap) -> Result<PageMap, NoMemory>
     ensures { IfOk result (λ copy. copy ≡ from.now) }
 {
     let mut copy = PageMap::new(alloc);
@@ -40,7 +40,7 @@ fn copy_fork(copy: &mut PageMap, from: &PageMap, fork: &ForkId) -> Result<(), No
 }
 
 /// Puts a fork of one store into another, with zeros in place of its pages.
-pub(crate) fn add_unread(copy: &mut PageMap, from: &PageMap, fork: &ForkId) -> Result<(), NoMemory>
+pub fn add_unread(copy: &mut PageMap, from: &PageMap, fork: &ForkId) -> Result<(), NoMemory>
     ensures { OnOk result
         (copy.new ≡ insert copy.old fork.now (unread (pages_of from.now fork.now))) }
 {
@@ -57,7 +57,7 @@ pub(crate) fn add_unread(copy: &mut PageMap, from: &PageMap, fork: &ForkId) -> R
 }
 
 /// Puts a fork of one store into another, with its pages, and zeros behind them up to so many.
-pub(crate) fn raise_fork(
+pub fn raise_fork(
     copy: &mut PageMap,
     from: &PageMap,
     fork: &ForkId,
@@ -79,7 +79,7 @@ pub(crate) fn raise_fork(
 }
 
 /// A number that fits, as those of all blocks do that memory holds.
-pub(crate) fn number(count: usize) -> Result<u32, NoMemory>
+pub fn number(count: usize) -> Result<u32, NoMemory>
     ensures { IfOk result (λ n. n ≡ count) }
 {
     if count > u32::MAX as usize {
@@ -89,7 +89,7 @@ pub(crate) fn number(count: usize) -> Result<u32, NoMemory>
 }
 
 /// How many pages a fork has; a missing fork has none.
-pub(crate) fn blocks_in(store: &PageMap, fork: &ForkId) -> usize
+pub fn blocks_in(store: &PageMap, fork: &ForkId) -> usize
     ensures { result ≡ length (pages_of store.now fork.now) }
 {
     match store.blocks(fork) {
@@ -99,7 +99,7 @@ pub(crate) fn blocks_in(store: &PageMap, fork: &ForkId) -> usize
 }
 
 /// Makes a fork that has no page, whatever it was before.
-pub(crate) fn empty_fork(store: &mut PageMap, fork: &ForkId) -> Result<(), NoMemory>
+pub fn empty_fork(store: &mut PageMap, fork: &ForkId) -> Result<(), NoMemory>
     ensures { OnOk result (store.new ≡ insert store.old fork.now []) }
 {
     remove_fork(store, *fork)?;
@@ -108,7 +108,7 @@ pub(crate) fn empty_fork(store: &mut PageMap, fork: &ForkId) -> Result<(), NoMem
 }
 
 /// Removes a fork, where there is one.
-pub(crate) fn remove_fork(store: &mut PageMap, fork: ForkId) -> Result<(), NoMemory>
+pub fn remove_fork(store: &mut PageMap, fork: ForkId) -> Result<(), NoMemory>
     ensures { OnOk result (store.new ≡ without_fork store.old fork) }
 {
     store.remove(fork).map_err(|_| NoMemory)?;
@@ -116,7 +116,7 @@ pub(crate) fn remove_fork(store: &mut PageMap, fork: ForkId) -> Result<(), NoMem
 }
 
 /// Puts a page at a block.
-pub(crate) fn put_page(store: &mut PageMap, at: BlockId, page: &[u8; 8192]) -> Result<(), NoMemory>
+pub fn put_page(store: &mut PageMap, at: BlockId, page: &[u8; 8192]) -> Result<(), NoMemory>
     ensures { OnOk result (store.new ≡ page_put at page.now store.old) }
 {
     if at.block == u32::MAX {
@@ -127,7 +127,7 @@ pub(crate) fn put_page(store: &mut PageMap, at: BlockId, page: &[u8; 8192]) -> R
 }
 
 /// Makes an empty fork, where there is none.
-pub(crate) fn make_fork(store: &mut PageMap, fork: ForkId) -> Result<(), NoMemory>
+pub fn make_fork(store: &mut PageMap, fork: ForkId) -> Result<(), NoMemory>
     ensures { OnOk result (store.new ≡ with_fork store.old fork) }
 {
     store.make(fork).map_err(|_| NoMemory)?;
@@ -135,7 +135,7 @@ pub(crate) fn make_fork(store: &mut PageMap, fork: ForkId) -> Result<(), NoMemor
 }
 
 /// Leaves the first blocks of a fork alone, so many.
-pub(crate) fn cut_fork(store: &mut PageMap, fork: ForkId, count: u32) -> Result<(), NoMemory>
+pub fn cut_fork(store: &mut PageMap, fork: ForkId, count: u32) -> Result<(), NoMemory>
     ensures { OnOk result (store.new ≡ with_cut store.old fork count) }
 {
     store.cut(fork, count).map_err(|_| NoMemory)?;

@@ -7,7 +7,7 @@ ghost use Rattle.wal_record.specs.Tips.{is_redo_mark};
 ghost use Rattle.history.specs.fuzzy_copies.Summary.{least, is_at_most};
 ghost use Rattle.wal_summary.specs.Summary.{limit_at, lists_at};
 ghost use Rattle.store_core.specs.Increments.{overlaps, table_between};
-ghost use Rattle.store_core.specs.Inside.{published_in, next_redo_in, limit_past, listed_past};
+ghost use Rattle.store_core.specs.InMemory.{published_in, next_redo_in, limit_past, listed_past};
 
 use history::is_same_fork;
 use lsn_core::{ForkId, Lsn};
@@ -15,7 +15,7 @@ use wal_record::{Kind, Record};
 use wal_summary::{ForkSummary, Summary};
 
 /// The first redo point past a place.
-pub(crate) fn next_redo(records: &[Record], place: Lsn) -> Option<Lsn>
+pub fn next_redo(records: &[Record], place: Lsn) -> Option<Lsn>
     ensures { option_map (λ l. l.0) result ≡ next_redo_in place.0 records.now }
 {
     for record in records {

@@ -2,7 +2,7 @@
 
 ghost use Rattle.std.specs.Prelude.{◌≡◌, OnOk, IfOk};
 ghost use Rattle.store_core.specs.Parts.{block_cmp, with_dirty, items_dirty};
-ghost use Rattle.store_core.specs.Inside.{uncut};
+ghost use Rattle.store_core.specs.InMemory.{uncut};
 
 use history::{Item, is_same_fork};
 use lsn_core::{BlockId, ForkId, NoMemory};
@@ -10,7 +10,7 @@ use std::alloc::Global;
 use std::cmp::Ordering;
 
 /// The blocks with those of items.
-pub(crate) fn touch_items(dirty: &mut Vec<BlockId>, items: &[Item]) -> Result<(), NoMemory>
+pub fn touch_items(dirty: &mut Vec<BlockId>, items: &[Item]) -> Result<(), NoMemory>
     ensures { OnOk result (dirty.new.items ≡ items_dirty dirty.old.items items.now) }
 {
     for item in items {
@@ -45,7 +45,7 @@ fn order(one: &BlockId, other: &BlockId) -> Ordering
 }
 
 /// The blocks that aren't cut off with a fork that is cut to so many blocks.
-pub(crate) fn left(
+pub fn left(
     alloc: Global,
     dirty: &[BlockId],
     fork: &ForkId,

@@ -5,11 +5,12 @@
 ghost use Rattle.std.specs.Prelude.{◌≡◌, IfOk};
 
 use crate::flushed::{PUT, page_of, settings};
+use core_machine::Machine;
 use history::{Edit, Item, Items, Op};
 use lsn_core::{BlockId, Lsn, NoMemory};
 use std::alloc::Global;
 use std::test::Fail;
-use store_core::{Asked, Machine, Reply, Step, Wrote};
+use store_core::{Asked, Reply, Step, Wrote};
 use test_areas::{Wrong, main_fork};
 
 /// What is done with the main fork of 5/16384 and its partition: changes by worker 0, and the

@@ -1,6 +1,6 @@
 use Rattle.std.proofs.Common.{map, ap, ◌∙◌}
 use Rattle.store_core.specs.Increments.{table_between}
-use Rattle.store_core.specs.Inside.{published_in}
+use Rattle.store_core.specs.InMemory.{published_in}
 use Rattle.store_core.proofs.Overlaid.{block_taken, block_left, listed_rising}
 use Rattle.store_core.proofs.increment.listed_blocks.Goals as goal
 use Rattle.store_core.proofs.increment.listed_blocks.Goals.{then-is_listed_between+in_ok-push, else-is_listed_between}

@@ -1,6 +1,6 @@
 use Rattle.std.proofs.Common.{◌≡◌, map}
 use Rattle.store_core.specs.Increments.{table_between, listed_blocks}
-use Rattle.store_core.specs.Inside.{published_in}
+use Rattle.store_core.specs.InMemory.{published_in}
 use Rattle.store_core.proofs.increment.listed_blocks.Given as goal
 
 -- the first blocks are looked at

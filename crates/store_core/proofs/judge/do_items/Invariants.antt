@@ -1,5 +1,5 @@
 use Rattle.std.proofs.Common.{◌≡◌, None, drop}
-use Rattle.store_core.specs.Inside.{done_items}
+use Rattle.store_core.specs.InMemory.{done_items}
 use Rattle.store_core.specs.Refusals.{judged_edits}
 use Rattle.store_core.proofs.judge.do_items.Given as goal
 

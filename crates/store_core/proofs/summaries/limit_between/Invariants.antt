@@ -1,6 +1,6 @@
 use Rattle.std.proofs.Common.{◌≡◌, map, take}
 use Rattle.store_core.specs.Increments.{table_between}
-use Rattle.store_core.specs.Inside.{published_in}
+use Rattle.store_core.specs.InMemory.{published_in}
 use Rattle.store_core.proofs.summaries.limit_between.Given as goal
 
 -- what the first summaries say

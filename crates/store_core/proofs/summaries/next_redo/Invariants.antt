@@ -1,5 +1,5 @@
 use Rattle.std.proofs.Common.{◌≡◌, drop}
-use Rattle.store_core.specs.Inside.{next_redo_in}
+use Rattle.store_core.specs.InMemory.{next_redo_in}
 use Rattle.store_core.proofs.summaries.next_redo.Given as goal
 
 abbrev pub invariant-loop-record : goal.invariant-loop-record

@@ -1,5 +1,5 @@
 use Rattle.std.proofs.Common.{◌≡◌, take}
-use Rattle.store_core.specs.Inside.{uncut}
+use Rattle.store_core.specs.InMemory.{uncut}
 use Rattle.store_core.proofs.touching.left.Given as goal
 
 abbrev pub invariant-loop-at : goal.invariant-loop-at

@@ -1,6 +1,0 @@
-use Rattle.std.proofs.Common.{take}
-use Rattle.history.specs.Laws.{HaveGoodPages}
-use Rattle.store_core.proofs.running.know_items.Given as goal
-
-abbrev pub invariant-loop-item : goal.invariant-loop-item
-invariant-loop-item l = HaveGoodPages (take l.item-index l.items)
