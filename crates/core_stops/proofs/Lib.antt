@@ -1,0 +1,9 @@
+mod Parted
+mod Whole
+mod Kept
+mod Written
+mod Cleaned
+mod Steps
+mod Survived
+mod Records
+mod Runs
