@@ -1,0 +1,12 @@
+pub mod Earlier
+pub mod Zeros
+pub mod Survivors
+pub mod Areas
+pub mod Own
+pub mod Logs
+pub mod Parts
+pub mod WalParts
+pub mod Fitting
+pub mod Deltas
+pub mod Runs
+pub mod Open

@@ -1,0 +1,4 @@
+pub mod Stopped
+pub mod Open
+pub mod Deltas
+pub mod Laws
