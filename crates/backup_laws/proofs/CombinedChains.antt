@@ -5,6 +5,8 @@ use Rattle.lsn_core.specs.Names.{IsNamed}
 use Rattle.lsn_core.specs.declared.ids.ForkId.{ForkId}
 use Rattle.vault.specs.Lending.{Names}
 use Rattle.chain_files.specs.Segments.{AllHaveForms, chain_segments}
+use Rattle.chain_files.specs.Paths.{fork_folder, fork_name}
+use Rattle.chain_files.proofs.Placed.{fork_placed}
 use Rattle.chain_check.specs.Chain.{IsAccepted}
 use Rattle.chain_check.specs.Directory.{IsAsListed}
 use Rattle.chain_check.specs.Laws.{DirectoriesAreOneMember, ListedHaveForms}
@@ -93,7 +95,7 @@ made_of law members chain name made old new report has =
 
 -- what was made stands for the same segment files
 pub made_alike : KnownOfCombining → (chain : List Files) (made : Files) (report : CombineReport) → IsMadeOf chain made report → (fork : ForkId) (seg : ℕ) → IsNamed fork seg → chain_segments chain fork seg ≡ chain_segments (made ∷ []) fork seg
-made_alike known chain made report is fork seg named = sym (known.same chain is.last.files is.newest is.when is.rows made is.last.ends is.last.listed is.combined fork seg named)
+made_alike known chain made report is fork seg named = sym (known.same chain is.last.files is.newest is.when is.rows made is.last.ends is.last.listed is.combined (fork_folder fork) (fork_name fork seg) (fork_placed fork seg named))
 
 -- and is as its manifest lists it
 pub made_listed : KnownOfCombining → (chain : List Files) (made : Files) (report : CombineReport) (name : List ℕ) (is : IsMadeOf chain made report) → IsAsListed made (full_member name is.newest is.combined.rows)

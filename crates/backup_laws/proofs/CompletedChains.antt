@@ -5,6 +5,8 @@ use Rattle.lsn_core.specs.Files.{Files}
 use Rattle.lsn_core.specs.Segment.{IsRelseg}
 use Rattle.lsn_core.specs.declared.lsn.Lsn.{Lsn}
 use Rattle.history.specs.Entry.{Entry}
+use Rattle.chain_files.specs.Paths.{fork_folder, fork_name}
+use Rattle.chain_files.proofs.Placed.{fork_placed}
 use Rattle.chain_check.specs.Directory.{IsAsListed}
 use Rattle.chain_check.specs.declared.member.Member.{Member}
 use Rattle.combine.specs.Laws.{full_member}
@@ -47,7 +49,7 @@ module _ (known : KnownOfCombining) (merging : KnownOfMerging) (relseg : ℕ) (s
       let one : List Files = (f ∷ before) ++ (series ++ behind) in
       let other : List Files = (f ∷ before) ++ (made ∷ behind) in
       along_on relseg relseg history history one other files (last_places m.label.start m.manifest.end i.members) (last_places m.label.start m.manifest.end members)
-      (λ from to. known.alike relseg history one other from to some (λ fork seg named. sym (merging.stands (f ∷ before) series behind is.first is.later is.when is.count made is.is fork seg named)))
+      (λ from to. known.alike relseg history one other from to some (λ fork seg named. sym (merging.stands (f ∷ before) series behind is.first is.later is.when is.count made is.is (fork_folder fork) (fork_name fork seg) (fork_placed fork seg named))))
       i.ends (so_far files m i.members (listed.0, all) full i.turn)
 
   module _ (runs : List PastRun) (taken : (f : Files) (fs : List Files) → AllByRecursion (IsTakenByOne runs) (f ∷ fs) → IsSoundSoFar relseg history (f ∷ fs)) where

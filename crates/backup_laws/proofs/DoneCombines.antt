@@ -5,13 +5,14 @@ use Rattle.lsn_core.specs.Files.{Files}
 use Rattle.vault.specs.Lending.{Names}
 use Rattle.vault.specs.Site.{AreaState}
 use Rattle.chain_files.specs.Segments.{AllHaveForms}
+use Rattle.chain_check.specs.Chain.{AreLinked}
 use Rattle.chain_check.specs.Directory.{IsAsListed}
 use Rattle.chain_check.specs.declared.member.Member.{Member}
 use Rattle.combine.specs.Combined.{EndsWith}
 use Rattle.merge_laws.specs.Members.{AreAsListed}
 use Rattle.command_base.specs.Areas.{backup_name}
 use Rattle.command_base.specs.Outside.{Outside}
-use Rattle.chain_commands.specs.Chain.{backup_areas, files_told, IsJoinedTo}
+use Rattle.chain_commands.specs.Chain.{backup_areas, files_told, IsAcceptedAs, IsJoinedTo}
 use Rattle.chain_commands.specs.Combine.{combine_status}
 use Rattle.chain_commands.specs.Joined.{CombineResult, IsUnlistable, JoinDoes}
 use Rattle.chain_commands.specs.declared.chain.Joining.{Joining}
@@ -31,10 +32,21 @@ all_last P (f ∷ older) last all = all_last P older last all.1
 of_last : (P : Files → Type 0) (chain : List Files) (last : Files) → EndsWith chain last → AllByRecursion P chain → P last
 of_last P chain last ends all = all_last P ends.0 last (subst (AllByRecursion P) ends.1 all)
 
+-- each accepted member has a manifest of version 2
+last_linked : (prior : Member) (older : List Member) (last : Member) → AreLinked prior (older ++ (last ∷ [])) → last.manifest.version ≡ 2
+last_linked prior [] last links = links.0.version
+last_linked prior (m ∷ older) last links = last_linked m older last links.1
+
+last_version : (joining : Joining) (older : List Member) (last : Member) → IsAcceptedAs joining (older ++ (last ∷ [])) → last.manifest.version ≡ 2
+last_version join.Chain [] last is = is.chain.0.version
+last_version join.Chain (m ∷ older) last is = last_linked m older last is.chain.1
+last_version join.Series [] last is = is.series.0.version
+last_version join.Series (m ∷ older) last is = last_linked m older last is.series.1
+
 -- a member that is the last of some directories can be listed
 abbrev IsNeverUnlisted : Joining → Type 0
 IsNeverUnlisted joining =
-    (chain : List Files) (last : Files) (m : Member) → AllHaveForms chain → IsAsListed last m → HaveTextNames last → IsUnlistable joining (Some chain) m.manifest → ⊥
+    (chain : List Files) (last : Files) (m : Member) → AllHaveForms chain → IsAsListed last m → m.manifest.version ≡ 2 → HaveTextNames last → IsUnlistable joining (Some chain) m.manifest → ⊥
 
 module _ (joining : Joining) (checks : KnownOfChecks joining) (never : IsNeverUnlisted joining) (names : Names) (out : List ℕ) (old new : Outside) (chain : List Files) (newest : Member) where
   abbrev areas : List AreaState
@@ -51,15 +63,15 @@ module _ (joining : Joining) (checks : KnownOfChecks joining) (never : IsNeverUn
       let all : List Member = of.chain.older ++ (of.newest ∷ []) in
       let listed : AreAsListed chain all = members_listed names areas all chain of.chain.are stand in
       let last = newest_listed chain of.chain.older of.newest listed in
-      absurd (never chain last.files of.newest (all_forms checks.forms chain all listed) last.listed (of_last HaveTextNames chain last.files last.ends text)
+      absurd (never chain last.files of.newest (all_forms checks.forms chain all listed) last.listed (last_version joining of.chain.older of.newest of.chain.accepted) (of_last HaveTextNames chain last.files last.ends text)
       (subst (λ (o : Option (List Files)). IsUnlistable joining o of.newest.manifest) stand of.holds.cause))
   joined (Err (combine.Backup place why)) stand is text no_out does = area_fails why
   joined (Err (combine.Out why)) stand is text no_out does = area_fails why
 
 pub chains_combined : KnownOfChecks join.Chain → AcceptedChainsAreCombined
 chains_combined checks names out old new chain newest r =
-    joined join.Chain checks (λ files last m forms listed text cause. never_unlisted last m listed text cause) names out old new chain newest r
+    joined join.Chain checks (λ files last m forms listed new text cause. never_unlisted last m listed new text cause) names out old new chain newest r
 
 pub series_merged : KnownOfChecks join.Series → AcceptedSeriesAreMerged
 series_merged checks names out old new series newest r =
-    joined join.Series checks (λ files last m forms listed text cause. never_unmerged files last m listed text (cause forms)) names out old new series newest r
+    joined join.Series checks (λ files last m forms listed new text cause. never_unmerged files last m listed new text (cause forms)) names out old new series newest r

@@ -9,6 +9,7 @@ use Rattle.lsn_core.specs.Segment.{StoreSettings}
 use Rattle.lsn_core.specs.Store.{files_of}
 use Rattle.lsn_core.specs.declared.lsn.Lsn.{Lsn}
 use Rattle.vault.specs.Lending.{IsOneOf}
+use Rattle.rel_files.specs.Forks.{Holds}
 use Rattle.vault.specs.Site.{AreaState}
 use Rattle.vault.proofs.SetAreas.{same_or_not}
 use Rattle.backup_files.specs.Directory.{manifest_name}
@@ -365,6 +366,8 @@ module _ (n when : ℕ) (old new : Outside) (report : DrillReport) (done : Drill
       let same : w.settings ≡ drill_settings n = settings_are w.settings w.files w.told (settings_in w.settings (left.areas wal_name).files w.files w.told w.given) in
       let written : (new.areas drill_out).files ≡ Some (files_of drill_relseg w.store) =
       done.reads.0.others drill_out tt ∙ (w.written ∙ ap (λ (s : StoreSettings). Some (files_of s.relseg w.store)) same) in
+      let holds : Holds drill_relseg (files_of drill_relseg w.store) w.store =
+      subst (λ (s : StoreSettings). Holds s.relseg (files_of s.relseg w.store) w.store) same w.holds in
       record {
         wal = w.files;
         told = as_left wal_name (differ wal_name drill_out refl refl) ∙ w.told;
@@ -376,7 +379,7 @@ module _ (n when : ℕ) (old new : Outside) (report : DrillReport) (done : Drill
         written = written;
         forks = done.forks ∙ w.forks;
         pages = done.pages ∙ w.pages;
-        summed = at_told (new.areas drill_out).files (files_of drill_relseg w.store) (λ files. IsSumOf drill_relseg files report.sum) written done.sum;
+        summed = at_told (new.areas drill_out).files (files_of drill_relseg w.store) (λ files. IsSumOf drill_relseg files report.sum) written done.sum w.store holds w.pages_whole;
       }
 
 pub drills_replayed : CompletedChainsAreReplays → DrillsAreReplays

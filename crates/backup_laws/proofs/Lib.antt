@@ -18,6 +18,10 @@ pub mod WalsLeft
 pub mod LaterRuns
 pub mod Telling
 pub mod OwnLeft
+pub mod Survived
+pub mod SummariesLeft
+pub mod StopsLeft
+pub mod OverStops
 pub mod LongerChains
 pub mod CombinedChains
 pub mod SoundSoFar
@@ -40,3 +44,4 @@ pub mod DrillLines
 pub mod DrillScripts
 pub mod DrillStops
 pub mod Drilled
+mod RelationPaths

@@ -9,25 +9,24 @@ use Rattle.std.proofs.lemmas.Bool.{false_from_ne_true}
 use Rattle.std.proofs.lemmas.Cmp.{eq_by_cmp_equiv}
 use Rattle.std.proofs.lemmas.Str.{IsUtf8-from_is_utf8, is_utf8-from_IsUtf8}
 use Rattle.lsn_core.specs.Files.{Files}
-use Rattle.lsn_core.specs.Names.{fork_path_bytes}
-use Rattle.lsn_core.specs.declared.ids.ForkId.{ForkId}
-use Rattle.lsn_core.proofs.ForkPaths.{one_place}
 use Rattle.lsn_core.proofs.StoreFiles.{same_name, names_tie}
 use Rattle.manifest.specs.Shape.{is_path}
 use Rattle.manifest.specs.declared.listing.FileRow.{FileRow}
 use Rattle.backup_files.specs.Directory.{manifest_name}
-use Rattle.backup_sending.proofs.Texts.{path_text, good_path}
-use Rattle.chain_check.specs.Directory.{IsRowAsListed, IsForkFile, HasForm, IsAsListed}
+use Rattle.backup_laws.proofs.RelationPaths.{placed_text, placed_good}
+use Rattle.chain_check.specs.Directory.{IsRowAsListed, HasForm, IsAsListed}
 use Rattle.chain_check.specs.declared.member.Member.{Member}
 use Rattle.combine.specs.Calls.{ArePathsFor, CannotList}
 use Rattle.combine.specs.Combined.{other_rows}
-use Rattle.chain_files.specs.Segments.{forms_of}
+use Rattle.chain_files.specs.Segments.{forms_at}
+use Rattle.chain_files.specs.Paths.{file_path, IsIncrementalPath}
+use Rattle.chain_files.proofs.Placed.{one_file}
 use Rattle.directory_files.specs.Written.{CanList}
 use Rattle.merged_forms.specs.Merged.{rests_on_plain}
 use Rattle.incr_merge.specs.Calls.{AreMergedPaths}
 use Rattle.chain_commands.specs.Joined.{CannotListMerged}
 use Rattle.backup_laws.specs.Success.{HaveTextNames}
-use Rattle.backup_laws.proofs.ReadPaths.{path_in, manifest_is_read}
+use Rattle.backup_laws.proofs.ReadPaths.{path_in, system_is_read, manifest_is_read}
 
 -- ---- what is or isn't so
 
@@ -48,7 +47,7 @@ stays false never = absurd (never refl)
 record IsGood (files : Files) (row : FileRow) : Type 0 where
   bytes : List ℕ
   there : get files row.path ≡ Some bytes
-  alone : (f : IsForkFile row.path true) → get files (fork_path_bytes f.fork f.seg false) ≡ None
+  alone : (f : IsIncrementalPath row.path) → get files (file_path f.folder f.name false) ≡ None
   text : IsUtf8 row.path
   good : is_path row.path ≡ true
 
@@ -65,11 +64,11 @@ all_good files (row ∷ rows) names listed forms paths = (
   all_good files rows names listed.1 forms.1 paths.1,
 )
 
--- the path of what stands for the file of a path: an incremental one is a fork's segment file still, any
+-- the path of what stands for the file of a path: an incremental one keeps folder and plain name, any
 -- other keeps its path
 record IsSegmentPath (path out : List ℕ) : Type 0 where
-  placed : (f : IsForkFile path true) → (incr : Bool) × (out ≡ fork_path_bytes f.fork f.seg incr)
-  kept : (IsForkFile path true → ⊥) → out ≡ path
+  placed : (f : IsIncrementalPath path) → (incr : Bool) × (out ≡ file_path f.folder f.name incr)
+  kept : (IsIncrementalPath path → ⊥) → out ≡ path
 
 abbrev ArePaths : List FileRow → List (List ℕ) → Type 0
 ArePaths [] paths = paths ≡ []
@@ -78,12 +77,12 @@ ArePaths (row ∷ rows) paths = (path : List ℕ) × (more : List (List ℕ)) ×
 -- what stands for it has a path of text
 text_for : (files : Files) (row : FileRow) (path : List ℕ) → IsGood files row → IsSegmentPath row.path path → IsUtf8 path × (is_path path ≡ true)
 text_for files row path is for = (
-  IsUtf8-from_is_utf8 path (stays (is_utf8 path) (λ no. either (IsForkFile row.path true) (λ x. elim x [
-    | inl f ↦ (let out = for.placed f in both_ways (is_utf8 path) (is_utf8-from_IsUtf8 path (subst IsUtf8 (sym out.1) (path_text f.fork f.seg out.0 f.named))) no)
+  IsUtf8-from_is_utf8 path (stays (is_utf8 path) (λ no. either (IsIncrementalPath row.path) (λ x. elim x [
+    | inl f ↦ (let out = for.placed f in both_ways (is_utf8 path) (is_utf8-from_IsUtf8 path (subst IsUtf8 (sym out.1) (placed_text f.folder f.name out.0 (subst IsUtf8 f.spelled is.text)))) no)
     | inr none ↦ both_ways (is_utf8 path) (is_utf8-from_IsUtf8 path (subst IsUtf8 (sym (for.kept none)) is.text)) no
   ]))),
-  stays (is_path path) (λ no. either (IsForkFile row.path true) (λ x. elim x [
-    | inl f ↦ (let out = for.placed f in both_ways (is_path path) (ap is_path out.1 ∙ good_path f.fork f.seg out.0 f.named) no)
+  stays (is_path path) (λ no. either (IsIncrementalPath row.path) (λ x. elim x [
+    | inl f ↦ (let out = for.placed f in both_ways (is_path path) (ap is_path out.1 ∙ placed_good f.folder f.name out.0 f.placed (ap is_path (sym f.spelled) ∙ is.good)) no)
     | inr none ↦ both_ways (is_path path) (ap is_path (for.kept none) ∙ is.good) no
   ])),
 )
@@ -94,18 +93,18 @@ gone_or_there : (files : Files) (gone there bytes : List ℕ) → gone ≡ there
 gone_or_there files gone there bytes same none some = (let never : None ≡ Some bytes = sym none ∙ (ap (λ (path : List ℕ). get files path) same ∙ some) in cc)
 
 -- what stands for an incremental file has no other file's path
-not_kept : (files : Files) (r q : FileRow) (incr : Bool) (f : IsForkFile r.path true) → IsGood files r → IsGood files q → r.path ≢ q.path → fork_path_bytes f.fork f.seg incr ≡ q.path → ⊥
+not_kept : (files : Files) (r q : FileRow) (incr : Bool) (f : IsIncrementalPath r.path) → IsGood files r → IsGood files q → r.path ≢ q.path → file_path f.folder f.name incr ≡ q.path → ⊥
 not_kept files r q true f a b differ same = differ (f.spelled ∙ same)
-not_kept files r q false f a b differ same = gone_or_there files (fork_path_bytes f.fork f.seg false) q.path b.bytes same (a.alone f) b.there
+not_kept files r q false f a b differ same = gone_or_there files (file_path f.folder f.name false) q.path b.bytes same (a.alone f) b.there
 
 -- what stands for one has another path than what stands for another
 apart : (files : Files) (r q : FileRow) (p o : List ℕ) → IsGood files r → IsGood files q → r.path ≢ q.path → IsSegmentPath r.path p → IsSegmentPath q.path o → p ≢ o
 apart files r q p o a b differ for to same =
-    either (IsForkFile r.path true) (λ x.
-    either (IsForkFile q.path true) (λ y.
+    either (IsIncrementalPath r.path) (λ x.
+    either (IsIncrementalPath q.path) (λ y.
     elim x [
       | inl f ↦ elim y [
-        | inl g ↦ (let out = for.placed f in let into = to.placed g in let one = one_place f.fork g.fork f.seg g.seg out.0 into.0 f.named g.named (sym out.1 ∙ (same ∙ into.1)) in differ (f.spelled ∙ (ap₂ (λ (k : ForkId) (n : ℕ). fork_path_bytes k n true) one.0 one.1.0 ∙ sym g.spelled)))
+        | inl g ↦ (let out = for.placed f in let into = to.placed g in let one = one_file f.folder g.folder f.name g.name out.0 into.0 f.placed g.placed (sym out.1 ∙ (same ∙ into.1)) in differ (f.spelled ∙ (ap₂ (λ (k n : List ℕ). file_path k n true) one.0 one.1.0 ∙ sym g.spelled)))
         | inr plain ↦ (let out = for.placed f in not_kept files r q out.0 f a b differ (sym out.1 ∙ (same ∙ to.kept plain)))
       ]
       | inr none ↦ elim y [
@@ -167,13 +166,13 @@ all_distinct files (r ∷ rows) paths good differ for =
 
 -- ---- the whole
 
-listable : (files : Files) (m : Member) (paths : List (List ℕ)) → IsAsListed files m → HaveTextNames files → ArePaths (other_rows m.manifest.files) paths → CanList m.manifest paths
-listable files m paths is names are =
+listable : (files : Files) (m : Member) (paths : List (List ℕ)) → IsAsListed files m → m.manifest.version ≡ 2 → HaveTextNames files → ArePaths (other_rows m.manifest.files) paths → CanList m.manifest paths
+listable files m paths is new names are =
     let read = manifest_is_read files m.manifest is.manifest in
     let all : List FileRow = m.manifest.files in
     let good : AllByRecursion (IsGood files) (other_rows all) = keep_all (IsGood files) all (all_good files all names is.rows is.forms read.paths) in
     record {
-      system = read.system;
+      system = system_is_read files m.manifest is.manifest new;
       rises = read.rises;
       texts = all_texts files (other_rows all) paths good are;
       distinct = all_distinct files (other_rows all) paths good (keep_apart all (are_apart all read.distinct)) are;
@@ -184,14 +183,14 @@ combined_paths : (rows : List FileRow) (paths : List (List ℕ)) → ArePathsFor
 combined_paths [] paths are = are
 combined_paths (row ∷ rows) paths are = (are.0, are.1, are.2, record { placed = λ f. (false, are.3.plain f); kept = are.3.kept }, combined_paths rows are.1 are.4)
 
-pub never_unlisted : (files : Files) (m : Member) → IsAsListed files m → HaveTextNames files → CannotList m.manifest → ⊥
-never_unlisted files m is names cannot = cannot.2 (listable files m cannot.0 is names (combined_paths (other_rows m.manifest.files) cannot.0 cannot.1))
+pub never_unlisted : (files : Files) (m : Member) → IsAsListed files m → m.manifest.version ≡ 2 → HaveTextNames files → CannotList m.manifest → ⊥
+never_unlisted files m is new names cannot = cannot.2 (listable files m cannot.0 is new names (combined_paths (other_rows m.manifest.files) cannot.0 cannot.1))
 
 -- and what a series is merged to
 merged_paths : (series : List Files) (rows : List FileRow) (paths : List (List ℕ)) → AreMergedPaths series rows paths → ArePaths rows paths
 merged_paths series [] paths are = are
 merged_paths series (row ∷ rows) paths are =
-    (are.0, are.1, are.2, record { placed = λ f. (not (rests_on_plain (forms_of series f.fork f.seg)), are.3.merged f); kept = are.3.kept }, merged_paths series rows are.1 are.4)
+    (are.0, are.1, are.2, record { placed = λ f. (not (rests_on_plain (forms_at series f.folder f.name)), are.3.merged f); kept = are.3.kept }, merged_paths series rows are.1 are.4)
 
-pub never_unmerged : (series : List Files) (files : Files) (m : Member) → IsAsListed files m → HaveTextNames files → CannotListMerged series m.manifest → ⊥
-never_unmerged series files m is names cannot = cannot.2 (listable files m cannot.0 is names (merged_paths series (other_rows m.manifest.files) cannot.0 cannot.1))
+pub never_unmerged : (series : List Files) (files : Files) (m : Member) → IsAsListed files m → m.manifest.version ≡ 2 → HaveTextNames files → CannotListMerged series m.manifest → ⊥
+never_unmerged series files m is new names cannot = cannot.2 (listable files m cannot.0 is new names (merged_paths series (other_rows m.manifest.files) cannot.0 cannot.1))

@@ -34,6 +34,8 @@ use Rattle.backup_sending.proofs.Labels.{label_apart}
 use Rattle.backup_sending.proofs.Texts.{never_named}
 use Rattle.chain_files.specs.Segments.{IsIncrFile}
 use Rattle.chain_check.specs.Directory.{IsRowAsListed, is_listed, HasNoOther, HasForm, IsAsListed}
+use Rattle.chain_files.specs.Paths.{fork_folder, fork_name}
+use Rattle.chain_files.proofs.Placed.{folder_apart, fork_placed, no_forks}
 use Rattle.chain_check.proofs.ForkFiles.{no_fork, whole_head, whole_pages}
 use Rattle.chain_laws.proofs.Files.{get_other}
 use Rattle.chain_laws.proofs.Plans.{all_both}
@@ -201,7 +203,7 @@ module _ (s : StoreSettings) (label_of : List ℕ → Label) (when : ℕ) (put :
       by_kind : (incr : Bool) → f.incr ≡ incr → HasForm files (row_of is.modified file)
       by_kind false e = whole_pages files (row_of is.modified file) f.fork f.seg f.named (spelled_as false e) (f.plain e)
       by_kind true e =
-          whole_head files (row_of is.modified file) f.fork f.seg f.named (spelled_as true e) (no_plain f.fork f.seg (f.alone e))
+          whole_head files (row_of is.modified file) (fork_folder f.fork) (fork_name f.fork f.seg) (fork_placed f.fork f.seg f.named) (spelled_as true e) (no_plain f.fork f.seg (f.alone e))
           (subst (λ (b : List ℕ). IsIncrFile b (length file.1)) (sym bytes) (f.head e))
 
   alike : (path : List ℕ) → is_listed is.rows path ≡ is_listed (map (row_of is.modified) all) path
@@ -226,5 +228,5 @@ module _ (s : StoreSettings) (label_of : List ℕ → Label) (when : ℕ) (put :
         all_rows (HasForm files)
         (all_append (λ (f : File). HasForm files (row_of is.modified f)) put (label ∷ [])
         (all_more (λ (f : File). IsForkFileIn put f × IsThere f) (λ (f : File). HasForm files (row_of is.modified f)) put fork_form (all_both (IsForkFileIn put) IsThere put each put_there))
-        (no_fork files (row_of is.modified label) never_fork, tt));
+        (no_fork files (row_of is.modified label) (λ f. folder_apart f.folder f.name true label_name refl (sym f.spelled)) (no_forks label_name never_fork), tt));
   }

@@ -52,7 +52,7 @@ same_manifest m n (inr e) = absurd cc
 pub manifest_once : TextsHaveOneManifest → (files : Files) (m n : Listing) → HasManifest files m → HasManifest files n → n ≡ m
 manifest_once law files m n is was =
     let text : is.0 ≡ was.0 = some_is is.0 was.0 (sym is.1 ∙ was.1) in
-    same_manifest m n (law 2 is.0 m (Ok n) is.2 (subst (λ (b : List ℕ). ReadAnswers 2 b (Ok n)) (sym text) was.2))
+    same_manifest m n (law is.0 m (Ok n) is.2 (subst (λ (b : List ℕ). ReadAnswers b (Ok n)) (sym text) was.2))
 
 -- the member that a directory was found to be has the places of the backup that wrote it
 pub places_told : TextsHaveOneManifest → (s : StoreSettings) (name : List ℕ) (when : ℕ) (copy : Store) (start checkpoint end : Lsn) (count : ℕ) (files : Files) (member : Member) → IsFullBackup s name when copy start checkpoint end count (Some files) → IsAsListed files member → (member.label.start ≡ start) × (member.manifest.end ≡ end.0)

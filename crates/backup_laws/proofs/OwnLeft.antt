@@ -1,6 +1,6 @@
 -- What a run leaves is what the next one finds of this program's own: tidy entries, and summaries that
 -- are honest for them.
-use Rattle.std.proofs.Common.{◌≡◌, ℕ, ◌<◌, Bool, true, false, cond, ◌&&◌, ◌||◌, List, [], ◌∷◌, ◌++◌, map, length, get_or, Option, Some, None, IfSome, refl, sym, ap, subst, ◌∙◌, arith, inl, Ok}
+use Rattle.std.proofs.Common.{◌≡◌, ℕ, ◌<◌, Bool, true, false, cond, ◌&&◌, ◌||◌, List, [], ◌∷◌, ◌++◌, map, length, get_or, Option, Some, None, IfSome, IsSome, refl, sym, ap, subst, ◌∙◌, arith, inl, Ok}
 use Rattle.std.specs.Prelude.{◌==◌, ◌*◌, ◌/◌}
 use Rattle.std.specs.List.{list_any}
 use Rattle.std.specs.FinMap.{empty, get, get-empty}
@@ -11,17 +11,18 @@ use Rattle.lsn_core.specs.byte_words.Told.{when_told}
 use Rattle.lsn_core.specs.Files.{Files}
 use Rattle.lsn_core.specs.Segment.{StoreSettings}
 use Rattle.lsn_core.specs.Store.{Store}
+use Rattle.lsn_core.specs.Tip.{Tip}
 use Rattle.lsn_core.specs.declared.lsn.Lsn.{Lsn}
 use Rattle.wal_record.specs.Tips.{first_tip}
 use Rattle.wal_record.specs.declared.record.Record.{Record}
 use Rattle.wal_reader.specs.Settings.{IsSettingsOf}
-use Rattle.wal_reader.specs.Wal.{stands_behind}
+use Rattle.wal_reader.specs.Wal.{ReadsOn, stands_behind}
 use Rattle.wal_reader.proofs.OneSettings.{one_settings}
 use Rattle.history.specs.Apply.{apply_all}
 use Rattle.history.specs.Entry.{Act, Create, Truncate, Change, Drop, Mark, Shutdown, Online, RedoMark, NoOp, BackupEnd, IdleCut, IdleCommit, Entry}
 use Rattle.history.specs.Laws.{AreWrittenInPlace}
 use Rattle.history.specs.Whole.{act_of, entry_of, cuts_main}
-use Rattle.history.specs.Written.{Before, behind, is_redo, kind_of, next_record, written}
+use Rattle.history.specs.Written.{Before, behind, is_redo, kind_of, next_record, wal_of, written}
 use Rattle.history.specs.fuzzy_copies.Covers.{AreTidy}
 use Rattle.history.specs.fuzzy_copies.Logged.{history_of, found_before, log_of, StartInPlace, AreLogged}
 use Rattle.history.specs.fuzzy_copies.Summary.{summary_of}
@@ -29,8 +30,11 @@ use Rattle.history.proofs.fuzzy_copies.ReadBack.{log_is_written}
 use Rattle.history.proofs.fuzzy_copies.SummedAlike.{summed_alike}
 use Rattle.history.proofs.fuzzy_copies.TidyLogs.{logs_tidy}
 use Rattle.wal_summary.proofs.Tables.{same_table}
-use Rattle.summary_store.specs.Honest.{is_redo_start, is_redo_point, IsHonest}
+use Rattle.wal_summary.specs.declared.summary.Summary.{Summary}
+use Rattle.summary_store.specs.Honest.{is_redo_start, is_redo_point, IsHonest, IsHonestSummary}
 use Rattle.journal.specs.Lawful.{IsLawful}
+use Rattle.recovery.specs.Causes.{HasSettings}
+use Rattle.recovery.proofs.OneWal.{Stops}
 use Rattle.command_base.specs.Areas.{wal_name, sums_name}
 use Rattle.command_base.proofs.Told.{at_told, some_told}
 use Rattle.command_base.specs.Outside.{Outside}
@@ -39,7 +43,7 @@ use Rattle.run_command.specs.Run.{RunDone, HasFound, all_records, found_tip}
 use Rattle.run_command.proofs.OwnEntries.{AreOwn}
 use Rattle.command_line.specs.declared.options.InitOptions.{InitOptions}
 use Rattle.store_commands.specs.Init.{InitDoes, InitDone, HasFirstAlone, new_settings, init_areas, first_entry, new_tip}
-use Rattle.backup_laws.specs.Restores.{PastRun}
+use Rattle.backup_laws.specs.Restores.{PastRun, HasRun}
 use Rattle.backup_laws.specs.ChainRestores.{FoundOwn, RanOn, RanInTurn, RunsLeaveTheirOwn, NewStoresAreOwn, EndedWell, RanSince, RunsSinceInitAreInTurn}
 use Rattle.backup_laws.proofs.ChainRuns.{tidy_history}
 use Rattle.backup_laws.proofs.Reading.{read_once, none_behind, end_stops}
@@ -92,10 +96,9 @@ log_points mib (r ∷ rs) own place some logged =
 
 -- ---- summaries
 
--- an area that is honest for a history is so for the entries that its log is read back as
-honest_read : (mib : ℕ) (found : List Record) (own : List Entry) (files : Files) → 0 < length found → AreLogged mib found own → IsHonest (history_of found own) files → IsHonest (map entry_of (log_of mib found own)) files
-honest_read mib found own files some logged honest = λ name bytes sum there named is.
-    let one = honest name bytes sum there named is in
+-- a summary that is honest for a history is so for the entries that its log is read back as
+pub summary_read : (mib : ℕ) (found : List Record) (own : List Entry) (sum : Summary) → 0 < length found → AreLogged mib found own → IsHonestSummary (history_of found own) sum → IsHonestSummary (map entry_of (log_of mib found own)) sum
+summary_read mib found own sum some logged one =
     let from : ℕ = sum.start.0 in
     let to : ℕ = sum.end.0 in
     record {
@@ -107,33 +110,85 @@ honest_read mib found own files some logged honest = λ name bytes sum there nam
       };
     }
 
+-- so is an area
+honest_read : (mib : ℕ) (found : List Record) (own : List Entry) (files : Files) → 0 < length found → AreLogged mib found own → IsHonest (history_of found own) files → IsHonest (map entry_of (log_of mib found own)) files
+honest_read mib found own files some logged honest = λ name bytes sum there named is.
+    summary_read mib found own sum some logged (honest name bytes sum there named is)
+
+-- ---- entries
+
+-- the log of a lawful history is tidy where what was found is
+pub log_tidy : (mib : ℕ) (found : List Record) (own history : List Entry) (law : IsLawful mib history) → history ≡ map entry_of found ++ own → AreOwn own → AreTidy empty (map entry_of found) → AreTidy empty (map entry_of (found ++ wal_of mib history))
+log_tidy mib found own history law grown owns tidy =
+    subst (AreTidy empty) (log_alike mib found own history law grown owns)
+    (logs_tidy mib law.found law.own law.store law.logged (subst (λ (es : List Entry). apply_all empty es ≡ Some law.store) law.grown law.made) (subst (AreTidy empty) law.grown (tidy_history mib found own history law grown owns tidy)))
+
+-- ---- a store that is this program's own
+
+-- just these records are read of the files of a WAL, whatever stands behind them; it has no other
+-- settings than these
+pub record JustReads (s : StoreSettings) (records : List Record) (wal : Option Files) : Type 0 where
+  pub files : Files
+  pub told : wal ≡ Some files
+  pub tip : Tip
+  pub read : ReadsOn s files (first_tip s.segment) records tip
+  pub stops : Stops (stands_behind s files tip)
+  pub settings : (t : StoreSettings) → IsSettingsOf files t → t ≡ s
+
+-- a WAL that tells its files and an area of summaries are this program's own: the entries are tidy, and
+-- the summaries honest for them
+pub record IsOwnStore (wal sums : Option Files) : Type 0 where
+  pub settings : StoreSettings
+  pub records : List Record
+  pub log : JustReads settings records wal
+  pub tidy : AreTidy empty (map entry_of records)
+  pub honest : IfSome sums (IsHonest (map entry_of records))
+
+-- what is found of a WAL are its records
+pub finds_just : (s t : StoreSettings) (records found : List Record) (wal now : Option Files) → JustReads s records wal → now ≡ wal → HasSettings now t → IfSome now (HasFound t found) → (t ≡ s) × (found ≡ records)
+finds_just s t records found wal now w same given archive =
+    let told : now ≡ Some w.files = same ∙ w.told in
+    let one : t ≡ s = w.settings t (settings_in t now w.files told given) in
+    let has : HasFound s found w.files = subst (λ (x : StoreSettings). HasFound x found w.files) one (at_told now w.files (λ m. HasFound t found m) told archive) in
+    (one, read_once s w.files (first_tip s.segment) found records (found_tip s found) w.tip has.walk (end_stops (stands_behind s w.files (found_tip s found)) has.ended) w.read w.stops)
+
+-- what a run finds there is so
+pub finds_own : (wal sums : Option Files) (next : PastRun) (on : HasRun next.before next.left next.report next.end) → IsOwnStore wal sums → (next.before.areas wal_name).files ≡ wal → (next.before.areas sums_name).files ≡ sums → FoundOwn next on
+finds_own wal sums next on own same kept =
+    let n : RunDone on.when next.before.areas next.left.areas next.report = on.done in
+    let is : n.found ≡ own.records = (finds_just own.settings n.settings own.records n.found wal (next.before.areas wal_name).files own.log same n.given n.archive).1 in
+    record {
+      tidy = subst (λ (rs : List Record). AreTidy empty (map entry_of rs)) (sym is) own.tidy;
+      honest = subst (λ (o : Option Files). IfSome o (IsHonest (map entry_of n.found))) (sym kept)
+          (subst (λ (rs : List Record). IfSome sums (IsHonest (map entry_of rs))) (sym is) own.honest);
+    }
+
 -- ---- the law
+
+-- what a run leaves that found so and closed its store
+pub leaves_own : (run : PastRun) (ran : HasRun run.before run.left run.report run.end) → FoundOwn run ran → IsOwnStore (run.left.areas wal_name).files (run.left.areas sums_name).files
+leaves_own run ran finds =
+    let d : RunDone ran.when run.before.areas run.left.areas run.report = ran.done in
+    let s : StoreSettings = d.settings in
+    let all : List Record = all_records s d.found d.history in
+    let law : IsLawful s.segment d.history = d.happened.lawful ran.told in
+    let owns : AreOwn d.happened.own = own_entries _ d.happened.own d.happened.of_run in
+    let read : List Entry = map entry_of (log_of s.segment law.found law.own) in
+    let entries : map entry_of all ≡ read = sym (log_alike s.segment d.found d.happened.own d.history law d.happened.grown owns) in
+    let honest : IsHonestFor d.history (run.left.areas sums_name) = d.honest ran.told finds.honest in
+    let w : IsWalOf s all (run.left.areas wal_name).files run.end = (first_leaves ran.when run.before run.left run.report run.end d ran).0 in
+    record {
+      settings = s;
+      records = all;
+      log = record { files = w.files; told = w.told; tip = w.held.tip; read = w.held.read; stops = none_behind s all run.end.0 w.files w.held; settings = w.settings };
+      tidy = log_tidy s.segment d.found d.happened.own d.history law d.happened.grown owns finds.tidy;
+      honest = when_told (run.left.areas sums_name).files (IsHonest d.history) (IsHonest (map entry_of all))
+          (λ m h. subst (λ (es : List Entry). IsHonest es m) (sym entries) (honest_read s.segment law.found law.own m law.some law.logged (subst (λ (es : List Entry). IsHonest es m) law.grown h))) honest;
+    }
 
 pub own_left : RunsLeaveTheirOwn
 own_left run next ran on wal sums finds =
-    let d : RunDone ran.when run.before.areas run.left.areas run.report = ran.done in
-    let n : RunDone on.when next.before.areas next.left.areas next.report = on.done in
-    let s : StoreSettings = d.settings in
-    let all : List Record = all_records s d.found d.history in
-    let w : IsWalOf s all (run.left.areas wal_name).files run.end = (first_leaves ran.when run.before run.left run.report run.end d ran).0 in
-    let told : (next.before.areas wal_name).files ≡ Some w.files = wal ∙ w.told in
-    let given : IsSettingsOf w.files n.settings = settings_in n.settings (next.before.areas wal_name).files w.files told n.given in
-    let one : n.settings ≡ s = w.settings n.settings given in
-    let found : HasFound s n.found w.files = subst (λ (x : StoreSettings). HasFound x n.found w.files) one (at_told (next.before.areas wal_name).files w.files (λ m. HasFound n.settings n.found m) told n.archive) in
-    let is : n.found ≡ all = read_once s w.files (first_tip s.segment) n.found all (found_tip s n.found) w.held.tip found.walk (end_stops (stands_behind s w.files (found_tip s n.found)) found.ended) w.held.read (none_behind s all run.end.0 w.files w.held) in
-    let law : IsLawful s.segment d.history = d.happened.lawful ran.told in
-    let owns : AreOwn d.happened.own = own_entries _ d.happened.own d.happened.of_run in
-    let log : List Entry = map entry_of (log_of s.segment law.found law.own) in
-    let entries : map entry_of n.found ≡ log = ap (map entry_of) is ∙ sym (log_alike s.segment d.found d.happened.own d.history law d.happened.grown owns) in
-    let tidy : AreTidy empty d.history = tidy_history s.segment d.found d.happened.own d.history law d.happened.grown owns finds.tidy in
-    let honest : IsHonestFor d.history (run.left.areas sums_name) = d.honest ran.told finds.honest in
-    record {
-      tidy = subst (AreTidy empty) (sym entries)
-          (logs_tidy s.segment law.found law.own law.store law.logged (subst (λ (es : List Entry). apply_all empty es ≡ Some law.store) law.grown law.made) (subst (AreTidy empty) law.grown tidy));
-      honest = subst (λ (o : Option Files). IfSome o (IsHonest (map entry_of n.found))) (sym sums)
-          (when_told (run.left.areas sums_name).files (IsHonest d.history) (IsHonest (map entry_of n.found))
-          (λ m h. subst (λ (es : List Entry). IsHonest es m) (sym entries) (honest_read s.segment law.found law.own m law.some law.logged (subst (λ (es : List Entry). IsHonest es m) law.grown h))) honest);
-    }
+    finds_own (run.left.areas wal_name).files (run.left.areas sums_name).files next on (leaves_own run ran finds) wal sums
 
 -- ---- a new store
 
@@ -145,27 +200,37 @@ none_honest : (entries : List Entry) (files : Files) → files ≡ empty → IsH
 none_honest entries files none = λ name bytes sum there named is.
     absurd (let e : Some bytes ≡ None = sym there ∙ (ap (λ (m : Files). get m name) none ∙ get-empty (slice_cmp nat_cmp) name) in cc)
 
-pub new_own : NewStoresAreOwn
-new_own options old new end next on did wal sums =
-    let n : RunDone on.when next.before.areas next.left.areas next.report = on.done in
+pub new_store : (options : InitOptions) (old new : Outside) (end : Lsn) → InitDoes options old new (Ok end) → IsSome (new.areas wal_name).files → IsOwnStore (new.areas wal_name).files (new.areas sums_name).files
+new_store options old new end did some =
     let s : StoreSettings = new_settings options did.1.0 in
     let made : InitDone s (init_areas old) (init_areas new) end = did.1.2 in
-    let there = some_told (next.before.areas wal_name).files (on.told wal_name (inl refl)) in
-    let files : Files = there.0 in
-    let told : (new.areas wal_name).files ≡ Some files = sym wal ∙ there.1 in
-    let given : IsSettingsOf files n.settings = settings_in n.settings (next.before.areas wal_name).files files there.1 n.given in
-    let one : n.settings ≡ s = one_settings files n.settings s given (at_told (new.areas wal_name).files files (λ m. IsSettingsOf m s) told made.reads.settings) in
-    let found : HasFound s n.found files = subst (λ (x : StoreSettings). HasFound x n.found files) one (at_told (next.before.areas wal_name).files files (λ m. HasFound n.settings n.found m) there.1 n.archive) in
-    let alone : HasFirstAlone s files = at_told (new.areas wal_name).files files (HasFirstAlone s) told made.reads.archive in
-    let is : n.found ≡ first_entry s.segment ∷ [] = read_once s files (first_tip s.segment) n.found (first_entry s.segment ∷ []) (found_tip s n.found) (new_tip s.segment) found.walk (end_stops (stands_behind s files (found_tip s n.found)) found.ended) alone.walk (end_stops (stands_behind s files (new_tip s.segment)) alone.ended) in
+    let there = some_told (new.areas wal_name).files some in
+    let first : List Record = first_entry s.segment ∷ [] in
+    let given : IsSettingsOf there.0 s = at_told (new.areas wal_name).files there.0 (λ m. IsSettingsOf m s) there.1 made.reads.settings in
+    let alone : HasFirstAlone s there.0 = at_told (new.areas wal_name).files there.0 (HasFirstAlone s) there.1 made.reads.archive in
     record {
-      tidy = subst (λ (rs : List Record). AreTidy empty (map entry_of rs)) (sym is) (tt, λ store made. tt);
-      honest = subst (λ (o : Option Files). IfSome o (IsHonest (map entry_of n.found))) (sym (sums ∙ kept))
-          (when_told (old.areas sums_name).files (λ m. m ≡ empty) (IsHonest (map entry_of n.found)) (none_honest (map entry_of n.found)) made.sums_clear);
+      settings = s;
+      records = first;
+      log = record {
+        files = there.0;
+        told = there.1;
+        tip = new_tip s.segment;
+        read = alone.walk;
+        stops = end_stops (stands_behind s there.0 (new_tip s.segment)) alone.ended;
+        settings = λ t is. one_settings there.0 t s is given;
+      };
+      tidy = (tt, λ store done. tt);
+      honest = subst (λ (o : Option Files). IfSome o (IsHonest (map entry_of first))) (sym kept)
+          (when_told (old.areas sums_name).files (λ m. m ≡ empty) (IsHonest (map entry_of first)) (none_honest (map entry_of first)) made.sums_clear);
     }
   where
     kept : (new.areas sums_name).files ≡ (old.areas sums_name).files
     kept = did.0.0.others sums_name (apart, tt)
+
+pub new_own : NewStoresAreOwn
+new_own options old new end next on did wal sums =
+    let some : IsSome (new.areas wal_name).files = subst (λ (o : Option Files). IsSome o) wal (on.told wal_name (inl refl)) in
+    finds_own (new.areas wal_name).files (new.areas sums_name).files next on (new_store options old new end did some) wal sums
 
 -- ---- all runs since then
 

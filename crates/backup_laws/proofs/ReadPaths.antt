@@ -1,5 +1,5 @@
 -- The paths of a manifest that was read.
-use Rattle.std.proofs.Common.{◌≡◌, ℕ, ◌<◌, Bool, true, false, ◌&&◌, List, [], ◌∷◌, map, codes, Option, Some, None, IsSome, refl, sym, ap, subst, ◌∙◌}
+use Rattle.std.proofs.Common.{◌≡◌, ℕ, ◌<◌, Bool, true, false, ◌&&◌, List, [], ◌∷◌, map, codes, Option, Some, None, IsSome, inl, inr, refl, sym, ap, subst, ◌∙◌}
 use Rattle.std.specs.Prelude.{is_some, if◌then◌else◌}
 use Rattle.std.specs.List.{AllByRecursion, IsDistinct}
 use Rattle.std.specs.Ordering.{nat_cmp}
@@ -15,10 +15,11 @@ use Rattle.lsn_core.specs.Files.{Files}
 use Rattle.lsn_core.proofs.StoreFiles.{same_name}
 use Rattle.manifest.specs.Kinds.{kind_in, is_sum, file_with, file_in, all_files}
 use Rattle.manifest.specs.Listing.{Listing}
-use Rattle.manifest.specs.Shape.{text_at, number_at, list_at, has_keys, is_path, row_in, rows_in, files_in, range_at, Top, top_in, path_of}
+use Rattle.manifest.specs.Shape.{text_at, number_at, list_at, has_keys, is_path, row_in, rows_in, files_in, range_at, Top, system_in, top_keys, top_in, path_of}
 use Rattle.manifest.specs.declared.listing.FileRow.{FileRow}
 use Rattle.manifest.specs.declared.kinds.SumKind.{SumKind}
 use Rattle.manifest.specs.declared.shape.RawRow.{RawRow}
+use Rattle.manifest.proofs.Versions.{HasSystem, versions_tell}
 use Rattle.backup_files.proofs.Listable.{all_map}
 use Rattle.chain_check.specs.Directory.{HasManifest}
 use Rattle.backup_laws.proofs.Members.{some_is}
@@ -72,21 +73,28 @@ rows_paths (item d ds) rows e =
     bind_then (rows_in ds) (λ (more : List RawRow). Some (row ∷ more)) rows (AllByRecursion (λ (row : RawRow). IsPath row.path) rows) e1 (λ more are e2.
     subst (AllByRecursion (λ (row : RawRow). IsPath row.path)) (some_is (row ∷ more) rows e2) (row_path d row is, rows_paths ds more are)))
 
-top_paths : (d : Data) (top : Top) → top_in d ≡ Some top → AllByRecursion (λ (row : RawRow). IsPath row.path) top.rows
+top_paths : (version : ℕ) (d : Data) (top : Top) → top_in version d ≡ Some top → AllByRecursion (λ (row : RawRow). IsPath row.path) top.rows
 unfolding top_in
-top_paths d top e =
-    bind_then (number_at (codes "System-Identifier") d) _ top (AllByRecursion (λ (row : RawRow). IsPath row.path) top.rows) e (λ system p e1.
+top_paths version d top e =
+    bind_then (system_in version d) _ top (AllByRecursion (λ (row : RawRow). IsPath row.path) top.rows) e (λ system p e1.
     bind_then (files_in d) _ top (AllByRecursion (λ (row : RawRow). IsPath row.path) top.rows) e1 (λ rows q e2.
     bind_then (range_at d) _ top (AllByRecursion (λ (row : RawRow). IsPath row.path) top.rows) e2 (λ range r e3.
     bind_then (list_at (codes "Files") d) rows_in rows (AllByRecursion (λ (row : RawRow). IsPath row.path) top.rows) q (λ items there e4.
-    let k = kept (is_some (text_at (codes "Manifest-Checksum") d) && has_keys 5 d) (record { system = system; rows = rows; range = range }) top e3 in
+    let k = kept (is_some (text_at (codes "Manifest-Checksum") d) && has_keys (top_keys version) d) (record { system = system; rows = rows; range = range }) top e3 in
     subst (AllByRecursion (λ (row : RawRow). IsPath row.path)) (ap (λ (t : Top). t.rows) k.1) (rows_paths items rows e4)))))
 
 -- ---- the whole
 
+-- one of version 2 tells a system identifier
+has_system : (m : Listing) → HasSystem m.version m.system → m.version ≡ 2 → IsSome m.system
+has_system m (inl old) new = (let never : 1 ≡ 2 = sym old.0 ∙ new in absurd cc)
+has_system m (inr tells) new = tells.1
+
+pub system_is_read : (files : Files) (m : Listing) → HasManifest files m → m.version ≡ 2 → IsSome m.system
+system_is_read files m has new = has_system m (versions_tell has.0 m has.2) new
+
 -- what a manifest that was read tells
 pub record IsReadManifest (m : Listing) : Type 0 where
-  pub system : IsSome m.system
   pub rises : m.start < m.end
   pub paths : AllByRecursion (λ path. is_path path ≡ true) (map path_in m.files)
   pub distinct : IsDistinct same_name (map path_in m.files)
@@ -95,13 +103,12 @@ pub manifest_is_read : (files : Files) (m : Listing) → HasManifest files m →
 manifest_is_read files m has =
     let of = has.2.1.2 in
     let parts = of.0 in
-    let is = of.2.1 in
+    let is = of.2.shape in
     let rows : List FileRow = of.1 in
     let same = of.5 in
-    let all : AllByRecursion (λ (row : RawRow). IsPath row.path) parts.rows = recursion_from_All (λ (row : RawRow). IsPath row.path) parts.rows (All-permutation (λ (row : RawRow). IsPath row.path) is.top.rows parts.rows is.rows.0 (All-from_recursion (λ (row : RawRow). IsPath row.path) is.top.rows (top_paths has.2.1.0 is.top is.read))) in
+    let all : AllByRecursion (λ (row : RawRow). IsPath row.path) parts.rows = recursion_from_All (λ (row : RawRow). IsPath row.path) parts.rows (All-permutation (λ (row : RawRow). IsPath row.path) is.top.rows parts.rows is.rows.0 (All-from_recursion (λ (row : RawRow). IsPath row.path) is.top.rows (top_paths parts.version has.2.1.0 is.top is.read))) in
     let names : map path_in rows ≡ map path_of parts.rows = files_paths parts.rows rows of.3 in
     subst IsReadManifest (sym same) (record {
-      system = refl;
       rises = is.range.rises;
       paths = subst (AllByRecursion IsPath) (sym names) (all_map path_of IsPath parts.rows all);
       distinct = subst (λ (ps : List (List ℕ)). IsDistinct same_name ps) (sym names) (IsDistinct-from_sorted (slice_cmp nat_cmp) (map path_of parts.rows) is.rows.1);

@@ -107,6 +107,8 @@ made_whole one s wal files chain records entries copy start stop end upto replay
       store = made.store;
       made = subst (λ (n : ℕ). whole records n ≡ Some made.store) place (sym is.made ∙ subst (λ (c : Store). redo_all c (ending_by (replayed_to upto tip) entries) ≡ Some made.store) same made.redone);
       written = made.written;
+      holds = made.holds;
+      pages_whole = made.pages_whole;
       last = subst (λ (n : ℕ). report.end.0 ≡ end_by s.segment n records) place (tells.last ∙ is.ends);
       forks = tells.forks ∙ made.forks;
       pages = tells.pages ∙ made.pages;

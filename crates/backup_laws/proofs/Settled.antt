@@ -40,7 +40,7 @@ segment_size None mib relseg given = subst IsSegmentMib (sym given.0) (record { 
 segment_size (Some bytes) mib relseg given = given.segment
 
 -- it is no segment's
-not_segment : (mib at end : ℕ) → IsSegmentFile mib at end (codes "settings") → ⊥
+pub not_segment : (mib at end : ℕ) → IsSegmentFile mib at end (codes "settings") → ⊥
 not_segment mib at end is = (let e : 115 ≡ 48 = ap (λ (x : List ℕ). get_or x 0 0) is.named in omega (arith, e))
 
 -- ---- the head of a segment
@@ -123,13 +123,12 @@ least_there mib files (Some n) has least = ap (λ (x : ℕ). Some x) (let e : n 
 same_settings : (a b m n s t : ℕ) → a ≡ b → m ≡ n → s ≡ t → settings_with a m s ≡ settings_with b n t
 same_settings a b m n s t mib relseg system = rw (mib, relseg, system) refl
 
--- where only segments of a WAL changed, and its first entry is read with the settings that it had, it
--- has these still
-pub settings_stay : (s t : StoreSettings) (old new : Files) (from to : ℕ) (r : Record) → IsSettingsOf old s → IsSettingsOf new t → AgreeBut (IsSegmentFile s.segment from to) old new → stands_behind s new (first_tip s.segment) ≡ Gives r → t ≡ s
-settings_stay s t old new from to r was is same gives =
+-- where the file of settings stayed, and the first entry of a WAL is read with the settings that it had,
+-- it has these still
+pub settings_held : (s t : StoreSettings) (old new : Files) (r : Record) → IsSettingsOf old s → IsSettingsOf new t → get new (codes "settings") ≡ get old (codes "settings") → stands_behind s new (first_tip s.segment) ≡ Gives r → t ≡ s
+settings_held s t old new r was is file gives =
     let mib : ℕ = s.segment in
     let size : IsSegmentMib mib = segment_size (get old (codes "settings")) mib s.relseg was.given in
-    let file : get new (codes "settings") ≡ get old (codes "settings") = same (codes "settings") (not_segment mib from to) in
     let given = gives_once (get old (codes "settings")) t.segment t.relseg mib s.relseg (subst (λ (o : Option (List ℕ)). GivesSettings o t.segment t.relseg) file is.given) was.given in
     let g = passed s new (first_tip mib) r size.least (origin_end mib) gives in
     let heads = heads_on (archive_of mib new) mib s.system (segment_bytes mib) g.bytes size.least (origin_end mib) g.stands (no_heads (archive_of mib new) mib s.system) in
@@ -146,3 +145,7 @@ settings_stay s t old new from to r was is same gives =
     ∙ (ap (λ (n : ℕ). system_at n new least.segment) given.0
     ∙ (ap (system_at mib new) one ∙ system_there mib s.system new h.bytes size.least held told)) in
     same_settings t.segment s.segment t.relseg s.relseg t.system s.system given.0 given.1 system
+
+-- so it has where only segments changed
+pub settings_stay : (s t : StoreSettings) (old new : Files) (from to : ℕ) (r : Record) → IsSettingsOf old s → IsSettingsOf new t → AgreeBut (IsSegmentFile s.segment from to) old new → stands_behind s new (first_tip s.segment) ≡ Gives r → t ≡ s
+settings_stay s t old new from to r was is same gives = settings_held s t old new r was is (same (codes "settings") (not_segment s.segment from to)) gives

@@ -47,6 +47,7 @@ directory_done directory.NoMemory never = tt
 
 link_done : (why : LinkFault) → (why ≢ link.NoMemory → ⊥) → IsDoneOrFails (link_status why)
 link_done link.TooManyMembers never = absurd (never (λ e. absurd cc))
+link_done (link.ManifestVersion v) never = absurd (never (λ e. absurd cc))
 link_done (link.TimelineDiffers v) never = absurd (never (λ e. absurd cc))
 link_done link.FirstIncremental never = absurd (never (λ e. absurd cc))
 link_done link.LaterFull never = absurd (never (λ e. absurd cc))

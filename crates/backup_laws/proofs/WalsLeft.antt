@@ -1,5 +1,5 @@
 -- The WAL that a run leaves, and what later runs find of it.
-use Rattle.std.proofs.Common.{◌≡◌, ℕ, ◌-◌, ◌≤◌, List, [], ◌++◌, map, append-nil, Option, Some, None, IfSome, Ok, Err, refl, sym, ap, subst, ◌∙◌, arith, inl}
+use Rattle.std.proofs.Common.{◌≡◌, ℕ, ◌-◌, ◌≤◌, List, [], ◌++◌, map, append-nil, append_assoc, Option, Some, None, IfSome, Ok, Err, refl, sym, ap, subst, ◌∙◌, arith, inl}
 use Rattle.std.specs.Prelude.{codes}
 use Rattle.std.specs.FinMap.{get}
 use Rattle.std.proofs.lemmas.List.{map-append}
@@ -153,8 +153,21 @@ grown s records wal last top end t w goes ends given =
 same_last : (s : StoreSettings) (was now : Files) (tip : Tip) (rs : List Record) (a b : Tip) → ReadsOn s was tip rs a → ReadsOn s now tip rs b → b ≡ a
 same_last s was now tip rs a b one other = read_tip s now tip rs b other ∙ sym (read_tip s was tip rs a one)
 
-related_is : (R : Files → Files → Type 0) (old new : Option Files) (m n : Files) → old ≡ Some m → new ≡ Some n → R m n → Related R old new
+pub related_is : (R : Files → Files → Type 0) (old new : Option Files) (m n : Files) → old ≡ Some m → new ≡ Some n → R m n → Related R old new
 related_is R old new m n was is both = subst (λ (o : Option Files). Related R o new) (sym was) (subst (λ (o : Option Files). Related R (Some m) o) (sym is) both)
+
+-- where its settings stayed, and what was found of it is read still, a WAL goes on
+pub on_from : (s : StoreSettings) (was now : Files) (found more : List Record) (last : Tip) → IsSettingsOf was s → ((t : StoreSettings) → IsSettingsOf now t → t ≡ s) → HasFound s found was → ReadsOn s now (first_tip s.segment) (found ++ more) last → GoesOnFrom was now
+on_from s was now found more last given one has read = λ t is.
+    subst (λ (x : StoreSettings). IsSettingsOf was x × ((records : List Record) (to : Tip) → ReadsOn x was (first_tip x.segment) records to → ReadsOn x now (first_tip x.segment) records to)) (sym (one t is)) (
+      given,
+      λ records to reads.
+          let tip : Tip = first_tip s.segment in
+          let front = read_front s was tip records found to (found_tip s found) reads has.walk (end_stops (stands_behind s was (found_tip s found)) has.ended) in
+          let whole : found ++ more ≡ records ++ (front.0 ++ more) = ap (λ (l : List Record). l ++ more) front.1 ∙ append_assoc records front.0 more in
+          let parts = split s now tip records (front.0 ++ more) last (subst (λ (rs : List Record). ReadsOn s now tip rs last) whole read) in
+          subst (λ (l : Tip). ReadsOn s now tip records l) (same_last s was now tip records to parts.mid reads parts.up) parts.up,
+    )
 
 -- of a store that was begun on
 done_on : (when : ℕ) (before left : Outside) (report : RunReport) → AreTold before.areas → RunDone when before.areas left.areas report → Related GoesOnFrom (before.areas wal_name).files (left.areas wal_name).files
@@ -173,15 +186,9 @@ done_on when before left report told d =
     let kept = related_told (λ x y. IsLeft (archive_of s.segment x) (archive_of s.segment y) from ((tip_of s.segment d.history).end - from)) old new was.0 there.0 was.1 there.1 d.left.left in
     let read : ReadsOn s there.0 (first_tip s.segment) d.found (found_tip s d.found) = held_read s was.0 there.0 d.found (found_tip s d.found) ((tip_of s.segment d.history).end - from) size.least found kept in
     let first = some_first s there.0 d.found [] (found_tip s d.found) d.some (subst (λ (rs : List Record). ReadsOn s there.0 (first_tip s.segment) rs (found_tip s d.found)) (sym (append-nil d.found)) read) in
-    related_is GoesOnFrom old new was.0 there.0 was.1 there.1 (λ t is.
-    let one : t ≡ s = settings_stay s t was.0 there.0 from to first.0 given is agree first.1 in
-    subst (λ (x : StoreSettings). IsSettingsOf was.0 x × ((records : List Record) (last : Tip) → ReadsOn x was.0 (first_tip x.segment) records last → ReadsOn x there.0 (first_tip x.segment) records last)) (sym one) (
-      given,
-      λ records last reads.
-          let front = read_front s was.0 (first_tip s.segment) records d.found last (found_tip s d.found) reads found.walk (end_stops (stands_behind s was.0 (found_tip s d.found)) found.ended) in
-          let parts = split s there.0 (first_tip s.segment) records front.0 (found_tip s d.found) (subst (λ (rs : List Record). ReadsOn s there.0 (first_tip s.segment) rs (found_tip s d.found)) front.1 read) in
-          subst (λ (l : Tip). ReadsOn s there.0 (first_tip s.segment) records l) (same_last s was.0 there.0 (first_tip s.segment) records last parts.mid reads parts.up) parts.up,
-    ))
+    related_is GoesOnFrom old new was.0 there.0 was.1 there.1
+    (on_from s was.0 there.0 d.found [] (found_tip s d.found) given (λ t is. settings_stay s t was.0 there.0 from to first.0 given is agree first.1) found
+    (subst (λ (rs : List Record). ReadsOn s there.0 (first_tip s.segment) rs (found_tip s d.found)) (sym (append-nil d.found)) read))
 
 -- one that stayed goes on too
 pub stayed : (old new : Option Files) → new ≡ old → Related GoesOnFrom old new

@@ -13,7 +13,7 @@ use Rattle.command_base.specs.Outside.{Outside}
 use Rattle.chain_commands.specs.Chain.{backup_names}
 use Rattle.run_answers.specs.declared.told.Told.{Told}
 use Rattle.drill_script.specs.Drill.{drill_0, drill_1, drill_2}
-use Rattle.pgbackup_cli.specs.drill_command.Contents.{IsSumOf}
+use Rattle.pgbackup_cli.specs.drill_command.Contents.{contents_sum}
 use Rattle.pgbackup_cli.specs.drill_command.Drill.{DrillDone, drill_settings, drill_relseg, drill_members, drill_out, drill_writes}
 use Rattle.pgbackup_cli.specs.declared.drill_command.report.DrillReport.{DrillReport}
 use Rattle.backup_laws.specs.Runs.{IsBackedUp}
@@ -38,7 +38,7 @@ pub record AreAnswered (told : List Told) : Type 0 where
 
 -- the WAL of a new store of a number has these records, and ends at a place; the output has just
 -- the files of the store that they make from nothing; and the forks, the pages and the sum that are
--- told are those of these files
+-- told are those of this store
 pub record IsWholeDrill (n : ℕ) (new : Outside) (report : DrillReport) : Type 0 where
   pub wal : Files
   pub told : (new.areas wal_name).files ≡ Some wal
@@ -50,7 +50,7 @@ pub record IsWholeDrill (n : ℕ) (new : Outside) (report : DrillReport) : Type 
   pub written : (new.areas drill_out).files ≡ Some (files_of drill_relseg store)
   pub forks : report.forks ≡ len store
   pub pages : report.pages ≡ page_count store
-  pub summed : IsSumOf drill_relseg (files_of drill_relseg store) report.sum
+  pub summed : report.sum ≡ contents_sum store
 
 -- each drill that was done came to that. What its run and its restore took and made stands in its
 -- own clause: of the directories nothing is asked

@@ -6,6 +6,7 @@ pub mod Restores
 pub mod CombinedChains
 pub mod MergedSeries
 pub mod ChainRestores
+pub mod Stops
 pub mod Drills
 pub mod Gaps
 pub mod Success

@@ -13,6 +13,7 @@ use Rattle.wal_record.specs.declared.record.Record.{Record}
 use Rattle.wal_reader.specs.Settings.{IsSettingsOf}
 use Rattle.wal_reader.specs.Wal.{ReadsOn}
 use Rattle.history.specs.Pages.{page_count}
+use Rattle.rel_files.specs.Forks.{Holds, HasWholePages}
 use Rattle.history.specs.Whole.{whole}
 use Rattle.recovery.specs.Causes.{HasSettings}
 use Rattle.shared_store.specs.Records.{HoldsRecords}
@@ -67,8 +68,8 @@ replay_end None end = end.0
 replay_end (Some target) end = target.0
 
 -- an output has just the files of the store that all records of a WAL make from nothing which end at a
--- place or before it; and where the last of these ends, and how many forks and pages there are, is
--- told
+-- place or before it, a store of whole pages, and these files hold just that; and where the last of
+-- the records ends, and how many forks and pages there are, is told
 pub record IsWholeReplay
     (wal : Option Files) (end : Lsn) (place : ℕ) (report : ReplayReport) (out : Option Files)
     : Type 0 where
@@ -84,6 +85,8 @@ pub record IsWholeReplay
   pub made : whole records place ≡ Some store
   -- and this is what is there and what is told
   pub written : out ≡ Some (files_of settings.relseg store)
+  pub holds : Holds settings.relseg (files_of settings.relseg store) store
+  pub pages_whole : HasWholePages store
   pub last : report.end.0 ≡ end_by settings.segment place records
   pub forks : report.forks ≡ len store
   pub pages : report.pages ≡ page_count store

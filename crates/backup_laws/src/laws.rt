@@ -14,6 +14,9 @@ ghost use Rattle.backup_laws.specs.ChainRestores.{CompletedChainsAreReplays, Run
 ghost use Rattle.backup_laws.specs.ChainRestores.{RunsGoOn, RunsOfScriptsGoOn};
 ghost use Rattle.backup_laws.specs.ChainRestores.{RunsLeaveTheirOwn, NewStoresAreOwn};
 ghost use Rattle.backup_laws.specs.ChainRestores.{RunsSinceInitAreInTurn};
+ghost use Rattle.backup_laws.specs.Stops.{RestartsHoldSurvivors, StopsGoOn, StopsFindOwn};
+ghost use Rattle.backup_laws.specs.Stops.{RunsOverStopsAreInTurn};
+ghost use Rattle.backup_laws.specs.Stops.{CompletedChainsAreReplaysOverStops};
 ghost use Rattle.backup_laws.specs.Telling.{RunsTellThroughout};
 ghost use Rattle.backup_laws.specs.CombinedChains.{CombinedChainsStaySound};
 ghost use Rattle.backup_laws.specs.Drills.{DrillsAreReplays, DrillsTakeTheirBackups};
@@ -169,6 +172,30 @@ pub fn runs_leave_their_own()
     ensures first { NewStoresAreOwn }
     ensures all { RunsSinceInitAreInTurn }
 {}
+
+/// A run that was stopped from outside leaves to later ones what such chains ask, with a restart
+/// behind it or without. Behind a restart with status 0 the WAL is just the first records of the
+/// history that the run had come to, with all that were flushed. In both cases the WAL goes on from
+/// what the run found, and what a later run finds there is this program's own, where the stopped one
+/// had found so: what survived is tidy, and `sums` is honest for it. So of all runs since `init`, of
+/// which some were stopped, those that closed their store are in turn. What a stop leaves of `wal`
+/// and `sums` is asked (`StopLeft`): of the WAL all that was flushed, and of what wasn't a beginning;
+/// of summaries those that stood there, and such of flushed entries.
+pub fn stops_leave_their_own()
+    ensures restarted { RestartsHoldSurvivors }
+    ensures on { StopsGoOn }
+    ensures own { StopsFindOwn }
+    ensures all { RunsOverStopsAreInTurn }
+{}
+
+/// So the law of chains of completed backups holds over stops: of the backups of all runs since
+/// `init` that closed their store, where each of the others was stopped from outside.
+pub fn completed_chains_are_replays_over_stops()
+    ensures { CompletedChainsAreReplaysOverStops }
+{
+    // known: the same of runs that are in turn
+    completed_chains_are_replays();
+}
 
 /// The areas of a run tell their files behind each of its lines, as is asked above, where they tell
 /// them when it begins and when it ends, and where of no name a worker took two backups, or one
