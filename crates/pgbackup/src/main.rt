@@ -7,7 +7,7 @@ use operator_notes::note_of;
 use pgbackup_cli::command_answers::Answer;
 use pgbackup_cli::{Status, answered};
 use progress::{Progress, is_wanted};
-use std::io::IsTerminal;
+use std::io::{ErrorKind, IsTerminal};
 use std::process::ExitCode;
 use std::sync::Wait;
 use std::thread::Threads;
@@ -17,8 +17,10 @@ use vault_os::{OsClock, OsSink, OsSite, OsSource};
 /// The words of the command line. A word that isn't UTF-8 leaves none, which no command takes.
 fn words_of(rt: &HostRuntime) -> Result<Vec<Text>, NoMemory> {
     let mut words = Vec::new(rt.alloc());
-    let Ok(args) = env::args(rt) else {
-        return Ok(words);
+    let args = match env::args(rt) {
+        Ok(args) => args,
+        Err(error) if error.kind() == ErrorKind::OutOfMemory => return Err(NoMemory),
+        Err(_) => return Ok(words),
     };
     for arg in args.skip(1) {
         words.push(Text::from_vec(arg.into_bytes()))?;

@@ -5,6 +5,7 @@
 use chain_view::{Outcome, show_chains};
 use lsn_core::{NoMemory, Text};
 use std::env;
+use std::io::ErrorKind;
 use std::process::ExitCode;
 use vault_os::{OsSink, OsSite};
 
@@ -19,8 +20,10 @@ const USAGE: &str = "usage: pgbackup-chains [--json] [--for LSN] FOLDER
 /// The words of the command line. A word that isn't UTF-8 leaves none, which aren't taken.
 fn words_of(rt: &HostRuntime) -> Result<Vec<Text>, NoMemory> {
     let mut words = Vec::new(rt.alloc());
-    let Ok(args) = env::args(rt) else {
-        return Ok(words);
+    let args = match env::args(rt) {
+        Ok(args) => args,
+        Err(error) if error.kind() == ErrorKind::OutOfMemory => return Err(NoMemory),
+        Err(_) => return Ok(words),
     };
     for arg in args.skip(1) {
         words.push(Text::from_vec(arg.into_bytes()))?;
