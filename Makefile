@@ -30,6 +30,10 @@ conformance: build
 	python3 conformance/archives.py bin/pgbackup 500
 	python3 conformance/follows.py bin/pgbackup 500
 	python3 conformance/faults.py bin/pgbackup
+	python3 conformance/calls.py bin/pgbackup 1
+	python3 conformance/frames.py bin/pgbackup
+	python3 conformance/memory.py bin/pgbackup
+	python3 conformance/stderr.py bin/pgbackup
 	python3 conformance/crews.py bin/pgbackup 100
 	python3 conformance/loops.py bin/pgbackup 1000
 	python3 conformance/drills.py bin/pgbackup 64
@@ -44,6 +48,7 @@ conformance: build
 	python3 conformance/restarts.py bin/pgbackup 200
 	python3 conformance/manifests.py bin/pgbackup 1
 	python3 conformance/views.py bin/pgbackup bin/pgbackup-chains 60
+	python3 conformance/real.py bin/pgbackup 2
 	cd crates/lsn_core_c && rt lib > /dev/null
 	python3 conformance/paths.py crates/lsn_core_c/out/liblsn_core_c.a
 

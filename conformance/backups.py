@@ -7,8 +7,8 @@ incremental one of it while the script goes on. Both are verified; then one of t
 anew: bytes of a file changed, a file cut, made longer, removed, added or renamed; the label's lines or the manifest's
 text changed, with the sums made again or not; a row taken out, doubled, moved, or of another kind of sum, with other
 spacing and order of keys; and the head of an incremental file changed, its blocks put out of order, the file cut, or
-its plain form put beside it, with its row made again. Line and status have to be the same each time. Manifests of
-version 1 are left out, since they are not read yet.
+its plain form put beside it, with its row made again. Line and status have to be the same each time. Some manifests
+are of version 1, with a system identifier and without.
 Not part of the gate. Skipped where the independent implementation (PGBACKUP_ORACLE) isn't there.
 """
 import hashlib
@@ -269,7 +269,9 @@ def change_top(rnd, manifest):
     """What stands beside the rows."""
     pick, range_of = rnd.randrange(6), manifest["WAL-Ranges"]
     if pick == 0:
-        manifest["PostgreSQL-Backup-Manifest-Version"] = rnd.choice([2, 3, 2.0, "2", 2 ** 64, -2])
+        manifest["PostgreSQL-Backup-Manifest-Version"] = rnd.choice([1, 1, 2, 3, 2.0, "2", 2 ** 64, -2])
+        if rnd.random() < 0.5:
+            del manifest["System-Identifier"]
     elif pick == 1:
         manifest["System-Identifier"] = rnd.choice([0, 8, 2 ** 64 - 1, 2 ** 64, "7", None])
     elif pick == 2:

@@ -9,7 +9,8 @@ segment boundaries, relations dropped and made anew, and checkpoints between. Th
 ends, and with a backup that was combined before in the place of the members that it was made of; of some a member is
 left out, doubled, moved, or another one, and now and then there are 65. At times there are backups of another store
 beside them, which was made by most lines of our first script, under the same system identifier or another: chains of
-them, and ours that go on with theirs, or the other way. The output is at times an area that holds files or a member's.
+them, and ours that go on with theirs, or the other way. At times the backups have files that are no fork's, such as
+visibility maps, shared catalogs and files of tablespaces, plain and incremental. The output is at times an area that holds files or a member's.
 What was combined is checked by `verify`. Then six chains are restored to random targets, and what a restore wrote is
 compared with what `replay` to the same target writes, unless a member is of another store, or one was damaged before,
 which at times one is, its sums made again or not, or made to belong elsewhere. Lines, statuses and all files are
@@ -20,12 +21,15 @@ import os
 import re
 import shutil
 
-from backups import Backup, damage
+from backups import MAGIC, Backup, damage, file_of
 from common import compare, oracle, program
 from restores import a_target, ends_in, restored, wal_end
 from run import Store, both, some_lines
 
 MOST = 12
+# Folders and names of files that are no fork's; of the last two folders no file is incremental.
+OTHERS = [("base/5", "16384_vm"), ("base/5", "16384_fsm"), ("global", "1262"), ("base/5", "PG_VERSION"),
+          ("pg_tblspc/16390/PG_17_202406281/5", "16391.1"), ("pg_xact", "0000"), ("base", "other")]
 
 
 class Chains:
@@ -181,6 +185,35 @@ def other_place(rnd, backup):
     backup.list_again("backup_label", rnd)
 
 
+def an_other(rnd, folder, name):
+    """A file of a folder, plain or incremental: its path and what it holds."""
+    if rnd.random() < 0.4:
+        return folder + "/" + name, rnd.randbytes(rnd.choice([0, 100, 8192, 20000, 32768]))
+    length = rnd.randrange(5)
+    blocks = sorted(rnd.sample(range(5), rnd.randrange(4)))
+    return folder + "/INCREMENTAL." + name, file_of(MAGIC, len(blocks), length, blocks, rnd)
+
+
+def add_others(rnd, chains):
+    """Gives the backups files that are no fork's, in both folders alike; at times one is in no form there, or in
+    both."""
+    for place in rnd.sample(OTHERS, rnd.randrange(1, 4)):
+        for name in chains.priors:
+            if not os.path.exists("ours/b/%s/backup_manifest" % name):
+                continue
+            backup = Backup("ours/b/" + name)
+            for _ in range(rnd.choice([1] * 12 + [0, 2])):
+                path, content = an_other(rnd, *place)
+                if chains.priors[name] is None and rnd.random() < 0.8:
+                    path, content = "/".join(place), rnd.randbytes(rnd.choice([0, 8192, 20000, 32768]))
+                backup.write(path, content)
+                backup.list_again(path, rnd)
+    for name in chains.priors:
+        if os.path.isdir("ours/b/" + name):
+            shutil.rmtree("theirs/b/" + name)
+            shutil.copytree("ours/b/" + name, "theirs/b/" + name)
+
+
 def spoil(rnd, name):
     """Damages a backup, in both folders alike."""
     if not os.path.exists("ours/b/%s/backup_manifest" % name):
@@ -212,6 +245,8 @@ def one_run(path, rnd):
         ends += ends_in(lines) if status == 0 else []
     if rnd.random() < 0.3:
         add_strangers(rnd, relseg, scripts[0], chains)
+    if rnd.random() < 0.4:
+        add_others(rnd, chains)
     spoilt = rnd.random() < 0.35
     for turn in range(6):
         if spoilt and turn == 3:

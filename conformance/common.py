@@ -16,8 +16,10 @@ ROOM = 8192 - 96
 
 def oracle(words, script=b"", moment=1700000000):
     """(status, lines) of one call of the independent implementation, in the working folder, at a moment."""
+    from oracle import chain
     from oracle.cli import Program
 
+    chain.REAL_PATHS = True
     called = Program(moment, io.BytesIO(script))
     status = called.call(words)
     return status, [line.decode() for line in called.lines]

@@ -4,12 +4,13 @@
 
 One backup that the independent implementation takes, with its manifest written in other ways each time, the sum made
 again: free spacing, orders of keys and rows, a key twice, nested values of 125 to 130 levels, numbers as 1.0 and 1e3,
-escapes, bytes that are no UTF-8, each kind of sum in either case, and a directory of 10,000 rows, whole, with a file
+escapes, bytes that are no UTF-8, each kind of sum in either case, each of these in version 1 too, and a directory of 10,000 rows, whole, with a file
 that is missing and with one more. Line and status have to be the same each time.
 Not part of the gate. Skipped where the independent implementation (PGBACKUP_ORACLE) isn't there.
 """
 import hashlib
 import os
+import re
 
 from backups import KINDS, Backup, text_of, with_sum
 from common import compare, oracle, program
@@ -29,6 +30,12 @@ def replaced(old, new):
     lines = lines_of()
     assert old in lines, old
     return with_sum(lines.replace(old, new, 1))
+
+
+def first_version():
+    """The manifest as one of version 1, which has no system identifier."""
+    lines = lines_of().replace(b'Version": 2', b'Version": 1')
+    return with_sum(lines.replace(b'"System-Identifier": 7,\n', b""))
 
 
 def nested(levels):
@@ -68,8 +75,9 @@ def manifests(rnd):
         yield "%d levels" % levels, nested(levels)
     for number in [b"81920.0", b"8.192e4", b"81920e0", b"081920", b"+81920", b"-0", b"1e3", b"1e400", b"18446744073709551616"]:
         yield "size " + number.decode(), replaced(size, b'"Size": ' + number)
-    for version in [b"2.0", b"2e0", b"02", b"3", b"18446744073709551616"]:
-        yield "version " + version.decode(), replaced(b'Version": 2', b'Version": ' + version)
+    for version in [b"0", b"1", b"2", b"2.0", b"1e0", b"02", b"3", b"18446744073709551616"]:
+        lines = re.sub(rb'Version": \d', b'Version": ' + version, lines_of(), count=1)
+        yield "version " + version.decode(), with_sum(lines)
     yield "a row's key twice", replaced(size, size + b", " + size)
     yield "a key of the top twice", replaced(b'"Files": ', b'"System-Identifier": 7,\n"Files": ')
     yield "an escape in a path", replaced(b"base/5/16384", b"base\\/5\\/\\u00316384")
@@ -113,9 +121,11 @@ def one_run(path, rnd):
     oracle(["init", "--segment-mib", "1", "--system-id", "7"])
     oracle(["run"], SCRIPT)
     kept, differences = BACKUP.read("backup_manifest"), []
-    for name, text in list(manifests(rnd)):
-        BACKUP.write("backup_manifest", text)
-        differences += compared(path, name)
+    for version, base in [(2, kept), (1, first_version())]:
+        BACKUP.write("backup_manifest", base)
+        for name, text in list(manifests(rnd)):
+            BACKUP.write("backup_manifest", text)
+            differences += compared(path, "%s, in version %d" % (name, version))
     BACKUP.write("backup_manifest", kept)
     return differences + long_directory(path, rnd)
 

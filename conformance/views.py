@@ -57,15 +57,15 @@ def manifest_of(path):
     if hashlib.sha256(text[:last.start() + 1]).hexdigest() != last.group(1).decode().lower():
         raise Fault("ManifestDamaged Sum")
     found = json.loads(text)
-    if found["PostgreSQL-Backup-Manifest-Version"] != 2:
+    if found["PostgreSQL-Backup-Manifest-Version"] not in (1, 2):
         raise Fault("ManifestVersion %d" % found["PostgreSQL-Backup-Manifest-Version"])
     if found["WAL-Ranges"][0]["Timeline"] != 1:
         raise Fault("TimelineDiffers %d" % found["WAL-Ranges"][0]["Timeline"])
     return found
 
 
-def label_of(path, start):
-    """(label, prior's start) of a label that tells this start."""
+def label_of(path, start, version):
+    """(label, prior's start) of a label that tells this start, of a backup whose manifest has this version."""
     text = b""
     if os.path.isfile(path):
         with open(path, "rb") as f:
@@ -83,6 +83,8 @@ def label_of(path, start):
         raise Fault("LabelDamaged %d" % (len(found) + 1))
     if place(found[0].group(1)) != start:
         raise Fault("LabelDamaged 1")
+    if version != 2:
+        raise Fault("ManifestVersion %d" % version)
     for match in found[6:7] + found[8:]:
         if int(match.group(1)) != 1:
             raise Fault("TimelineDiffers %d" % int(match.group(1)))
@@ -96,7 +98,7 @@ def shown(folder):
         raise Fault("Name")
     manifest = manifest_of(folder + "/backup_manifest")
     start = place(manifest["WAL-Ranges"][0]["Start-LSN"])
-    label, prior = label_of(folder + "/backup_label", start)
+    label, prior = label_of(folder + "/backup_label", start, manifest["PostgreSQL-Backup-Manifest-Version"])
     kind = "incremental" if prior is not None else "combined" if NAME.match(label) and label != name else "full"
     return {"name": name.decode(), "kind": kind, "start": start, "end": place(manifest["WAL-Ranges"][0]["End-LSN"]),
             "named": prior, "files": len(manifest["Files"]), "bytes": sum(f["Size"] for f in manifest["Files"]),
@@ -173,12 +175,24 @@ def a_store(path, rnd):
     return sorted(os.listdir("b"))
 
 
+def first_version(path):
+    """Makes a manifest one of version 1, which has no system identifier."""
+    if not os.path.exists(path):
+        return
+    with open(path, "rb") as f:
+        text = f.read()
+    lines = text[:text.rindex(b'"Manifest-Checksum"')]
+    lines = re.sub(rb'"System-Identifier": \d+,\n', b"", lines.replace(b'Version": 2', b'Version": 1'))
+    with open(path, "wb") as f:
+        f.write(lines + b'"Manifest-Checksum": "%s"}\n' % hashlib.sha256(lines).hexdigest().encode())
+
+
 def change(rnd, names):
     """Changes a directory."""
     name = "b/" + rnd.choice(names)
     if not os.path.isdir(name):
         return
-    what = rnd.randrange(6)
+    what = rnd.randrange(7)
     if what == 0:
         shutil.rmtree(name)
     elif what == 1:
@@ -187,6 +201,8 @@ def change(rnd, names):
         os.remove(name + "/" + rnd.choice(["backup_label", "backup_manifest"]))
     elif what == 3:
         os.rename(name, name + "_old")
+    elif what == 4:
+        first_version(name + "/backup_manifest")
     else:
         path = name + "/" + rnd.choice(["backup_label", "backup_manifest"])
         if os.path.exists(path):
