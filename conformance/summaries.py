@@ -5,7 +5,8 @@ independent implementation.
 
 Each run makes a store with both and runs one to four random scripts on it with checkpoints and
 summaries among their lines, and relations that are dropped and made anew. Between two scripts, and behind the last, a summary's file is at times
-damaged in both alike, renamed, cut, removed, or another one added. Then both are asked for six ranges:
+damaged in both alike, renamed, cut, removed, or another one added; or some are made older by days, and runs
+keep summaries for no, one or ten days, or all. Then both are asked for six ranges:
 of ends and starts of summaries, places beside them, and empty or turned ones. Lines, statuses and all
 files are compared.
 Not part of the gate. Skipped where the independent implementation (PGBACKUP_ORACLE) isn't there.
@@ -65,6 +66,40 @@ def damage(rnd):
             f.write(content)
 
 
+def crc32c(data):
+    """The CRC-32C of bytes, bit by bit."""
+    crc = 0xFFFFFFFF
+    for byte in data:
+        crc ^= byte
+        for _ in range(8):
+            crc = crc >> 1 ^ (0x82F63B78 if crc & 1 else 0)
+    return crc ^ 0xFFFFFFFF
+
+
+def aged(content, seconds):
+    """A summary's file, made so many seconds earlier."""
+    made = max(0, int.from_bytes(content[20:28], "little") - seconds)
+    content = content[:20] + made.to_bytes(8, "little") + content[28:-4]
+    return content + crc32c(content).to_bytes(4, "little")
+
+
+def age(rnd):
+    """Makes some summaries older by days, and an hour more or less, in both folders alike."""
+    for name in summaries():
+        with open("ours/sums/" + name, "rb") as f:
+            content = f.read()
+        if len(content) >= 40 and rnd.random() < 0.7:
+            content = aged(content, 86400 * rnd.choice([0, 1, 2, 9, 10, 11, 30]) + rnd.choice([3600, -3600]))
+        for top in ("ours/sums/", "theirs/sums/"):
+            with open(top + name, "wb") as f:
+                f.write(content)
+
+
+def run_words(rnd):
+    """The words of a run, with days for which it keeps summaries or without."""
+    return rnd.choice([["run"], ["run", "--keep-days", rnd.choice(["0", "1", "10", "36500"])]])
+
+
 def a_range(rnd, places):
     """The words of two places, mostly in order."""
     near = [max(0, rnd.choice(places) + rnd.choice([0, 0, 0, 0, 1, -1, 8])) for _ in range(2)]
@@ -79,9 +114,11 @@ def one_run(path, rnd):
     differences = both(path, ["init", "--segment-mib", "1", "--system-id", "7", "--relseg", relseg])
     store = Store()
     for _ in range(rnd.randrange(1, 5)):
-        differences += both(path, ["run"], a_script(rnd, store))
+        differences += both(path, run_words(rnd), a_script(rnd, store))
         if summaries() and rnd.random() < 0.25:
             damage(rnd)
+        if rnd.random() < 0.5:
+            age(rnd)
     places = ends_of(summaries()) or [0x100028]
     for _ in range(6):
         differences += both(path, ["walsummary"] + a_range(rnd, places))

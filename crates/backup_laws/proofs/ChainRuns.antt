@@ -32,8 +32,7 @@ use Rattle.journal.specs.Lawful.{IsLawful}
 use Rattle.journal.proofs.Stands.{lawful_orderly}
 use Rattle.summary_store.specs.Honest.{is_redo_start}
 use Rattle.shared_summaries.specs.Laws.{AnswersSumUp}
-use Rattle.shared_summaries.specs.Shelf.{IsTrueFor, states}
-use Rattle.shared_summaries.specs.summary_publish.Published.{AdvanceAnswers}
+use Rattle.shared_summaries.specs.Shelf.{HasCoveredSo}
 use Rattle.manifest.specs.Listing.{Listing}
 use Rattle.manifest.specs.Text.{manifest_text}
 use Rattle.shared_store.specs.Copied.{HasRedoPoint}
@@ -106,6 +105,12 @@ pub record KnownOfChains : Type 0 where
   pub later : SoundChainsStaySound
   pub sums : AnswersSumUp
 
+-- what was covered of what was seen, by its parts
+seen_by : (tells : Type 0) (found : List Entry) (begun : Option Files) (h g : List Entry) (when limit from to : ℕ) (sum : Summary) (m : Files) → h ≡ g → (c : HasCoveredSo tells found begun h when limit from to (Ok sum)) → c.published.old.files ≡ Some m
+    → (d : HasCoveredSo tells found begun g when limit from to (Ok sum)) × (d.published.old.files ≡ Some m)
+seen_by tells found begun h g when limit from to sum m same c is =
+    subst (λ (l : List Entry). (d : HasCoveredSo tells found begun l when limit from to (Ok sum)) × (d.published.old.files ≡ Some m)) same (c, is)
+
 -- a directory with a manifest holds a file
 listed_some : (files : Files) (m : Listing) → HasListing files m → files ≢ empty
 listed_some files m has = λ none.
@@ -161,7 +166,7 @@ module _ (when : ℕ) (old new : Areas) (report : RunReport) (run : RunDone when
   h = run.history
 
   abbrev basis : Basis
-  basis = run_basis run.settings when run.found old
+  basis = run_basis run.settings when run.limit run.found old
 
   law : IsLawful s.segment h
   law = run.happened.lawful tell.store
@@ -361,7 +366,7 @@ module _ (when : ℕ) (old new : Areas) (report : RunReport) (run : RunDone when
         backup = record {
           basis = holds.plan;
           relseg = holds.relseg;
-          sorted = holds.summed.covers.so.forks.sorted;
+          sorted = holds.summed.covered.covers.forks.sorted;
           list = holds.list;
           listed = holds.listed;
           sent = holds.files;
@@ -424,16 +429,18 @@ module _ (when : ℕ) (old new : Areas) (report : RunReport) (run : RunDone when
             (and_from (is_redo c.first.act) (c.first.start == start.0) (ap is_redo c.starts.0) (eq-eqb c.first.start start.0 c.redo_is))
 
         -- the area of summaries told its files then, and the truth
-        sums_told : (m : Files) × (holds.summed.old.files ≡ Some m)
-        sums_told = some_told holds.summed.old.files (holds.summed.shelved.told (tell.sums name start end taken))
+        sums_told : (m : Files) × (holds.summed.covered.published.old.files ≡ Some m)
+        sums_told = some_told holds.summed.covered.published.old.files (holds.summed.covered.published.shelved.told (tell.sums name start end taken))
+
+        -- the same in what it had seen then, by its parts
+        covered_so : (c : HasCoveredSo (AreTold old) entries basis.sums (entries ++ own) when basis.limit from_prior start.0 (Ok holds.plan.summary)) × (c.published.old.files ≡ Some sums_told.0)
+        covered_so = seen_by (AreTold old) entries basis.sums seen (entries ++ own) when basis.limit from_prior start.0 holds.plan.summary sums_told.0 (sym parts) holds.summed.covered sums_told.1
 
         summed_up : from_prior < start.0 → IsSumOf h from_prior start.0 holds.plan.summary
         summed_up less =
             subst (λ (es : List Entry). IsSumOf es from_prior start.0 holds.plan.summary) whole
-            (sum_of known.sums states (AreTold old) tell.store entries own rest basis.sums when from_prior start.0 holds.summed.old holds.summed.new sums_told.0 holds.plan.summary
-            (subst (IsOrderly 0) (sym whole) orderly) redo_in finds.honest
-            (subst (λ (es : List Entry). IsTrueFor entries basis.sums es holds.summed.old.files) (sym parts) (holds.summed.shelved.true_for tell.store)) sums_told.1
-            (subst (λ (es : List Entry). AdvanceAnswers states (AreTold old) es when from_prior start.0 holds.summed.old holds.summed.new (Ok holds.plan.summary)) (sym parts) holds.summed.covers) less)
+            (sum_of known.sums (AreTold old) tell.store entries own rest basis.sums when basis.limit from_prior start.0 sums_told.0 holds.plan.summary
+            (subst (IsOrderly 0) (sym whole) orderly) redo_in finds.honest covered_so.0 covered_so.1 less)
 
         tidy : AreTidy empty h
         tidy = tidy_history s.segment run.found run.happened.own h law run.happened.grown (own_entries _ run.happened.own run.happened.of_run) finds.tidy

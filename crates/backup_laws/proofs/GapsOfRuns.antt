@@ -16,7 +16,7 @@ use Rattle.backup_laws.proofs.Moments.{moment_of}
 
 pub runs_gaps_old : GapsOfRunsAreOld
 runs_gaps_old when old new report run place kept told refused before =
-    let b : Basis = run_basis run.settings when run.found old in
+    let b : Basis = run_basis run.settings when run.limit run.found old in
     let w : ℕ = refused.worker in
     let h : List Entry = run.history in
     let found : List Entry = map entry_of run.found in
@@ -28,7 +28,7 @@ runs_gaps_old when old new report run place kept told refused before =
     let some : 0 < length found = omega (arith, run.some, length-map run.found entry_of) in
     let whole : first_start found ≡ first_start h = first_found found run.happened.own some ∙ ap first_start (sym run.happened.grown) in
     let front : first_start now ≡ first_start h = first_of_front m.next h (omega (arith, some, m.late, m.up)) in
-    let gap : IsGapFound now kept leaves.manifest.start leaves.start place.0 = gap_found (AreTold old) found b.sums when w m.from now leaves.start leaves.manifest.start place before.files kept told some (whole ∙ sym front) before.told before.held leaves.summed in
+    let gap : IsGapFound b.limit now kept leaves.manifest.start leaves.start place.0 = gap_found (AreTold old) found b.sums when b.limit w m.from now leaves.start leaves.manifest.start place before.files kept told some (whole ∙ sym front) before.told before.held leaves.summed in
     record {
       name = a.0;
       prior = a.1;
@@ -38,5 +38,5 @@ runs_gaps_old when old new report run place kept told refused before =
       start = leaves.start;
       taken = leaves.prior;
       redo = any_of_front (is_redo_start leaves.start) m.next h gap.marked;
-      gap = subst (λ (n : ℕ). IsOldGap n kept leaves.manifest.start leaves.start place.0) front gap.gap;
+      gap = subst (λ (n : ℕ). IsOldGap n b.limit kept leaves.manifest.start leaves.start place.0) front gap.gap;
     }

@@ -86,7 +86,7 @@ sound_logged mib copy found own history from to law grown owns sound =
 pub runs_sound : BackupsOfRunsAreSound
 runs_sound when old new report run name start end taken told =
     let s : StoreSettings = run.settings in
-    let b : Basis = run_basis s when run.found old in
+    let b : Basis = run_basis s when run.limit run.found old in
     let law : IsLawful s.segment run.history = run.happened.lawful told in
     let stands = line_stands (AreTold old) b taken.worker run.history new taken.by.task.lines taken.by.answers taken.number taken.line taken.behind (Backup start end) taken.later (run.completed taken.worker taken.by taken.there) taken.lines taken.answers name taken.takes in
     let now : List Entry = take stands.0 run.history in

@@ -75,7 +75,7 @@ pub record TellsThroughout
   pub sums : SumsTold report.told old
   pub behind : (worker : ℕ) (t : Told) (there : slice_get report.told worker ≡ Some t)
       → TellBehindLines (areas_asked t.task.lines) (AreTold old)
-      (run_basis run.settings when run.found old) worker run.history
+      (run_basis run.settings when run.limit run.found old) worker run.history
       (length (map entry_of run.found)) t.task.lines t.answers (accepted_by worker run.history)
       (run.happened.answered worker t there).to (run.held worker) (run.kept worker)
       (run.happened.answered worker t there).answered

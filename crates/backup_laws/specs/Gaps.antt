@@ -9,13 +9,14 @@ use Rattle.vault.specs.Site.{Areas}
 use Rattle.vault.specs.declared.area.Vault.{Ghosts}
 use Rattle.history.specs.Entry.{Entry}
 use Rattle.wal_summary.specs.declared.summary.Summary.{Summary}
-use Rattle.wal_summary.specs.Kept.{IsCovering}
+use Rattle.wal_summary.specs.Kept.{AreInOrder, IsCovering, IsGap}
 use Rattle.manifest.specs.Listing.{Listing}
 use Rattle.summary_store.specs.Kept.{AreKept, end_behind}
+use Rattle.summary_store.specs.Expiry.{young, unexpired}
 use Rattle.summary_store.specs.Honest.{is_redo_start}
 use Rattle.shared_summaries.specs.summary_publish.Entries.{first_start}
-use Rattle.shared_summaries.specs.summary_publish.Published.{ArePublished, AdvanceAnswers, with_files}
-use Rattle.store_faults.specs.declared.advance_fault.AdvanceFault.TheVariants as advance
+use Rattle.shared_summaries.specs.summary_publish.Published.{ArePublished, AdvancesTo, with_files}
+use Rattle.shared_summaries.specs.declared.summary_publish.known.Known.{Known}
 use Rattle.shared_summaries.specs.Grown.{IsOldGap}
 use Rattle.shared_summaries.specs.Shelf.{states}
 use Rattle.backup_sending.specs.Entries.{HasCheckpointAt}
@@ -42,45 +43,46 @@ FilesKeepOneList =
 -- behind those that were kept all are kept that were published, whatever other files there are
 abbrev pub PublishedAreKept : Type 0
 PublishedAreKept =
-    (history : List Entry) (made : ℕ) (files : Files) (sums : List Summary)
-    (published : ArePublished history made files sums)
-    → AreKept (with_files sums files) (published.kept ++ sums)
+    (history : List Entry) (made : ℕ) (files : Files) (kept sums : List Summary)
+    → AreKept files kept → ArePublished history made files kept sums
+    → AreKept (with_files sums files) (kept ++ sums)
+
+-- an expiry takes the old ones alone, and never the last one
+abbrev pub OldOnesExpire : Type 0
+OldOnesExpire =
+    (limit : ℕ) (kept : List Summary)
+    → (young limit (unexpired limit kept) ≡ young limit kept)
+    × ((low : ℕ) → end_behind low (unexpired limit kept) ≡ end_behind low kept)
 
 -- ---- a range up to a redo point of a history
 
--- summaries that were published, in an area that tells its files, kept these before
+-- an area tells its files, of which these are kept
 pub record KeptBefore {V : Type 0} (g : Ghosts V) (area : V) (kept : List Summary) : Type 0 where
   pub files : Files
   pub told : g.files area ≡ Some files
   pub held : AreKept files kept
 
--- what is kept then begins with what was kept before, covers a range, and goes up to its end at least
-pub record IsCoveredThen {V : Type 0} (g : Ghosts V) (area : V) (before : List Summary)
-    (from to : ℕ) (sum : Summary) : Type 0 where
-  pub kept : List Summary
-  pub held : IfSome (g.files area) (λ files. AreKept files kept)
-  pub begins : IsPrefix before kept
-  pub covers : IsCovering kept from to sum
-  pub reaches : to ≤ end_behind 0 kept
-
 -- where `advance_covering` finds a gap below a redo point, it is such a place: behind what was kept
--- before all is covered
+-- before and isn't old all is covered
 abbrev pub GapsAreOld : {V : Type 0} → Ghosts V → Type 0
 GapsAreOld {V} g =
-    (tells : Bool) (history : List Entry) (made from to : ℕ) (old new : V) (place : Lsn)
-    (kept : List Summary)
-    → tells ≡ true → list_any (is_redo_start to) history ≡ true → KeptBefore g old kept
-    → AdvanceAnswers g (tells ≡ true) history made from to old new (Err (advance.Gap place))
-    → IsOldGap (first_start history) kept from to place.0
+    (tells : Bool) (history : List Entry) (made limit from to : ℕ) (old new : V)
+    (before known : Known) (place : Lsn) (files : Files)
+    → tells ≡ true → limit ≤ made → list_any (is_redo_start to) history ≡ true
+    → g.files old ≡ Some files
+    → (a : AdvancesTo g (tells ≡ true) history made limit old new before known
+    (λ kept. IsGap kept from to place.0))
+    → IsOldGap (first_start history) limit a.advanced.kept from to place.0
 
--- and where it answers a summary, what is kept then covers the range up to its end
+-- and where it answers a summary, what is kept then goes up to the end of the range at least
 abbrev pub AnswersAreCovered : {V : Type 0} → Ghosts V → Type 0
 AnswersAreCovered {V} g =
-    (tells : Bool) (history : List Entry) (made from to : ℕ) (old new : V) (sum : Summary)
-    (kept : List Summary)
-    → tells ≡ true → from < to → KeptBefore g old kept
-    → AdvanceAnswers g (tells ≡ true) history made from to old new (Ok sum)
-    → IsCoveredThen g new kept from to sum
+    (tells : Bool) (history : List Entry) (made limit from to : ℕ) (old new : V)
+    (before known : Known) (sum : Summary)
+    → from < to
+    → (a : AdvancesTo g (tells ≡ true) history made limit old new before known
+    (λ kept. IsCovering kept from to sum))
+    → AreInOrder 0 a.advanced.now → to ≤ end_behind 0 a.advanced.now
 
 -- ---- incremental backups
 
@@ -92,7 +94,7 @@ pub record HasOldGap {V : Type 0} (g : Ghosts V) (o : Origin) (old new : IncrSit
   pub start : ℕ
   pub taken : IsPrior g o old prior start
   pub begins : HasCheckpointAt old.seen.worker (length old.seen.list) new.seen.list start
-  pub gap : IsOldGap (first_start new.seen.list) kept prior.start start place
+  pub gap : IsOldGap (first_start new.seen.list) o.limit kept prior.start start place
 
 -- summaries that the area kept when the run began, which found an entry and of which a worker has seen
 -- what it found
@@ -131,7 +133,7 @@ pub record IsRefusedFor (told : List Told) (place : Lsn) : Type 0 where
 -- the manifest that the prior backup's area told then, and the start of the line's checkpoint, between
 -- which the gap lies
 pub record HasGapOfRun
-    (system : ℕ) (history : List Entry) (kept : List Summary) (line : Line) (place : ℕ)
+    (system limit : ℕ) (history : List Entry) (kept : List Summary) (line : Line) (place : ℕ)
     : Type 0 where
   pub name : List ℕ
   pub prior : List ℕ
@@ -141,14 +143,15 @@ pub record HasGapOfRun
   pub start : ℕ
   pub taken : IsPriorOf system (areas (backup_name prior)) manifest start
   pub redo : list_any (is_redo_start start) history ≡ true
-  pub gap : IsOldGap (first_start history) kept manifest.start start place
+  pub gap : IsOldGap (first_start history) limit kept manifest.start start place
 
 -- where a run's areas tell their files, such a place is one that no summary covers that the area kept
--- when the run began, and it is below their greatest end or the start of the WAL's first entry
+-- when the run began and that isn't old, and it is below their greatest end or the start of the WAL's
+-- first entry
 abbrev pub GapsOfRunsAreOld : Type 0
 GapsOfRunsAreOld =
     (when : ℕ) (old new : Areas) (report : RunReport) (run : RunDone when old new report)
     (place : Lsn) (kept : List Summary)
     → AreTold old → (refused : IsRefusedFor report.told place)
     → KeptBefore states (old sums_name) kept
-    → HasGapOfRun run.settings.system run.history kept refused.line place.0
+    → HasGapOfRun run.settings.system run.limit run.history kept refused.line place.0

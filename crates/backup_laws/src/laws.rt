@@ -3,7 +3,7 @@
 ghost use Rattle.backup_laws.specs.Finished.{FinishedBackupsAreListed, FinishedIncrementsAreListed};
 ghost use Rattle.backup_laws.specs.Finished.{AnsweredBackupsAreListed, AnsweredBackupsAreVerified};
 ghost use Rattle.backup_laws.specs.Finished.{AnsweredNamesAreLines};
-ghost use Rattle.backup_laws.specs.Gaps.{FilesKeepOneList, PublishedAreKept, GapsAreOld};
+ghost use Rattle.backup_laws.specs.Gaps.{FilesKeepOneList, PublishedAreKept, OldOnesExpire, GapsAreOld};
 ghost use Rattle.backup_laws.specs.Gaps.{AnswersAreCovered, RefusedGapsAreOld, GapsOfRunsAreOld};
 ghost use Rattle.backup_laws.specs.Runs.{BackupsOfRunsAreSound};
 ghost use Rattle.backup_laws.specs.Chains.{FullBackupsOfRunsAreSound, IncrementsOfRunsExtendChains};
@@ -205,20 +205,21 @@ pub fn runs_tell_throughout()
 {}
 
 /// Of an area of summaries all are kept that were kept before, and behind them all that are
-/// published. So a place that `advance_covering` finds uncovered below a redo point of the history
-/// is one that no summary kept before covers, below their greatest end or the first entry's start;
+/// published, but for old ones, of which the last one stays. So a place that `advance_covering` finds uncovered below a redo point of the history
+/// is one that no summary kept before covers that isn't old, below their greatest end or the first entry's start;
 /// and what it answers covers the range up to its end. An incremental backup is refused for such a
 /// place alone, at or past the prior backup's start and below its own.
 pub fn gaps_are_old<V: Vault>()
     ensures one_list { FilesKeepOneList }
     ensures kept { PublishedAreKept }
+    ensures expire { OldOnesExpire }
     ensures old { GapsAreOld V.Vault }
     ensures covered { AnswersAreCovered V.Vault }
     ensures refused { RefusedGapsAreOld V.Vault }
 {}
 
 /// So is the place for which a run refuses a line's incremental backup: no summary covers it that
-/// the area kept when the run began.
+/// the area kept when the run began and that isn't old.
 pub fn gaps_of_runs_are_old()
     ensures { GapsOfRunsAreOld }
 {}

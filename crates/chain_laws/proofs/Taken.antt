@@ -21,10 +21,11 @@ use Rattle.history.proofs.fuzzy_copies.Taken.{Later, rest_rising, rising_front}
 use Rattle.wal_summary.specs.Summary.{IsSummary}
 use Rattle.wal_summary.specs.declared.summary.Summary.{Summary}
 use Rattle.summary_store.specs.Honest.{IsHonest, is_redo_start}
-use Rattle.summary_store.specs.Kept.{AreKept}
+use Rattle.summary_store.specs.Expiry.{unexpired}
+use Rattle.wal_summary.specs.Kept.{IsCovering}
 use Rattle.shared_summaries.specs.Laws.{AnswersSumUp}
-use Rattle.shared_summaries.specs.Shelf.{IsTrueFor}
-use Rattle.shared_summaries.specs.summary_publish.Published.{AdvanceAnswers, ArePublished, with_files}
+use Rattle.shared_summaries.specs.Shelf.{IsTrueFor, HasCoveredSo}
+use Rattle.shared_summaries.specs.summary_publish.Published.{ArePublished}
 use Rattle.backup_sending.specs.declared.basis.Basis.{Basis}
 use Rattle.backup_files.specs.Directory.{directory_with}
 use Rattle.backup_sending.specs.Sent.{SentFile, AreListed, AreSent, IsCopyOf, IsSentAs, blocks_sent, file_of}
@@ -105,15 +106,15 @@ pub record IsSumOf (history : List Entry) (prior from : ℕ) (sum : Summary) : T
   pub begins : sum.start.0 ≤ prior
   pub says : IsSummary (summary_of history sum.start.0 from) sum.forks
 
-pub sum_of : AnswersSumUp → {V : Type 0} (g : Ghosts V) (tells : Type 0) → tells → (found own rest : List Entry) (begun : Option Files) (when prior from : ℕ) (old new : V) (files : Files) (sum : Summary) → IsOrderly 0 ((found ++ own) ++ rest) → list_any (is_redo_start from) own ≡ true → IfSome begun (IsHonest found) → IsTrueFor found begun (found ++ own) (g.files old)
-    → g.files old ≡ Some files → AdvanceAnswers g tells (found ++ own) when prior from old new (Ok sum) → prior < from → IsSumOf ((found ++ own) ++ rest) prior from sum
-sum_of law g tells told found own rest begun when prior from old new files sum order redo was true_for is a less =
-    let done = a.advances in
-    let published : ArePublished (found ++ own) when files done.sums = subst (λ (o : Option Files). IfSome o (λ m. ArePublished (found ++ own) when m done.sums)) is (done.published told) in
-    let now : g.files new ≡ Some (with_files done.sums files) = done.files ∙ ap (option_map (with_files done.sums)) is in
-    let held : AreKept (with_files done.sums files) a.kept = subst (λ (o : Option Files). IfSome o (λ m. AreKept m a.kept)) now a.held in
+pub sum_of : AnswersSumUp → (tells : Type 0) → tells → (found own rest : List Entry) (begun : Option Files) (when limit prior from : ℕ) (files : Files) (sum : Summary) → IsOrderly 0 ((found ++ own) ++ rest) → list_any (is_redo_start from) own ≡ true → IfSome begun (IsHonest found)
+    → (c : HasCoveredSo tells found begun (found ++ own) when limit prior from (Ok sum)) → c.published.old.files ≡ Some files → prior < from → IsSumOf ((found ++ own) ++ rest) prior from sum
+sum_of law tells told found own rest begun when limit prior from files sum order redo was c is less =
+    let p = c.published in
+    let done = p.advances in
+    let published : ArePublished (found ++ own) when files p.kept done.sums = subst (λ (o : Option Files). IfSome o (λ m. ArePublished (found ++ own) when m p.kept done.sums)) is (done.published told) in
+    let covers : IsCovering (unexpired limit (p.kept ++ done.sums)) prior from sum = subst (λ l. IsCovering l prior from sum) done.kept_is c.covers in
     let front : IsOrderly 0 (found ++ own) = rising_front 0 (found ++ own) rest order in
-    let all = law found own begun when files done.sums a.kept prior from sum front was (subst (IsTrueFor found begun (found ++ own)) is true_for) redo published held less a.so in
+    let all = law found own begun when limit files p.kept done.sums prior from sum front was (subst (IsTrueFor found begun (found ++ own)) is (p.shelved.true_for told)) redo published less covers in
     let there : list_any (λ e. e.start == from) (found ++ own) ≡ true = list_any-append (λ (e : Entry). e.start == from) found own ∙ or_right (list_any (λ (e : Entry). e.start == from) found) (list_any (λ (e : Entry). e.start == from) own) (starts_there from own redo) in
     record {
       begins = all.1;

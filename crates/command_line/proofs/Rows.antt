@@ -42,3 +42,7 @@ three = refl
 escaped : texts_ask (codes "verify" ∷ codes "--" ∷ codes "f1" ∷ []) ≡ texts_ask (codes "verify" ∷ codes "f1" ∷ [])
 unfolding clap_on_literals
 escaped = refl
+
+days : texts_ask (codes "run" ∷ codes "--keep-days" ∷ codes "36501" ∷ []) ≡ None
+unfolding clap_on_literals digits
+days = refl

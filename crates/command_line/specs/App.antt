@@ -33,7 +33,8 @@ init_app = command_with (codes "init") (option_rule (codes "segment-mib")
     ∷ (option_rule (codes "relseg") ∷ (option_rule (codes "system-id") ∷ [])))
 
 abbrev pub run_app : App
-run_app = command_with (codes "run") (option_rule (codes "frames") ∷ [])
+run_app = command_with (codes "run")
+    (option_rule (codes "frames") ∷ (option_rule (codes "keep-days") ∷ []))
 
 abbrev pub replay_app : App
 replay_app = command_with (codes "replay") (option_rule (codes "target")

@@ -39,6 +39,13 @@ frames_value text =
 abbrev pub IsFrameCount : ℕ → Type 0
 IsFrameCount frames = (4 ≤ frames) × (frames ≤ 16384)
 
+-- summaries are kept for so many days at most
+abbrev pub most_days : ℕ
+most_days = 36500
+
+abbrev pub days_value : List ℕ → Option ℕ
+days_value text = decimal_number text >>= λ days. if nat_le days most_days then Some days else None
+
 -- the number of a drill, below 2^32
 abbrev pub drill_number : List ℕ → Option ℕ
 drill_number text = decimal_number text >>= λ n. if nat_lt n (2 ^ 32) then Some n else None

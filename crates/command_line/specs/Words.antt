@@ -17,17 +17,17 @@ use Rattle.command_line.specs.declared.options.InitOptions.{InitOptions}
 use Rattle.command_line.specs.declared.words.Command.{Command}
 use Rattle.command_line.specs.declared.words.Command.TheVariants as command
 use Rattle.command_line.specs.Members.{are_members, are_series}
-use Rattle.command_line.specs.Options.{segment_value, relseg_value, decimal_number, frames_value, drill_number, given, IsFrameCount, IsInRange}
+use Rattle.command_line.specs.Options.{segment_value, relseg_value, decimal_number, frames_value, days_value, most_days, drill_number, given, IsFrameCount, IsInRange}
 
--- a new store, a script to be run with so many frames of each partition, a replay to an output of
--- that name, up to a target where one is given, the check of the backup of a name, the chain of the
+-- a new store, a script to be run with so many frames of each partition and summaries that are kept
+-- for so many days, a replay to an output of that name, up to a target where one is given, the check of the backup of a name, the chain of the
 -- backups of some names restored to an output of a name, up to a target where one is given, such a
 -- chain combined to a backup of a name, a series of incremental ones merged to one, the summary of a
 -- range of the WAL, the stream of a WAL with segments of so many MiB followed to an output of a name,
 -- so many blocks of a fork in each file, the drill of a number, or the store brought back after a stop
 pub data Asked : Type 0 where
   Init : InitOptions → Asked
-  Run : ℕ → Asked
+  Run : ℕ → ℕ → Asked
   Replay : Option Lsn → List ℕ → Asked
   Verify : List ℕ → Asked
   Restore : Option Lsn → List ℕ → List (List ℕ) → Asked
@@ -69,10 +69,15 @@ init_asked rows = do
 abbrev pub usual_frames : ℕ
 usual_frames = 4096
 
+-- the days for which summaries are kept where none are asked for
+abbrev pub usual_days : ℕ
+usual_days = 10
+
 abbrev pub run_asked : List Row → Option Asked
 run_asked rows = do
   frames ← given frames_value (first_of (codes "frames") rows)
-  Some (Run (unwrap_or frames usual_frames))
+  days ← given days_value (first_of (codes "keep-days") rows)
+  Some (Run (unwrap_or frames usual_frames) (unwrap_or days usual_days))
 
 abbrev pub replay_to : Option Lsn → List ℕ → Option Asked
 replay_to target name = if is_name name then Some (Replay target name) else None
@@ -169,7 +174,7 @@ asked words = if list_all is_utf8 words then texts_ask words else None
 -- a command asks for this
 abbrev pub asks : Command → Asked
 asks (command.Init options) = Init options
-asks (command.Run frames) = Run frames
+asks (command.Run options) = Run options.frames options.days
 asks (command.Replay upto name) = Replay upto name
 asks (command.Verify name) = Verify name
 asks (command.Restore upto out members) = Restore upto out members.items
@@ -183,7 +188,7 @@ asks command.Restart = Restart
 -- the options of a command are in their ranges, a range has a place, a chain a member, and a series two
 abbrev pub HasRange : Command → Type 0
 HasRange (command.Init options) = IsInRange options
-HasRange (command.Run frames) = IsFrameCount frames
+HasRange (command.Run options) = IsFrameCount options.frames × (options.days ≤ most_days)
 HasRange (command.Replay upto name) = Unit {0}
 HasRange (command.Verify name) = Unit {0}
 HasRange (command.Restore upto out members) = 1 ≤ length members.items

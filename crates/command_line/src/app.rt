@@ -50,7 +50,9 @@ fn init_command<'a>(alloc: Global) -> Result<Command<'a>, AllocError>
 fn run_command<'a>(alloc: Global) -> Result<Command<'a>, AllocError>
     ensures { IfOk result (IsApp run_app) }
 {
-    Command::new(alloc, "run").arg(option(alloc, "frames"))
+    Command::new(alloc, "run")
+        .arg(option(alloc, "frames"))?
+        .arg(option(alloc, "keep-days"))
 }
 
 fn replay_command<'a>(alloc: Global) -> Result<Command<'a>, AllocError>

@@ -17,5 +17,5 @@ mod options;
 mod words;
 
 pub use members::MemberNames;
-pub use options::{FollowSizes, InitOptions};
+pub use options::{FollowSizes, InitOptions, RunOptions};
 pub use words::{Command, command_of};

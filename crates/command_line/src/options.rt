@@ -4,6 +4,7 @@ ghost use Rattle.std.specs.Prelude.{◌≡◌, ◌≤◌, IfSome};
 ghost use Rattle.std.specs.Option.{option_map};
 ghost use Rattle.lsn_core.specs.Segment.{IsSegmentMib, IsRelseg};
 ghost use Rattle.command_line.specs.Options.{decimal_number, segment_value, relseg_value, frames_value};
+ghost use Rattle.command_line.specs.Options.{days_value, most_days};
 ghost use Rattle.command_line.specs.Options.{drill_number, given, IsFrameCount};
 ghost use Rattle.command_line.specs.Words.{lsn_value};
 
@@ -28,6 +29,15 @@ pub struct FollowSizes {
     pub segment: SegSize,
     /// How many blocks of a fork go into one file, 1 to 131072.
     pub relseg: u32,
+}
+
+/// How a script is run.
+#[derive(Clone, Copy, Debug)]
+pub struct RunOptions {
+    /// The frames of each partition, 4 to 16,384.
+    pub frames: u32,
+    /// For how many days summaries are kept, at most 36,500; 0 keeps all.
+    pub days: u32,
 }
 
 /// The number below 2^64 that a value writes in decimal without leading zeros.
@@ -68,6 +78,19 @@ fn frames_in(value: &[u8]) -> Option<u32>
     let frames = number_in(value)?;
     if 4 <= frames && frames <= 16384 {
         Some(frames as u32)
+    } else {
+        None
+    }
+}
+
+/// So many days, 0 to 36,500 (profile).
+fn days_in(value: &[u8]) -> Option<u32>
+    ensures value { result ≡ days_value value.now }
+    ensures range { IfSome result (λ days. days ≤ most_days) }
+{
+    let days = number_in(value)?;
+    if days <= 36500 {
+        Some(days as u32)
     } else {
         None
     }
@@ -132,6 +155,17 @@ pub(crate) fn frames_given(text: Option<&str>) -> Option<Option<u32>>
     match text {
         None => Some(None),
         Some(text) => Some(Some(frames_in(text.as_bytes())?)),
+    }
+}
+
+/// So many days, where it is given.
+pub(crate) fn days_given(text: Option<&str>) -> Option<Option<u32>>
+    ensures value { result ≡ given days_value (option_map (λ t. t.now) text.entry) }
+    ensures range { IfSome result (λ given. IfSome given (λ days. days ≤ most_days)) }
+{
+    match text {
+        None => Some(None),
+        Some(text) => Some(Some(days_in(text.as_bytes())?)),
     }
 }
 

@@ -17,8 +17,8 @@ use crate::app::taken;
 use crate::found::{option_in, word_in, words_in};
 use crate::members::{are_members, are_series};
 use crate::options::{
-    FollowSizes, InitOptions, drill_number_in, frames_given, lsn_given, lsn_in, number_given,
-    relseg_given, segment_given,
+    FollowSizes, InitOptions, RunOptions, days_given, drill_number_in, frames_given, lsn_given,
+    lsn_in, number_given, relseg_given, segment_given,
 };
 use clap::ArgMatches;
 use lsn_core::{Lsn, MOST_RELSEG, NoMemory, SegSize, Text};
@@ -29,13 +29,16 @@ use std::str;
 /// The frames of a partition where none are asked for (profile).
 const USUAL_FRAMES: u32 = 4096;
 
+/// The days for which summaries are kept where none are asked for (profile).
+const USUAL_DAYS: u32 = 10;
+
 /// What the words ask for.
 #[derive(Drop)]
 pub enum Command {
     /// A new store with these settings.
     Init(InitOptions),
-    /// The script of the input, run on the store with so many frames of each partition, 4 to 16,384.
-    Run(u32),
+    /// The script of the input, run on the store by these options.
+    Run(RunOptions),
     /// The WAL replayed from its beginning up to the target, where one is given, to an output of
     /// this name.
     Replay(Option<Lsn>, Text),
@@ -80,7 +83,11 @@ fn run_of(found: &ArgMatches<'_>) -> Option<Command>
     ensures range { IfSome result HasRange }
 {
     let frames = frames_given(option_in(found, "frames"))?;
-    Some(Command::Run(frames.unwrap_or(USUAL_FRAMES)))
+    let days = days_given(option_in(found, "keep-days"))?;
+    Some(Command::Run(RunOptions {
+        frames: frames.unwrap_or(USUAL_FRAMES),
+        days: days.unwrap_or(USUAL_DAYS),
+    }))
 }
 
 fn replay_to(alloc: Global, target: Option<Lsn>, out: &str) -> Result<Option<Command>, NoMemory>

@@ -44,7 +44,7 @@ insert_failed (insert.WalFull n) area t = absurd cc
 -- ---- one command
 
 pub accepted : (tells : Type 0) (settings : StoreSettings) (order : Order) (old new : Seen) (place : Place) → Inserts tells settings.segment (op_asked order) old new (Ok place) → CommandRuns tells settings (command.Insert order) old new (Accepted place)
-accepted tells settings order old new place i = λ when found sums held.
+accepted tells settings order old new place i = λ when found sums limit held.
     let past : i.1 < length new.list = slice_get_within new.list i.1 i.0 i.3.there in
     record {
       made = i.0 ∷ [];
@@ -55,7 +55,7 @@ accepted tells settings order old new place i = λ when found sums held.
     }
 
 pub refused_line : (tells : Type 0) (settings : StoreSettings) (order : Order) (old new : Seen) (why : InsertFault) → Inserts tells settings.segment (op_asked order) old new (Err why) → CommandRuns tells settings (command.Insert order) old new (Refused why)
-refused_line tells settings order old new why i = λ when found sums held. record {
+refused_line tells settings order old new why i = λ when found sums limit held. record {
   made = [];
   went = i.0;
   answered = (order, refl, refl, i.1, refl);
@@ -111,7 +111,7 @@ grows_more tells mib old now new at shape k j span next place g i n e =
 
 pub stopped : (tells : Type 0) (settings : StoreSettings) (old now new : Seen) (at : BlockId) (shape : Shape) (k count : ℕ) (span : Place) (why : InsertFault) → IsGrowing tells settings.segment old now at shape k span
     → Inserts tells settings.segment (grow_op at shape k) now new (Err why) → k < count → CommandRuns tells settings (command.Grow at count shape) old new (Stopped k why)
-stopped tells settings old now new at shape k count span why g i lt = λ when found sums held. record {
+stopped tells settings old now new at shape k count span why g i lt = λ when found sums limit held. record {
   made = g.made;
   went = subst (λ (es : List Entry). WentOn 0 old new es) (append-nil g.made) (went_further old now new g.made [] g.went i.0);
   answered = (
@@ -130,7 +130,7 @@ stopped tells settings old now new at shape k count span why g i lt = λ when fo
 
 -- all of a growth's commands were
 pub grown : (tells : Type 0) (settings : StoreSettings) (old new : Seen) (at : BlockId) (shape : Shape) (count : ℕ) (span : Place) → IsGrowing tells settings.segment old new at shape count span → CommandRuns tells settings (command.Grow at count shape) old new (Grown count span)
-grown tells settings old new at shape count span g = λ when found sums held. record {
+grown tells settings old new at shape count span g = λ when found sums limit held. record {
   made = g.made;
   went = g.went;
   answered = (at, shape, refl, g.are, g.span_is, refl);

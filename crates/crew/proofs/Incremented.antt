@@ -33,7 +33,7 @@ use Rattle.crew.proofs.Backed.{looked, weaker}
 
 -- with what lines run on, a backup begins
 abbrev from_basis : Basis → Origin
-from_basis b = origin b.settings b.found b.sums
+from_basis b = origin b.settings b.found b.sums b.limit
 
 abbrev known_areas : {V : Type 0} (g : Ghosts V) (site : IncrSite V) → IncrAreas
 known_areas g site = record { prior = state_in g site.prior; out = state_in g site.out }
@@ -78,7 +78,7 @@ only_among g name prior held mid old new was is others later reads = record {
 prior_same : {V : Type 0} (g : Ghosts V) (name prior : List ℕ) (held mid : Areas) (old new : IncrSite V) → AreIncrAreas g name prior held old → AreIncrAreas g name prior mid new → OnlyReads g old.prior new.prior → IsStill (held (backup_name prior)) (mid (backup_name prior))
 prior_same g name prior held mid old new was is reads = still_at (held (backup_name prior)) (mid (backup_name prior)) (state_in g old.prior) (state_in g new.prior) was.prior_is is.prior_is (reads_still g old.prior new.prior reads)
 
-pub taken : {V : Type 0} (g : Ghosts V) (tells : Type 0) (b : Basis) (name prior : List ℕ) (old new : IncrSite V) (done : Done) → IsFinishedIncr g tells (origin b.settings b.found b.sums) name b.when old new done → LooksOn 3 old.seen new.seen → g.faults old.out ≤ g.faults new.out
+pub taken : {V : Type 0} (g : Ghosts V) (tells : Type 0) (b : Basis) (name prior : List ℕ) (old new : IncrSite V) (done : Done) → IsFinishedIncr g tells (origin b.settings b.found b.sums b.limit) name b.when old new done → LooksOn 3 old.seen new.seen → g.faults old.out ≤ g.faults new.out
     → OnlyReads g old.prior new.prior → IncrRuns g tells b name prior old new (Backup done.start done.end)
 taken g tells b name prior old new done t l later reads = λ held mid was is others.
     let holding : HoldsIncr tells b old.seen.worker (length old.seen.list) new.seen.list name done.start done.end (incr_areas held name prior) (incr_areas mid name prior) =
@@ -160,7 +160,7 @@ failed_by g tells b old new incr.NoMemory which cause e = absurd cc
 stays_full : {V : Type 0} (g : Ghosts V) (old new : IncrSite V) → KeepsIncrFull g old new → StaysFull (state_in g old.out) (state_in g new.out)
 stays_full g old new kept = weaker (g.files old.out) (λ m. m ≢ empty → base.StandsStill g old new) (λ m. m ≢ empty → IsStill (state_in g old.out) (state_in g new.out)) (λ m whole some. spared g old.out new.out (whole some).out) kept
 
-pub refused : {V : Type 0} (g : Ghosts V) (tells : Type 0) (b : Basis) (name prior : List ℕ) (old new : IncrSite V) (why : IncrFault) → IsRefusedIncr g tells (origin b.settings b.found b.sums) name b.when old new why → LooksOn 3 old.seen new.seen → g.faults old.out ≤ g.faults new.out
+pub refused : {V : Type 0} (g : Ghosts V) (tells : Type 0) (b : Basis) (name prior : List ℕ) (old new : IncrSite V) (why : IncrFault) → IsRefusedIncr g tells (origin b.settings b.found b.sums b.limit) name b.when old new why → LooksOn 3 old.seen new.seen → g.faults old.out ≤ g.faults new.out
     → OnlyReads g old.prior new.prior → IncrRuns g tells b name prior old new (IncrRefused why)
 refused g tells b name prior old new why r l later reads = λ held mid was is others.
     let judged : IsIncrRefused tells b old.seen.worker (length old.seen.list) new.seen.list name (incr_areas held name prior) (incr_areas mid name prior) why =

@@ -28,7 +28,7 @@ use Rattle.crew.proofs.Steps.{went_further, went_still}
 
 pub redone : (tells : Type 0) (settings : StoreSettings) (old new : Seen) (redo : receipt.Redo) (flushed : Flushed) → HasCheckpointIn old.worker old.list new.list redo flushed → StaysBy old new → new.accepted ≡ old.accepted → new.marks ≤ old.marks + 2 → new.faults ≡ old.faults
     → CommandRuns tells settings command.Checkpoint old new (Redo redo.redo)
-redone tells settings old new redo flushed c stays accepted marked faults = λ when found sums held.
+redone tells settings old new redo flushed c stays accepted marked faults = λ when found sums limit held.
     let cut : new.list ≡ (c.before ++ (c.first ∷ c.between)) ++ (c.last ∷ []) = c.grown ∙ sym (append_assoc c.before (c.first ∷ c.between) (c.last ∷ [])) in
     let there : HasCheckpointAt old.worker (length old.list) new.list redo.redo.0 = record {
       first = c.first;
@@ -67,7 +67,7 @@ why_not mib worker before now mark.NoMemory full = tt
 
 pub not_redone : (T : Type 0) (tells : Type 0) (settings : StoreSettings) (old new : Seen) (why : MarkFault) → MayFindNoRoom settings.segment old.worker (length old.list) new.list why → TakesMarkFault {T = T} old new (Err why) → StaysBy old new
     → new.accepted ≡ old.accepted → new.marks ≤ old.marks + 2 → CommandRuns tells settings command.Checkpoint old new (CheckpointRefused why)
-not_redone T tells settings old new why full takes stays accepted marked = λ when found sums held. record {
+not_redone T tells settings old new why full takes stays accepted marked = λ when found sums limit held. record {
   made = [];
   went = went_still old new stays accepted marked (mark_stays {T = T} old new (Err why) takes);
   answered = (refl, refl, why_not settings.segment old.worker (length old.list) new.list why full, refl);
@@ -81,7 +81,7 @@ pub told_fault : (why : StoreFault) (area : StoreArea) → Some (stop.Store why)
 told_fault why area e = cc e
 
 pub not_written : (tells : Type 0) (settings : StoreSettings) (old now new : Seen) (count : ℕ) (why : StoreFault) → WentOn 0 old now [] → WentOn 0 now new [] → TakesFault now new why → CommandRuns tells settings (command.Flush count) old new (CallFailed why)
-not_written tells settings old now new count why w v takes = λ when found sums held. record {
+not_written tells settings old now new count why w v takes = λ when found sums limit held. record {
   made = [];
   went = went_further old now new [] [] w v;
   answered = (refl, inl (count, refl), refl);
@@ -90,4 +90,4 @@ not_written tells settings old now new count why w v takes = λ when found sums 
 }
 
 pub written : (tells : Type 0) (settings : StoreSettings) (old new : Seen) (count wrote : ℕ) → WentOn 0 old new [] → wrote ≤ count → CommandRuns tells settings (command.Flush count) old new (Wrote wrote)
-written tells settings old new count wrote w few = λ when found sums held. record { made = []; went = w; answered = (count, refl, refl, few, refl); risen = λ area t. absurd cc; run = refl }
+written tells settings old new count wrote w few = λ when found sums limit held. record { made = []; went = w; answered = (count, refl, refl, few, refl); risen = λ area t. absurd cc; run = refl }

@@ -15,7 +15,7 @@ use Rattle.crew.proofs.Steps.{none_marked, went_still}
 looked : (old new : Seen) → LooksOn old new → WentOn 0 old new []
 looked old new l = went_still old new (record { seen = l.seen; worker = l.worker }) l.accepted (none_marked old.marks new.marks l.marks) l.shares
 
-pub published : (tells : Type 0) (b : Basis) (old new : Seen) (count : ℕ) → HasPublished tells b.found b.sums new.list b.when count → LooksOn old new → RunsAlone tells b command.Summarise old new (Published count)
+pub published : (tells : Type 0) (b : Basis) (old new : Seen) (count : ℕ) → HasPublished tells b.found b.sums new.list b.when b.limit count → LooksOn old new → RunsAlone tells b command.Summarise old new (Published count)
 published tells b old new count p l = λ held. record {
   made = [];
   went = looked old new l;

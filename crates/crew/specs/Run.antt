@@ -120,16 +120,18 @@ IsCheckpointRefused mib worker before now mark.NoMemory = Unit {0}
 -- ---- backups
 
 -- what lines run on: the settings of the store, the moment of their backups, the entries that the run
--- found, and the files that the area of summaries had then, where it told them
+-- found, the files that the area of summaries had then, where it told them, and the moment before
+-- which a summary is old that was made then
 pub record Basis : Type 0 where
   pub settings : StoreSettings
   pub when : ℕ
   pub found : List Entry
   pub sums : Option Files
+  pub limit : ℕ
 
-abbrev pub basis_of : StoreSettings → ℕ → List Entry → Option Files → Basis
-basis_of settings when found sums =
-    record { settings = settings; when = when; found = found; sums = sums }
+abbrev pub basis_of : StoreSettings → ℕ → List Entry → Option Files → ℕ → Basis
+basis_of settings when found sums limit =
+    record { settings = settings; when = when; found = found; sums = sums; limit = limit }
 
 -- files are the directory of that backup under a name. Its pages were copied, each at a moment of
 -- its own, while this history was written
@@ -212,8 +214,8 @@ pub record HoldsIncr (tells : Type 0) (b : Basis) (worker before : ℕ) (now : L
   pub plan : Plan
   pub relseg : plan.relseg ≡ b.settings.relseg
   pub prior : IsPriorOf b.settings.system old.prior plan.prior start.0
-  pub summed : SumsUp tells b.found b.sums b.when worker before now start.0 plan.prior.start
-      (Ok plan.summary)
+  pub summed : SumsUp tells b.found b.sums b.when b.limit worker before now start.0
+      plan.prior.start (Ok plan.summary)
   pub list : List ForkLen
   pub listed : AreListed tells now start.0 end.0 list
   pub files : List SentFile
@@ -262,8 +264,8 @@ pub record LeavesGap (tells : Type 0) (b : Basis) (worker before : ℕ) (now : L
   pub manifest : Listing
   pub start : ℕ
   pub prior : IsPriorOf b.settings.system old.prior manifest start
-  pub summed : SumsUp tells b.found b.sums b.when worker before now start manifest.start
-      (Err (advance.Gap place))
+  pub summed : SumsUp tells b.found b.sums b.when b.limit worker before now start
+      manifest.start (Err (advance.Gap place))
 
 -- why an incremental backup was refused, what was judged before that, and what it left: of the
 -- backup's area no manifest, as for a full one
@@ -353,7 +355,7 @@ LineAnswer tells b worker before now line (Wrote k) made held mid =
     (count : ℕ) × (line ≡ command.Flush count) × (made ≡ []) × (k ≤ count) × (mid ≡ held)
 LineAnswer tells b worker before now line (Published k) made held mid =
     (line ≡ command.Summarise) × (made ≡ [])
-    × HasPublished tells b.found b.sums now b.when k × (mid ≡ held)
+    × HasPublished tells b.found b.sums now b.when b.limit k × (mid ≡ held)
 LineAnswer tells b worker before now line (CallFailed why) made held mid =
     (made ≡ []) × IsCallOf line × (mid ≡ held)
 LineAnswer tells b worker before now line (Backup start end) made held mid =

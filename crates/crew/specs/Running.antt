@@ -64,8 +64,8 @@ RunsAlone tells b line old new answer =
 -- a command was run that asks for none, and does nothing with summaries
 abbrev pub CommandRuns : Type 0 → StoreSettings → Command → Seen → Seen → Answer → Type 0
 CommandRuns tells settings line old new answer =
-    (when : ℕ) (found : List Entry) (sums : Option Files)
-    → RunsAlone tells (basis_of settings when found sums) line old new answer
+    (when : ℕ) (found : List Entry) (sums : Option Files) (limit : ℕ)
+    → RunsAlone tells (basis_of settings when found sums limit) line old new answer
 
 -- a full backup was taken into an area, or refused, whatever other areas are held
 abbrev pub BackupRuns :

@@ -13,7 +13,8 @@ use backup_sending::{Gate, take_full};
 use command_base::is_backup_name;
 use lsn_core::Text;
 use run_answers::Answer;
-use shared_store::{OfCrew, Pass, Store};
+use shared_store::{Pass, Store};
+use shared_summaries::OfRetention;
 use std::alloc::Global;
 use std::sync::Wait;
 use vault::{Held, Vault};
@@ -27,7 +28,7 @@ pub(crate) fn place_of<V: Vault>(held: &[Held<V>], name: &[u8]) -> Option<usize>
 }
 
 /// Takes a full backup into an area.
-fn backup_into<J: OfCrew, V: Vault>(
+fn backup_into<J: OfRetention, V: Vault>(
     rt: &impl Wait,
     alloc: Global,
     store: &Store<J, V>,
@@ -38,7 +39,7 @@ fn backup_into<J: OfCrew, V: Vault>(
     name: &Text,
 ) -> Answer
     requires when { when ≤ 253402207199 }
-    ensures runs { BackupRuns V.Vault (J.tells ≡ true) (basis_of J.settings when J.found J.sums)
+    ensures runs { BackupRuns V.Vault (J.tells ≡ true) (basis_of J.settings when J.found J.sums J.limit)
         name.now pass.old pass.new area.old area.new result }
     ensures later { V.faults area.old ≤ V.faults area.new }
 {
@@ -49,7 +50,7 @@ fn backup_into<J: OfCrew, V: Vault>(
 }
 
 /// Takes a full backup into the area of its name, which is held.
-pub(crate) fn full<J: OfCrew, V: Vault>(
+pub(crate) fn full<J: OfRetention, V: Vault>(
     rt: &impl Wait,
     alloc: Global,
     store: &Store<J, V>,
@@ -61,7 +62,7 @@ pub(crate) fn full<J: OfCrew, V: Vault>(
 ) -> Answer
     requires when { when ≤ 253402207199 }
     requires held { AreHeld (backup_name name.now ∷ []) held.old }
-    ensures runs { LineRuns (J.tells ≡ true) (basis_of J.settings when J.found J.sums)
+    ensures runs { LineRuns (J.tells ≡ true) (basis_of J.settings when J.found J.sums J.limit)
         (command.Full name.now) false pass.old pass.new (areas_of V.Vault held.old)
         (areas_of V.Vault held.new) result }
     ensures later { AreLater V.Vault held.old held.new }

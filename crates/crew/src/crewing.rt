@@ -9,8 +9,8 @@ use crate::run::run_worker;
 use backup_sending::Gate;
 use run_answers::Answer;
 use scripts::{MOST_WORKERS, Task};
-use shared_store::{OfCrew, Pass, Store};
-use shared_summaries::Summaries;
+use shared_store::{Pass, Store};
+use shared_summaries::{OfRetention, Summaries};
 use std::alloc::Global;
 use std::sync::Wait;
 use std::thread::{self, Threads};
@@ -19,7 +19,7 @@ use vault::{Held, Vault};
 /// A worker: its task, its pass, the areas of the backups that its lines name, and the answers to
 /// its lines.
 #[derive(Drop)]
-pub struct Worker<J: OfCrew, V: Vault> {
+pub struct Worker<J: OfRetention, V: Vault> {
     pub task: Task,
     pub pass: Pass<J>,
     pub areas: Vec<Held<V>>,
@@ -27,7 +27,7 @@ pub struct Worker<J: OfCrew, V: Vault> {
 }
 
 /// Runs the lines of one worker.
-fn run_one<J: OfCrew, V: Vault>(
+fn run_one<J: OfRetention, V: Vault>(
     rt: &impl Wait,
     alloc: Global,
     store: &Store<J, V>,
@@ -37,8 +37,9 @@ fn run_one<J: OfCrew, V: Vault>(
     when: u64,
 )
     requires when { when ≤ 253402207199 }
+    requires young { J.limit ≤ when }
     requires ready { IsReady worker.old }
-    ensures { HasRun V.Vault (J.tells ≡ true) (basis_of J.settings when J.found J.sums)
+    ensures { HasRun V.Vault (J.tells ≡ true) (basis_of J.settings when J.found J.sums J.limit)
         worker.old worker.new }
 {
     run_worker(
@@ -59,7 +60,7 @@ fn run_one<J: OfCrew, V: Vault>(
 /// thread of its own where there are 8 at most. Each holds the areas of its backups, and has room
 /// for an answer a line. `when` is the moment of what is written there, in seconds since 1970 UTC.
 /// The gate is called, with no lock held, behind each step.
-pub fn run_crew<R: Threads + Wait + Sync, J: OfCrew + Send + Sync, V: Vault, G: Gate>(
+pub fn run_crew<R: Threads + Wait + Sync, J: OfRetention + Send + Sync, V: Vault, G: Gate>(
     rt: &R,
     alloc: Global,
     store: &Store<J, V>,
@@ -69,8 +70,9 @@ pub fn run_crew<R: Threads + Wait + Sync, J: OfCrew + Send + Sync, V: Vault, G: 
     when: u64,
 )
     requires when { when ≤ 253402207199 }
+    requires young { J.limit ≤ when }
     requires ready { All IsReady crew.old }
-    ensures { AllRan V.Vault (J.tells ≡ true) (basis_of J.settings when J.found J.sums)
+    ensures { AllRan V.Vault (J.tells ≡ true) (basis_of J.settings when J.found J.sums J.limit)
         crew.old crew.new }
 {
     thread::for_each_mut(
@@ -78,7 +80,7 @@ pub fn run_crew<R: Threads + Wait + Sync, J: OfCrew + Send + Sync, V: Vault, G: 
         crew,
         MOST_WORKERS,
         &|_, worker: &mut Worker<J, V>|
-            requires { (when ≤ 253402207199) × IsReady worker.now }
+            requires { (when ≤ 253402207199) × (J.limit ≤ when) × IsReady worker.now }
         { run_one(rt, alloc, store, sums, worker, gate, when) },
     );
 }

@@ -13,8 +13,8 @@ use backup_sending::Gate;
 use incr_backup::take_incr;
 use lsn_core::Text;
 use run_answers::Answer;
-use shared_store::{OfCrew, Pass, Store};
-use shared_summaries::Summaries;
+use shared_store::{Pass, Store};
+use shared_summaries::{OfRetention, Summaries};
 use std::alloc::Global;
 use std::sync::Wait;
 use vault::{Held, Vault};
@@ -70,7 +70,7 @@ fn places_of<V: Vault>(held: &[Held<V>], name: &[u8], prior: &[u8]) -> Places
 }
 
 /// Takes an incremental backup of a name on these areas.
-fn incr_into<J: OfCrew, V: Vault>(
+fn incr_into<J: OfRetention, V: Vault>(
     rt: &impl Wait,
     alloc: Global,
     store: &Store<J, V>,
@@ -82,9 +82,10 @@ fn incr_into<J: OfCrew, V: Vault>(
     when: u64,
     name: &Text,
 ) -> Answer
-    requires { when ≤ 253402207199 }
+    requires when { when ≤ 253402207199 }
+    requires young { J.limit ≤ when }
     ensures runs { (other : List ℕ) → IncrRuns V.Vault (J.tells ≡ true)
-        (basis_of J.settings when J.found J.sums) name.now other
+        (basis_of J.settings when J.found J.sums J.limit) name.now other
         (incr_site pass.old prior.old.area out.old.area)
         (incr_site pass.new prior.new.area out.new.area) result }
     ensures prior { IsLater V.Vault prior.old prior.new }
@@ -98,7 +99,7 @@ fn incr_into<J: OfCrew, V: Vault>(
 }
 
 /// The same where the two areas stand in this order.
-fn incr_turned<J: OfCrew, V: Vault>(
+fn incr_turned<J: OfRetention, V: Vault>(
     rt: &impl Wait,
     alloc: Global,
     store: &Store<J, V>,
@@ -111,9 +112,10 @@ fn incr_turned<J: OfCrew, V: Vault>(
     when: u64,
     name: &Text,
 ) -> Answer
-    requires { when ≤ 253402207199 }
+    requires when { when ≤ 253402207199 }
+    requires young { J.limit ≤ when }
     ensures runs { (other : List ℕ) → IncrRuns V.Vault (J.tells ≡ true)
-        (basis_of J.settings when J.found J.sums) name.now other
+        (basis_of J.settings when J.found J.sums J.limit) name.now other
         (turned_site turn pass.old low.old.area high.old.area)
         (turned_site turn pass.new low.new.area high.new.area) result }
     ensures low { IsLater V.Vault low.old low.new }
@@ -126,7 +128,7 @@ fn incr_turned<J: OfCrew, V: Vault>(
 }
 
 /// Takes an incremental backup of a name, on a prior one, into the areas that are held of both.
-pub(crate) fn incr<J: OfCrew, V: Vault>(
+pub(crate) fn incr<J: OfRetention, V: Vault>(
     rt: &impl Wait,
     alloc: Global,
     store: &Store<J, V>,
@@ -139,9 +141,10 @@ pub(crate) fn incr<J: OfCrew, V: Vault>(
     prior: &Text,
 ) -> Answer
     requires when { when ≤ 253402207199 }
+    requires young { J.limit ≤ when }
     requires held { AreHeld (area_asked (command.Incr name.now prior.now)) held.old }
     requires apart { name.now ≢ prior.now }
-    ensures runs { LineRuns (J.tells ≡ true) (basis_of J.settings when J.found J.sums)
+    ensures runs { LineRuns (J.tells ≡ true) (basis_of J.settings when J.found J.sums J.limit)
         (command.Incr name.now prior.now) false pass.old pass.new (areas_of V.Vault held.old)
         (areas_of V.Vault held.new) result }
     ensures later { AreLater V.Vault held.old held.new }

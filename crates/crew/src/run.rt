@@ -20,7 +20,7 @@ use lsn_core::{BlockId, Lsn, NoMemory, Place};
 use run_answers::Answer;
 use scripts::{Command, Line, Order, PageShape, grow_op};
 use shared_store::{OfCrew, Pass, Store};
-use shared_summaries::Summaries;
+use shared_summaries::{OfRetention, Summaries};
 use std::alloc::Global;
 use std::sync::Wait;
 use store_faults::InsertFault;
@@ -161,7 +161,7 @@ fn flush<J: OfCrew, V: Vault>(
 }
 
 /// Does what a line says, and gives the answer to it.
-fn answer_to<J: OfCrew, V: Vault>(
+fn answer_to<J: OfRetention, V: Vault>(
     rt: &impl Wait,
     alloc: Global,
     store: &Store<J, V>,
@@ -173,9 +173,10 @@ fn answer_to<J: OfCrew, V: Vault>(
     command: &Command,
 ) -> Answer
     requires when { when ≤ 253402207199 }
+    requires young { J.limit ≤ when }
     requires held { AreHeld (area_asked command.now) held.old }
     requires prior { HasOtherPrior command.now }
-    ensures runs { LineRuns (J.tells ≡ true) (basis_of J.settings when J.found J.sums)
+    ensures runs { LineRuns (J.tells ≡ true) (basis_of J.settings when J.found J.sums J.limit)
         command.now false pass.old pass.new (areas_of V.Vault held.old)
         (areas_of V.Vault held.new) result }
     ensures later { AreLater V.Vault held.old held.new }
@@ -196,7 +197,7 @@ fn answer_to<J: OfCrew, V: Vault>(
 }
 
 /// Runs a line, unless the worker is stopped, and gives the answer to it.
-fn run_line<J: OfCrew, V: Vault>(
+fn run_line<J: OfRetention, V: Vault>(
     rt: &impl Wait,
     alloc: Global,
     store: &Store<J, V>,
@@ -209,9 +210,10 @@ fn run_line<J: OfCrew, V: Vault>(
     stopped: bool,
 ) -> Answer
     requires when { when ≤ 253402207199 }
+    requires young { J.limit ≤ when }
     requires held { AreHeld (area_asked line.now.command) held.old }
     requires prior { HasOtherPrior line.now.command }
-    ensures runs { LineRuns (J.tells ≡ true) (basis_of J.settings when J.found J.sums)
+    ensures runs { LineRuns (J.tells ≡ true) (basis_of J.settings when J.found J.sums J.limit)
         line.now.command stopped pass.old pass.new (areas_of V.Vault held.old)
         (areas_of V.Vault held.new) result }
     ensures later { AreLater V.Vault held.old held.new }
@@ -250,7 +252,7 @@ fn put(answers: &mut Vec<Answer>, answer: Answer)
 /// that of summaries lies under a lock that workers share. `when` is the moment of what is written there,
 /// in seconds since 1970 UTC. After a device that failed or want of memory the other lines aren't run.
 /// The gate is called, with no lock held, behind each step.
-pub fn run_worker<J: OfCrew, V: Vault>(
+pub fn run_worker<J: OfRetention, V: Vault>(
     rt: &impl Wait,
     alloc: Global,
     store: &Store<J, V>,
@@ -263,12 +265,13 @@ pub fn run_worker<J: OfCrew, V: Vault>(
     answers: &mut Vec<Answer>,
 )
     requires when { when ≤ 253402207199 }
+    requires young { J.limit ≤ when }
     requires held { AreHeld (areas_asked lines.now) held.old }
     requires priors { HaveOtherPriors lines.now }
     requires none { answers.old.items ≡ [] }
     requires empty { vec_len answers.old ≡ 0 }
     requires room { length lines.now ≤ vec_capacity answers.old }
-    ensures run { RunsLines (J.tells ≡ true) (basis_of J.settings when J.found J.sums) lines.now
+    ensures run { RunsLines (J.tells ≡ true) (basis_of J.settings when J.found J.sums J.limit) lines.now
         pass.old pass.new (areas_of V.Vault held.old) (areas_of V.Vault held.new)
         answers.new.items }
     ensures later { AreLater V.Vault held.old held.new }

@@ -1,20 +1,20 @@
 //! Summaries of the WAL, published into the area that workers share.
 
-ghost use Rattle.std.specs.Prelude.{◌≡◌, true};
+ghost use Rattle.std.specs.Prelude.{◌≡◌, ◌≤◌, true};
 ghost use Rattle.scripts.specs.declared.script.Command.TheVariants as command;
 ghost use Rattle.crew.specs.Run.{basis_of};
 ghost use Rattle.crew.specs.Running.{RunsAlone};
 
 use backup_sending::{Gate, StepKind};
 use run_answers::Answer;
-use shared_store::{OfCrew, Pass, Store};
-use shared_summaries::Summaries;
+use shared_store::{Pass, Store};
+use shared_summaries::{OfRetention, Summaries};
 use std::alloc::Global;
 use std::sync::Wait;
 use vault::Vault;
 
-/// Publishes the summaries that are finished of what the pass sees.
-pub(crate) fn summarise<J: OfCrew, V: Vault>(
+/// Publishes the summaries that are finished of what the pass sees, and removes the old ones.
+pub(crate) fn summarise<J: OfRetention, V: Vault>(
     rt: &impl Wait,
     alloc: Global,
     store: &Store<J, V>,
@@ -23,7 +23,8 @@ pub(crate) fn summarise<J: OfCrew, V: Vault>(
     gate: &impl Gate,
     when: u64,
 ) -> Answer
-    ensures { RunsAlone (J.tells ≡ true) (basis_of J.settings when J.found J.sums)
+    requires { J.limit ≤ when }
+    ensures { RunsAlone (J.tells ≡ true) (basis_of J.settings when J.found J.sums J.limit)
         command.Summarise pass.old pass.new result }
 {
     match sums.advance(rt, alloc, store, pass, when) {

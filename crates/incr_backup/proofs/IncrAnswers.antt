@@ -29,8 +29,7 @@ use Rattle.shared_store.specs.Seen.{Seen}
 use Rattle.shared_store.specs.Shared.{HasCheckpointIn, HasEnded, IsPlaced, MayFindNoRoom, MayFindNoRoomFor, TakesMarkFault}
 use Rattle.shared_store.proofs.Booked.{takes_rose}
 use Rattle.shared_store.proofs.SharedLaws.{end_comes_behind}
-use Rattle.shared_summaries.specs.Shelf.{AreShelved, HasCovered, TakesAdvanceFaults, states}
-use Rattle.shared_summaries.specs.summary_publish.Published.{AdvanceAnswers}
+use Rattle.shared_summaries.specs.Shelf.{HasCovered, HasCoveredSo, TakesAdvanceFaults}
 use Rattle.store_faults.specs.declared.advance_fault.AdvanceFault.{AdvanceFault}
 use Rattle.store_faults.specs.declared.advance_fault.AdvanceFault.TheVariants as advance
 use Rattle.backup_sending.specs.declared.basis.Basis.{Basis}
@@ -93,36 +92,30 @@ prior_told files system (Err why) answer = tt
 -- ---- the summary
 
 -- what was covered of all that is seen
-pub summed_here : (tells : Type 0) (found : List Entry) (begun : Option Files) (when worker before : ℕ) (now : List Entry) (redo from : ℕ) (answer : Result Summary AdvanceFault) → HasCheckpointAt worker before now redo → HasCovered tells found begun now when from redo answer
-    → SumsUp tells found begun when worker before now redo from answer
-summed_here tells found begun when worker before now redo from answer there covered =
+pub summed_here : (tells : Type 0) (found : List Entry) (begun : Option Files) (when limit worker before : ℕ) (now : List Entry) (redo from : ℕ) (answer : Result Summary AdvanceFault) → HasCheckpointAt worker before now redo → HasCoveredSo tells found begun now when limit from redo answer
+    → SumsUp tells found begun when limit worker before now redo from answer
+summed_here tells found begun when limit worker before now redo from answer there covered =
     let whole = take-length now in
     record {
       seen = length now;
       within = omega arith;
       checkpoint = subst (λ (l : List Entry). HasCheckpointAt worker before l redo) (sym whole) there;
-      old = covered.old;
-      new = covered.new;
-      shelved = subst (λ (l : List Entry). AreShelved tells found begun l covered.old.files) (sym whole) covered.shelved;
-      covers = subst (λ (l : List Entry). AdvanceAnswers states tells l when from redo covered.old covered.new answer) (sym whole) covered.covers;
+      covered = subst (λ (l : List Entry). HasCoveredSo tells found begun l when limit from redo answer) (sym whole) covered;
     }
 
 -- it stays as more is seen
-pub summed_on : (tells : Type 0) (found : List Entry) (begun : Option Files) (when worker before : ℕ) (now later : List Entry) (redo from : ℕ) (answer : Result Summary AdvanceFault) → IsPrefix now later → SumsUp tells found begun when worker before now redo from answer
-    → SumsUp tells found begun when worker before later redo from answer
-summed_on tells found begun when worker before now later redo from answer p s =
+pub summed_on : (tells : Type 0) (found : List Entry) (begun : Option Files) (when limit worker before : ℕ) (now later : List Entry) (redo from : ℕ) (answer : Result Summary AdvanceFault) → IsPrefix now later → SumsUp tells found begun when limit worker before now redo from answer
+    → SumsUp tells found begun when limit worker before later redo from answer
+summed_on tells found begun when limit worker before now later redo from answer p s =
     let same : take s.seen now ≡ take s.seen later = sym (take-append-le s.seen now p.0 s.within) ∙ ap (λ (l : List Entry). take s.seen l) p.1 in
     record {
       seen = s.seen;
       within = omega (arith, s.within, prefix_length now later p);
       checkpoint = subst (λ (l : List Entry). HasCheckpointAt worker before l redo) same s.checkpoint;
-      old = s.old;
-      new = s.new;
-      shelved = subst (λ (l : List Entry). AreShelved tells found begun l s.old.files) same s.shelved;
-      covers = subst (λ (l : List Entry). AdvanceAnswers states tells l when from redo s.old s.new answer) same s.covers;
+      covered = subst (λ (l : List Entry). HasCoveredSo tells found begun l when limit from redo answer) same s.covered;
     }
 
-pub sum_failed : (tells : Type 0) (o : Origin) (when : ℕ) (old new : Seen) (m : Listing) (redo : Lsn) (why : AdvanceFault) → m.end ≤ redo.0 → HasCovered tells o.found o.sums new.list when m.start redo.0 (Err why) → TakesAdvanceFaults {T = Unit {0}} old new (Err why)
+pub sum_failed : (tells : Type 0) (o : Origin) (when : ℕ) (old new : Seen) (m : Listing) (redo : Lsn) (why : AdvanceFault) → m.end ≤ redo.0 → HasCovered tells o.found o.sums new.list when o.limit m.start redo.0 (Err why) → TakesAdvanceFaults {T = Unit {0}} old new (Err why)
     → SumAnswer tells o when old new m redo (Err (advance_fault why))
 sum_failed tells o when old new m redo (advance.Gap place) le covered takes = (le, covered)
 sum_failed tells o when old new m redo (advance.Store (store.Failed Sums)) le covered takes = takes_rose Sums old new takes
@@ -153,7 +146,7 @@ begin_failed tells o when was mid now m redo flushed why h first on is = by_faul
     by_fault (fault.Overlap start end) a =
         let s : start.0 ≡ redo.redo.0 = ap (λ (l : Lsn). l.0) a.0 in
         (subst (λ (n : ℕ). HasCheckpointAt was.worker (length was.list) now.list n) (sym s) there, sym a.1, omega (arith, s, a.1, a.2))
-    by_fault (fault.Gap place) a = (redo.redo.0, a.0, summed_here tells o.found o.sums when was.worker (length was.list) now.list redo.redo.0 m.start (Err (advance.Gap place)) there a.1)
+    by_fault (fault.Gap place) a = (redo.redo.0, a.0, summed_here tells o.found o.sums when o.limit was.worker (length was.list) now.list redo.redo.0 m.start (Err (advance.Gap place)) there a.1)
     by_fault (fault.WalFull n) a = absurd a
     by_fault (fault.StoreFailed area) a = share_later area was mid now first a
     by_fault fault.SumsFailed a = share_later Sums was mid now first a
@@ -173,7 +166,7 @@ has_begun tells o when was mid now m redo flushed b h on relseg prior is = recor
   prior = prior;
   apart = is.0;
   summed =
-      summed_here tells o.found o.sums when was.worker (length was.list) now.list redo.redo.0 m.start (Ok b.summary)
+      summed_here tells o.found o.sums when o.limit was.worker (length was.list) now.list redo.redo.0 m.start (Ok b.summary)
       (checkpoint_on was.worker (length was.list) mid.list now.list redo.redo.0 on.stays.seen (checkpoint_at was.worker was.list mid.list redo flushed h)) is.1;
 }
 
@@ -501,7 +494,7 @@ taken_incr g tells o name when p q r b c x y z m redo basis modified end rows st
       relseg = h.relseg;
       prior = subst (λ (k : Listing). IsPrior g o (incr_site p b x) k redo.redo.0) (sym h.prior) (record { told = has_listing (g.files b) o.settings.system m l.told; ours = l.ours; behind = h.apart });
       summed = subst (λ (k : Listing). IsSummedUp tells o when p r redo.redo.0 k.start (Ok basis.summary)) (sym h.prior)
-          (summed_on tells o.found o.sums when p.worker (length p.list) q.list r.list redo.redo.0 m.start (Ok basis.summary) d.on.stays.seen h.summed);
+          (summed_on tells o.found o.sums when o.limit p.worker (length p.list) q.list r.list redo.redo.0 m.start (Ok basis.summary) d.on.stays.seen h.summed);
       list = d.sent.sends.list;
       listed = forks_listed {modified = modified} tells q.worker redo.redo.0 d.sent.seen r.list redo.redo.0 end d.sent.flushed basis (g.files y) rows d.sent.ends d.sent.sends;
       files = d.sent.sends.put;

@@ -8,13 +8,11 @@ use Rattle.lsn_core.specs.declared.fault.StoreArea.TheVariants.{Sums}
 use Rattle.lsn_core.specs.declared.ids.ForkLen.{ForkLen}
 use Rattle.lsn_core.specs.declared.lsn.Lsn.{Lsn}
 use Rattle.vault.specs.declared.area.Vault.{Ghosts}
-use Rattle.vault.specs.Site.{AreaState}
 use Rattle.history.specs.Entry.{Entry}
 use Rattle.manifest.specs.Listing.{Listing}
 use Rattle.wal_summary.specs.declared.summary.Summary.{Summary}
 use Rattle.shared_store.specs.Seen.{Seen, ShareRose}
-use Rattle.shared_summaries.specs.Shelf.{AreShelved, states}
-use Rattle.shared_summaries.specs.summary_publish.Published.{AdvanceAnswers}
+use Rattle.shared_summaries.specs.Shelf.{HasCoveredSo}
 use Rattle.store_faults.specs.declared.advance_fault.AdvanceFault.{AdvanceFault}
 use Rattle.store_faults.specs.declared.advance_fault.AdvanceFault.TheVariants as advance
 use Rattle.backup_sending.specs.declared.basis.Basis.{Basis}
@@ -27,15 +25,18 @@ use Rattle.backup_sending.specs.Entries.{HasCheckpointAt, HasBackupAt, MeetsFull
 use Rattle.incr_backup.specs.Prior.{HasListing, IsOfStore, PriorAnswer}
 use Rattle.backup_sending.specs.Sent.{SentFile, AreListed, AreSent, file_of}
 
--- what a run began with: the settings of its store, the entries that were found, and the files of the
--- area of summaries, where it told them
+-- what a run began with: the settings of its store, the entries that were found, the files of the
+-- area of summaries, where it told them, and the moment before which a summary is old that was made
+-- then
 pub record Origin : Type 0 where
   pub settings : StoreSettings
   pub found : List Entry
   pub sums : Option Files
+  pub limit : ℕ
 
-abbrev pub origin : StoreSettings → List Entry → Option Files → Origin
-origin settings found sums = record { settings = settings; found = found; sums = sums }
+abbrev pub origin : StoreSettings → List Entry → Option Files → ℕ → Origin
+origin settings found sums limit =
+    record { settings = settings; found = found; sums = sums; limit = limit }
 
 -- a worker's pass, and the areas of the prior backup and of the backup
 pub record IncrSite (V : Type 0) : Type 0 where
@@ -49,18 +50,15 @@ incr_site seen prior out = record { seen = seen; prior = prior; out = out }
 -- ---- summaries
 
 -- behind a worker's checkpoint of this redo point, all summaries of what it had seen then were
--- published in an area that was true for that, and this is what covers the WAL from a place up to the
--- redo point
+-- published in an area that was true for that, and the old ones removed, and this is what covers the
+-- WAL from a place up to the redo point
 pub record SumsUp (tells : Type 0) (found : List Entry) (begun : Option Files)
-    (when worker before : ℕ) (now : List Entry) (redo from : ℕ)
+    (when limit worker before : ℕ) (now : List Entry) (redo from : ℕ)
     (answer : Result Summary AdvanceFault) : Type 0 where
   pub seen : ℕ
   pub within : seen ≤ length now
   pub checkpoint : HasCheckpointAt worker before (take seen now) redo
-  pub old : AreaState
-  pub new : AreaState
-  pub shelved : AreShelved tells found begun (take seen now) old.files
-  pub covers : AdvanceAnswers states tells (take seen now) when from redo old new answer
+  pub covered : HasCoveredSo tells found begun (take seen now) when limit from redo answer
 
 -- ---- a backup that was taken
 
@@ -77,7 +75,7 @@ pub record IsPrior {V : Type 0} (g : Ghosts V) (o : Origin) (site : IncrSite V) 
 abbrev pub IsSummedUp :
     Type 0 → Origin → ℕ → Seen → Seen → ℕ → ℕ → Result Summary AdvanceFault → Type 0
 IsSummedUp tells o when old new start from answer =
-    SumsUp tells o.found o.sums when old.worker (length old.list) new.list start from answer
+    SumsUp tells o.found o.sums when o.limit old.worker (length old.list) new.list start from answer
 
 -- an area's files are an incremental backup's directory: those of the forks that were listed, each
 -- as it is planned by the prior backup's manifest and the summary. Each fork was listed and each

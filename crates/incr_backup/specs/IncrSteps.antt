@@ -58,12 +58,14 @@ EarlyRefusal g system before behind old new _ = ⊥
 abbrev pub SumAnswer :
     Type 0 → Origin → ℕ → Seen → Seen → Listing → Lsn → Result Summary IncrFault → Type 0
 SumAnswer tells o when old new m redo (Ok sum) =
-    (m.end ≤ redo.0) × HasCovered tells o.found o.sums new.list when m.start redo.0 (Ok sum)
+    (m.end ≤ redo.0) × HasCovered tells o.found o.sums new.list when o.limit m.start redo.0
+    (Ok sum)
 SumAnswer tells o when old new m redo (Err (fault.Overlap start end)) =
     (start ≡ redo) × (end.0 ≡ m.end) × (redo.0 < m.end)
 SumAnswer tells o when old new m redo (Err (fault.Gap place)) =
     (m.end ≤ redo.0)
-    × HasCovered tells o.found o.sums new.list when m.start redo.0 (Err (advance.Gap place))
+    × HasCovered tells o.found o.sums new.list when o.limit m.start redo.0
+    (Err (advance.Gap place))
 SumAnswer tells o when old new m redo (Err (fault.StoreFailed area)) = ShareRose area old new
 SumAnswer tells o when old new m redo (Err fault.SumsFailed) = ShareRose Sums old new
 SumAnswer tells o when old new m redo (Err fault.NoMemory) = Unit {0}

@@ -16,8 +16,8 @@ use backup_label::time_text;
 use backup_sending::{Basis, Done, Gate, StepKind, check_empty, finish, send_store};
 use lsn_core::{Lsn, Text};
 use manifest::{FileRow, Manifest};
-use shared_store::{OfCrew, Pass, Redo, Store};
-use shared_summaries::Summaries;
+use shared_store::{Pass, Redo, Store};
+use shared_summaries::{OfRetention, Summaries};
 use std::alloc::Global;
 use std::sync::Wait;
 use store_faults::{BackupFault, IncrFault};
@@ -47,7 +47,7 @@ fn look<V: Vault>(
 
 /// The summary of the WAL from the prior backup's start to a redo point, which must not lie below
 /// that backup's end. Publishes what can be published first.
-fn sum_up<J: OfCrew, V: Vault>(
+fn sum_up<J: OfRetention, V: Vault>(
     rt: &impl Wait,
     alloc: Global,
     store: &Store<J, V>,
@@ -59,7 +59,8 @@ fn sum_up<J: OfCrew, V: Vault>(
     when: u64,
 ) -> Result<Summary, IncrFault>
     requires rises { prior.now.start < prior.now.end }
-    ensures answer { SumAnswer (J.tells ≡ true) (origin J.settings J.found J.sums) when
+    requires young { J.limit ≤ when }
+    ensures answer { SumAnswer (J.tells ≡ true) (origin J.settings J.found J.sums J.limit) when
         pass.old pass.new prior.now redo result }
     ensures looks { LooksOn 0 pass.old pass.new }
 {
@@ -72,7 +73,7 @@ fn sum_up<J: OfCrew, V: Vault>(
 }
 
 /// Does a checkpoint, and sums up the WAL since the prior backup's start.
-fn begin<J: OfCrew, V: Vault>(
+fn begin<J: OfRetention, V: Vault>(
     rt: &impl Wait,
     alloc: Global,
     store: &Store<J, V>,
@@ -83,12 +84,13 @@ fn begin<J: OfCrew, V: Vault>(
     when: u64,
 ) -> Result<(Redo, Basis), IncrFault>
     requires rises { prior.start < prior.end }
+    requires young { J.limit ≤ when }
     ensures begun { IfOk result (λ x. HasBegun (J.tells ≡ true)
-        (origin J.settings J.found J.sums) when pass.old pass.new prior x.0 x.1) }
+        (origin J.settings J.found J.sums J.limit) when pass.old pass.new prior x.0 x.1) }
     ensures redo { IfOk result (λ x. HasRedoPoint pass.new.list x.0.redo.0) }
     ensures relseg { IfOk result (λ x. IsRelseg x.1.relseg) }
     ensures refused { IfErr result (BeginRefusal (J.tells ≡ true)
-        (origin J.settings J.found J.sums) when pass.old pass.new prior) }
+        (origin J.settings J.found J.sums J.limit) when pass.old pass.new prior) }
     ensures looks { LooksOn 2 pass.old pass.new }
 {
     let (redo, _) = store.checkpoint(rt, alloc, pass)?;
@@ -106,7 +108,7 @@ fn begin<J: OfCrew, V: Vault>(
 }
 
 /// Sends all files as they are planned, and appends the end of the backup.
-fn send_all<J: OfCrew, V: Vault>(
+fn send_all<J: OfRetention, V: Vault>(
     rt: &impl Wait,
     alloc: Global,
     store: &Store<J, V>,
@@ -151,7 +153,7 @@ fn send_all<J: OfCrew, V: Vault>(
 /// to the store, to the summaries and to the area, otherwise with what the store's calls answer.
 /// After a refusal the area has no manifest, unless the manifest's removal failed too (PostgreSQL
 /// manual, pg_basebackup, --incremental; the order: profile).
-pub fn take_incr<J: OfCrew, V: Vault>(
+pub fn take_incr<J: OfRetention, V: Vault>(
     rt: &impl Wait,
     alloc: Global,
     store: &Store<J, V>,
@@ -164,7 +166,8 @@ pub fn take_incr<J: OfCrew, V: Vault>(
     when: u64,
 ) -> Result<Done, IncrFault>
     requires when { when ≤ 253402207199 }
-    ensures answer { IncrAnswers V.Vault (J.tells ≡ true) (origin J.settings J.found J.sums)
+    requires young { J.limit ≤ when }
+    ensures answer { IncrAnswers V.Vault (J.tells ≡ true) (origin J.settings J.found J.sums J.limit)
         name.now when (incr_site pass.old prior.old out.old)
         (incr_site pass.new prior.new out.new) result }
     ensures looks { LooksOn 3 pass.old pass.new }

@@ -24,6 +24,6 @@ pub fn incr_gap_note(alloc: Global, at: Lsn) -> Result<Text, NoMemory> {
             at.as_bytes(),
             b", which an incremental backup needs",
         ],
-        b"take a full backup; or remove the files in sums, and a line summarise or incr makes all of them anew",
+        b"take a full backup; or remove the files in sums, and a line summarise or incr makes all of them anew; run --keep-days K keeps them for K days",
     )
 }

@@ -11,10 +11,11 @@ const INIT: &[u8] = b"usage: pgbackup init [--segment-mib M] [--relseg N] [--sys
   S: the system identifier, below 2^64 (made of the clock)
 ";
 
-const RUN: &[u8] = b"usage: pgbackup run [--frames N] < SCRIPT
+const RUN: &[u8] = b"usage: pgbackup run [--frames N] [--keep-days K] < SCRIPT
   reads a script from standard input, runs its lines on the store, and writes their WAL, pages,
   summaries and backups
   N: pages of each of the four data areas that are held in memory, 4 to 16384 (4096)
+  K: days for which summaries are kept, 0 to 36500; 0 keeps all (10)
 a line of SCRIPT is empty, begins with #, or is one of these, with F a fork, D/R or D/R_init:
   worker NAME        the lines behind it are this worker's; stands before all others
   create F           make the fork F of relation R of database D

@@ -41,6 +41,7 @@ use Rattle.run_answers.specs.declared.outcome.RunReport.{RunReport}
 use Rattle.run_answers.specs.declared.outcome.RunFault.{RunFault}
 use Rattle.run_answers.specs.declared.outcome.RunFault.TheVariants as run
 use Rattle.run_answers.specs.Telling.{RunResult}
+use Rattle.summary_store.specs.Expiry.{age_limit}
 use Rattle.run_command.specs.Run.{HasFound, found_tip, RunDone, HasScript, HasRefusedLine, RunAnswer, run_workers}
 use Rattle.run_command.specs.Input.{IsInput}
 use Rattle.command_base.specs.Areas.{wal_name}
@@ -262,61 +263,61 @@ read_or_unreplayed old new other files f g told first second own also =
     first_or_late f first.0 (subst MayComeLate (sym same) late) own
 
 -- a run that was done, and one that was refused
-one_done : (old new other : Outside) (files : Files) (whole : List ℕ) (when then : ℕ) (script again : List Task) (a : RunReport) (f : RunFault) → (old.areas wal_name).files ≡ Some files → old.left ≡ Some whole → RunAnswer when script old new (Ok a) → RunAnswer then again old other (Err f)
+one_done : (old new other : Outside) (files : Files) (whole : List ℕ) (when then limit later : ℕ) (script again : List Task) (a : RunReport) (f : RunFault) → (old.areas wal_name).files ≡ Some files → old.left ≡ Some whole → RunAnswer when limit script old new (Ok a) → RunAnswer then later again old other (Err f)
     → IsOfOutside f → ⊥
-one_done old new other files whole when then script again a (run.Input why) told input first second own = own
-one_done old new other files whole when then script again a (run.Script n why) told input first second own = taken_or_refused old.left new.left other.left whole script n why input first.0 second.1
-one_done old new other files whole when then script again a run.NoMemory told input first second own = own
-one_done old new other files whole when then script again a (run.Site fault) told input first second own = own
-one_done old new other files whole when then script again a (run.Begin (begin.Wal why)) told input first second own = done_or_refused old new other files when a why told first.1.1 second.1.1.1 own
-one_done old new other files whole when then script again a (run.Begin (begin.Replay why)) told input first second own = done_or_refused old new other files when a why told first.1.1 second.1.1.1.1 own
-one_done old new other files whole when then script again a (run.Begin (begin.Data why)) told input first second own = own
+one_done old new other files whole when then limit later script again a (run.Input why) told input first second own = own
+one_done old new other files whole when then limit later script again a (run.Script n why) told input first second own = taken_or_refused old.left new.left other.left whole script n why input first.0 second.1
+one_done old new other files whole when then limit later script again a run.NoMemory told input first second own = own
+one_done old new other files whole when then limit later script again a (run.Site fault) told input first second own = own
+one_done old new other files whole when then limit later script again a (run.Begin (begin.Wal why)) told input first second own = done_or_refused old new other files when a why told first.1.1 second.1.1.1 own
+one_done old new other files whole when then limit later script again a (run.Begin (begin.Replay why)) told input first second own = done_or_refused old new other files when a why told first.1.1 second.1.1.1.1 own
+one_done old new other files whole when then limit later script again a (run.Begin (begin.Data why)) told input first second own = own
 
 -- two runs that were refused
-both_refused : (old new other : Outside) (files : Files) (whole : List ℕ) (when then : ℕ) (script again : List Task) (f g : RunFault) → (old.areas wal_name).files ≡ Some files → old.left ≡ Some whole → RunAnswer when script old new (Err f) → RunAnswer then again old other (Err g)
+both_refused : (old new other : Outside) (files : Files) (whole : List ℕ) (when then limit later : ℕ) (script again : List Task) (f g : RunFault) → (old.areas wal_name).files ≡ Some files → old.left ≡ Some whole → RunAnswer when limit script old new (Err f) → RunAnswer then later again old other (Err g)
     → IsOfOutside f → IsOfOutside g → f ≡ g
 unfolding refused_line refused_for unreplayed_for
-both_refused old new other files whole when then script again (run.Input why) g told input first second own also = absurd own
-both_refused old new other files whole when then script again run.NoMemory g told input first second own also = absurd own
-both_refused old new other files whole when then script again (run.Site fault) g told input first second own also = absurd own
-both_refused old new other files whole when then script again (run.Begin (begin.Data why)) g told input first second own also = absurd own
-both_refused old new other files whole when then script again (run.Script n why) (run.Input w) told input first second own also = absurd also
-both_refused old new other files whole when then script again (run.Script n why) (run.Script m w) told input first second own also = same_line old.left new.left other.left whole n m why w input first.1 second.1
-both_refused old new other files whole when then script again (run.Script n why) run.NoMemory told input first second own also = absurd also
-both_refused old new other files whole when then script again (run.Script n why) (run.Site w) told input first second own also = absurd also
-both_refused old new other files whole when then script again (run.Script n why) (run.Begin (begin.Wal w)) told input first second own also = absurd (taken_or_refused old.left other.left new.left whole again n why input second.0 first.1)
-both_refused old new other files whole when then script again (run.Script n why) (run.Begin (begin.Replay w)) told input first second own also = absurd (taken_or_refused old.left other.left new.left whole again n why input second.0 first.1)
-both_refused old new other files whole when then script again (run.Script n why) (run.Begin (begin.Data w)) told input first second own also = absurd also
-both_refused old new other files whole when then script again (run.Begin (begin.Wal why)) (run.Input w) told input first second own also = absurd also
-both_refused old new other files whole when then script again (run.Begin (begin.Wal why)) (run.Script m w) told input first second own also = absurd (taken_or_refused old.left new.left other.left whole script m w input first.0 second.1)
-both_refused old new other files whole when then script again (run.Begin (begin.Wal why)) run.NoMemory told input first second own also = absurd also
-both_refused old new other files whole when then script again (run.Begin (begin.Wal why)) (run.Site w) told input first second own also = absurd also
-both_refused old new other files whole when then script again (run.Begin (begin.Wal why)) (run.Begin (begin.Wal w)) told input first second own also =
+both_refused old new other files whole when then limit later script again (run.Input why) g told input first second own also = absurd own
+both_refused old new other files whole when then limit later script again run.NoMemory g told input first second own also = absurd own
+both_refused old new other files whole when then limit later script again (run.Site fault) g told input first second own also = absurd own
+both_refused old new other files whole when then limit later script again (run.Begin (begin.Data why)) g told input first second own also = absurd own
+both_refused old new other files whole when then limit later script again (run.Script n why) (run.Input w) told input first second own also = absurd also
+both_refused old new other files whole when then limit later script again (run.Script n why) (run.Script m w) told input first second own also = same_line old.left new.left other.left whole n m why w input first.1 second.1
+both_refused old new other files whole when then limit later script again (run.Script n why) run.NoMemory told input first second own also = absurd also
+both_refused old new other files whole when then limit later script again (run.Script n why) (run.Site w) told input first second own also = absurd also
+both_refused old new other files whole when then limit later script again (run.Script n why) (run.Begin (begin.Wal w)) told input first second own also = absurd (taken_or_refused old.left other.left new.left whole again n why input second.0 first.1)
+both_refused old new other files whole when then limit later script again (run.Script n why) (run.Begin (begin.Replay w)) told input first second own also = absurd (taken_or_refused old.left other.left new.left whole again n why input second.0 first.1)
+both_refused old new other files whole when then limit later script again (run.Script n why) (run.Begin (begin.Data w)) told input first second own also = absurd also
+both_refused old new other files whole when then limit later script again (run.Begin (begin.Wal why)) (run.Input w) told input first second own also = absurd also
+both_refused old new other files whole when then limit later script again (run.Begin (begin.Wal why)) (run.Script m w) told input first second own also = absurd (taken_or_refused old.left new.left other.left whole script m w input first.0 second.1)
+both_refused old new other files whole when then limit later script again (run.Begin (begin.Wal why)) run.NoMemory told input first second own also = absurd also
+both_refused old new other files whole when then limit later script again (run.Begin (begin.Wal why)) (run.Site w) told input first second own also = absurd also
+both_refused old new other files whole when then limit later script again (run.Begin (begin.Wal why)) (run.Begin (begin.Wal w)) told input first second own also =
     ap refused_for (same_refusal (old.areas wal_name) (new.areas wal_name) (other.areas wal_name) files why w told first.1.1.1 second.1.1.1 own also)
-both_refused old new other files whole when then script again (run.Begin (begin.Wal why)) (run.Begin (begin.Replay w)) told input first second own also =
+both_refused old new other files whole when then limit later script again (run.Begin (begin.Wal why)) (run.Begin (begin.Replay w)) told input first second own also =
     absurd (read_or_unreplayed old.areas new.areas other.areas files why w told first.1.1 second.1.1.1 own also)
-both_refused old new other files whole when then script again (run.Begin (begin.Wal why)) (run.Begin (begin.Data w)) told input first second own also = absurd also
-both_refused old new other files whole when then script again (run.Begin (begin.Replay why)) (run.Input w) told input first second own also = absurd also
-both_refused old new other files whole when then script again (run.Begin (begin.Replay why)) (run.Script m w) told input first second own also = absurd (taken_or_refused old.left new.left other.left whole script m w input first.0 second.1)
-both_refused old new other files whole when then script again (run.Begin (begin.Replay why)) run.NoMemory told input first second own also = absurd also
-both_refused old new other files whole when then script again (run.Begin (begin.Replay why)) (run.Site w) told input first second own also = absurd also
-both_refused old new other files whole when then script again (run.Begin (begin.Replay why)) (run.Begin (begin.Wal w)) told input first second own also =
+both_refused old new other files whole when then limit later script again (run.Begin (begin.Wal why)) (run.Begin (begin.Data w)) told input first second own also = absurd also
+both_refused old new other files whole when then limit later script again (run.Begin (begin.Replay why)) (run.Input w) told input first second own also = absurd also
+both_refused old new other files whole when then limit later script again (run.Begin (begin.Replay why)) (run.Script m w) told input first second own also = absurd (taken_or_refused old.left new.left other.left whole script m w input first.0 second.1)
+both_refused old new other files whole when then limit later script again (run.Begin (begin.Replay why)) run.NoMemory told input first second own also = absurd also
+both_refused old new other files whole when then limit later script again (run.Begin (begin.Replay why)) (run.Site w) told input first second own also = absurd also
+both_refused old new other files whole when then limit later script again (run.Begin (begin.Replay why)) (run.Begin (begin.Wal w)) told input first second own also =
     absurd (read_or_unreplayed old.areas other.areas new.areas files w why told second.1.1 first.1.1.1 also own)
-both_refused old new other files whole when then script again (run.Begin (begin.Replay why)) (run.Begin (begin.Replay w)) told input first second own also =
+both_refused old new other files whole when then limit later script again (run.Begin (begin.Replay why)) (run.Begin (begin.Replay w)) told input first second own also =
     ap unreplayed_for (same_refusal (old.areas wal_name) (new.areas wal_name) (other.areas wal_name) files why w told first.1.1.1.1 second.1.1.1.1 own also)
-both_refused old new other files whole when then script again (run.Begin (begin.Replay why)) (run.Begin (begin.Data w)) told input first second own also = absurd also
+both_refused old new other files whole when then limit later script again (run.Begin (begin.Replay why)) (run.Begin (begin.Data w)) told input first second own also = absurd also
 
-begin_alike : (old new other : Outside) (files : Files) (whole : List ℕ) (when then : ℕ) (script again : List Task) (a b : RunResult) → (old.areas wal_name).files ≡ Some files → old.left ≡ Some whole → RunAnswer when script old new a → RunAnswer then again old other b → BeginAlike a b
-begin_alike old new other files whole when then script again (Ok a) (Ok b) told input first second = (
+begin_alike : (old new other : Outside) (files : Files) (whole : List ℕ) (when then limit later : ℕ) (script again : List Task) (a b : RunResult) → (old.areas wal_name).files ≡ Some files → old.left ≡ Some whole → RunAnswer when limit script old new a → RunAnswer then later again old other b → BeginAlike a b
+begin_alike old new other files whole when then limit later script again (Ok a) (Ok b) told input first second = (
   begun_alike (old.areas wal_name) files old new other when then a b refl told first.1.1 second.1.1,
   first.1.0 ∙ (same_script old.left new.left other.left whole script again input first.0 second.0 ∙ sym second.1.0),
 )
-begin_alike old new other files whole when then script again (Ok a) (Err g) told input first second = one_done old new other files whole when then script again a g told input first second
-begin_alike old new other files whole when then script again (Err f) (Ok b) told input first second = one_done old other new files whole then when again script b f told input second first
-begin_alike old new other files whole when then script again (Err f) (Err g) told input first second = both_refused old new other files whole when then script again f g told input first second
+begin_alike old new other files whole when then limit later script again (Ok a) (Err g) told input first second = one_done old new other files whole when then limit later script again a g told input first second
+begin_alike old new other files whole when then limit later script again (Err f) (Ok b) told input first second = one_done old other new files whole then when later limit again script b f told input second first
+begin_alike old new other files whole when then limit later script again (Err f) (Err g) told input first second = both_refused old new other files whole when then limit later script again f g told input first second
 
 pub runs_begin_alike : RunsBeginAlike
-runs_begin_alike old new other a b told first second =
+runs_begin_alike days also old new other a b told first second =
     let files = some_told (old.areas wal_name).files (told.files wal_name) in
     let whole = some_told old.left told.left in
-    begin_alike old new other files.0 whole.0 first.0 second.0 first.1 second.1 a b files.1 whole.1 first.6 second.6
+    begin_alike old new other files.0 whole.0 first.0 second.0 (age_limit days first.0) (age_limit also second.0) first.1 second.1 a b files.1 whole.1 first.6 second.6

@@ -10,7 +10,7 @@ pub whatever_is_printed : (words : Option Asked) (old new : Outside) (printed af
     → DoesAsked words (record old { printed = printed; prints = prints }) (record new { printed = after; prints = now }) came
 whatever_is_printed None old new printed after prints now came does = does
 whatever_is_printed (Some (Init options)) old new printed after prints now came does = does
-whatever_is_printed (Some (Run frames)) old new printed after prints now came does = does
+whatever_is_printed (Some (Run frames days)) old new printed after prints now came does = does
 whatever_is_printed (Some (Replay upto name)) old new printed after prints now came does = does
 whatever_is_printed (Some (Verify name)) old new printed after prints now came does = does
 whatever_is_printed (Some (Restore upto out names)) old new printed after prints now came does = does

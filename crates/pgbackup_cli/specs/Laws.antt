@@ -1,5 +1,5 @@
 -- That `run` begins alike from one outside.
-use Rattle.std.specs.Prelude.{◌≡◌, Ok, Err}
+use Rattle.std.specs.Prelude.{ℕ, ◌≡◌, Ok, Err}
 use Rattle.recovery.specs.Causes.{IsOfFiles}
 use Rattle.store_faults.specs.declared.begin_why.BeginWhy.TheVariants as begin
 use Rattle.command_base.specs.Outside.{Outside, AllTold}
@@ -25,8 +25,9 @@ BeginAlike (Ok a) (Err fault) = IsOfOutside fault → ⊥
 BeginAlike (Err fault) (Ok b) = IsOfOutside fault → ⊥
 BeginAlike (Err fault) (Err other) = IsOfOutside fault → IsOfOutside other → fault ≡ other
 
--- two runs from one outside that tells its contents, however they ended, begin alike
+-- two runs from one outside that tells its contents, whatever summaries they keep and however they
+-- ended, begin alike
 abbrev pub RunsBeginAlike : Type 0
 RunsBeginAlike =
-    (old new other : Outside) (a b : RunResult) → AllTold old → RunDoes old new a
-    → RunDoes old other b → BeginAlike a b
+    (days also : ℕ) (old new other : Outside) (a b : RunResult) → AllTold old
+    → RunDoes days old new a → RunDoes also old other b → BeginAlike a b

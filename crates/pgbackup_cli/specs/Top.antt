@@ -27,8 +27,8 @@ abbrev pub DoesAsked : Option Asked → Outside → Outside → Answer → Type 
 DoesAsked None old new came = (came ≡ answer.Usage) × LeavesSite old new
 DoesAsked (Some (Init options)) old new came =
     (r : InitResult) × (came ≡ answer.Init r) × InitDoes options old new r
-DoesAsked (Some (Run frames)) old new came =
-    (r : RunResult) × (came ≡ answer.Run r) × RunDoes old new r
+DoesAsked (Some (Run frames days)) old new came =
+    (r : RunResult) × (came ≡ answer.Run r) × RunDoes days old new r
 DoesAsked (Some (Replay upto name)) old new came =
     (r : ReplayResult) × (came ≡ answer.Replay r) × ReplayDoes upto name old new r
 DoesAsked (Some (Verify name)) old new came =
@@ -56,14 +56,14 @@ Came words old new came =
 -- `run` and `follow` read the input
 abbrev pub ReadsInput : Option Asked → Type 0
 ReadsInput words =
-    ((frames : ℕ) × (words ≡ Some (Run frames)))
+    ((frames days : ℕ) × (words ≡ Some (Run frames days)))
     ⊎ ((mib relseg : ℕ) × (name : List ℕ) × (words ≡ Some (Follow mib relseg name)))
 
 -- `run`, `combine`, `merge-incr` and `drill` read the clock, and `init`, where no system identifier is
 -- given
 abbrev pub ReadsClock : Option Asked → Type 0
 ReadsClock words =
-    ((frames : ℕ) × (words ≡ Some (Run frames)))
+    ((frames days : ℕ) × (words ≡ Some (Run frames days)))
     ⊎ ((out : List ℕ) × (names : List (List ℕ)) × (words ≡ Some (Combine out names)))
     ⊎ ((out : List ℕ) × (names : List (List ℕ)) × (words ≡ Some (Merge out names)))
     ⊎ ((n : ℕ) × (words ≡ Some (Drill n)))

@@ -13,7 +13,7 @@ use crate::command_answers::{Answer, exit_status, text_of};
 use crate::drill_command::drill;
 use chain_commands::{combine, merge, restore, verify};
 use command_base::Status;
-use command_line::{Command, MemberNames, command_of};
+use command_line::{Command, MemberNames, RunOptions, command_of};
 use lsn_core::{AreaFault, Text};
 use restart_command::restart;
 use run_command::run;
@@ -44,7 +44,10 @@ fn done<S: Site, I: Source, C: Clock>(
 {
     match command {
         Command::Init(options) => Answer::Init(init(alloc, *options, site, clock)),
-        Command::Run(frames) => Answer::Run(run(rt, alloc, *frames, site, input, clock)),
+        Command::Run(options) => {
+            let RunOptions { frames, days } = *options;
+            Answer::Run(run(rt, alloc, frames, days, site, input, clock))
+        }
         Command::Replay(upto, name) => Answer::Replay(replay(alloc, *upto, name.as_bytes(), site)),
         Command::Verify(name) => Answer::Verify(verify(alloc, name.as_bytes(), site)),
         Command::Restore(upto, out, names) => {

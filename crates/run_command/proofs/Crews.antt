@@ -261,15 +261,15 @@ has_run_on g tells b from starts passes new sums booked after held kept told clo
 
 -- ---- from the areas that it was found on
 
-pub ends_on : {V : Type 0} (g : Vaults V) (when : ℕ) (a b : StoreAreas V) (before sums : V) (held kept : List (Held V)) (found : Found V) (r : Result RunReport BeginWhy) → IsBegun g a (shown_of g found) found.tip
-    → EndsRun g (tell_found g found ≡ true) (basis_found g found before when) (wal_start g found) (starts_of g found before) found before b sums held kept r → RunsOn g when a b before sums held kept r
-ends_on g when a b before sums held kept found (Ok report) begins ran = record {
+pub ends_on : {V : Type 0} (g : Vaults V) (when limit : ℕ) (a b : StoreAreas V) (before sums : V) (held kept : List (Held V)) (found : Found V) (r : Result RunReport BeginWhy) → IsBegun g a (shown_of g found) found.tip
+    → EndsRun g (tell_found g found ≡ true) (basis_found g found before when limit) (wal_start g found) (starts_of g found before) found before b sums held kept r → RunsOn g when limit a b before sums held kept r
+ends_on g when limit a b before sums held kept found (Ok report) begins ran = record {
   found = found;
   begins = begins;
   opened = ran.0;
-  runs = subst (λ (o : Option Files). HasRunOn g (is_some o ≡ true) (basis_found g found before when) (wal_start g found) (starts_of g found before) b sums held kept report.told report.closed) begins.has.wal ran.1;
+  runs = subst (λ (o : Option Files). HasRunOn g (is_some o ≡ true) (basis_found g found before when limit) (wal_start g found) (starts_of g found before) b sums held kept report.told report.closed) begins.has.wal ran.1;
 }
-ends_on g when a b before sums held kept found (Err why) begins un = (
+ends_on g when limit a b before sums held kept found (Err why) begins un = (
   record {
     wal = ap (λ v. g.files v) un.1.wal ∙ begins.has.wal;
     later = subst (λ (f : Faults). NoneFell (faults_of g a) f) (sym un.1.faults) begins.later;
@@ -280,8 +280,8 @@ ends_on g when a b before sums held kept found (Err why) begins un = (
 )
 
 -- the same run, of an area on the heap
-pub areas_on : {V : Type 0} (g : Vaults V) (when : ℕ) (a b : StoreAreas V) (before boxed sums : V) (held kept : List (Held V)) (r : Result RunReport BeginWhy) → boxed ≡ before → RunsOn g when a b boxed sums held kept r → RunsOn g when a b before sums held kept r
-areas_on g when a b before boxed sums held kept r is ran = subst (λ v. RunsOn g when a b v sums held kept r) is ran
+pub areas_on : {V : Type 0} (g : Vaults V) (when limit : ℕ) (a b : StoreAreas V) (before boxed sums : V) (held kept : List (Held V)) (r : Result RunReport BeginWhy) → boxed ≡ before → RunsOn g when limit a b boxed sums held kept r → RunsOn g when limit a b before sums held kept r
+areas_on g when limit a b before boxed sums held kept r is ran = subst (λ v. RunsOn g when limit a b v sums held kept r) is ran
 
 -- ---- a pass that is lent
 

@@ -97,24 +97,25 @@ cant_begin g script old new a b (begin.Data fault) others was at wal (inr memory
 
 -- ---- the answers
 
-pub ran_ok : {S V : Type 0} (s : Sites S V) (g : Vaults V) (when : ℕ) (script : List Task) (old new : S) (held kept : List (Held V)) (before sums : V) (a b : StoreAreas V) (report : RunReport) → RunBack s g script old new held kept before sums a b
-    → IsRunOn g when a b before sums held kept report → tasks_told report.told ≡ script → RunOfScript when script (of_site s old) (of_site s new) (Ok report)
-ran_ok s g when script old new held kept before sums a b report back ran same =
-    (same, run_done g when (s.areas old) (s.areas new) a b before sums held kept report back.was back.is back.before back.behind back.held_there back.kept_there ran)
+pub ran_ok : {S V : Type 0} (s : Sites S V) (g : Vaults V) (when limit : ℕ) (script : List Task) (old new : S) (held kept : List (Held V)) (before sums : V) (a b : StoreAreas V) (report : RunReport) → RunBack s g script old new held kept before sums a b
+    → IsRunOn g when limit a b before sums held kept report → tasks_told report.told ≡ script → RunOfScript when limit script (of_site s old) (of_site s new) (Ok report)
+ran_ok s g when limit script old new held kept before sums a b report back ran same =
+    let d = run_done g when limit (s.areas old) (s.areas new) a b before sums held kept report back.was back.is back.before back.behind back.held_there back.kept_there ran in
+    (same, d.0, d.1)
 
-pub ran_err : {S V : Type 0} (s : Sites S V) (g : Vaults V) (when : ℕ) (script : List Task) (old new : S) (held kept : List (Held V)) (before sums : V) (a b : StoreAreas V) (why : BeginWhy) → RunBack s g script old new held kept before sums a b
-    → kept ≡ held → sums ≡ before → HasNotBegun g a b why → RunOfScript when script (of_site s old) (of_site s new) (Err (run.Begin why))
-ran_err s g when script old new held kept before sums a b why back same still un =
+pub ran_err : {S V : Type 0} (s : Sites S V) (g : Vaults V) (when limit : ℕ) (script : List Task) (old new : S) (held kept : List (Held V)) (before sums : V) (a b : StoreAreas V) (why : BeginWhy) → RunBack s g script old new held kept before sums a b
+    → kept ≡ held → sums ≡ before → HasNotBegun g a b why → RunOfScript when limit script (of_site s old) (of_site s new) (Err (run.Begin why))
+ran_err s g when limit script old new held kept before sums a b why back same still un =
     cant_begin g script (s.areas old) (s.areas new) a b why
     (others_keep g script (s.areas old) (s.areas new) before sums (held_keep script (s.areas old) (s.areas new) (areas_of g held) (areas_of g kept) back.were back.after (ap (areas_of g) same)) back.before back.behind still) back.was back.is un.wal un.cause
 
 -- ---- the script of the input
 
-pub of_input : (when : ℕ) (script : List Task) (old new : Outside) (left rest : Option (List ℕ)) (reads now : ℕ) (before behind : Option ℕ) (r : RunResult) → HasScript left rest script → RunOfScript when script old new r
-    → RunAnswer when script (seen_at old left reads before) (seen_at new rest now behind) r
-of_input when script old new left rest reads now before behind (Ok report) has ran = (has, ran)
-of_input when script old new left rest reads now before behind (Err (run.Input why)) has ran = absurd ran
-of_input when script old new left rest reads now before behind (Err (run.Script line why)) has ran = absurd ran
-of_input when script old new left rest reads now before behind (Err run.NoMemory) has ran = ran
-of_input when script old new left rest reads now before behind (Err (run.Site fault)) has ran = (has, ran)
-of_input when script old new left rest reads now before behind (Err (run.Begin why)) has ran = (has, ran)
+pub of_input : (when limit : ℕ) (script : List Task) (old new : Outside) (left rest : Option (List ℕ)) (reads now : ℕ) (before behind : Option ℕ) (r : RunResult) → HasScript left rest script → RunOfScript when limit script old new r
+    → RunAnswer when limit script (seen_at old left reads before) (seen_at new rest now behind) r
+of_input when limit script old new left rest reads now before behind (Ok report) has ran = (has, ran)
+of_input when limit script old new left rest reads now before behind (Err (run.Input why)) has ran = absurd ran
+of_input when limit script old new left rest reads now before behind (Err (run.Script line why)) has ran = absurd ran
+of_input when limit script old new left rest reads now before behind (Err run.NoMemory) has ran = ran
+of_input when limit script old new left rest reads now before behind (Err (run.Site fault)) has ran = (has, ran)
+of_input when limit script old new left rest reads now before behind (Err (run.Begin why)) has ran = (has, ran)

@@ -236,7 +236,7 @@ shares_told g tells b start first rest sums booked held kept old new told ran fa
 -- ---- the whole
 
 -- all that a run came to, seen from the site: its areas, and the basis as the site tells it
-record IsAtSite {V : Type 0} (g : Vaults V) (when : ℕ) (old new : Areas) (a b : StoreAreas V) (before sums : V) (held kept : List (Held V)) (report : RunReport) : Type 0 where
+record IsAtSite {V : Type 0} (g : Vaults V) (when limit : ℕ) (old new : Areas) (a b : StoreAreas V) (before sums : V) (held kept : List (Held V)) (report : RunReport) : Type 0 where
   found : Found V
   begun : HasBegun (g.files a.wal) (shown_of g found) found.tip
   later : NoneFell (faults_of g a) (shown_of g found).faults
@@ -246,17 +246,17 @@ record IsAtSite {V : Type 0} (g : Vaults V) (when : ℕ) (old new : Areas) (a b 
   sums_was : old sums_name ≡ state_in g before
   sums_at : new sums_name ≡ state_in g sums
   leads : AreTold old → tell g a ≡ true
-  runs : HasRunOn g (tell g a ≡ true) (run_basis found.settings when begun.found old) (wal_start g found) (starts_of g found before) b sums held kept report.told report.closed
+  runs : HasRunOn g (tell g a ≡ true) (run_basis found.settings when limit begun.found old) (wal_start g found) (starts_of g found before) b sums held kept report.told report.closed
 
-basis_same : (s : StoreSettings) (when : ℕ) (h i : List Entry) (f e : Option Files) → h ≡ i → f ≡ e → basis_of s when h f ≡ basis_of s when i e
-basis_same s when h i f e first second = ap (λ (x : List Entry). basis_of s when x f) first ∙ ap (λ (y : Option Files). basis_of s when i y) second
+basis_same : (s : StoreSettings) (when limit : ℕ) (h i : List Entry) (f e : Option Files) → h ≡ i → f ≡ e → basis_of s when h f limit ≡ basis_of s when i e limit
+basis_same s when limit h i f e first second = ap (λ (x : List Entry). basis_of s when x f limit) first ∙ ap (λ (y : Option Files). basis_of s when i y limit) second
 
-at_site : {V : Type 0} (g : Vaults V) (when : ℕ) (old new : Areas) (a b : StoreAreas V) (before sums : V) (held kept : List (Held V)) (report : RunReport) → AreAt g old a → AreAt g new b → old sums_name ≡ state_in g before → new sums_name ≡ state_in g sums → IsRunOn g when a b before sums held kept report
-    → IsAtSite g when old new a b before sums held kept report
-at_site g when old new a b before sums held kept report was at sums_was sums_at ran =
+at_site : {V : Type 0} (g : Vaults V) (when limit : ℕ) (old new : Areas) (a b : StoreAreas V) (before sums : V) (held kept : List (Held V)) (report : RunReport) → AreAt g old a → AreAt g new b → old sums_name ≡ state_in g before → new sums_name ≡ state_in g sums → IsRunOn g when limit a b before sums held kept report
+    → IsAtSite g when limit old new a b before sums held kept report
+at_site g when limit old new a b before sums held kept report was at sums_was sums_at ran =
     let has : HasBegun (g.files a.wal) (shown_of g ran.found) ran.found.tip = ran.begins.has in
-    let same : basis_found g ran.found before when ≡ run_basis ran.found.settings when has.found old =
-    basis_same ran.found.settings when ran.found.opened.list (map entry_of has.found) (g.files before) (old sums_name).files has.history (sym (ap (λ (x : AreaState). x.files) sums_was)) in
+    let same : basis_found g ran.found before when limit ≡ run_basis ran.found.settings when limit has.found old =
+    basis_same ran.found.settings when limit ran.found.opened.list (map entry_of has.found) (g.files before) (old sums_name).files has.history (sym (ap (λ (x : AreaState). x.files) sums_was)) in
     record {
       found = ran.found;
       begun = has;
@@ -270,29 +270,29 @@ at_site g when old new a b before sums held kept report was at sums_was sums_at 
       runs = subst (λ (x : Basis). HasRunOn g (tell g a ≡ true) x (wal_start g ran.found) (starts_of g ran.found before) b sums held kept report.told report.closed) same ran.runs;
     }
 
-leaves : {V : Type 0} (g : Vaults V) (when : ℕ) (old new : Areas) (a b : StoreAreas V) (before sums : V) (held kept : List (Held V)) (report : RunReport) (x : IsAtSite g when old new a b before sums held kept report) → LeavesWal x.found.settings x.begun.found x.runs.closes.history (old wal_name) (new wal_name)
-leaves g when old new a b before sums held kept report x =
+leaves : {V : Type 0} (g : Vaults V) (when limit : ℕ) (old new : Areas) (a b : StoreAreas V) (before sums : V) (held kept : List (Held V)) (report : RunReport) (x : IsAtSite g when limit old new a b before sums held kept report) → LeavesWal x.found.settings x.begun.found x.runs.closes.history (old wal_name) (new wal_name)
+leaves g when limit old new a b before sums held kept report x =
     let s : StoreSettings = x.found.settings in
     let end : ℕ = end_of s.segment x.runs.closes.history in
     subst (λ (n : ℕ). MayWriteWal s.segment n end (old wal_name).files (new wal_name).files) (ap (λ (t : Tip). t.end) x.begun.tip_is)
     (subst (λ (o : Option Files). MayWriteWal s.segment x.found.tip.end end (old wal_name).files o) (sym (wal_files g new b x.at))
     (subst (λ (o : Option Files). MayWriteWal s.segment x.found.tip.end end o (g.files b.wal)) (x.begun.wal ∙ sym (wal_files g old a x.was)) x.runs.closes.wal))
 
-own_grown : {V : Type 0} (g : Vaults V) (when : ℕ) (old new : Areas) (a b : StoreAreas V) (before sums : V) (held kept : List (Held V)) (report : RunReport) (x : IsAtSite g when old new a b before sums held kept report) → x.runs.closes.history ≡ map entry_of x.begun.found ++ x.runs.closes.runs.own
-own_grown g when old new a b before sums held kept report x = x.runs.closes.runs.all
+own_grown : {V : Type 0} (g : Vaults V) (when limit : ℕ) (old new : Areas) (a b : StoreAreas V) (before sums : V) (held kept : List (Held V)) (report : RunReport) (x : IsAtSite g when limit old new a b before sums held kept report) → x.runs.closes.history ≡ map entry_of x.begun.found ++ x.runs.closes.runs.own
+own_grown g when limit old new a b before sums held kept report x = x.runs.closes.runs.all
 
-was_given : {V : Type 0} (g : Vaults V) (when : ℕ) (old new : Areas) (a b : StoreAreas V) (before sums : V) (held kept : List (Held V)) (report : RunReport) (x : IsAtSite g when old new a b before sums held kept report) → HasSettings (old wal_name).files x.found.settings
-was_given g when old new a b before sums held kept report x = subst (λ (o : Option Files). HasSettings o x.found.settings) (sym (wal_files g old a x.was)) x.begun.given
+was_given : {V : Type 0} (g : Vaults V) (when limit : ℕ) (old new : Areas) (a b : StoreAreas V) (before sums : V) (held kept : List (Held V)) (report : RunReport) (x : IsAtSite g when limit old new a b before sums held kept report) → HasSettings (old wal_name).files x.found.settings
+was_given g when limit old new a b before sums held kept report x = subst (λ (o : Option Files). HasSettings o x.found.settings) (sym (wal_files g old a x.was)) x.begun.given
 
-was_there : {V : Type 0} (g : Vaults V) (when : ℕ) (old new : Areas) (a b : StoreAreas V) (before sums : V) (held kept : List (Held V)) (report : RunReport) (x : IsAtSite g when old new a b before sums held kept report) → IfSome (old wal_name).files (HasFound x.found.settings x.begun.found)
-was_there g when old new a b before sums held kept report x =
+was_there : {V : Type 0} (g : Vaults V) (when limit : ℕ) (old new : Areas) (a b : StoreAreas V) (before sums : V) (held kept : List (Held V)) (report : RunReport) (x : IsAtSite g when limit old new a b before sums held kept report) → IfSome (old wal_name).files (HasFound x.found.settings x.begun.found)
+was_there g when limit old new a b before sums held kept report x =
     subst (λ (t : Tip). IfSome (old wal_name).files (λ m. IsWal x.found.settings m x.begun.found t)) x.begun.tip_is
     (subst (λ (o : Option Files). IfSome o (λ m. IsWal x.found.settings m x.begun.found x.found.tip)) (sym (wal_files g old a x.was)) x.begun.archive)
 
 -- an area of the store of which a worker was answered a fault failed
-number_fails : {V : Type 0} (g : Vaults V) (when : ℕ) (old new : Areas) (a b : StoreAreas V) (before sums : V) (held kept : List (Held V)) (report : RunReport) (x : IsAtSite g when old new a b before sums held kept report) (number worker : ℕ) (p : Seen) → number < 5 → slice_get (x.runs.first ∷ x.runs.rest) worker ≡ Some p → 0 < booked_at number p.faults
+number_fails : {V : Type 0} (g : Vaults V) (when limit : ℕ) (old new : Areas) (a b : StoreAreas V) (before sums : V) (held kept : List (Held V)) (report : RunReport) (x : IsAtSite g when limit old new a b before sums held kept report) (number worker : ℕ) (p : Seen) → number < 5 → slice_get (x.runs.first ∷ x.runs.rest) worker ≡ Some p → 0 < booked_at number p.faults
     → StoreFails old new (store.Failed (area_of number))
-number_fails g when old new a b before sums held kept report x number worker p lt there some =
+number_fails g when limit old new a b before sums held kept report x number worker p lt there some =
     by_number g old new a b number (starts_of g x.found before number) (all_booked number (x.runs.first ∷ x.runs.rest)) x.was x.at lt (found_later g a x.found before x.later number lt)
     (omega (arith, some, booked_among number (x.runs.first ∷ x.runs.rest) worker p there)) (x.runs.closes.risen number lt)
 
@@ -304,30 +304,30 @@ none_shared q p le =
     let three : q == 3 ≡ false = other q 3 (omega arith) in
     rw (zero, one, two, three) refl
 
-area_fails : {V : Type 0} (g : Vaults V) (when : ℕ) (old new : Areas) (a b : StoreAreas V) (before sums : V) (held kept : List (Held V)) (report : RunReport) (x : IsAtSite g when old new a b before sums held kept report) (area : StoreArea) (worker : ℕ) (p : Seen) → slice_get (x.runs.first ∷ x.runs.rest) worker ≡ Some p → 0 < share_of area p.faults
+area_fails : {V : Type 0} (g : Vaults V) (when limit : ℕ) (old new : Areas) (a b : StoreAreas V) (before sums : V) (held kept : List (Held V)) (report : RunReport) (x : IsAtSite g when limit old new a b before sums held kept report) (area : StoreArea) (worker : ℕ) (p : Seen) → slice_get (x.runs.first ∷ x.runs.rest) worker ≡ Some p → 0 < share_of area p.faults
     → StoreFails old new (store.Failed area)
-area_fails g when old new a b before sums held kept report x Wal worker p there some = number_fails g when old new a b before sums held kept report x 4 worker p (omega arith) there some
-area_fails g when old new a b before sums held kept report x (Data zero) worker p there some = number_fails g when old new a b before sums held kept report x 0 worker p (omega arith) there some
-area_fails g when old new a b before sums held kept report x (Data (suc zero)) worker p there some = number_fails g when old new a b before sums held kept report x 1 worker p (omega arith) there some
-area_fails g when old new a b before sums held kept report x (Data (suc (suc zero))) worker p there some = number_fails g when old new a b before sums held kept report x 2 worker p (omega arith) there some
-area_fails g when old new a b before sums held kept report x (Data (suc (suc (suc zero)))) worker p there some = number_fails g when old new a b before sums held kept report x 3 worker p (omega arith) there some
-area_fails g when old new a b before sums held kept report x (Data (suc (suc (suc (suc q))))) worker p there some =
+area_fails g when limit old new a b before sums held kept report x Wal worker p there some = number_fails g when limit old new a b before sums held kept report x 4 worker p (omega arith) there some
+area_fails g when limit old new a b before sums held kept report x (Data zero) worker p there some = number_fails g when limit old new a b before sums held kept report x 0 worker p (omega arith) there some
+area_fails g when limit old new a b before sums held kept report x (Data (suc zero)) worker p there some = number_fails g when limit old new a b before sums held kept report x 1 worker p (omega arith) there some
+area_fails g when limit old new a b before sums held kept report x (Data (suc (suc zero))) worker p there some = number_fails g when limit old new a b before sums held kept report x 2 worker p (omega arith) there some
+area_fails g when limit old new a b before sums held kept report x (Data (suc (suc (suc zero)))) worker p there some = number_fails g when limit old new a b before sums held kept report x 3 worker p (omega arith) there some
+area_fails g when limit old new a b before sums held kept report x (Data (suc (suc (suc (suc q))))) worker p there some =
     absurd (omega (arith, some, none_shared (suc (suc (suc (suc q)))) p.faults (omega arith)))
-area_fails g when old new a b before sums held kept report x Sums worker p there some =
+area_fails g when limit old new a b before sums held kept report x Sums worker p there some =
     let all : ℕ = sum_by (λ (q : Seen). q.faults.sums) (x.runs.first ∷ x.runs.rest) in
     let rose : Rose (g.faults before) (g.faults sums) = rises (g.faults before) (g.faults before) all (g.faults sums) (omega arith) (omega (arith, some, sums_among (x.runs.first ∷ x.runs.rest) worker p there)) x.runs.ran.risen in
     omega (arith, rose, ap (λ (y : AreaState). y.faults) x.sums_was, ap (λ (y : AreaState). y.faults) x.sums_at)
 
 -- how closing ended
-closing : {V : Type 0} (g : Vaults V) (when : ℕ) (old new : Areas) (a b : StoreAreas V) (before sums : V) (held kept : List (Held V)) (report : RunReport) (x : IsAtSite g when old new a b before sums held kept report) (answer : Result Lsn StoreFault)
+closing : {V : Type 0} (g : Vaults V) (when limit : ℕ) (old new : Areas) (a b : StoreAreas V) (before sums : V) (held kept : List (Held V)) (report : RunReport) (x : IsAtSite g when limit old new a b before sums held kept report) (answer : Result Lsn StoreFault)
     → CloseAnswer g (tell g a ≡ true) x.found.settings x.runs.closes.history (starts_of g x.found before) (x.runs.first ∷ x.runs.rest) b answer
     → (AreTold old → HoldsHistory g x.found.settings x.runs.closes.history b → HoldsRun x.found.settings x.begun.found x.runs.closes.history new)
     → IsClosing x.found.settings x.begun.found x.runs.closes.history old new answer
-closing g when old new a b before sums held kept report x (Ok end) is holds = (is.0, λ told. holds told (is.1 (x.leads told)))
-closing g when old new a b before sums held kept report x (Err (store.Failed which)) is holds =
+closing g when limit old new a b before sums held kept report x (Ok end) is holds = (is.0, λ told. holds told (is.1 (x.leads told)))
+closing g when limit old new a b before sums held kept report x (Err (store.Failed which)) is holds =
     subst (λ (w : StoreArea). StoreFails old new (store.Failed w)) (sym is.is)
     (by_number g old new a b is.number (starts_of g x.found before is.number) (all_booked is.number (x.runs.first ∷ x.runs.rest) + 1) x.was x.at is.below (found_later g a x.found before x.later is.number is.below) (omega arith) is.risen)
-closing g when old new a b before sums held kept report x (Err store.NoMemory) is holds = tt
+closing g when limit old new a b before sums held kept report x (Err store.NoMemory) is holds = tt
 
 -- its entries are those of the workers that the script has
 own_of : {V : Type 0} (found own history : List Entry) (parts : List (Part V)) (first : Seen) (rest : List Seen) (many : ℕ) → AreLast found parts first rest → length parts ≡ many → history ≡ found ++ own → All (IsOfRun (length (first ∷ rest))) own → CountsItsOwn history first → All (IsOfRun many) own
@@ -348,36 +348,36 @@ told_own g tells b start first rest sums booked held kept told own history ran g
     own_of b.found own history ran.parts first rest (length told) ran.last (length_told g tells b ran.parts held kept told ran.has) grown of all
 
 -- no count of an area of the store fell
-run_fell : {V : Type 0} (g : Vaults V) (when : ℕ) (a b : StoreAreas V) (before sums : V) (held kept : List (Held V)) (report : RunReport) → IsRunOn g when a b before sums held kept report → NoneFell (faults_of g a) (faults_of g b)
-run_fell g when a b before sums held kept report ran Wal = omega (arith, ran.begins.later Wal, started _ _ _ (ran.runs.closes.risen 4 (omega arith)))
-run_fell g when a b before sums held kept report ran (Data zero) = omega (arith, ran.begins.later (Data 0), started _ _ _ (ran.runs.closes.risen 0 (omega arith)))
-run_fell g when a b before sums held kept report ran (Data (suc zero)) = omega (arith, ran.begins.later (Data 1), started _ _ _ (ran.runs.closes.risen 1 (omega arith)))
-run_fell g when a b before sums held kept report ran (Data (suc (suc zero))) = omega (arith, ran.begins.later (Data 2), started _ _ _ (ran.runs.closes.risen 2 (omega arith)))
-run_fell g when a b before sums held kept report ran (Data (suc (suc (suc zero)))) = omega (arith, ran.begins.later (Data 3), started _ _ _ (ran.runs.closes.risen 3 (omega arith)))
-run_fell g when a b before sums held kept report ran (Data (suc (suc (suc (suc q))))) =
+run_fell : {V : Type 0} (g : Vaults V) (when limit : ℕ) (a b : StoreAreas V) (before sums : V) (held kept : List (Held V)) (report : RunReport) → IsRunOn g when limit a b before sums held kept report → NoneFell (faults_of g a) (faults_of g b)
+run_fell g when limit a b before sums held kept report ran Wal = omega (arith, ran.begins.later Wal, started _ _ _ (ran.runs.closes.risen 4 (omega arith)))
+run_fell g when limit a b before sums held kept report ran (Data zero) = omega (arith, ran.begins.later (Data 0), started _ _ _ (ran.runs.closes.risen 0 (omega arith)))
+run_fell g when limit a b before sums held kept report ran (Data (suc zero)) = omega (arith, ran.begins.later (Data 1), started _ _ _ (ran.runs.closes.risen 1 (omega arith)))
+run_fell g when limit a b before sums held kept report ran (Data (suc (suc zero))) = omega (arith, ran.begins.later (Data 2), started _ _ _ (ran.runs.closes.risen 2 (omega arith)))
+run_fell g when limit a b before sums held kept report ran (Data (suc (suc (suc zero)))) = omega (arith, ran.begins.later (Data 3), started _ _ _ (ran.runs.closes.risen 3 (omega arith)))
+run_fell g when limit a b before sums held kept report ran (Data (suc (suc (suc (suc q))))) =
     omega (arith, none_counted (suc (suc (suc (suc q)))) (faults_of g a) (omega arith), none_counted (suc (suc (suc (suc q)))) (faults_of g b) (omega arith))
-run_fell g when a b before sums held kept report ran Sums = omega arith
+run_fell g when limit a b before sums held kept report ran Sums = omega arith
 
 -- nor that of the area of summaries
-sums_fell : {V : Type 0} (g : Vaults V) (when : ℕ) (a b : StoreAreas V) (before sums : V) (held kept : List (Held V)) (report : RunReport) → IsRunOn g when a b before sums held kept report → g.faults before ≤ g.faults sums
-sums_fell g when a b before sums held kept report ran = started _ _ _ ran.runs.ran.risen
+sums_fell : {V : Type 0} (g : Vaults V) (when limit : ℕ) (a b : StoreAreas V) (before sums : V) (held kept : List (Held V)) (report : RunReport) → IsRunOn g when limit a b before sums held kept report → g.faults before ≤ g.faults sums
+sums_fell g when limit a b before sums held kept report ran = started _ _ _ ran.runs.ran.risen
 
 -- nor where no store was begun
-pub runs_fell : {V : Type 0} (g : Vaults V) (when : ℕ) (a b : StoreAreas V) (before sums : V) (held kept : List (Held V)) (r : Result RunReport BeginWhy) → RunsOn g when a b before sums held kept r → NoneFell (faults_of g a) (faults_of g b) × (g.faults before ≤ g.faults sums)
-runs_fell g when a b before sums held kept (Ok report) ran = (run_fell g when a b before sums held kept report ran, sums_fell g when a b before sums held kept report ran)
-runs_fell g when a b before sums held kept (Err why) un = (un.0.later, omega (arith, ap (λ v. g.faults v) un.1))
+pub runs_fell : {V : Type 0} (g : Vaults V) (when limit : ℕ) (a b : StoreAreas V) (before sums : V) (held kept : List (Held V)) (r : Result RunReport BeginWhy) → RunsOn g when limit a b before sums held kept r → NoneFell (faults_of g a) (faults_of g b) × (g.faults before ≤ g.faults sums)
+runs_fell g when limit a b before sums held kept (Ok report) ran = (run_fell g when limit a b before sums held kept report ran, sums_fell g when limit a b before sums held kept report ran)
+runs_fell g when limit a b before sums held kept (Err why) un = (un.0.later, omega (arith, ap (λ v. g.faults v) un.1))
 
 -- the run of one of its workers
-its_run : {V : Type 0} (g : Vaults V) (when : ℕ) (old new : Areas) (a b : StoreAreas V) (before sums : V) (held kept : List (Held V)) (report : RunReport) (x : IsAtSite g when old new a b before sums held kept report) (worker : ℕ) (t : Told) → slice_get report.told worker ≡ Some t
-    → WorkerRan g (tell g a ≡ true) (run_basis x.found.settings when x.begun.found old) (x.runs.first ∷ x.runs.rest) x.runs.ran.parts worker t
-its_run g when old new a b before sums held kept report x worker t there =
-    worker_ran g (tell g a ≡ true) (run_basis x.found.settings when x.begun.found old) (starts_of g x.found before 5) x.runs.first x.runs.rest sums (sum_by (λ (q : Seen). q.faults.sums) (x.runs.first ∷ x.runs.rest)) held kept report.told x.runs.ran worker t there
+its_run : {V : Type 0} (g : Vaults V) (when limit : ℕ) (old new : Areas) (a b : StoreAreas V) (before sums : V) (held kept : List (Held V)) (report : RunReport) (x : IsAtSite g when limit old new a b before sums held kept report) (worker : ℕ) (t : Told) → slice_get report.told worker ≡ Some t
+    → WorkerRan g (tell g a ≡ true) (run_basis x.found.settings when limit x.begun.found old) (x.runs.first ∷ x.runs.rest) x.runs.ran.parts worker t
+its_run g when limit old new a b before sums held kept report x worker t there =
+    worker_ran g (tell g a ≡ true) (run_basis x.found.settings when limit x.begun.found old) (starts_of g x.found before 5) x.runs.first x.runs.rest sums (sum_by (λ (q : Seen). q.faults.sums) (x.runs.first ∷ x.runs.rest)) held kept report.told x.runs.ran worker t there
 
 -- over the finished history each worker was answered so
-all_answered : {V : Type 0} (g : Vaults V) (when : ℕ) (old new : Areas) (a b : StoreAreas V) (before sums : V) (held kept : List (Held V)) (report : RunReport) (x : IsAtSite g when old new a b before sums held kept report) (worker : ℕ) (t : Told) → slice_get report.told worker ≡ Some t
-    → IsAnswered (tell g a ≡ true) (run_basis x.found.settings when x.begun.found old) worker x.runs.closes.history (length (map entry_of x.begun.found)) t.task.lines t.answers (areas_of g (areas_at (λ part. part.held) x.runs.ran.parts worker)) (areas_of g (areas_at (λ part. part.kept) x.runs.ran.parts worker))
-all_answered g when old new a b before sums held kept report x worker t there =
-    answered g (tell g a) (run_basis x.found.settings when x.begun.found old) (x.runs.first ∷ x.runs.rest) x.runs.ran.parts x.runs.closes.history worker t (its_run g when old new a b before sums held kept report x worker t there) x.runs.closes.seen x.runs.closes.counted
+all_answered : {V : Type 0} (g : Vaults V) (when limit : ℕ) (old new : Areas) (a b : StoreAreas V) (before sums : V) (held kept : List (Held V)) (report : RunReport) (x : IsAtSite g when limit old new a b before sums held kept report) (worker : ℕ) (t : Told) → slice_get report.told worker ≡ Some t
+    → IsAnswered (tell g a ≡ true) (run_basis x.found.settings when limit x.begun.found old) worker x.runs.closes.history (length (map entry_of x.begun.found)) t.task.lines t.answers (areas_of g (areas_at (λ part. part.held) x.runs.ran.parts worker)) (areas_of g (areas_at (λ part. part.kept) x.runs.ran.parts worker))
+all_answered g when limit old new a b before sums held kept report x worker t there =
+    answered g (tell g a) (run_basis x.found.settings when limit x.begun.found old) (x.runs.first ∷ x.runs.rest) x.runs.ran.parts x.runs.closes.history worker t (its_run g when limit old new a b before sums held kept report x worker t there) x.runs.closes.seen x.runs.closes.counted
 
 there_front : {V : Type 0} (g : Vaults V) (site : Areas) (xs ys : List (Held V)) → AreThere g site (xs ++ ys) → AreThere g site xs
 there_front g site [] ys all = tt
@@ -418,9 +418,9 @@ is_kept g tells b passes parts site worker t w all n one =
     as_there g site (areas_at (λ part. part.kept) parts worker) n (there_at g site (λ part. part.kept) parts worker all)
     (subst (λ (h : List (Held _)). IsOneOf n (names_of h)) (sym (at_number (λ part. part.kept) parts worker w.part w.there)) mine)
 
-still_honest : {V : Type 0} (g : Vaults V) (when : ℕ) (old new : Areas) (a b : StoreAreas V) (before sums : V) (held kept : List (Held V)) (report : RunReport) (x : IsAtSite g when old new a b before sums held kept report) → KeepsHonest (map entry_of x.begun.found) x.runs.closes.history old new
-still_honest g when old new a b before sums held kept report x told was =
-    let b0 : Basis = run_basis x.found.settings when x.begun.found old in
+still_honest : {V : Type 0} (g : Vaults V) (when limit : ℕ) (old new : Areas) (a b : StoreAreas V) (before sums : V) (held kept : List (Held V)) (report : RunReport) (x : IsAtSite g when limit old new a b before sums held kept report) → KeepsHonest (map entry_of x.begun.found) x.runs.closes.history old new
+still_honest g when limit old new a b before sums held kept report x told was =
+    let b0 : Basis = run_basis x.found.settings when limit x.begun.found old in
     let history : List Entry = x.runs.closes.history in
     let order : IsOrderly 0 history = lawful_orderly x.found.settings.segment history (x.runs.closes.lawful (x.leads told)) in
     let honest : IfSome (g.files sums) (IsHonest history) =
@@ -428,66 +428,69 @@ still_honest g when old new a b before sums held kept report x told was =
     x.runs.ran.shelved (of_pass (λ (p : Seen). IsPrefix p.list history) (x.runs.first ∷ x.runs.rest) 0 x.runs.first x.runs.closes.seen refl) was in
     subst (λ (o : Option Files). IfSome o (IsHonest history)) (sym (ap (λ (y : AreaState). y.files) x.sums_at)) honest
 
-run_holds : {V : Type 0} (g : Vaults V) (when : ℕ) (old new : Areas) (a b : StoreAreas V) (before sums : V) (held kept : List (Held V)) (report : RunReport) (x : IsAtSite g when old new a b before sums held kept report) → AreTold old → HoldsHistory g x.found.settings x.runs.closes.history b → HoldsRun x.found.settings x.begun.found x.runs.closes.history new
-run_holds g when old new a b before sums held kept report x told holds =
+run_holds : {V : Type 0} (g : Vaults V) (when limit : ℕ) (old new : Areas) (a b : StoreAreas V) (before sums : V) (held kept : List (Held V)) (report : RunReport) (x : IsAtSite g when limit old new a b before sums held kept report) → AreTold old → HoldsHistory g x.found.settings x.runs.closes.history b → HoldsRun x.found.settings x.begun.found x.runs.closes.history new
+run_holds g when limit old new a b before sums held kept report x told holds =
     let s : StoreSettings = x.found.settings in
     let has : HasBegun (g.files a.wal) (shown_of g x.found) x.found.tip = x.begun in
     let files = some_told (old wal_name).files (told wal_name (inl refl)) in
     let wal : (old wal_name).files ≡ g.files a.wal = wal_files g old a x.was in
-    holds_run g s x.runs.closes.history b old new has.found x.runs.closes.runs.own has.pages files.0 x.at holds (own_grown g when old new a b before sums held kept report x) (owned x.runs.closes.runs.own x.runs.closes.runs.by)
+    holds_run g s x.runs.closes.history b old new has.found x.runs.closes.runs.own has.pages files.0 x.at holds (own_grown g when limit old new a b before sums held kept report x) (owned x.runs.closes.runs.own x.runs.closes.runs.by)
     (ap (apply_all empty) (sym has.history) ∙ has.made (subst (λ (o : Option Files). IsSome o) wal (told wal_name (inl refl)))) files.1
-    (was_given g when old new a b before sums held kept report x)
-    (at_told (old wal_name).files files.0 (HasFound s has.found) files.1 (was_there g when old new a b before sums held kept report x))
-    (leaves g when old new a b before sums held kept report x)
+    (was_given g when limit old new a b before sums held kept report x)
+    (at_told (old wal_name).files files.0 (HasFound s has.found) files.1 (was_there g when limit old new a b before sums held kept report x))
+    (leaves g when limit old new a b before sums held kept report x)
 
-pub run_done : {V : Type 0} (g : Vaults V) (when : ℕ) (old new : Areas) (a b : StoreAreas V) (before sums : V) (held kept : List (Held V)) (report : RunReport) → AreAt g old a → AreAt g new b → old sums_name ≡ state_in g before → new sums_name ≡ state_in g sums → AreThere g old held → AreThere g new kept
-    → IsRunOn g when a b before sums held kept report → RunDone when old new report
-run_done g when old new a b before sums held kept report was at sums_was sums_at were are ran =
-    let x : IsAtSite g when old new a b before sums held kept report = at_site g when old new a b before sums held kept report was at sums_was sums_at ran in
+pub run_done : {V : Type 0} (g : Vaults V) (when limit : ℕ) (old new : Areas) (a b : StoreAreas V) (before sums : V) (held kept : List (Held V)) (report : RunReport) → AreAt g old a → AreAt g new b → old sums_name ≡ state_in g before → new sums_name ≡ state_in g sums → AreThere g old held → AreThere g new kept
+    → IsRunOn g when limit a b before sums held kept report → (done : RunDone when old new report) × (done.limit ≡ limit)
+run_done g when limit old new a b before sums held kept report was at sums_was sums_at were are ran =
+    let x : IsAtSite g when limit old new a b before sums held kept report = at_site g when limit old new a b before sums held kept report was at sums_was sums_at ran in
     let s : StoreSettings = x.found.settings in
     let has : HasBegun (g.files a.wal) (shown_of g x.found) x.found.tip = x.begun in
-    let base : Basis = run_basis s when has.found old in
+    let base : Basis = run_basis s when limit has.found old in
     let history : List Entry = x.runs.closes.history in
     let wal : (old wal_name).files ≡ g.files a.wal = wal_files g old a was in
     let parts : List (Part _) = x.runs.ran.parts in
     let were_at : ℕ → Areas = λ worker. areas_of g (areas_at (λ part. part.held) parts worker) in
     let are_at : ℕ → Areas = λ worker. areas_of g (areas_at (λ part. part.kept) parts worker) in
-    let mine : (worker : ℕ) (t : Told) → slice_get report.told worker ≡ Some t → IsAnswered (tell g a ≡ true) base worker history (length base.found) t.task.lines t.answers (were_at worker) (are_at worker) = all_answered g when old new a b before sums held kept report x in
-    let ran_by : (worker : ℕ) (t : Told) → slice_get report.told worker ≡ Some t → WorkerRan g (tell g a ≡ true) base (x.runs.first ∷ x.runs.rest) parts worker t = its_run g when old new a b before sums held kept report x in
+    let mine : (worker : ℕ) (t : Told) → slice_get report.told worker ≡ Some t → IsAnswered (tell g a ≡ true) base worker history (length base.found) t.task.lines t.answers (were_at worker) (are_at worker) = all_answered g when limit old new a b before sums held kept report x in
+    let ran_by : (worker : ℕ) (t : Told) → slice_get report.told worker ≡ Some t → WorkerRan g (tell g a ≡ true) base (x.runs.first ∷ x.runs.rest) parts worker t = its_run g when limit old new a b before sums held kept report x in
     let there : (worker : ℕ) (t : Told) → slice_get report.told worker ≡ Some t → (n : List ℕ) → IsOneOf n (areas_asked t.task.lines) → are_at worker n ≡ new n =
     λ worker t is n one. is_kept g (tell g a ≡ true) base (x.runs.first ∷ x.runs.rest) parts new worker t (ran_by worker t is) (subst (λ (hs : List (Held _)). AreThere g new hs) x.runs.ran.has.kept_are are) n one in
     let here : (worker : ℕ) (t : Told) → slice_get report.told worker ≡ Some t → (n : List ℕ) → IsOneOf n (areas_asked t.task.lines) → were_at worker n ≡ old n =
-    λ worker t is n one. was_held g (tell g a ≡ true) base (x.runs.first ∷ x.runs.rest) parts old worker t (ran_by worker t is) (subst (λ (hs : List (Held _)). AreThere g old hs) x.runs.ran.has.held_are were) n one in
-    record {
-      settings = s;
-      given = was_given g when old new a b before sums held kept report x;
-      found = has.found;
-      some = has.some;
-      base = has.pages;
-      made = λ told. ap (apply_all empty) (sym has.history) ∙ has.made (subst (λ (o : Option Files). IsSome o) wal told);
-      archive = was_there g when old new a b before sums held kept report x;
-      opened = x.opened ∙ ap (λ (t : Tip). t.end) has.tip_is;
-      history = history;
-      held = were_at;
-      were = λ worker t is name one. here worker t is name one;
-      kept = are_at;
-      are = λ worker t is name one. there worker t is name one;
-      happened = record {
-        own = x.runs.closes.runs.own;
-        grown = x.runs.closes.runs.all;
-        of_run = told_own g (tell g a ≡ true) base (starts_of g x.found before 5) x.runs.first x.runs.rest sums (sum_by (λ (q : Seen). q.faults.sums) (x.runs.first ∷ x.runs.rest)) held kept report.told x.runs.closes.runs.own history x.runs.ran x.runs.closes.runs.all x.runs.closes.of_run
-            (of_pass (CountsItsOwn history) (x.runs.first ∷ x.runs.rest) 0 x.runs.first x.runs.closes.counted refl);
-        lawful = λ told. x.runs.closes.lawful (x.leads told);
-        answered = λ worker t is. answered_less (tell g a ≡ true) (AreTold old) base worker history (length base.found) t.task.lines t.answers (were_at worker) (are_at worker) x.leads (mine worker t is);
-      };
-      completed = λ worker t is. stand_less (tell g a ≡ true) (AreTold old) base worker history t.task.lines t.answers (are_at worker) new x.leads (there worker t is)
-          (backups_told (tell g a) base worker history (length base.found) t.task.lines t.answers (were_at worker) (are_at worker) (mine worker t is)).0;
-      incremented = λ worker t is. incrs_less (tell g a ≡ true) (AreTold old) base worker history t.task.lines t.answers (are_at worker) new x.leads (there worker t is)
-          (incrs_told (tell g a) base worker history t.task.lines t.answers (were_at worker) (are_at worker) (mine worker t is));
-      left = leaves g when old new a b before sums held kept report x;
-      closing = closing g when old new a b before sums held kept report x report.closed x.runs.closes.answer (run_holds g when old new a b before sums held kept report x);
-      risen = shares_told g (tell g a ≡ true) base (starts_of g x.found before 5) x.runs.first x.runs.rest sums (sum_by (λ (q : Seen). q.faults.sums) (x.runs.first ∷ x.runs.rest)) held kept old new report.told x.runs.ran (area_fails g when old new a b before sums held kept report x);
-      backups_failed = λ worker t is. fail_at t.task.lines t.answers (were_at worker) (are_at worker) old new (here worker t is) (there worker t is)
-          (backups_told (tell g a) base worker history (length base.found) t.task.lines t.answers (were_at worker) (are_at worker) (mine worker t is)).1;
-      honest = still_honest g when old new a b before sums held kept report x;
-    }
+    λ worker t is n one. was_held g (tell g a ≡ true) base (x.runs.first ∷ x.runs.rest) parts old worker t (ran_by worker t is) (subst (λ (hs : List (Held _)). AreThere g old hs) x.runs.ran.has.held_are were) n one in (
+      record {
+        settings = s;
+        given = was_given g when limit old new a b before sums held kept report x;
+        found = has.found;
+        some = has.some;
+        base = has.pages;
+        made = λ told. ap (apply_all empty) (sym has.history) ∙ has.made (subst (λ (o : Option Files). IsSome o) wal told);
+        archive = was_there g when limit old new a b before sums held kept report x;
+        opened = x.opened ∙ ap (λ (t : Tip). t.end) has.tip_is;
+        limit = limit;
+        history = history;
+        held = were_at;
+        were = λ worker t is name one. here worker t is name one;
+        kept = are_at;
+        are = λ worker t is name one. there worker t is name one;
+        happened = record {
+          own = x.runs.closes.runs.own;
+          grown = x.runs.closes.runs.all;
+          of_run = told_own g (tell g a ≡ true) base (starts_of g x.found before 5) x.runs.first x.runs.rest sums (sum_by (λ (q : Seen). q.faults.sums) (x.runs.first ∷ x.runs.rest)) held kept report.told x.runs.closes.runs.own history x.runs.ran x.runs.closes.runs.all x.runs.closes.of_run
+              (of_pass (CountsItsOwn history) (x.runs.first ∷ x.runs.rest) 0 x.runs.first x.runs.closes.counted refl);
+          lawful = λ told. x.runs.closes.lawful (x.leads told);
+          answered = λ worker t is. answered_less (tell g a ≡ true) (AreTold old) base worker history (length base.found) t.task.lines t.answers (were_at worker) (are_at worker) x.leads (mine worker t is);
+        };
+        completed = λ worker t is. stand_less (tell g a ≡ true) (AreTold old) base worker history t.task.lines t.answers (are_at worker) new x.leads (there worker t is)
+            (backups_told (tell g a) base worker history (length base.found) t.task.lines t.answers (were_at worker) (are_at worker) (mine worker t is)).0;
+        incremented = λ worker t is. incrs_less (tell g a ≡ true) (AreTold old) base worker history t.task.lines t.answers (are_at worker) new x.leads (there worker t is)
+            (incrs_told (tell g a) base worker history t.task.lines t.answers (were_at worker) (are_at worker) (mine worker t is));
+        left = leaves g when limit old new a b before sums held kept report x;
+        closing = closing g when limit old new a b before sums held kept report x report.closed x.runs.closes.answer (run_holds g when limit old new a b before sums held kept report x);
+        risen = shares_told g (tell g a ≡ true) base (starts_of g x.found before 5) x.runs.first x.runs.rest sums (sum_by (λ (q : Seen). q.faults.sums) (x.runs.first ∷ x.runs.rest)) held kept old new report.told x.runs.ran (area_fails g when limit old new a b before sums held kept report x);
+        backups_failed = λ worker t is. fail_at t.task.lines t.answers (were_at worker) (are_at worker) old new (here worker t is) (there worker t is)
+            (backups_told (tell g a) base worker history (length base.found) t.task.lines t.answers (were_at worker) (are_at worker) (mine worker t is)).1;
+        honest = still_honest g when limit old new a b before sums held kept report x;
+      },
+      refl,
+    )

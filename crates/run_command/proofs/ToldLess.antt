@@ -12,7 +12,7 @@ use Rattle.store_faults.specs.declared.incr_fault.IncrFault.TheVariants as incr
 use Rattle.backup_sending.specs.Sent.{SentFile, AreFor, IsCopyOf, IsSentAs, blocks_sent}
 use Rattle.lsn_core.specs.Store.{ForkPages}
 use Rattle.wal_summary.specs.declared.summary.Summary.{Summary}
-use Rattle.shared_summaries.specs.summary_publish.Published.{Advances, AdvancesTo, AdvanceAnswers}
+use Rattle.shared_summaries.specs.summary_publish.Published.{Advances}
 use Rattle.store_faults.specs.declared.advance_fault.AdvanceFault.{AdvanceFault}
 use Rattle.store_faults.specs.declared.advance_fault.AdvanceFault.TheVariants as advance
 use Rattle.command_base.specs.Areas.{backup_name}
@@ -27,7 +27,7 @@ use Rattle.run_answers.specs.declared.answer.Answer.TheVariants.{Accepted, Refus
 use Rattle.scripts.specs.Orders.{op_asked, grow_ops}
 use Rattle.crew.specs.Backups.{area_asked, areas_asked}
 use Rattle.scripts.specs.Named.{backup_taken, prior_taken}
-use Rattle.shared_summaries.specs.Shelf.{AreShelved, HasPublished, states}
+use Rattle.shared_summaries.specs.Shelf.{AreShelved, AreKeptOn, HasPublished, states}
 use Rattle.incr_backup.specs.Incr.{SumsUp}
 use Rattle.crew.specs.Run.{Basis, HoldsBackup, IsBackupRefused, IncrAreas, incr_areas, HoldsIncr, IsIncrRefused, IncrStandsFor, IncrsStand, KeepsTo, Made, LineAnswer, Answered, IsAnswered, StandsFor, BackupsStand, RoseFor, FailsFor, BackupFaultsRose}
 
@@ -64,38 +64,39 @@ refused_less S T b worker before now name old new backup.NoMemory leads (inr (in
 
 -- ---- incremental backups
 
-advances_less : (S T : Type 0) (history : List Entry) (when : ℕ) (old new : AreaState) (count : ℕ) → (T → S) → Advances states S history when old new count → Advances states T history when old new count
-advances_less S T history when old new count leads a = record { sums = a.sums; published = λ t. a.published (leads t); counted = a.counted; files = a.files; durable = a.durable }
-
-advances_to_less : (S T : Type 0) (history : List Entry) (when : ℕ) (old new : AreaState) (P : List Summary → Type 0) → (T → S) → AdvancesTo states S history when old new P → AdvancesTo states T history when old new P
-advances_to_less S T history when old new P leads a = record { count = a.count; advances = advances_less S T history when old new a.count leads a.advances; kept = a.kept; held = a.held; so = a.so }
-
-covers_less : (S T : Type 0) (history : List Entry) (when from to : ℕ) (old new : AreaState) (answer : Result Summary AdvanceFault) → (T → S) → AdvanceAnswers states S history when from to old new answer → AdvanceAnswers states T history when from to old new answer
-covers_less S T history when from to old new (Ok sum) leads a = advances_to_less S T history when old new _ leads a
-covers_less S T history when from to old new (Err (advance.Gap place)) leads a = advances_to_less S T history when old new _ leads a
-covers_less S T history when from to old new (Err (advance.Store fault)) leads a = tt
+advances_less : (S T : Type 0) (history : List Entry) (when limit : ℕ) (old new : AreaState) (kept rest : List Summary) (count : ℕ) → (T → S) → Advances states S history when limit old new kept rest count → Advances states T history when limit old new kept rest count
+advances_less S T history when limit old new kept rest count leads a = record { sums = a.sums; published = λ t. a.published (leads t); counted = a.counted; kept_is = a.kept_is; files = a.files; durable = a.durable }
 
 shelved_less : (S T : Type 0) (found : List Entry) (begun : Option Files) (now : List Entry) (files : Option Files) → (T → S) → AreShelved S found begun now files → AreShelved T found begun now files
-shelved_less S T found begun now files leads s = record { told = s.told; true_for = λ t. s.true_for (leads t); grown = λ t. s.grown (leads t) }
+shelved_less S T found begun now files leads s = record { told = s.told; true_for = λ t. s.true_for (leads t) }
 
-sums_up_less : (S T : Type 0) (found : List Entry) (begun : Option Files) (when worker before : ℕ) (now : List Entry) (redo from : ℕ) (answer : Result Summary AdvanceFault) → (T → S) → SumsUp S found begun when worker before now redo from answer → SumsUp T found begun when worker before now redo from answer
-sums_up_less S T found begun when worker before now redo from answer leads s = record {
+keeps_less : (S T : Type 0) (found : List Entry) (begun : Option Files) (limit : ℕ) (files : Option Files) (kept : List Summary) → (T → S) → AreKeptOn S found begun limit files kept → AreKeptOn T found begun limit files kept
+keeps_less S T found begun limit files kept leads k = record { listed = k.listed; grown = λ t. k.grown (leads t) }
+
+published_less : (S T : Type 0) (found : List Entry) (begun : Option Files) (now : List Entry) (when limit count : ℕ) → (T → S) → HasPublished S found begun now when limit count → HasPublished T found begun now when limit count
+published_less S T found begun now when limit count leads p = record {
+  old = p.old;
+  new = p.new;
+  kept = p.kept;
+  rest = p.rest;
+  shelved = shelved_less S T found begun now p.old.files leads p.shelved;
+  keeps = keeps_less S T found begun limit p.old.files p.kept leads p.keeps;
+  advances = advances_less S T now when limit p.old p.new p.kept p.rest count leads p.advances;
+  stays = shelved_less S T found begun now p.new.files leads p.stays;
+  goes_on = keeps_less S T found begun limit p.new.files p.rest leads p.goes_on;
+}
+
+sums_up_less : (S T : Type 0) (found : List Entry) (begun : Option Files) (when limit worker before : ℕ) (now : List Entry) (redo from : ℕ) (answer : Result Summary AdvanceFault) → (T → S) → SumsUp S found begun when limit worker before now redo from answer → SumsUp T found begun when limit worker before now redo from answer
+unfolding published_less
+sums_up_less S T found begun when limit worker before now redo from answer leads s = record {
   seen = s.seen;
   within = s.within;
   checkpoint = s.checkpoint;
-  old = s.old;
-  new = s.new;
-  shelved = shelved_less S T found begun (take s.seen now) s.old.files leads s.shelved;
-  covers = covers_less S T (take s.seen now) when from redo s.old s.new answer leads s.covers;
-}
-
-published_less : (S T : Type 0) (found : List Entry) (begun : Option Files) (now : List Entry) (when count : ℕ) → (T → S) → HasPublished S found begun now when count → HasPublished T found begun now when count
-published_less S T found begun now when count leads p = record {
-  old = p.old;
-  new = p.new;
-  shelved = shelved_less S T found begun now p.old.files leads p.shelved;
-  advances = advances_less S T now when p.old p.new count leads p.advances;
-  stays = shelved_less S T found begun now p.new.files leads p.stays;
+  covered = record {
+    count = s.covered.count;
+    published = published_less S T found begun (take s.seen now) when limit s.covered.count leads s.covered.published;
+    covers = s.covered.covers;
+  };
 }
 
 are_for_less : (P Q : ℕ → List ℕ → Type 0) (blocks : List ℕ) (pages : ForkPages) → ((block : ℕ) (page : List ℕ) → P block page → Q block page) → AreFor P blocks pages → AreFor Q blocks pages
@@ -119,7 +120,7 @@ incr_less S T b worker before now name start end old new leads h = record {
   plan = h.plan;
   relseg = h.relseg;
   prior = h.prior;
-  summed = sums_up_less S T b.found b.sums b.when worker before now start.0 h.plan.prior.start (Ok h.plan.summary) leads h.summed;
+  summed = sums_up_less S T b.found b.sums b.when b.limit worker before now start.0 h.plan.prior.start (Ok h.plan.summary) leads h.summed;
   list = h.list;
   listed = record { order = h.listed.order; named = h.listed.named; listed = λ t. h.listed.listed (leads t) };
   files = h.files;
@@ -139,7 +140,7 @@ incr_refused_less S T b worker before now name old new (incr.Gap place) leads is
     manifest = is.1.manifest;
     start = is.1.start;
     prior = is.1.prior;
-    summed = sums_up_less S T b.found b.sums b.when worker before now is.1.start is.1.manifest.start (Err (advance.Gap place)) leads is.1.summed;
+    summed = sums_up_less S T b.found b.sums b.when b.limit worker before now is.1.start is.1.manifest.start (Err (advance.Gap place)) leads is.1.summed;
   },
   is.2,
 )
@@ -164,7 +165,7 @@ line_less S T b worker before now line (Redo redo) made held mid leads is = is
 line_less S T b worker before now line (CheckpointRefused why) made held mid leads is = is
 line_less S T b worker before now line (Wrote k) made held mid leads is = is
 line_less S T b worker before now line (Published k) made held mid leads is =
-    (is.0, is.1, published_less S T b.found b.sums now b.when k leads is.2, is.3)
+    (is.0, is.1, published_less S T b.found b.sums now b.when b.limit k leads is.2, is.3)
 line_less S T b worker before now line (CallFailed why) made held mid leads is = is
 line_less S T b worker before now line (Backup start end) made held mid leads (made_is, inl t) =
     (made_is, inl (t.0, t.1, t.2, t.3, holds_less S T b worker before now t.0 start end (mid (backup_name t.0)).files leads t.4, t.5))

@@ -295,9 +295,9 @@ faults_named blanks a =
     else (if a == 4 then blanks.wal.name else blanks.sums.name))))
 
 -- what lines run on, where a store was found
-abbrev pub basis_found : {V : Type 0} → Vaults V → Found V → V → ℕ → Basis
-basis_found vaults found sums when =
-    basis_of found.settings when found.opened.list (vaults.files sums)
+abbrev pub basis_found : {V : Type 0} → Vaults V → Found V → V → ℕ → ℕ → Basis
+basis_found vaults found sums when limit =
+    basis_of found.settings when found.opened.list (vaults.files sums) limit
 
 -- a script was run by workers that had seen what was found; then the first pass learned what was known
 -- of the summaries, whose area is true for all that it has seen now, and of whose faults so many are
@@ -344,12 +344,12 @@ EndsRun vaults tells b from starts found before new sums held kept (Err why) =
     × (kept ≡ held)
 
 -- a store was found on areas, the script was run on it, and it was closed
-pub record IsRunOn {V : Type 0} (vaults : Vaults V) (when : ℕ) (old new : StoreAreas V)
+pub record IsRunOn {V : Type 0} (vaults : Vaults V) (when limit : ℕ) (old new : StoreAreas V)
     (before sums : V) (held kept : List (Held V)) (report : RunReport) : Type 0 where
   pub found : Found V
   pub begins : IsBegun vaults old (shown_of vaults found) found.tip
   pub opened : report.opened.0 ≡ found.tip.end
-  pub runs : HasRunOn vaults (tell vaults old ≡ true) (basis_found vaults found before when)
+  pub runs : HasRunOn vaults (tell vaults old ≡ true) (basis_found vaults found before when limit)
       (wal_start vaults found) (starts_of vaults found before) new sums held kept report.told
       report.closed
 
@@ -366,11 +366,11 @@ pub record HasNotBegun {V : Type 0} (vaults : Vaults V) (old new : StoreAreas V)
   pub cause : MayNotBegin vaults old new why
 
 -- so it was, or no store was begun
-abbrev pub RunsOn : {V : Type 0} → Vaults V → ℕ → StoreAreas V → StoreAreas V → V → V
+abbrev pub RunsOn : {V : Type 0} → Vaults V → ℕ → ℕ → StoreAreas V → StoreAreas V → V → V
     → List (Held V) → List (Held V) → Result RunReport BeginWhy → Type 0
-RunsOn vaults when old new before sums held kept (Ok report) =
-    IsRunOn vaults when old new before sums held kept report
-RunsOn vaults when old new before sums held kept (Err why) =
+RunsOn vaults when limit old new before sums held kept (Ok report) =
+    IsRunOn vaults when limit old new before sums held kept report
+RunsOn vaults when limit old new before sums held kept (Err why) =
     HasNotBegun vaults old new why × (sums ≡ before) × (kept ≡ held)
 
 -- a site and an input, as `run` sees them, where a clock tells this
@@ -380,6 +380,6 @@ seen_at site left reads moment = with_moment (with_input site left reads) moment
 -- there is no script, whatever the site, the clock and the script are
 abbrev pub RefusesScript : {I : Type 0} → Sources I → I → I → RunFault → Type 0
 RefusesScript sources old new fault =
-    (when : ℕ) (script : List Task) (site : Outside) (before behind : Option ℕ)
-    → RunAnswer when script (seen_at site (sources.left old) (sources.faults old) before)
+    (when limit : ℕ) (script : List Task) (site : Outside) (before behind : Option ℕ)
+    → RunAnswer when limit script (seen_at site (sources.left old) (sources.faults old) before)
     (seen_at site (sources.left new) (sources.faults new) behind) (Err fault)

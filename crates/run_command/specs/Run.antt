@@ -39,6 +39,7 @@ use Rattle.scripts.specs.declared.script.Line.{Line}
 use Rattle.run_answers.specs.Telling.{RunResult}
 use Rattle.run_answers.specs.declared.answer.Stop.{Stop}
 use Rattle.run_answers.specs.declared.answer.Stop.TheVariants as stop
+use Rattle.summary_store.specs.Expiry.{age_limit}
 use Rattle.crew.specs.Backups.{areas_asked}
 use Rattle.crew.specs.Run.{Basis, basis_of, IsAnswered, BackupsStand, BackupFaultsRose, IncrsStand, TellsFault, IsHonestFor}
 use Rattle.command_base.specs.declared.status.Status.{Status}
@@ -137,10 +138,11 @@ found_tip s found = tip_behind (first_tip s.segment) found
 abbrev pub HasFound : StoreSettings → List Record → Files → Type 0
 HasFound s found files = IsWal s files found (found_tip s found)
 
--- what a run's lines run on: the settings of its store, its moment, the entries that were found, and
--- the files that the area of summaries had then
-abbrev pub run_basis : StoreSettings → ℕ → List Record → Areas → Basis
-run_basis s when found old = basis_of s when (map entry_of found) (old sums_name).files
+-- what a run's lines run on: the settings of its store, its moment, that before which a summary is old
+-- that was made then, the entries that were found, and the files that the area of summaries had then
+abbrev pub run_basis : StoreSettings → ℕ → ℕ → List Record → Areas → Basis
+run_basis s when limit found old =
+    basis_of s when (map entry_of found) (old sums_name).files limit
 
 -- a history goes on behind the entries that were found by entries of the workers alone, and, where
 -- areas tell, lawfully, each entry in the place where it is written; over it
@@ -236,6 +238,8 @@ pub record RunDone (when : ℕ) (old new : Areas) (report : RunReport) : Type 0 
   pub made : IsSome (old wal_name).files → apply_all empty (map entry_of found) ≡ Some base
   pub archive : IfSome (old wal_name).files (HasFound settings found)
   pub opened : report.opened.0 ≡ (found_tip settings found).end
+  -- the moment before which a summary is old that was made then
+  pub limit : ℕ
   pub history : List Entry
   -- each worker's areas of backups, as they were and as they are
   pub held : ℕ → Areas
@@ -243,11 +247,12 @@ pub record RunDone (when : ℕ) (old new : Areas) (report : RunReport) : Type 0 
   pub kept : ℕ → Areas
   pub are : AreEachAsAt report.told kept new
   pub happened :
-      HasHistory (AreTold old) (run_basis settings when found old) report.told held kept history
+      HasHistory (AreTold old) (run_basis settings when limit found old) report.told held kept
+      history
   pub completed :
-      BackupsDone (AreTold old) (run_basis settings when found old) history new report.told
+      BackupsDone (AreTold old) (run_basis settings when limit found old) history new report.told
   pub incremented :
-      IncrsDone (AreTold old) (run_basis settings when found old) history new report.told
+      IncrsDone (AreTold old) (run_basis settings when limit found old) history new report.told
   pub left : LeavesWal settings found history (old wal_name) (new wal_name)
   pub closing : IsClosing settings found history old new report.closed
   pub risen : ToldFaultsRose old new report.told
@@ -273,44 +278,45 @@ CantBegin script old new (begin.Data why) =
     KeepAll (others_asked script) old new
     × Keeps (old wal_name) (new wal_name) × DataAreaFails old new why
 
--- why running a script at a moment comes to its answer, whether it was read or made: it was run; or
+-- why running a script at a moment, with such a limit, comes to its answer, whether it was read or made: it was run; or
 -- memory ran out, an area wasn't handed out, or no store can be begun. No input is read
-abbrev pub RunOfScript : ℕ → List Task → Outside → Outside → RunResult → Type 0
-RunOfScript when script old new (Ok report) =
-    (tasks_told report.told ≡ script) × RunDone when old.areas new.areas report
-RunOfScript when script old new (Err (run.Input why)) = ⊥
-RunOfScript when script old new (Err (run.Script line why)) = ⊥
-RunOfScript when script old new (Err run.NoMemory) = LeavesSite old new
-RunOfScript when script old new (Err (run.Site fault)) =
+abbrev pub RunOfScript : ℕ → ℕ → List Task → Outside → Outside → RunResult → Type 0
+RunOfScript when limit script old new (Ok report) =
+    (tasks_told report.told ≡ script)
+    × (done : RunDone when old.areas new.areas report) × (done.limit ≡ limit)
+RunOfScript when limit script old new (Err (run.Input why)) = ⊥
+RunOfScript when limit script old new (Err (run.Script line why)) = ⊥
+RunOfScript when limit script old new (Err run.NoMemory) = LeavesSite old new
+RunOfScript when limit script old new (Err (run.Site fault)) =
     IsUntaken (run_asks script) old new fault
-RunOfScript when script old new (Err (run.Begin why)) =
+RunOfScript when limit script old new (Err (run.Begin why)) =
     CantBegin script old.areas new.areas why
 
 -- ---- what `run` comes to
 
 -- why `run` of a script at a moment comes to its answer: the input failed, a line is refused, or memory
 -- ran out; or this is the script of the input, and running it comes to the answer
-abbrev pub RunAnswer : ℕ → List Task → Outside → Outside → RunResult → Type 0
-RunAnswer when script old new (Ok report) =
-    HasScript old.left new.left script × RunOfScript when script old new (Ok report)
-RunAnswer when script old new (Err (run.Input why)) =
+abbrev pub RunAnswer : ℕ → ℕ → List Task → Outside → Outside → RunResult → Type 0
+RunAnswer when limit script old new (Ok report) =
+    HasScript old.left new.left script × RunOfScript when limit script old new (Ok report)
+RunAnswer when limit script old new (Err (run.Input why)) =
     LeavesSite old new × AreaCause old.reads new.reads why
-RunAnswer when script old new (Err (run.Script line why)) =
+RunAnswer when limit script old new (Err (run.Script line why)) =
     LeavesSite old new × HasRefusedLine old.left new.left line why
-RunAnswer when script old new (Err run.NoMemory) = LeavesSite old new
-RunAnswer when script old new (Err (run.Site fault)) =
+RunAnswer when limit script old new (Err run.NoMemory) = LeavesSite old new
+RunAnswer when limit script old new (Err (run.Site fault)) =
     HasScript old.left new.left script
-    × RunOfScript when script old new (Err (run.Site fault))
-RunAnswer when script old new (Err (run.Begin why)) =
+    × RunOfScript when limit script old new (Err (run.Site fault))
+RunAnswer when limit script old new (Err (run.Begin why)) =
     HasScript old.left new.left script
-    × RunOfScript when script old new (Err (run.Begin why))
+    × RunOfScript when limit script old new (Err (run.Begin why))
 
--- `run`, of a script where the input has one, at the clock's moment. Of the input no more is taken
+-- `run`, of a script where the input has one, at the clock's moment, keeping summaries for so many days. Of the input no more is taken
 -- than one byte more than a script may have
-abbrev pub RunDoes : Outside → Outside → RunResult → Type 0
-RunDoes old new r =
+abbrev pub RunDoes : ℕ → Outside → Outside → RunResult → Type 0
+RunDoes days old new r =
     (when : ℕ) × (script : List Task) × IsMoment old when
     × Works (run_asks script) old new
     × (old.reads ≤ new.reads)
     × TakesAtMost (script_limit + 1) old.left new.left
-    × RunAnswer when script old new r
+    × RunAnswer when (age_limit days when) script old new r

@@ -4,6 +4,7 @@ ghost use Rattle.std.specs.Prelude.{◌≡◌, ◌+◌, ◌≤◌, length, IfOk,
 ghost use Rattle.vault.specs.Site.{AllHome};
 ghost use Rattle.scripts.specs.Apart.{AreApart};
 ghost use Rattle.scripts.specs.Reasons.{script_limit};
+ghost use Rattle.summary_store.specs.Expiry.{age_limit};
 ghost use Rattle.command_base.specs.Outside.{of_site, of_all, Works};
 ghost use Rattle.run_command.specs.Input.{TakesAtMost};
 ghost use Rattle.run_command.specs.Run.{HasScript, NamePriors, run_asks, RunDoes, RunOfScript};
@@ -22,8 +23,8 @@ use std::sync::Wait;
 use std::thread::Threads;
 use vault::{Clock, Held, Site, Source};
 
-/// Runs a script, read or made, on the store of a site with so many frames of each partition, each
-/// worker in a thread of its own, with a gate that is called behind each of its steps, with no lock
+/// Runs a script, read or made, on the store of a site with so many frames of each partition and
+/// summaries that are kept for so many days, or all where these are 0, each worker in a thread of its own, with a gate that is called behind each of its steps, with no lock
 /// held. The moment is in seconds since 1970 (profile: before the year 10000). A script that was read
 /// meets what is asked of its tasks. All memory that a refusal would need is taken before the areas are,
 /// and these are given back in any case. It errs where there is no memory, an area isn't handed out or
@@ -32,6 +33,7 @@ pub fn run_script<R: Threads + Wait + Sync, S: Site, G: Gate>(
     rt: &R,
     alloc: Global,
     frames: u32,
+    days: u32,
     script: Script,
     when: u64,
     site: &mut S,
@@ -43,7 +45,7 @@ pub fn run_script<R: Threads + Wait + Sync, S: Site, G: Gate>(
     requires priors { NamePriors script }
     requires home { AllHome (S.areas site.old) }
     ensures site { Works (run_asks script) (of_site S.Site site.old) (of_site S.Site site.new) }
-    ensures answer { RunOfScript when script (of_site S.Site site.old) (of_site S.Site site.new)
+    ensures answer { RunOfScript when (age_limit days when) script (of_site S.Site site.old) (of_site S.Site site.new)
         result }
 {
     let (work, backups) = work_of(alloc, script)?;
@@ -51,7 +53,7 @@ pub fn run_script<R: Threads + Wait + Sync, S: Site, G: Gate>(
     let (held, sums, names, areas) = take_run(alloc, site, names)?;
     let Held { name, area: sums } = sums;
     let (held, sums, areas, answer) = run_areas(
-        rt, alloc, areas, sums, frames, held, work, gate, when,
+        rt, alloc, areas, sums, frames, held, work, gate, days, when,
     );
     give_store(site, names, areas);
     give_others(site, held, Held { name, area: sums });
@@ -82,21 +84,23 @@ fn script_of<I: Source>(alloc: Global, input: &mut I) -> Result<Script, RunFault
 }
 
 /// `run`: reads the clock and the script of the input, and runs it on the store of a site with so many
-/// frames of each partition, each worker in a thread of its own.
+/// frames of each partition and summaries that are kept for so many days, each worker in a thread of
+/// its own.
 pub fn run<R: Threads + Wait + Sync, S: Site, I: Source, C: Clock>(
     rt: &R,
     alloc: Global,
     frames: u32,
+    days: u32,
     site: &mut S,
     input: &mut I,
     clock: &mut C,
 ) -> Result<RunReport, RunFault>
     requires { AllHome (S.areas site.old) }
-    ensures does { RunDoes (of_all S.Site I.Source C.Clock site.old input.old clock.old)
+    ensures does { RunDoes days (of_all S.Site I.Source C.Clock site.old input.old clock.old)
         (of_all S.Site I.Source C.Clock site.new input.new clock.new) result }
     ensures home { AllHome (S.areas site.new) }
 {
-    run_gated(rt, alloc, frames, site, input, clock, &OpenGate)
+    run_gated(rt, alloc, frames, days, site, input, clock, &OpenGate)
 }
 
 /// The same, with a gate that is called behind each step of a worker, with no lock held.
@@ -104,17 +108,18 @@ pub fn run_gated<R: Threads + Wait + Sync, S: Site, I: Source, C: Clock, G: Gate
     rt: &R,
     alloc: Global,
     frames: u32,
+    days: u32,
     site: &mut S,
     input: &mut I,
     clock: &mut C,
     gate: &G,
 ) -> Result<RunReport, RunFault>
     requires { AllHome (S.areas site.old) }
-    ensures does { RunDoes (of_all S.Site I.Source C.Clock site.old input.old clock.old)
+    ensures does { RunDoes days (of_all S.Site I.Source C.Clock site.old input.old clock.old)
         (of_all S.Site I.Source C.Clock site.new input.new clock.new) result }
     ensures home { AllHome (S.areas site.new) }
 {
     let when = clock.now();
     let script = script_of(alloc, input)?;
-    run_script(rt, alloc, frames, script, when, site, gate)
+    run_script(rt, alloc, frames, days, script, when, site, gate)
 }

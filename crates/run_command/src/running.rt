@@ -5,6 +5,7 @@ ghost use Rattle.store_lifecycle.specs.Starts.{AreBack, AreNamed, AreStarts, fre
 ghost use Rattle.store_areas.specs.Begin.{IsStanding};
 ghost use Rattle.journal.specs.Lawful.{IsLawful};
 ghost use Rattle.vault.specs.Lending.{AreLater, names_of};
+ghost use Rattle.summary_store.specs.Expiry.{age_limit};
 ghost use Rattle.crew.specs.Run.{basis_of};
 ghost use Rattle.run_command.specs.Run.{tasks_told};
 ghost use Rattle.run_command.specs.Inner.{AreNamesFor, EndsRun, HasRoom, HasRunOn, HaveParts, IsWork};
@@ -17,8 +18,8 @@ use crew::{Worker, run_crew};
 use lsn_core::{Lsn, StoreFault};
 use recovery::RecoveryFault;
 use run_answers::{RunReport, ToldTasks};
-use shared_store::{OfCrew, Pass, Store};
-use shared_summaries::Summaries;
+use shared_store::{Pass, Store};
+use shared_summaries::{OfRetention, Summaries};
 use std::alloc::Global;
 use std::boxed::Box;
 use std::marker::Brand;
@@ -34,7 +35,7 @@ use vault::{Held, Vault};
 
 /// Runs the lines of a crew's workers side by side on an open store, with the areas of their backups, at
 /// this moment. There is room for the crew.
-fn run_work<R: Threads + Wait + Sync, J: OfCrew + Send + Sync, V: Vault, G: Gate>(
+fn run_work<R: Threads + Wait + Sync, J: OfRetention + Send + Sync, V: Vault, G: Gate>(
     rt: &R,
     alloc: Global,
     store: &Store<J, V>,
@@ -48,10 +49,11 @@ fn run_work<R: Threads + Wait + Sync, J: OfCrew + Send + Sync, V: Vault, G: Gate
 ) -> ToldTasks
     requires work { IsWork work }
     requires when { when ≤ 253402207199 }
+    requires young { J.limit ≤ when }
     requires names { AreNamesFor work.seats.items (names_of held.old.items) }
     requires room { HasRoom crew (length work.seats.items) }
     requires passes { length work.seats.items ≤ length passes.old.items }
-    ensures ran { RunsCrew V.Vault (J.tells ≡ true) (basis_of J.settings when J.found J.sums)
+    ensures ran { RunsCrew V.Vault (J.tells ≡ true) (basis_of J.settings when J.found J.sums J.limit)
         passes.old.items passes.new.items held.old.items held.new.items result }
     ensures script { tasks_told result ≡ tasks_of work.seats.items }
     ensures later { AreLater V.Vault held.old.items held.new.items }
@@ -66,7 +68,7 @@ fn run_work<R: Threads + Wait + Sync, J: OfCrew + Send + Sync, V: Vault, G: Gate
 
 /// Shares the area of the summaries on an open store, runs a script there, and takes the area back. The
 /// first pass learns what was known of the summaries.
-fn run_shared<R: Threads + Wait + Sync, J: OfCrew + Send + Sync, V: Vault, G: Gate>(
+fn run_shared<R: Threads + Wait + Sync, J: OfRetention + Send + Sync, V: Vault, G: Gate>(
     rt: &R,
     alloc: Global,
     store: &Store<J, V>,
@@ -77,23 +79,25 @@ fn run_shared<R: Threads + Wait + Sync, J: OfCrew + Send + Sync, V: Vault, G: Ga
     held: &mut Vec<Held<V>>,
     work: Work<V>,
     gate: &G,
+    days: u32,
     when: u64,
 ) -> (V, Book<AreaFaults<J, 5>>, ToldTasks)
     requires work { IsWork work }
     requires when { when ≤ 253402207199 }
+    requires limit { J.limit ≡ age_limit days when }
     requires names { AreNamesFor work.seats.items (names_of held.old.items) }
     requires room { HasRoom crew (length work.seats.items) }
     requires fresh { passes.old.items ≡ fresh_passes (passes_for work.seats.items) J.found }
     requires sums { (J.sums ≡ V.files (box_value sums))
         × (J.starts 5 ≡ V.faults (box_value sums)) }
     requires book { book.total ≡ 0 }
-    ensures ran { RunsShared V.Vault (J.tells ≡ true) (basis_of J.settings when J.found J.sums)
+    ensures ran { RunsShared V.Vault (J.tells ≡ true) (basis_of J.settings when J.found J.sums J.limit)
         (J.starts 5) passes.new.items result.0 result.1.total held.old.items held.new.items
         result.2 }
     ensures script { tasks_told result.2 ≡ tasks_of work.seats.items }
     ensures later { AreLater V.Vault held.old.items held.new.items }
 {
-    let sums = Summaries::begin(sums, store, &mut passes[0], book);
+    let sums = Summaries::begin(sums, store, &mut passes[0], book, days, when);
     let told = run_work(
         rt, alloc, store, &sums, crew, passes, held, work, gate, when,
     );
@@ -102,7 +106,7 @@ fn run_shared<R: Threads + Wait + Sync, J: OfCrew + Send + Sync, V: Vault, G: Ga
 }
 
 /// Runs a script on a store that was begun for its workers, and closes it.
-fn run_begun<R: Threads + Wait + Sync, J: OfCrew + Send + Sync, V: Vault, G: Gate>(
+fn run_begun<R: Threads + Wait + Sync, J: OfRetention + Send + Sync, V: Vault, G: Gate>(
     rt: &R,
     alloc: Global,
     began: Began<J, V>,
@@ -111,10 +115,12 @@ fn run_begun<R: Threads + Wait + Sync, J: OfCrew + Send + Sync, V: Vault, G: Gat
     held: &mut Vec<Held<V>>,
     work: Work<V>,
     gate: &G,
+    days: u32,
     when: u64,
 ) -> (StoreAreas<V>, V, ToldTasks, Result<Lsn, StoreFault>)
     requires work { IsWork work }
     requires when { when ≤ 253402207199 }
+    requires limit { J.limit ≡ age_limit days when }
     requires names { AreNamesFor work.seats.items (names_of held.old.items) }
     requires room { HasRoom crew (length work.seats.items) }
     requires workers { (J.workers ≡ passes_for work.seats.items) × (J.passes ≡ J.workers) }
@@ -122,7 +128,7 @@ fn run_begun<R: Threads + Wait + Sync, J: OfCrew + Send + Sync, V: Vault, G: Gat
         × (J.starts 5 ≡ V.faults (box_value sums)) }
     requires book { began.sums.total ≡ 0 }
     requires fresh { began.crew.items ≡ fresh_passes (passes_for work.seats.items) J.found }
-    ensures ran { HasRunOn V.Vault (J.tells ≡ true) (basis_of J.settings when J.found J.sums)
+    ensures ran { HasRunOn V.Vault (J.tells ≡ true) (basis_of J.settings when J.found J.sums J.limit)
         J.wal J.starts result.0 result.1 held.old.items held.new.items result.2 result.3 }
     ensures script { tasks_told result.2 ≡ tasks_of work.seats.items }
     ensures later { AreLater V.Vault held.old.items held.new.items }
@@ -144,6 +150,7 @@ fn run_begun<R: Threads + Wait + Sync, J: OfCrew + Send + Sync, V: Vault, G: Gat
         held,
         work,
         gate,
+        days,
         when,
     );
     let mut book = book;
@@ -167,7 +174,7 @@ fn areas_back<V: Vault>(found: Found<V>) -> StoreAreas<V>
 
 /// Begins a store that was found, at the name that the call's proof picks, with so many passes and room
 /// for a crew. It errs where there is no memory, and hands the areas back as they were found.
-fn begin_crew<J: OfCrew, V: Vault>(
+fn begin_crew<J: OfRetention, V: Vault>(
     alloc: Global,
     found: Found<V>,
     blanks: Blanks,
@@ -196,7 +203,7 @@ fn begin_crew<J: OfCrew, V: Vault>(
 
 /// Begins a store that was found, at the name that the call's proof picks, for the workers of a script,
 /// runs it there, and closes the store.
-fn run_found<R: Threads + Wait + Sync, J: OfCrew + Send + Sync, V: Vault, G: Gate>(
+fn run_found<R: Threads + Wait + Sync, J: OfRetention + Send + Sync, V: Vault, G: Gate>(
     rt: &R,
     alloc: Global,
     found: Found<V>,
@@ -205,10 +212,12 @@ fn run_found<R: Threads + Wait + Sync, J: OfCrew + Send + Sync, V: Vault, G: Gat
     held: &mut Vec<Held<V>>,
     work: Work<V>,
     gate: &G,
+    days: u32,
     when: u64,
 ) -> (StoreAreas<V>, V, Result<RunReport, BeginWhy>)
     requires work { IsWork work }
     requires when { when ≤ 253402207199 }
+    requires limit { J.limit ≡ age_limit days when }
     requires names { AreNamesFor work.seats.items (names_of held.old.items) }
     requires found { (found.opened.table ≡ J.table) × (found.opened.list ≡ J.found)
         × (found.settings ≡ J.settings) }
@@ -219,7 +228,7 @@ fn run_found<R: Threads + Wait + Sync, J: OfCrew + Send + Sync, V: Vault, G: Gat
         × (J.starts 5 ≡ V.faults (box_value sums)) }
     requires stands { IsStanding V.Vault found }
     requires told { J.tells ≡ true → IsSome (V.files found.wal) }
-    ensures runs { EndsRun V.Vault (J.tells ≡ true) (basis_of J.settings when J.found J.sums)
+    ensures runs { EndsRun V.Vault (J.tells ≡ true) (basis_of J.settings when J.found J.sums J.limit)
         J.wal J.starts found (box_value sums) result.0 result.1 held.old.items held.new.items
         result.2 }
     ensures script { IfOk result.2
@@ -235,7 +244,7 @@ fn run_found<R: Threads + Wait + Sync, J: OfCrew + Send + Sync, V: Vault, G: Gat
         }
     };
     let (areas, sums, told, closed) = run_begun(
-        rt, alloc, began, sums, crew, held, work, gate, when,
+        rt, alloc, began, sums, crew, held, work, gate, days, when,
     );
     let report = RunReport {
         opened,
@@ -255,6 +264,7 @@ fn run_named<R: Threads + Wait + Sync, V: Vault, G: Gate>(
     held: &mut Vec<Held<V>>,
     work: Work<V>,
     gate: &G,
+    days: u32,
     when: u64,
 ) -> (StoreAreas<V>, V, Result<RunReport, BeginWhy>)
     requires work { IsWork work }
@@ -263,14 +273,14 @@ fn run_named<R: Threads + Wait + Sync, V: Vault, G: Gate>(
     requires ledgers { HaveParts (passes_for work.seats.items) blanks }
     requires stands { IsStanding V.Vault found }
     ensures runs { EndsRun V.Vault (tell_found V.Vault found ≡ true)
-        (basis_found V.Vault found (box_value sums) when) (wal_start V.Vault found)
-        (starts_of V.Vault found (box_value sums)) found (box_value sums) result.0 result.1
+        (basis_found V.Vault found (box_value sums) when (age_limit days when))
+        (wal_start V.Vault found) (starts_of V.Vault found (box_value sums)) found (box_value sums) result.0 result.1
         held.old.items held.new.items result.2 }
     ensures script { IfOk result.2
         (λ report. tasks_told report.told ≡ tasks_of work.seats.items) }
     ensures later { AreLater V.Vault held.old.items held.new.items }
 {
-    run_found::<R, Brand, V, G>(rt, alloc, found, blanks, sums, held, work, gate, when)
+    run_found::<R, Brand, V, G>(rt, alloc, found, blanks, sums, held, work, gate, days, when)
 }
 
 /// Finds a store on areas, with so many frames of each partition, begins it, runs a script on it, and
@@ -284,12 +294,13 @@ fn run_store<R: Threads + Wait + Sync, V: Vault, G: Gate>(
     held: &mut Vec<Held<V>>,
     work: Work<V>,
     gate: &G,
+    days: u32,
     when: u64,
 ) -> (StoreAreas<V>, V, Result<RunReport, BeginWhy>)
     requires work { IsWork work }
     requires when { when ≤ 253402207199 }
     requires names { AreNamesFor work.seats.items (names_of held.old.items) }
-    ensures runs { RunsOn V.Vault when areas result.0 (box_value sums) result.1
+    ensures runs { RunsOn V.Vault when (age_limit days when) areas result.0 (box_value sums) result.1
         held.old.items held.new.items result.2 }
     ensures script { IfOk result.2
         (λ report. tasks_told report.told ≡ tasks_of work.seats.items) }
@@ -297,7 +308,7 @@ fn run_store<R: Threads + Wait + Sync, V: Vault, G: Gate>(
 {
     let blanks = Blanks::new(u64::from(work.passes()));
     match find(alloc, areas, frames) {
-        Ok(found) => run_named(rt, alloc, found, blanks, sums, held, work, gate, when),
+        Ok(found) => run_named(rt, alloc, found, blanks, sums, held, work, gate, days, when),
         Err(fault) => (fault.areas, Box::into_inner(sums), Err(fault.why)),
     }
 }
@@ -313,12 +324,13 @@ pub fn run_areas<R: Threads + Wait + Sync, V: Vault, G: Gate>(
     held: Vec<Held<V>>,
     work: Work<V>,
     gate: &G,
+    days: u32,
     when: u64,
 ) -> (Vec<Held<V>>, V, StoreAreas<V>, Result<RunReport, BeginWhy>)
     requires work { IsWork work }
     requires when { when ≤ 253402207199 }
     requires names { AreNamesFor work.seats.items (names_of held.items) }
-    ensures runs { RunsOn V.Vault when areas result.2 sums result.1 held.items result.0.items
+    ensures runs { RunsOn V.Vault when (age_limit days when) areas result.2 sums result.1 held.items result.0.items
         result.3 }
     ensures script { IfOk result.3
         (λ report. tasks_told report.told ≡ tasks_of work.seats.items) }
@@ -333,7 +345,7 @@ pub fn run_areas<R: Threads + Wait + Sync, V: Vault, G: Gate>(
         }
     };
     let (areas, sums, answer) = run_store(
-        rt, alloc, areas, sums, frames, &mut held, work, gate, when,
+        rt, alloc, areas, sums, frames, &mut held, work, gate, days, when,
     );
     (held, sums, areas, answer)
 }

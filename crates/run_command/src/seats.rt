@@ -15,7 +15,8 @@ use crew::Worker;
 use lsn_core::{NoMemory, Text};
 use run_answers::{Answer, Answers, Told};
 use scripts::{Script, Task};
-use shared_store::{OfCrew, Pass};
+use shared_store::Pass;
+use shared_summaries::OfRetention;
 use std::alloc::Global;
 use vault::{Held, Vault};
 
@@ -116,7 +117,7 @@ fn take_last<V: Vault>(held: &mut Vec<Held<V>>, count: usize, areas: &mut Vec<He
 }
 
 /// A worker in its seat, with its pass and its areas, the last of those that are held.
-fn seated<J: OfCrew, V: Vault>(
+fn seated<J: OfRetention, V: Vault>(
     seat: Seat<V>,
     pass: Pass<J>,
     held: &mut Vec<Held<V>>,
@@ -146,7 +147,7 @@ fn seated<J: OfCrew, V: Vault>(
 }
 
 /// Seats the workers of a crew, each on its pass.
-pub fn seat_all<J: OfCrew, V: Vault>(
+pub fn seat_all<J: OfRetention, V: Vault>(
     crew: &mut Vec<Worker<J, V>>,
     seats: Vec<Seat<V>>,
     passes: &mut Vec<Pass<J>>,
@@ -186,7 +187,7 @@ fn hand_back<V: Vault>(held: &mut Vec<Held<V>>, areas: Vec<Held<V>>)
 
 /// Takes the workers of a crew off their seats: their passes and areas go back where they came from, and
 /// what each was told stands with its task.
-pub fn raise_all<J: OfCrew, V: Vault>(
+pub fn raise_all<J: OfRetention, V: Vault>(
     crew: Vec<Worker<J, V>>,
     passes: &mut Vec<Pass<J>>,
     held: &mut Vec<Held<V>>,

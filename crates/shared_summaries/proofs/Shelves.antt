@@ -1,5 +1,7 @@
 -- An area of summaries, as one finds it under its lock.
-use Rattle.std.proofs.Common.{◌≡◌, ◌⊎◌, ⊎_elim, inl, inr, ℕ, ◌<◌, true, List, [], ◌∷◌, ◌++◌, length, Option, Some, None, IsSome, IfSome, option_map, Result, Ok, Err, IfOk, refl, sym, ap, subst, ◌∙◌, arith, append_assoc}
+use Rattle.std.proofs.Common.{◌≡◌, inl, inr, ℕ, ◌<◌, ◌≤◌, List, [], ◌∷◌, ◌++◌, length, Option, Some, None, IsSome, IfSome, option_map, Result, Ok, Err, refl, sym, ap, subst, ◌∙◌, arith, append_assoc}
+use Rattle.std.specs.Global.{Vec}
+use Rattle.std.specs.FinMap.{keys}
 use mathlib.Core.List.{IsPrefix}
 use Rattle.lsn_core.specs.Files.{Files}
 use Rattle.vault.specs.Area.{Related}
@@ -8,20 +10,27 @@ use Rattle.vault.specs.declared.area.Vault.{Ghosts}
 use Rattle.history.specs.Entry.{Entry}
 use Rattle.history.specs.fuzzy_copies.Orderly.{IsOrderly}
 use Rattle.wal_summary.specs.declared.summary.Summary.{Summary}
-use Rattle.summary_store.specs.Kept.{AreKept}
+use Rattle.summary_store.specs.Kept.{AreKept, end_behind}
+use Rattle.summary_store.specs.Expiry.{AreHeld, AreGone, young}
 use Rattle.summary_store.specs.Honest.{IsHonest}
 use Rattle.shared_store.specs.Locked.{RunsOn}
 use Rattle.shared_summaries.specs.summary_publish.Entries.{first_start}
-use Rattle.shared_summaries.specs.summary_publish.Published.{Advances, AdvancesTo, AdvanceAnswers}
-use Rattle.shared_summaries.specs.summary_publish.Partly.{MayPublish, MayAdvance, AdvancesPartly}
+use Rattle.shared_summaries.specs.summary_publish.Published.{AreNext, Advances, IsAdvanced, AdvanceAnswers, AreListed, AreThose, GoesOnFrom}
+use Rattle.shared_store.specs.Records.{IsPlaceOf}
+use Rattle.shared_summaries.specs.summary_publish.Partly.{LeavesFiles, MayAdvance, AdvancesPartly}
+use Rattle.shared_summaries.specs.declared.summary_publish.known.Known.{Known}
+use Rattle.shared_summaries.specs.Inside.{AreKeptThere}
 use Rattle.shared_summaries.specs.summary_publish.True.{IsTrue}
 use Rattle.store_faults.specs.declared.advance_fault.AdvanceFault.{AdvanceFault}
 use Rattle.store_faults.specs.declared.advance_fault.AdvanceFault.TheVariants.{Gap, Store}
-use Rattle.shared_summaries.proofs.summary_publish.Since.{runs_begin_true, true_is_honest, true_stays, publishing_keeps_true, crew_sums_up}
+use Rattle.shared_summaries.proofs.summary_publish.Since.{runs_begin_true, true_is_honest, true_stays, partly_true, crew_sums_up}
+use Rattle.shared_summaries.proofs.summary_publish.Going.{partly_listed}
+use Rattle.shared_summaries.proofs.summary_publish.Adding.{same_list}
+use Rattle.shared_summaries.proofs.summary_publish.KeptFiles.{kept_once}
 use Rattle.shared_summaries.proofs.summary_publish.Later.{prefix_self, prefix_trans}
 use Rattle.shared_summaries.proofs.summary_publish.Ranges.{orderly_front}
 use Rattle.shared_summaries.specs.Grown.{HasGrown}
-use Rattle.shared_summaries.specs.Shelf.{IsTrueFor, HasGrownFor, AreShelved, states, HasPublished, HasCovered}
+use Rattle.shared_summaries.specs.Shelf.{IsTrueFor, HasGrownFor, AreShelved, AreKeptOn, states, HasPublished, HasCovered}
 use Rattle.shared_summaries.specs.Laws.{AnswersSumUp, CrewsKeepHonest}
 use Rattle.shared_summaries.proofs.Grown.{runs_begin_grown, publishing_grows}
 
@@ -52,34 +61,31 @@ true_on found h g begun files starts prefix true_h order honest own e =
     subst (λ (l : List Entry). IfSome files (IsTrue found l)) (sym own_is)
     (when_some files (IsTrue found first) (IsTrue found (first ++ more)) (λ m t. true_stays found first more m (subst (IsOrderly 0) (sym whole) order) t) (true_h front honest first (sym starts.1)))
 
-some_so : (told : Type 0) (h : List Entry) (made : ℕ) (old new : Files) → told → MayPublish told h made old new → MayPublish (Unit {0}) h made old new
-some_so told h made old new t may = record {
-  kept = may.kept;
-  held = may.held;
-  some = record {
-    sums = may.some.sums;
-    next = λ u. may.some.next t;
-    whole = may.some.whole;
-    left = ⊎_elim (λ same. inl same) (λ torn. inr (torn.0, (λ (u : Unit {0}). torn.1 t), torn.2, torn.3)) may.some.left;
-  };
-}
+both_tell : (R S : Files → Files → Type 0) (old mid new : Option Files) → Related R old mid → Related S mid new → Related (λ m n. Unit {0}) old new
+both_tell R S None None None r s = tt
+both_tell R S None None (Some n) r s = absurd s
+both_tell R S None (Some k) new r s = absurd r
+both_tell R S (Some m) None new r s = absurd r
+both_tell R S (Some m) (Some k) None r s = absurd s
+both_tell R S (Some m) (Some k) (Some n) r s = tt
 
-may_so : (told : Type 0) (h : List Entry) (made : ℕ) (old new : Files) → told → MayAdvance told h made old new → MayAdvance (Unit {0}) h made old new
-may_so told h made old new t (inl same) = inl same
-may_so told h made old new t (inr may) = inr (λ u. some_so told h made old new t (may t))
+-- an area tells its files as before
+told_both : (told : Type 0) (g : List Entry) (made limit : ℕ) (old new : Option Files) (kept now : List Summary) → AdvancesPartly told g made limit old new kept now → Related (λ m n. Unit {0}) old new
+told_both told g made limit old new kept now p =
+    both_tell (LeavesFiles told g made (end_behind (end_behind p.first kept) p.some.sums) p.some.sums) (AreGone p.expiry.gone p.expiry.at) old p.mid new p.some.left p.expiry.files
 
-published_on : (told : Type 0) (found g : List Entry) (made : ℕ) (begun old new : Option Files) → told → IsTrueFor found begun g old → AdvancesPartly told g made old new → IsTrueFor found begun g new
-published_on told found g made begun None None t is may order honest own e = tt
-published_on told found g made begun (Some m) (Some n) t is may order honest own e =
-    publishing_keeps_true found own made m n (subst (IsOrderly 0) e order) (is order honest own e) (subst (λ (l : List Entry). MayAdvance (Unit {0}) l made m n) e (may_so told g made m n t may))
-published_on told found g made begun None (Some n) t is may order honest own e = absurd may
-published_on told found g made begun (Some m) None t is may order honest own e = absurd may
+told_on : (old new : Option Files) → Related (λ m n. Unit {0}) old new → IsSome old → IsSome new
+told_on None None may is = is
+told_on None (Some n) may is = absurd may
+told_on (Some m) None may is = absurd may
+told_on (Some m) (Some n) may is = refl
 
-told_on : (told : Type 0) (g : List Entry) (made : ℕ) (old new : Option Files) → AdvancesPartly told g made old new → IsSome old → IsSome new
-told_on told g made None None may is = is
-told_on told g made None (Some n) may is = absurd may
-told_on told g made (Some m) None may is = absurd may
-told_on told g made (Some m) (Some n) may is = refl
+published_on : (told : Type 0) (found g : List Entry) (made limit : ℕ) (begun old new : Option Files) (kept now : List Summary) → told → IsTrueFor found begun g old → IfSome old (λ m. AreHeld m kept) → AdvancesPartly told g made limit old new kept now → IsTrueFor found begun g new
+published_on told found g made limit begun None None kept now t is held may order honest own e = tt
+published_on told found g made limit begun (Some m) (Some n) kept now t is held may order honest own e =
+    partly_true told t found own made limit m n kept now (subst (IsOrderly 0) e order) (is order honest own e) held (subst (λ (l : List Entry). AdvancesPartly told l made limit (Some m) (Some n) kept now) e may)
+published_on told found g made limit begun None (Some n) kept now t is held may order honest own e = absurd (told_both told g made limit None (Some n) kept now may)
+published_on told found g made limit begun (Some m) None kept now t is held may order honest own e = absurd (told_both told g made limit (Some m) None kept now may)
 
 -- ---- grown
 
@@ -87,12 +93,29 @@ first_same : (found g : List Entry) → 0 < length found → IsPrefix found g �
 first_same [] g some prefix = absurd (omega (arith, some))
 first_same (e ∷ es) g some prefix = ap first_start prefix.1
 
-grown_on : (told : Type 0) (found g : List Entry) (made : ℕ) (begun old new : Option Files) → told → IsPrefix found g → HasGrownFor found begun old → AdvancesPartly told g made old new → HasGrownFor found begun new
-grown_on told found g made begun None None t starts was may some m kept is held = tt
-grown_on told found g made begun (Some a) (Some b) t starts was may some m kept is held =
-    publishing_grows (first_start found) g made kept a b (first_same found g some starts) (was some m kept is held) (may_so told g made a b t may)
-grown_on told found g made begun None (Some b) t starts was may some m kept is held = absurd may
-grown_on told found g made begun (Some a) None t starts was may some m kept is held = absurd may
+grown_on : (told : Type 0) (found g : List Entry) (made limit : ℕ) (begun old new : Option Files) (kept now : List Summary) → told → limit ≤ made → IsPrefix found g → HasGrownFor found begun limit kept → AdvancesPartly told g made limit old new kept now → HasGrownFor found begun limit now
+grown_on told found g made limit begun old new kept now t le starts was p some m first is held =
+    let front : first_start found ≡ first_start g = first_same found g some starts in
+    let l = p.some in
+    let end : p.first ≡ first_start g = p.first_is t in
+    subst (λ n. HasGrown n limit first now) (sym front)
+    (publishing_grows limit g made first kept l.sums now le (subst (λ n. HasGrown n limit first kept) front (was some m first is held))
+    (subst (λ n. AreNext g made (end_behind n kept) l.sums) end (l.next t))
+    (p.expiry.young ∙ ap (young limit) l.now_is)
+    (λ low. p.expiry.taken.end low ∙ ap (end_behind low) l.now_is))
+
+-- what was read when nothing was done yet
+grown_begin : (found : List Entry) (begun : Option Files) (limit : ℕ) (kept : List Summary) → IfSome begun (λ m. AreKept m kept) → HasGrownFor found begun limit kept
+grown_begin found begun limit kept read some m first is held =
+    subst (HasGrown (first_start found) limit first)
+    (kept_once 0 m (keys m) first kept held (subst (λ (o : Option Files). IfSome o (λ x. AreKept x kept)) is read))
+    (runs_begin_grown (first_start found) limit first)
+
+pub keeps_read : (tells : Type 0) (found : List Entry) (begun : Option Files) (limit : ℕ) (files : Option Files) (kept : List Summary) → files ≡ begun → IfSome files (λ m. AreKept m kept) → AreListed files kept → AreKeptOn tells found begun limit files kept
+keeps_read tells found begun limit files kept same read listed = record {
+  listed = listed;
+  grown = λ t. grown_begin found begun limit kept (subst (λ (o : Option Files). IfSome o (λ m. AreKept m kept)) same read);
+}
 
 -- ---- all of it
 
@@ -100,15 +123,59 @@ pub shelved_later : (told : Type 0) (found list g : List Entry) (begun files : O
 shelved_later told found list g begun files starts s prefix = record {
   told = s.told;
   true_for = λ t. true_on found list g begun files starts prefix (s.true_for t);
-  grown = s.grown;
 }
 
-pub shelved_on : (told : Type 0) (found list g : List Entry) (made : ℕ) (begun old new : Option Files) → IsPrefix found list → AreShelved told found begun list old → IsPrefix list g → AdvancesPartly told g made old new → AreShelved told found begun g new
-shelved_on told found list g made begun old new starts s prefix may = record {
-  told = λ is. told_on told g made old new may (s.told is);
-  true_for = λ t. published_on told found g made begun old new t (true_on found list g begun old starts prefix (s.true_for t)) may;
-  grown = λ t. grown_on told found g made begun old new t (prefix_trans found list g starts prefix) (s.grown t) may;
+-- behind what was known there
+known_keeps : (tells : Type 0) (found : List Entry) (begun : Option Files) (limit : ℕ) (files : Option Files) (kept : List Summary) (o : Option (Vec Summary)) → AreKeptThere tells found begun limit files o → AreThose files kept o → AreListed files kept → AreKeptOn tells found begun limit files kept
+known_keeps tells found begun limit files kept None there read listed = keeps_read tells found begun limit files kept there read listed
+known_keeps tells found begun limit files kept (Some v) there same listed = subst (AreKeptOn tells found begun limit files) (sym same) there
+
+no_list : (a : List Summary) → (let x : Option (List Summary) = None in x ≡ Some a) → ⊥
+no_list a e = cc
+
+now_there : (tells : Type 0) (found : List Entry) (begun : Option Files) (limit : ℕ) (files : Option Files) (now : List Summary) (o : Option (Vec Summary)) → option_map (λ v. v.items) o ≡ Some now → AreKeptOn tells found begun limit files now → AreKeptThere tells found begun limit files o
+now_there tells found begun limit files now None is keeps = absurd (no_list now is)
+now_there tells found begun limit files now (Some v) is keeps = subst (AreKeptOn tells found begun limit files) (same_list now v.items (sym is)) keeps
+
+listed_there : (tells : Type 0) (found : List Entry) (begun : Option Files) (limit : ℕ) (files : Option Files) (o : Option (Vec Summary)) → AreKeptThere tells found begun limit files o → IfSome o (λ v. AreListed files v.items)
+listed_there tells found begun limit files None there = tt
+listed_there tells found begun limit files (Some v) there = there.listed
+
+pub goes_there : (tells : Type 0) (found : List Entry) (begun : Option Files) (limit : ℕ) (list : List Entry) (files : Option Files) (known : Known) → (tells → IsPlaceOf list known.place.0) → AreKeptThere tells found begun limit files known.kept → GoesOnFrom tells list files known
+goes_there tells found begun limit list files known at there = record { at = at; kept = listed_there tells found begun limit files known.kept there }
+
+-- what an advance leaves of both, and what it came from
+pub record IsKeptOn (tells : Type 0) (found : List Entry) (begun : Option Files) (limit : ℕ) (now : List Entry) (old new : Option Files) (kept rest : List Summary) : Type 0 where
+  pub shelved : AreShelved tells found begun now old
+  pub keeps : AreKeptOn tells found begun limit old kept
+  pub stays : AreShelved tells found begun now new
+  pub goes_on : AreKeptOn tells found begun limit new rest
+
+pub kept_on : (told : Type 0) (found list g : List Entry) (made limit : ℕ) (begun old new : Option Files) (kept rest : List Summary) → limit ≤ made → IsPrefix found list → AreShelved told found begun list old → AreKeptOn told found begun limit old kept → IsPrefix list g
+    → AdvancesPartly told g made limit old new kept rest → IsKeptOn told found begun limit g old new kept rest
+kept_on told found list g made limit begun old new kept rest le starts s k prefix p = record {
+  shelved = shelved_later told found list g begun old starts s prefix;
+  keeps = k;
+  stays = record {
+    told = λ is. told_on old new (told_both told g made limit old new kept rest p) (s.told is);
+    true_for = λ t. published_on told found g made limit begun old new kept rest t (true_on found list g begun old starts prefix (s.true_for t)) k.listed.held p;
+  };
+  goes_on = record {
+    listed = partly_listed told g made limit old new kept rest p k.listed;
+    grown = λ t. grown_on told found g made limit begun old new kept rest t le (prefix_trans found list g starts prefix) (k.grown t) p;
+  };
 }
+
+-- the same of what is known
+pub shelved_on : (told : Type 0) (found list g : List Entry) (made limit : ℕ) (begun old new : Option Files) (before known : Known) → limit ≤ made → IsPrefix found list → AreShelved told found begun list old → AreKeptThere told found begun limit old before.kept → IsPrefix list g
+    → MayAdvance told g made limit old new before known → AreShelved told found begun g new × AreKeptThere told found begun limit new known.kept
+shelved_on told found list g made limit begun old new before known le starts s there prefix (inl same) = (
+  subst (AreShelved told found begun g) (sym same.0) (shelved_later told found list g begun old starts s prefix),
+  subst (λ (k : Known). AreKeptThere told found begun limit new k.kept) (sym same.1) (subst (λ (o : Option Files). AreKeptThere told found begun limit o before.kept) (sym same.0) there),
+)
+shelved_on told found list g made limit begun old new before known le starts s there prefix (inr a) =
+    let k = kept_on told found list g made limit begun old new a.kept a.now le starts s (known_keeps told found begun limit old a.kept before.kept there a.known_before a.listed) prefix a.advances in
+    (k.stays, now_there told found begun limit new a.now known.kept a.known_now k.goes_on)
 
 -- where the run begins
 at_begin : (found own : List Entry) (files : Option Files) → IfSome files (IsHonest found) → own ≡ [] → IfSome files (IsTrue found own)
@@ -118,61 +185,56 @@ none_own : (found own : List Entry) → found ≡ found ++ own → own ≡ []
 none_own [] own e = sym e
 none_own (x ∷ xs) own e = none_own xs own (tail_same x x xs (xs ++ own) e)
 
-grown_begin : (found : List Entry) (begun : Option Files) → HasGrownFor found begun begun
-grown_begin found begun some m kept is held =
-    subst (λ (o : Option Files). IfSome o (HasGrown (first_start found) kept)) (sym is) (runs_begin_grown (first_start found) kept m held)
-
 pub shelved_begin : (told : Type 0) (found list : List Entry) (begun files : Option Files) → IsPrefix found list → files ≡ begun → AreShelved told found begun list files
 shelved_begin told found list begun files starts same = subst (AreShelved told found begun list) (sym same) (record {
   told = λ is. is;
   true_for = λ t. true_on found found list begun begun (prefix_self found) starts (λ order honest own e. at_begin found own begun honest (none_own found own e));
-  grown = λ t. grown_begin found begun;
 })
 
 -- ---- answers
 
-advances_at : {V : Type 0} (g : Ghosts V) (told : Type 0) (h : List Entry) (made count : ℕ) (old new : V) → Advances g told h made old new count → Advances states told h made (state_in g old) (state_in g new) count
-advances_at g told h made count old new a = record { sums = a.sums; published = a.published; counted = a.counted; files = a.files; durable = a.durable }
+advances_at : {V : Type 0} (g : Ghosts V) (told : Type 0) (h : List Entry) (made limit count : ℕ) (old new : V) (kept rest : List Summary) → Advances g told h made limit old new kept rest count → Advances states told h made limit (state_in g old) (state_in g new) kept rest count
+advances_at g told h made limit count old new kept rest a = record { sums = a.sums; published = a.published; counted = a.counted; kept_is = a.kept_is; files = a.files; durable = a.durable }
 
-advances_to_at : {V : Type 0} (g : Ghosts V) (told : Type 0) (h : List Entry) (made : ℕ) (old new : V) (P : List Summary → Type 0) → AdvancesTo g told h made old new P → AdvancesTo states told h made (state_in g old) (state_in g new) P
-advances_to_at g told h made old new P a = record { count = a.count; advances = advances_at g told h made a.count old new a.advances; kept = a.kept; held = a.held; so = a.so }
+there_now : (tells : Type 0) (found : List Entry) (begun : Option Files) (limit : ℕ) (files : Option Files) (now : List Summary) (o : Option (Vec Summary)) → option_map (λ v. v.items) o ≡ Some now → AreKeptThere tells found begun limit files o → AreKeptOn tells found begun limit files now
+there_now tells found begun limit files now None is keeps = absurd (no_list now is)
+there_now tells found begun limit files now (Some v) is keeps = subst (AreKeptOn tells found begun limit files) (same_list v.items now is) keeps
 
-answers_at : {V : Type 0} (g : Ghosts V) (told : Type 0) (h : List Entry) (made from to : ℕ) (old new : V) (r : Result Summary AdvanceFault) → AdvanceAnswers g told h made from to old new r
-    → AdvanceAnswers states told h made from to (state_in g old) (state_in g new) r
-answers_at g told h made from to old new (Ok sum) a = advances_to_at g told h made old new _ a
-answers_at g told h made from to old new (Err (Gap place)) a = advances_to_at g told h made old new _ a
-answers_at g told h made from to old new (Err (Store fault)) a = tt
-
-ok_on : {T E : Type 0} (r : Result T E) (P Q : T → Type 0) → ((t : T) → P t → Q t) → IfOk r P → IfOk r Q
-ok_on (Ok t) P Q f h = f t h
-ok_on (Err e) P Q f h = tt
-
-pub published_so : {V E : Type 0} (g : Ghosts V) (told : Type 0) (found list now : List Entry) (begun : Option Files) (when : ℕ) (old new : V) (r : Result ℕ E) → IsPrefix found list → AreShelved told found begun list (g.files old) → IsPrefix list now
-    → AdvancesPartly told now when (g.files old) (g.files new) → IfOk r (Advances g told now when old new) → IfOk r (HasPublished told found begun now when)
-published_so g told found list now begun when old new r starts s prefix may =
-    ok_on r (Advances g told now when old new) (HasPublished told found begun now when) (λ count a. record {
-      old = state_in g old;
-      new = state_in g new;
-      shelved = shelved_later told found list now begun (g.files old) starts s prefix;
-      advances = advances_at g told now when count old new a;
-      stays = shelved_on told found list now when begun (g.files old) (g.files new) starts s prefix may;
-    })
-
-pub covered_so : {V : Type 0} (g : Ghosts V) (told : Type 0) (found list now : List Entry) (begun : Option Files) (when from to : ℕ) (old new : V) (r : Result Summary AdvanceFault) → IsPrefix found list → AreShelved told found begun list (g.files old) → IsPrefix list now
-    → AdvancesPartly told now when (g.files old) (g.files new) → AdvanceAnswers g told now when from to old new r → HasCovered told found begun now when from to r
-covered_so g told found list now begun when from to old new r starts s prefix may a = record {
+pub published_so : {V : Type 0} (g : Ghosts V) (told : Type 0) (found list now : List Entry) (begun : Option Files) (when limit count : ℕ) (old new : V) (before known : Known) → limit ≤ when → IsPrefix found list → AreShelved told found begun list (g.files old) → AreKeptThere told found begun limit (g.files old) before.kept → IsPrefix list now
+    → AreShelved told found begun now (g.files new) × AreKeptThere told found begun limit (g.files new) known.kept → IsAdvanced g told now when limit old new before known count → HasPublished told found begun now when limit count
+published_so g told found list now begun when limit count old new before known le starts s there prefix left a = record {
   old = state_in g old;
   new = state_in g new;
+  kept = a.kept;
+  rest = a.now;
   shelved = shelved_later told found list now begun (g.files old) starts s prefix;
-  covers = answers_at g told now when from to old new r a;
-  stays = shelved_on told found list now when begun (g.files old) (g.files new) starts s prefix may;
+  keeps = known_keeps told found begun limit (g.files old) a.kept before.kept there a.known_before a.listed;
+  advances = advances_at g told now when limit count old new a.kept a.now a.advances;
+  stays = left.0;
+  goes_on = there_now told found begun limit (g.files new) a.now known.kept a.known_now left.1;
 }
+
+pub covered_so : {V : Type 0} (g : Ghosts V) (told : Type 0) (found list now : List Entry) (begun : Option Files) (when limit from to : ℕ) (old new : V) (before known : Known) (r : Result Summary AdvanceFault) → limit ≤ when → IsPrefix found list → AreShelved told found begun list (g.files old)
+    → AreKeptThere told found begun limit (g.files old) before.kept → IsPrefix list now → AreShelved told found begun now (g.files new) × AreKeptThere told found begun limit (g.files new) known.kept → AdvanceAnswers g told now when limit from to old new before known r
+    → HasCovered told found begun now when limit from to r
+unfolding published_so
+covered_so g told found list now begun when limit from to old new before known (Ok sum) le starts s there prefix left a = record {
+  count = a.count;
+  published = published_so g told found list now begun when limit a.count old new before known le starts s there prefix left a.advanced;
+  covers = a.so;
+}
+covered_so g told found list now begun when limit from to old new before known (Err (Gap place)) le starts s there prefix left a = record {
+  count = a.count;
+  published = published_so g told found list now begun when limit a.count old new before known le starts s there prefix left a.advanced;
+  covers = a.so;
+}
+covered_so g told found list now begun when limit from to old new before known (Err (Store fault)) le starts s there prefix left a = tt
 
 -- ---- laws
 
 pub answers_sum_up : AnswersSumUp
-answers_sum_up found own begun made files sums kept from to sum order honest holds redo published held lt covers =
-    crew_sums_up found own made files sums kept from to sum order redo (holds order honest own refl) published held lt covers
+answers_sum_up found own begun made limit files kept sums from to sum order honest holds redo published lt covers =
+    crew_sums_up found own made limit files kept sums from to sum order redo (holds order honest own refl) published lt covers
 
 pub crews_keep_honest : CrewsKeepHonest
 crews_keep_honest tells found list history begun files t order starts s prefix honest =

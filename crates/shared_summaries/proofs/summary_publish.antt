@@ -6,6 +6,7 @@ pub mod Ranges
 pub mod Fitting
 pub mod Adding
 pub mod Honest
+pub mod Holding
 pub mod Since
 pub mod Later
 pub mod Frames
@@ -13,3 +14,4 @@ pub mod Partly
 pub mod SummaryNames
 pub mod KeptFiles
 pub mod Going
+pub mod Knowing

@@ -1,5 +1,6 @@
 -- What lies under the lock of the summaries. No public contract cites these.
 use Rattle.std.specs.Prelude.{◌≡◌, ℕ, ◌+◌, List, Option, Some, None, Result, Ok, Err}
+use Rattle.std.specs.Global.{Vec}
 use Rattle.lsn_core.specs.Files.{Files}
 use Rattle.lsn_core.specs.Segment.{StoreSettings}
 use Rattle.lsn_core.specs.declared.fault.StoreArea.TheVariants.{Wal, Data, Sums}
@@ -10,11 +11,12 @@ use Rattle.history.specs.Entry.{Entry}
 use Rattle.journal.specs.Lawful.{IsLawful}
 use Rattle.shared_store.specs.Seen.{Seen, Booked, with_fault}
 use Rattle.shared_store.specs.Locked.{RunsOn, HasRisen}
-use Rattle.shared_summaries.specs.summary_publish.Published.{GoesOnFrom}
+use Rattle.shared_store.specs.Records.{IsPlaceOf}
+use Rattle.wal_summary.specs.declared.summary.Summary.{Summary}
 use Rattle.shared_summaries.specs.declared.summary_publish.known.Known.{Known}
 use Rattle.store_faults.specs.declared.advance_fault.AdvanceFault.{AdvanceFault}
 use Rattle.store_faults.specs.declared.advance_fault.AdvanceFault.TheVariants.{Gap, Store}
-use Rattle.shared_summaries.specs.Shelf.{AreShelved}
+use Rattle.shared_summaries.specs.Shelf.{AreShelved, AreKeptOn}
 
 -- what the lock holds: the area, the beginning of the history that its summaries were made of, where
 -- publishing goes on there, and the faults of the area that are booked
@@ -22,16 +24,28 @@ pub record Shelf (V : Type 0) : Type 0 where
   pub area : V
   pub list : List Entry
   pub known : Known
+  pub limit : ℕ
   pub booked : ℕ
 
--- what it keeps: that beginning goes on from what was found, lawfully, the area is true for it, and it
--- failed at least as often as is booked
+-- what is known to be kept has grown since the run began; where nothing is known, the area has still
+-- the files that it had then
+abbrev pub AreKeptThere : Type 0 → List Entry → Option Files → ℕ → Option Files
+    → Option (Vec Summary) → Type 0
+AreKeptThere tells found begun limit files None = files ≡ begun
+AreKeptThere tells found begun limit files (Some v) =
+    AreKeptOn tells found begun limit files v.items
+
+-- what it keeps: that beginning goes on from what was found, lawfully, the area is true for it, what is
+-- kept of it has grown, and it failed at least as often as is booked
 pub record IsShelf {V : Type 0} (g : Ghosts V) (tells : Type 0) (s : StoreSettings)
-    (found : List Entry) (begun : Option Files) (start : ℕ) (shelf : Shelf V) : Type 0 where
+    (found : List Entry) (begun : Option Files) (limit start : ℕ) (shelf : Shelf V)
+    : Type 0 where
   pub begins : RunsOn found shelf.list
   pub lawful : tells → IsLawful s.segment shelf.list
   pub shelved : AreShelved tells found begun shelf.list (g.files shelf.area)
-  pub going : GoesOnFrom tells shelf.list (g.files shelf.area) shelf.known
+  pub kept : AreKeptThere tells found begun limit (g.files shelf.area) shelf.known.kept
+  pub limit_is : shelf.limit ≡ limit
+  pub at : tells → IsPlaceOf shelf.list shelf.known.place.0
   pub risen : HasRisen start shelf.booked (g.faults shelf.area)
 
 -- the fault that a call answers, if any

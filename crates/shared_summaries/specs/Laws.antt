@@ -9,11 +9,11 @@ use Rattle.history.specs.fuzzy_copies.Summary.{summary_of}
 use Rattle.wal_summary.specs.declared.summary.Summary.{Summary}
 use Rattle.wal_summary.specs.Summary.{IsSummary}
 use Rattle.wal_summary.specs.Kept.{IsCovering, IsGap}
-use Rattle.summary_store.specs.Kept.{AreKept, end_behind}
+use Rattle.summary_store.specs.Kept.{end_behind}
+use Rattle.summary_store.specs.Expiry.{young, unexpired}
 use Rattle.summary_store.specs.Honest.{is_redo_start, IsHonest}
 use Rattle.shared_summaries.specs.summary_publish.Entries.{first_start}
-use Rattle.shared_summaries.specs.summary_publish.Published.{ArePublished, with_files}
-use Rattle.shared_summaries.specs.summary_publish.Partly.{MayAdvance}
+use Rattle.shared_summaries.specs.summary_publish.Published.{AreNext, ArePublished}
 use Rattle.shared_summaries.specs.Grown.{HasGrown, IsOldGap}
 use Rattle.shared_summaries.specs.Shelf.{IsTrueFor, AreShelved}
 
@@ -21,13 +21,13 @@ use Rattle.shared_summaries.specs.Shelf.{IsTrueFor, AreShelved}
 -- was true for what it has seen: it ends there, and is the summary from its start to there
 abbrev pub AnswersSumUp : Type 0
 AnswersSumUp =
-    (found own : List Entry) (begun : Option Files) (made : ℕ) (files : Files)
-    (sums kept : List Summary) (from to : ℕ) (sum : Summary)
+    (found own : List Entry) (begun : Option Files) (made limit : ℕ) (files : Files)
+    (kept sums : List Summary) (from to : ℕ) (sum : Summary)
     → IsOrderly 0 (found ++ own) → IfSome begun (IsHonest found)
     → IsTrueFor found begun (found ++ own) (Some files)
     → list_any (is_redo_start to) own ≡ true
-    → ArePublished (found ++ own) made files sums → AreKept (with_files sums files) kept
-    → from < to → IsCovering kept from to sum
+    → ArePublished (found ++ own) made files kept sums
+    → from < to → IsCovering (unexpired limit (kept ++ sums)) from to sum
     → (sum.end.0 ≡ to) × (sum.start.0 ≤ from)
     × IsSummary (summary_of (found ++ own) sum.start.0 to) sum.forks
 
@@ -43,20 +43,21 @@ CrewsKeepHonest =
 -- ---- what is kept
 
 abbrev pub RunsBeginGrown : Type 0
-RunsBeginGrown =
-    (first : ℕ) (begun : List Summary) (files : Files) → AreKept files begun
-    → HasGrown first begun files
+RunsBeginGrown = (first limit : ℕ) (begun : List Summary) → HasGrown first limit begun begun
 
--- it stays so as summaries are published, wholly or in part
+-- it stays so as summaries are published that aren't old, and as old ones are removed
 abbrev pub PublishingGrows : Type 0
 PublishingGrows =
-    (first : ℕ) (history : List Entry) (made : ℕ) (begun : List Summary) (old new : Files)
-    → first ≡ first_start history → HasGrown first begun old
-    → MayAdvance (Unit {0}) history made old new → HasGrown first begun new
+    (limit : ℕ) (history : List Entry) (made : ℕ) (begun kept sums now : List Summary)
+    → limit ≤ made → HasGrown (first_start history) limit begun kept
+    → AreNext history made (end_behind (first_start history) kept) sums
+    → young limit now ≡ young limit (kept ++ sums)
+    → ((low : ℕ) → end_behind low now ≡ end_behind low (kept ++ sums))
+    → HasGrown (first_start history) limit begun now
 
 -- and a place that nothing covers is an old one, where what is kept reaches the range's end
 abbrev pub GapsAreOld : Type 0
 GapsAreOld =
-    (first : ℕ) (begun now : List Summary) (files : Files) (from to place : ℕ)
-    → HasGrown first begun files → AreKept files now → to ≤ end_behind first now
-    → IsGap now from to place → IsOldGap first begun from to place
+    (first limit : ℕ) (begun now : List Summary) (from to place : ℕ)
+    → HasGrown first limit begun now → to ≤ end_behind first now
+    → IsGap now from to place → IsOldGap first limit begun from to place

@@ -1,6 +1,6 @@
 //! What lies under the lock of the summaries.
 
-ghost use Rattle.std.specs.Prelude.{◌≡◌, ◌<◌, true, IfOk, box_value};
+ghost use Rattle.std.specs.Prelude.{◌≡◌, ◌<◌, ◌≤◌, true, IfOk, box_value};
 ghost use Rattle.journal.specs.Lawful.{IsLawful};
 ghost use mathlib.Core.List.{IsPrefix};
 ghost use Rattle.shared_store.specs.Locked.{HasRisen, RunsOn};
@@ -9,10 +9,11 @@ ghost use Rattle.shared_summaries.specs.summary_publish.Published.{LooksOn};
 ghost use Rattle.shared_summaries.specs.Shelf.{AreShelved, HasPublished, HasCovered, TakesAdvanceFaults};
 ghost use Rattle.shared_summaries.specs.Inside.{IsShelf, HasBooked, fault_of, advance_fault};
 
+use crate::naming::OfRetention;
 use crate::summary_publish::{Known, advance, advance_covering};
 use journal::HistoryEntry;
 use lsn_core::{Lsn, StoreArea, StoreFault};
-use shared_store::{OfCrew, Pass, Store};
+use shared_store::{Pass, Store};
 use std::alloc::Global;
 use std::boxed::Box;
 use std::marker::Model;
@@ -25,17 +26,19 @@ use vault::Vault;
 use wal_summary::Summary;
 
 /// What the lock holds: the area, a note of what its summaries were made of, where publishing goes on
-/// there, and the book of the area's faults. Contracts see a `Shelf` of
+/// there, the moment before which a summary is old that was made then, and the book of the area's
+/// faults. Contracts see a `Shelf` of
 /// `specs/Inside.antt`.
 #[derive(Drop)]
-pub(crate) struct Kept<J: OfCrew, V: Vault> {
+pub(crate) struct Kept<J: OfRetention, V: Vault> {
     pub(crate) area: Box<V>,
     pub(crate) note: Note<HistoryEntry, J>,
     pub(crate) known: Known,
+    pub(crate) limit: u64,
     pub(crate) book: Book<AreaFaults<J, 5>>,
 }
 
-impl<J: OfCrew, V: Vault> Model for Kept<J, V> {
+impl<J: OfRetention, V: Vault> Model for Kept<J, V> {
     ghost use Rattle.std.specs.Prelude.{◌≡◌, true, box_value};
     ghost use Rattle.shared_summaries.specs.Inside.{Shelf, IsShelf};
 
@@ -45,20 +48,23 @@ impl<J: OfCrew, V: Vault> Model for Kept<J, V> {
       area = box_value k.area;
       list = k.note.list;
       known = k.known;
+      limit = k.limit;
       booked = k.book.total;
     } };
 
-    ghost invariant = { λ k. IsShelf V.Vault (J.tells ≡ true) J.settings J.found J.sums (J.starts 5)
-        (record {
+    ghost invariant = { λ k. IsShelf V.Vault (J.tells ≡ true) J.settings J.found J.sums
+        J.limit (J.starts 5) (record {
           area = box_value k.area;
           list = k.note.list;
           known = k.known;
+          limit = k.limit;
           booked = k.book.total;
         }) };
 }
 
-impl<J: OfCrew, V: Vault> Kept<J, V> {
-    /// Publishes what can be published of what the pass sees, which learns what the lock knows.
+impl<J: OfRetention, V: Vault> Kept<J, V> {
+    /// Publishes what can be published of what the pass sees, which learns what the lock knows, and
+    /// removes what is old.
     pub(crate) fn advance(
         &mut self,
         rt: &impl Wait,
@@ -67,8 +73,9 @@ impl<J: OfCrew, V: Vault> Kept<J, V> {
         pass: &mut Pass<J>,
         when: u64,
     ) -> Result<u64, StoreFault>
+        requires young { J.limit ≤ when }
         ensures published { IfOk result (HasPublished (J.tells ≡ true) J.found J.sums
-            pass.new.list when) }
+            pass.new.list when J.limit) }
         ensures lawful { J.tells ≡ true → IsLawful J.settings.segment pass.new.list }
         ensures looks { LooksOn pass.old pass.new }
         ensures faults { TakesFaults pass.old pass.new result }
@@ -77,9 +84,21 @@ impl<J: OfCrew, V: Vault> Kept<J, V> {
             area,
             note,
             known,
+            limit,
             book,
         } = self;
-        advance_in(rt, alloc, &mut **area, note, known, book, store, pass, when)
+        advance_in(
+            rt,
+            alloc,
+            &mut **area,
+            note,
+            known,
+            *limit,
+            book,
+            store,
+            pass,
+            when,
+        )
     }
 
     /// The same, and what covers a range then.
@@ -94,8 +113,9 @@ impl<J: OfCrew, V: Vault> Kept<J, V> {
         when: u64,
     ) -> Result<Summary, AdvanceFault>
         requires range { from.0 < to.0 }
+        requires young { J.limit ≤ when }
         ensures covered { HasCovered (J.tells ≡ true) J.found J.sums pass.new.list when
-            from.0 to.0 result }
+            J.limit from.0 to.0 result }
         ensures lawful { J.tells ≡ true → IsLawful J.settings.segment pass.new.list }
         ensures looks { LooksOn pass.old pass.new }
         ensures faults { TakesAdvanceFaults pass.old pass.new result }
@@ -104,6 +124,7 @@ impl<J: OfCrew, V: Vault> Kept<J, V> {
             area,
             note,
             known,
+            limit,
             book,
         } = self;
         cover_in(
@@ -112,6 +133,7 @@ impl<J: OfCrew, V: Vault> Kept<J, V> {
             &mut **area,
             note,
             known,
+            *limit,
             book,
             store,
             pass,
@@ -141,51 +163,56 @@ impl<J: OfCrew, V: Vault> Kept<J, V> {
 }
 
 /// The same for the parts of what the lock holds.
-fn advance_in<J: OfCrew, V: Vault>(
+fn advance_in<J: OfRetention, V: Vault>(
     rt: &impl Wait,
     alloc: Global,
     area: &mut V,
     note: &mut Note<HistoryEntry, J>,
     known: &mut Known,
+    limit: u64,
     book: &mut Book<AreaFaults<J, 5>>,
     store: &Store<J, V>,
     pass: &mut Pass<J>,
     when: u64,
 ) -> Result<u64, StoreFault>
-    requires shelf { IsShelf V.Vault (J.tells ≡ true) J.settings J.found J.sums (J.starts 5)
-        (record {
+    requires young { J.limit ≤ when }
+    requires shelf { IsShelf V.Vault (J.tells ≡ true) J.settings J.found J.sums
+        J.limit (J.starts 5) (record {
           area = area.old;
           list = note.old.list;
           known = known.old;
+          limit = limit;
           booked = book.old.total;
         }) }
-    ensures shelf { IsShelf V.Vault (J.tells ≡ true) J.settings J.found J.sums (J.starts 5)
-        (record {
+    ensures shelf { IsShelf V.Vault (J.tells ≡ true) J.settings J.found J.sums
+        J.limit (J.starts 5) (record {
           area = area.new;
           list = note.new.list;
           known = known.new;
+          limit = limit;
           booked = book.new.total;
         }) }
     ensures published { IfOk result (HasPublished (J.tells ≡ true) J.found J.sums
-        pass.new.list when) }
+        pass.new.list when J.limit) }
     ensures lawful { J.tells ≡ true → IsLawful J.settings.segment pass.new.list }
     ensures looks { LooksOn pass.old pass.new }
     ensures faults { TakesFaults pass.old pass.new result }
 {
     learn(store, pass, note);
-    let answer = advance(rt, alloc, area, store, pass, known, when);
+    let answer = advance(rt, alloc, area, store, pass, known, limit, when);
     book_fault(store, pass, book, fault_of(&answer));
     renew(store, pass, note);
     answer
 }
 
 /// The same, and what covers a range then.
-fn cover_in<J: OfCrew, V: Vault>(
+fn cover_in<J: OfRetention, V: Vault>(
     rt: &impl Wait,
     alloc: Global,
     area: &mut V,
     note: &mut Note<HistoryEntry, J>,
     known: &mut Known,
+    limit: u64,
     book: &mut Book<AreaFaults<J, 5>>,
     store: &Store<J, V>,
     pass: &mut Pass<J>,
@@ -194,35 +221,38 @@ fn cover_in<J: OfCrew, V: Vault>(
     when: u64,
 ) -> Result<Summary, AdvanceFault>
     requires range { from.0 < to.0 }
-    requires shelf { IsShelf V.Vault (J.tells ≡ true) J.settings J.found J.sums (J.starts 5)
-        (record {
+    requires young { J.limit ≤ when }
+    requires shelf { IsShelf V.Vault (J.tells ≡ true) J.settings J.found J.sums
+        J.limit (J.starts 5) (record {
           area = area.old;
           list = note.old.list;
           known = known.old;
+          limit = limit;
           booked = book.old.total;
         }) }
-    ensures shelf { IsShelf V.Vault (J.tells ≡ true) J.settings J.found J.sums (J.starts 5)
-        (record {
+    ensures shelf { IsShelf V.Vault (J.tells ≡ true) J.settings J.found J.sums
+        J.limit (J.starts 5) (record {
           area = area.new;
           list = note.new.list;
           known = known.new;
+          limit = limit;
           booked = book.new.total;
         }) }
     ensures covered { HasCovered (J.tells ≡ true) J.found J.sums pass.new.list when
-        from.0 to.0 result }
+        J.limit from.0 to.0 result }
     ensures lawful { J.tells ≡ true → IsLawful J.settings.segment pass.new.list }
     ensures looks { LooksOn pass.old pass.new }
     ensures faults { TakesAdvanceFaults pass.old pass.new result }
 {
     learn(store, pass, note);
-    let answer = advance_covering(rt, alloc, area, store, pass, known, from, to, when);
+    let answer = advance_covering(rt, alloc, area, store, pass, known, limit, from, to, when);
     book_fault(store, pass, book, advance_fault(&answer));
     renew(store, pass, note);
     answer
 }
 
 /// The pass learns what a note knows.
-fn learn<J: OfCrew, V: Vault>(
+fn learn<J: OfRetention, V: Vault>(
     store: &Store<J, V>,
     pass: &mut Pass<J>,
     note: &mut Note<HistoryEntry, J>,
@@ -239,7 +269,7 @@ fn learn<J: OfCrew, V: Vault>(
 }
 
 /// The note becomes one of all that the pass has seen.
-fn renew<J: OfCrew, V: Vault>(
+fn renew<J: OfRetention, V: Vault>(
     store: &Store<J, V>,
     pass: &mut Pass<J>,
     note: &mut Note<HistoryEntry, J>,
@@ -254,7 +284,7 @@ fn renew<J: OfCrew, V: Vault>(
 }
 
 /// Books a fault, where it is one of the area of the summaries.
-fn book_fault<J: OfCrew, V: Vault>(
+fn book_fault<J: OfRetention, V: Vault>(
     store: &Store<J, V>,
     pass: &mut Pass<J>,
     book: &mut Book<AreaFaults<J, 5>>,

@@ -11,8 +11,9 @@ pub fn answers_sum_up()
     ensures honest { CrewsKeepHonest }
 {}
 
-/// What is kept of the area grows by neighbours, also where publishing failed. So a place below what
-/// is kept that nothing covers is one that nothing covered when the run began.
+/// What is kept of the area grows by neighbours, also where publishing failed, and loses old ones
+/// alone, never the last one. So a place below what is kept that nothing covers is one that nothing
+/// covered when the run began but what is old.
 pub fn kept_summaries_grow()
     ensures begins { RunsBeginGrown }
     ensures grows { PublishingGrows }

@@ -35,7 +35,7 @@ Holds P files =
     (name bytes : List ℕ) (sum : Summary) → get files name ≡ Some bytes
     → name ≡ summary_name_bytes sum.start.0 sum.end.0 → IsFileOf sum bytes → P sum
 
-holds_one : (P : Summary → Type 0) (files : Files) (name : List ℕ) (s : Summary) → Holds P files → IsSummaryIn files name s → P s
+pub holds_one : (P : Summary → Type 0) (files : Files) (name : List ℕ) (s : Summary) → Holds P files → IsSummaryIn files name s → P s
 holds_one P files name s holds is = holds name (bytes_of files name) s (is_there (get files name) s is.file) is.named is.file
 
 -- so it does of those that are kept of them

@@ -78,15 +78,15 @@ run_fails (run.Begin why) e = begin_fails why e
 
 pub record HasEnded (n when : ℕ) (old new : Outside) : Type 0 where
   pub run : RunReport
-  pub done : RunOfScript when (drilled n) old new (Ok run)
+  pub done : RunOfScript when 0 (drilled n) old new (Ok run)
   pub ended : run_status (Ok run) ≡ status.Done
 
-pub has_ended : (n when : ℕ) (old new : Outside) (came : RunResult) → RunOfScript when (drilled n) old new came → run_status came ≡ status.Done → HasEnded n when old new
+pub has_ended : (n when : ℕ) (old new : Outside) (came : RunResult) → RunOfScript when 0 (drilled n) old new came → run_status came ≡ status.Done → HasEnded n when old new
 has_ended n when old new (Ok report) does ended = record { run = report; done = does; ended = ended }
 has_ended n when old new (Err why) does ended = absurd (run_fails why ended)
 
-pub of_drilled : (n when : ℕ) (script : List Task) (old new : Outside) (came : RunResult) → script ≡ drilled n → RunOfScript when script old new came → RunOfScript when (drilled n) old new came
-of_drilled n when script old new came is does = subst (λ (s : List Task). RunOfScript when s old new came) is does
+pub of_drilled : (n when : ℕ) (script : List Task) (old new : Outside) (came : RunResult) → script ≡ drilled n → RunOfScript when 0 script old new came → RunOfScript when 0 (drilled n) old new came
+of_drilled n when script old new came is does = subst (λ (s : List Task). RunOfScript when 0 s old new came) is does
 
 pub asks_drilled : (n : ℕ) (script : List Task) (old new : Outside) → script ≡ drilled n → Works (run_asks script) old new → Works (run_asks (drilled n)) old new
 asks_drilled n script old new is works = subst (λ (s : List Task). Works (run_asks s) old new) is works

@@ -68,13 +68,13 @@ pub record HasBegun (n : ℕ) (old begun : Outside) : Type 0 where
   pub end : Lsn
   pub made : InitRan (drill_settings n) looked begun (Ok end)
 
--- then the script was run on it at a moment, to the end
+-- then the script was run on it at a moment, keeping all summaries, to the end
 pub record HasRun (n when : ℕ) (old ran : Outside) : Type 0 where
   pub begun : Outside
   pub before : HasBegun n old begun
   pub wrote : Works (run_asks (drilled n)) begun ran
   pub run : RunReport
-  pub done : RunOfScript when (drilled n) begun ran (Ok run)
+  pub done : RunOfScript when 0 (drilled n) begun ran (Ok run)
   pub ended : run_status (Ok run) ≡ status.Done
 
 -- then the chain of its backups was restored, to the WAL's end
@@ -108,7 +108,7 @@ DrillRefused n when old new (drill.Init came) =
     × InitRan (drill_settings n) looked new came × IsErr came
 DrillRefused n when old new (drill.Run came) =
     (begun : Outside) × HasBegun n old begun × Works (run_asks (drilled n)) begun new
-    × RunOfScript when (drilled n) begun new came × (run_status came ≢ status.Done)
+    × RunOfScript when 0 (drilled n) begun new came × (run_status came ≢ status.Done)
 DrillRefused n when old new (drill.Restore came) =
     (ran : Outside) × HasRun n when old ran × Works (drill_out ∷ []) ran new
     × RestoreRan None drill_members drill_out ran new came × IsErr came

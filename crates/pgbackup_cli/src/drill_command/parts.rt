@@ -26,6 +26,9 @@ use std::thread::Threads;
 use store_commands::{InitFault, ReplayReport, init};
 use vault::{Clock, Site};
 
+/// The days for which a drill keeps summaries: it keeps all.
+const KEEP_ALL: u32 = 0;
+
 /// How many frames each partition has (profile).
 const FRAMES: u32 = 64;
 
@@ -120,7 +123,7 @@ fn run_drilled<R: Threads + Wait + Sync, S: Site, C: Clock>(
 {
     begin(alloc, n, site, clock)?;
     let script = make_script(alloc, n)?;
-    let came = run_script(rt, alloc, FRAMES, script, when, site, &OpenGate);
+    let came = run_script(rt, alloc, FRAMES, KEEP_ALL, script, when, site, &OpenGate);
     match run_status(&came) {
         Status::Done => Ok(()),
         _ => Err(DrillFault::Run(came)),

@@ -9,7 +9,7 @@ use Rattle.vault.specs.Stops.{wrote, cut, synced, noted, Notes, Tries}
 use Rattle.vault.specs.Frame.{OnlyReads, AgreeBut, ChangesOnly, IsAmong}
 use Rattle.vault.proofs.Through.{adds_none, adds_by, adds_sync}
 use Rattle.vault.proofs.Changed.{changes_on, write_agrees, cut_agrees}
-use Rattle.shared_summaries.specs.summary_publish.Published.{IsSummaryName}
+use Rattle.summary_store.specs.Expiry.{IsSummaryName}
 
 agree_none : (x : Option Files) → Related (AgreeBut IsSummaryName) x x
 agree_none None = tt

@@ -1,67 +1,72 @@
 -- Where publishing goes on behind a call.
-use Rattle.std.proofs.Common.{◌≡◌, ℕ, ◌≤◌, List, ◌++◌, Option, Some, None, IfSome, option_map, sym, ap, subst, ◌∙◌}
+use Rattle.std.proofs.Common.{◌≡◌, inl, inr, ℕ, ◌≤◌, List, [], ◌∷◌, ◌++◌, Option, Some, None, IfSome, sym, subst, arith}
 use mathlib.Core.List.{IsPrefix}
 use Rattle.lsn_core.specs.Files.{Files}
-use Rattle.lsn_core.specs.declared.lsn.Lsn.{Lsn}
-use Rattle.vault.specs.Frame.{OnlyReads}
-use Rattle.vault.specs.declared.area.Vault.{Ghosts}
+use Rattle.vault.specs.Area.{Related}
 use Rattle.history.specs.Entry.{Entry}
 use Rattle.wal_summary.specs.declared.summary.Summary.{Summary}
+use Rattle.wal_summary.specs.Kept.{AreInOrder}
 use Rattle.summary_store.specs.Kept.{AreKept, end_behind}
-use Rattle.shared_store.specs.Records.{IsPlaceOf}
-use Rattle.shared_summaries.specs.summary_publish.Entries.{first_start}
-use Rattle.shared_summaries.specs.summary_publish.Published.{KeepsUpTo, GoesOnFrom, with_files}
-use Rattle.shared_summaries.specs.summary_publish.Inside.{Publishes}
+use Rattle.summary_store.specs.Expiry.{AreHeld, MayExpire}
+use Rattle.shared_summaries.specs.summary_publish.Published.{GoesOnFrom, AreListed, with_files}
+use Rattle.shared_summaries.specs.summary_publish.Partly.{LeavesFiles, LeavesFirst, AdvancesPartly}
 use Rattle.shared_summaries.specs.declared.summary_publish.known.Known.{Known}
+use Rattle.shared_summaries.proofs.summary_publish.Holding.{read_held, held_files, held_torn, order_on}
 use Rattle.shared_summaries.proofs.summary_publish.Adding.{end_append}
-use Rattle.shared_summaries.proofs.summary_publish.KeptFiles.{next_kept, end_from}
-use Rattle.shared_summaries.proofs.summary_publish.Later.{place_stays, first_later}
-
--- what is kept of files ends there, from another first place that is the same
-pub from_same : (first one : ℕ) (end : ℕ) (o : Option Files) → first ≡ one → IfSome o (KeepsUpTo first end) → IfSome o (KeepsUpTo one end)
-from_same first one end o same held = subst (λ (n : ℕ). IfSome o (KeepsUpTo n end)) same held
-
--- what is kept was read
-pub keeps_up : (first end : ℕ) (o : Option Files) (kept : List Summary) → end ≡ end_behind first kept → IfSome o (λ m. AreKept m kept) → IfSome o (KeepsUpTo first end)
-keeps_up first end None kept same held = tt
-keeps_up first end (Some m) kept same held = record { kept = kept; held = held; end_is = same }
-
--- an end that is known stays, as more is seen
-pub end_stays : (first one : ℕ) (end : Option Lsn) (o : Option Files) → first ≡ one → IfSome end (λ e. IfSome o (KeepsUpTo first e.0)) → IfSome end (λ e. IfSome o (KeepsUpTo one e.0))
-end_stays first one end o same held = subst (λ (n : ℕ). IfSome end (λ e. IfSome o (KeepsUpTo n e.0))) same held
+use Rattle.shared_summaries.proofs.summary_publish.KeptFiles.{end_from}
+use Rattle.shared_summaries.proofs.summary_publish.Later.{place_stays}
 
 pub goes_later : (told : Type 0) (h g : List Entry) (files : Option Files) (known : Known) → IsPrefix h g → GoesOnFrom told h files known → GoesOnFrom told g files known
 goes_later told h g files known prefix goes = record {
   at = λ t. place_stays known.place.0 h g (goes.at t) prefix;
-  kept = λ t. end_stays (first_start h) (first_start g) known.end files (sym (first_later known.place.0 h g prefix (goes.at t))) (goes.kept t);
+  kept = goes.kept;
 }
 
--- behind a reading
-pub goes_read : (told : Type 0) (h : List Entry) (old new : Option Files) (known : Known) → new ≡ old → GoesOnFrom told h old known → GoesOnFrom told h new known
-goes_read told h old new known same goes = subst (λ (o : Option Files). GoesOnFrom told h o known) (sym same) goes
+-- what is kept was read
+pub listed_read : (files : Option Files) (kept : List Summary) → IfSome files (λ m. AreKept m kept) → AreInOrder 0 kept → AreListed files kept
+listed_read None kept held order = record { held = tt; order = order }
+listed_read (Some m) kept held order = record { held = read_held m kept held; order = order }
 
--- behind a publishing: what is kept is what was, and what was published
-more_kept : (told : Type 0) {V : Type 0} (g : Ghosts V) (h : List Entry) (made from count end first : ℕ) (mid new : V) (p : Publishes g told h from made mid new count end) → told → (m : Files) → KeepsUpTo first from m → KeepsUpTo first end (with_files p.sums m)
-more_kept told g h made from count end first mid new p t m k = record {
-  kept = k.kept ++ p.sums;
-  held = next_kept h made from p.sums k.kept m k.held (subst (λ (n : ℕ). end_behind 0 k.kept ≤ n) (sym k.end_is) (end_from first k.kept)) (p.next t) p.whole;
-  end_is = p.ends ∙ ap (λ (n : ℕ). end_behind n p.sums) k.end_is ∙ sym (end_append first k.kept p.sums);
+-- behind a publishing, wholly or in part, and behind an expiry
+left_held : (told : Type 0) (h : List Entry) (made place : ℕ) (old new : Files) (kept sums : List Summary) → AreInOrder 0 (kept ++ sums) → end_behind 0 (kept ++ sums) ≤ place → AreHeld (with_files sums old) (kept ++ sums) → LeavesFiles told h made place sums old new → AreHeld new (kept ++ sums)
+left_held told h made place old new kept sums order le held (inl same) = subst (λ m. AreHeld m (kept ++ sums)) (sym same) held
+left_held told h made place old new kept sums order le held (inr torn) = held_torn (with_files sums old) new torn.0 place (kept ++ sums) torn.3 torn.1 order le torn.4 held
+
+from_place : (ys : List Summary) (total low place : ℕ) → total ≡ end_behind low ys → low ≤ place → total ≤ end_behind place ys
+from_place [] total low place e le = omega (arith, e, le)
+from_place (y ∷ ys) total low place e le = omega (arith, e)
+
+pub first_listed : (told : Type 0) (h : List Entry) (made first : ℕ) (old new : Option Files) (kept now : List Summary) → LeavesFirst told h made first old new kept now → AreListed old kept → AreListed new now
+first_listed told h made first old new kept now some l =
+    let place = end_behind first kept in
+    let le : end_behind 0 kept ≤ place = end_from first kept in
+    let order : AreInOrder 0 (kept ++ some.sums) = order_on 0 place kept some.sums l.order le some.follow in
+    let past : end_behind 0 (kept ++ some.sums) ≤ end_behind place some.sums = from_place some.sums (end_behind 0 (kept ++ some.sums)) (end_behind 0 kept) place (end_append 0 kept some.sums) le in
+    subst (AreListed new) (sym some.now_is) (record { held = at old new l.held some.left; order = order })
+  where
+    at : (o n : Option Files) → IfSome o (λ m. AreHeld m kept) → Related (LeavesFiles told h made (end_behind (end_behind first kept) some.sums) some.sums) o n → IfSome n (λ m. AreHeld m (kept ++ some.sums))
+    at None None held left = tt
+    at None (Some n) held left = absurd left
+    at (Some m) None held left = absurd left
+    at (Some m) (Some n) held left =
+        let place = end_behind first kept in
+        let le : end_behind 0 kept ≤ place = end_from first kept in
+        left_held told h made (end_behind place some.sums) m n kept some.sums (order_on 0 place kept some.sums l.order le some.follow)
+        (from_place some.sums (end_behind 0 (kept ++ some.sums)) (end_behind 0 kept) place (end_append 0 kept some.sums) le)
+        (held_files m place kept some.sums some.whole l.order le some.follow held) left
+
+expired_held : (old new : Option Files) (kept now : List Summary) → Related (λ m n. AreInOrder 0 kept → AreHeld m kept → AreHeld n now) old new → AreInOrder 0 kept → IfSome old (λ m. AreHeld m kept) → IfSome new (λ m. AreHeld m now)
+expired_held None None kept now f order held = tt
+expired_held None (Some n) kept now f order held = absurd f
+expired_held (Some m) None kept now f order held = absurd f
+expired_held (Some m) (Some n) kept now f order held = f order held
+
+pub expired_listed : (limit : ℕ) (old new : Option Files) (kept now : List Summary) → MayExpire limit old new kept now → AreListed old kept → AreListed new now
+expired_listed limit old new kept now e l = record {
+  held = expired_held old new kept now e.held l.order l.held;
+  order = e.taken.order 0 l.order;
 }
 
-map_some : (o : Option Files) (f : Files → Files) (P Q : Files → Type 0) → ((m : Files) → P m → Q (f m)) → IfSome o P → IfSome (option_map f o) Q
-map_some None f P Q each held = tt
-map_some (Some m) f P Q each held = each m held
-
-pub goes_published : {V : Type 0} (g : Ghosts V) (told : Type 0) (h : List Entry) (made from count : ℕ) (end place : Lsn) (old mid new : V) → OnlyReads g old mid → (told → IfSome (g.files old) (KeepsUpTo (first_start h) from)) → Publishes g told h from made mid new count end.0
-    → (told → IsPlaceOf h place.0) → GoesOnFrom told h (g.files new) (record { place = place; end = Some end })
-goes_published g told h made from count end place old mid new reads held p at = record {
-  at = at;
-  kept = λ t.
-      let was : IfSome (g.files mid) (KeepsUpTo (first_start h) from) = subst (λ (o : Option Files). IfSome o (KeepsUpTo (first_start h) from)) (sym reads.files) (held t) in
-      subst (λ (o : Option Files). IfSome o (KeepsUpTo (first_start h) end.0)) (sym p.files)
-      (map_some (g.files mid) (with_files p.sums) (KeepsUpTo (first_start h) from) (KeepsUpTo (first_start h) end.0) (λ m k. more_kept told g h made from count end.0 (first_start h) mid new p t m k) was);
-}
-
--- or it failed: the end isn't known then
-pub goes_failed : (told : Type 0) (h : List Entry) (files : Option Files) (place : Lsn) → (told → IsPlaceOf h place.0) → GoesOnFrom told h files (record { place = place; end = None })
-goes_failed told h files place at = record { at = at; kept = λ t. tt }
+pub partly_listed : (told : Type 0) (h : List Entry) (made limit : ℕ) (old new : Option Files) (kept now : List Summary) → AdvancesPartly told h made limit old new kept now → AreListed old kept → AreListed new now
+partly_listed told h made limit old new kept now p l =
+    expired_listed limit p.mid new p.between now p.expiry (first_listed told h made p.first old p.mid kept p.between p.some l)

@@ -3,7 +3,7 @@ use Rattle.std.proofs.Common.{◌≡◌, ℕ, ◌<◌, ◌≤◌, Bool, true, fa
 use Rattle.std.specs.Prelude.{nat_lt}
 use Rattle.std.specs.List.{list_any, AllByRecursion}
 use Rattle.std.specs.Cmp.Lexicographic.{nat_list_cmp_total}
-use Rattle.std.specs.FinMap.{get, keys, get-insert}
+use Rattle.std.specs.FinMap.{get, get-insert}
 use Rattle.std.proofs.lemmas.Bool.{and_parts, ltb-true, lt-ltb, eqb-true, eq-eqb}
 use Rattle.std.proofs.lemmas.List.{append-nil}
 use Rattle.std.proofs.lemmas.List.Elements.{filter-append}
@@ -14,20 +14,18 @@ use Rattle.history.specs.Entry.{Entry}
 use Rattle.history.specs.Written.{is_redo}
 use Rattle.history.specs.fuzzy_copies.Orderly.{IsOrderly}
 use Rattle.history.specs.fuzzy_copies.Sound.{is_in, window}
-use Rattle.history.specs.fuzzy_copies.Summary.{table_of, summed, summary_of}
+use Rattle.history.specs.fuzzy_copies.Summary.{table_of, summed}
 use Rattle.wal_summary.specs.declared.summary.Summary.{Summary}
 use Rattle.wal_summary.specs.Summary.{IsSummary}
 use Rattle.wal_summary.specs.Kept.{overlaps, overlapping, AreNeighbours}
-use Rattle.wal_summary.proofs.Ranges.{covering_sums_up}
 use Rattle.summary_file.specs.File.{IsFileOf, summary_bytes}
 use Rattle.summary_file.specs.Name.{summary_name_bytes}
 use Rattle.summary_file.proofs.Decoding.{file_once}
-use Rattle.summary_store.specs.Kept.{end_behind}
 use Rattle.summary_store.specs.Honest.{is_redo_start, is_redo_point, IsHonestSummary, IsHonest}
-use Rattle.summary_store.proofs.Honest.{Holds, holds_kept, honest_kept}
-use Rattle.shared_summaries.specs.summary_publish.Entries.{first_start, next_redo}
-use Rattle.shared_summaries.specs.summary_publish.Published.{AreNext, IsWhole, ArePublished, with_file, with_files}
-use Rattle.shared_summaries.proofs.summary_publish.Ranges.{any_left, any_behind, or_left, or_right, orderly_front, stop, stop_later, orderly_behind, none_past}
+use Rattle.summary_store.proofs.Honest.{Holds}
+use Rattle.shared_summaries.specs.summary_publish.Entries.{next_redo}
+use Rattle.shared_summaries.specs.summary_publish.Published.{IsWhole, with_file, with_files}
+use Rattle.shared_summaries.proofs.summary_publish.Ranges.{any_left, or_left, or_right, orderly_front, stop, stop_later, orderly_behind, none_past}
 use Rattle.shared_summaries.proofs.summary_publish.Fitting.{one_of}
 
 -- ---- redo points
@@ -142,46 +140,14 @@ pub holds_files : (P : Summary → Type 0) (files : Files) (sums : List Summary)
 holds_files P files [] holds all whole = holds
 holds_files P files (s ∷ ss) holds all whole = holds_files P (with_file s files) ss (holds_file P files s holds all.0 whole.0) all.1 whole.1
 
--- each is honest, behind a redo point
-pub next_honest : (h : List Entry) (made place : ℕ) (sums : List Summary) → is_redo_point h place ≡ true → AreNext h made place sums → AllByRecursion (IsHonestSummary h) sums
-next_honest h made place [] point next = tt
-next_honest h made place (s ∷ ss) point next =
-    let one = next.0 in
-    let end = next_point place s.end.0 h one.ends in (
-      record {
-        starts = ap (is_redo_point h) one.starts ∙ point;
-        ends = end;
-        says = subst (λ (n : ℕ). IsSummary (summary_of h n s.end.0) s.forks) (sym one.starts) one.says;
-      },
-      next_honest h made s.end.0 ss end next.1,
-    )
-
--- the place behind honest ones is a redo point
-pub point_behind : (h : List Entry) (low : ℕ) (sums : List Summary) → is_redo_point h low ≡ true → AllByRecursion (IsHonestSummary h) sums → is_redo_point h (end_behind low sums) ≡ true
-point_behind h low [] point all = point
-point_behind h low (s ∷ ss) point all = point_behind h s.end.0 ss all.0.ends all.1
-
 pub first_point : (e : Entry) (es : List Entry) → is_redo_point (e ∷ es) e.start ≡ true
 first_point e es = or_left (e.start == e.start) (list_any (is_redo_start e.start) (e ∷ es)) (eq-eqb e.start e.start refl)
-
-pub published_honest : (h : List Entry) (made : ℕ) (files : Files) (sums : List Summary) → IsHonest h files → ArePublished h made files sums → AllByRecursion (IsHonestSummary h) sums
-published_honest h made files [] honest p = tt
-published_honest [] made files (s ∷ ss) honest p = absurd (let e = p.next.0.ends in cc)
-published_honest (e ∷ es) made files (s ∷ ss) honest p =
-    next_honest (e ∷ es) made (end_behind e.start p.kept) (s ∷ ss)
-    (point_behind (e ∷ es) e.start p.kept (first_point e es) (holds_kept (IsHonestSummary (e ∷ es)) files 0 (keys files) p.kept honest p.held)) p.next
 
 -- ---- what covers a range
 
 -- a summary that starts before a place ends by it
 abbrev pub EndsBy : ℕ → Summary → Type 0
 EndsBy to s = s.start.0 < to → s.end.0 ≤ to
-
-pub next_end_by : (h : List Entry) (made place to : ℕ) (sums : List Summary) → IsOrderly 0 h → list_any (is_redo_start to) h ≡ true → AreNext h made place sums → AllByRecursion (EndsBy to) sums
-next_end_by h made place to [] order redo next = tt
-next_end_by h made place to (s ∷ ss) order redo next =
-    let same = next.0.starts in
-    (λ lt. next_least 0 place to s.end.0 h order redo (omega (arith, lt, same)) next.0.ends, next_end_by h made s.end.0 to ss order redo next.1)
 
 pub over_step : (to : ℕ) (s : Summary) (a t : Bool) (some : List Summary) → (t ≡ (a && nat_lt s.start.0 to)) → EndsBy to s → AllByRecursion (λ (x : Summary). x.end.0 ≤ to) some → AllByRecursion (λ (x : Summary). x.end.0 ≤ to) (cond t (s ∷ some) some)
 over_step to s a true some is ends rest = (ends (ltb-true s.start.0 to (and_parts a (nat_lt s.start.0 to) (sym is)).1), rest)

@@ -221,7 +221,7 @@ frame_one : (files : Files) (name bytes : List ℕ) → IsFrame files (insert fi
 frame_one files name bytes other apart =
     ap (λ (o : Option (List ℕ)). unwrap_or o []) (get-insert nat_list_cmp_total files name bytes other ∙ ap (λ (b : Bool). cond b (Some bytes) (get files other)) apart)
 
-there : (files : Files) (name bytes : List ℕ) → bytes_of (insert files name bytes) name ≡ bytes
+pub there : (files : Files) (name bytes : List ℕ) → bytes_of (insert files name bytes) name ≡ bytes
 there files name bytes =
     ap (λ (o : Option (List ℕ)). unwrap_or o []) (get-insert nat_list_cmp_total files name bytes name ∙ ap (λ (b : Bool). cond b (Some bytes) (get files name)) (name_itself name))
 

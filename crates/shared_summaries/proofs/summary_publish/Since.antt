@@ -1,7 +1,7 @@
 -- Areas that stay true for a run of several workers.
-use Rattle.std.proofs.Common.{◌≡◌, ℕ, ◌<◌, ◌≤◌, Bool, true, false, cond, ◌&&◌, ◌||◌, inl, inr, List, [], ◌∷◌, ◌++◌, Option, Some, refl, sym, ap, subst, ◌∙◌, ◌⊎◌, ⊎_elim, arith, append_assoc, true≢false}
+use Rattle.std.proofs.Common.{◌≡◌, ℕ, ◌≤◌, Bool, true, false, ◌||◌, inl, inr, List, [], ◌∷◌, ◌++◌, Option, None, Some, not, refl, sym, ap, subst, ◌∙◌, ◌⊎◌, ⊎_elim, arith, append_assoc, true≢false}
 use Rattle.std.specs.List.{list_any, AllByRecursion}
-use Rattle.std.specs.FinMap.{get, keys}
+use Rattle.std.specs.FinMap.{get}
 use Rattle.std.proofs.lemmas.List.{append-nil}
 use Rattle.lsn_core.specs.Files.{Files}
 use Rattle.lsn_core.proofs.StoreFiles.{same_name, names_tie, name_itself}
@@ -10,23 +10,25 @@ use Rattle.history.specs.fuzzy_copies.Orderly.{IsOrderly}
 use Rattle.history.specs.fuzzy_copies.Summary.{summary_of}
 use Rattle.wal_summary.specs.declared.summary.Summary.{Summary}
 use Rattle.wal_summary.specs.Summary.{IsSummary}
-use Rattle.wal_summary.specs.Kept.{overlapping, IsCovering}
+use Rattle.wal_summary.specs.Kept.{overlapping, AreHonest}
 use Rattle.wal_summary.proofs.Ranges.{covering_sums_up}
 use Rattle.summary_file.specs.File.{IsFileOf, summary_bytes}
 use Rattle.summary_file.specs.Name.{summary_name_bytes}
 use Rattle.summary_file.proofs.Decoding.{file_once}
-use Rattle.summary_store.specs.Kept.{AreKept, end_behind}
-use Rattle.summary_store.specs.Honest.{is_redo_start, is_redo_point, IsHonestSummary, IsHonest}
-use Rattle.summary_store.proofs.Honest.{Holds, holds_kept, honest_kept}
-use Rattle.shared_summaries.specs.summary_publish.Entries.{first_start, next_redo}
-use Rattle.shared_summaries.specs.summary_publish.Published.{IsNext, AreNext, IsWhole, ArePublished, with_files}
-use Rattle.shared_summaries.specs.summary_publish.Partly.{MayWrite, MayWriteSummary, LeavesSome}
-use Rattle.shared_summaries.specs.summary_publish.True.{IsUnsplit, IsTrueSummary, IsTrue}
-use Rattle.shared_summaries.specs.summary_publish.Partly.{MayPublish, MayAdvance}
+use Rattle.summary_store.specs.Kept.{end_behind}
+use Rattle.summary_store.specs.Expiry.{AreHeld, MayExpire, is_expired, unexpired}
+use Rattle.summary_store.specs.Honest.{is_redo_start, is_redo_point, IsHonestSummary}
+use Rattle.summary_store.proofs.Honest.{Holds}
+use Rattle.shared_summaries.specs.summary_publish.Entries.{first_start}
+use Rattle.shared_summaries.specs.summary_publish.Published.{IsNext, AreNext, IsWhole, with_files}
+use Rattle.shared_summaries.specs.summary_publish.Partly.{MayWriteSummary, LeavesFiles, LeavesFirst}
+use Rattle.shared_summaries.specs.summary_publish.True.{IsTrueSummary, IsTrue}
+use Rattle.shared_summaries.specs.summary_publish.Partly.{AdvancesPartly}
 use Rattle.shared_summaries.specs.summary_publish.Laws.{RunsBeginTrue, TrueIsHonest, TrueStays, PublishingKeepsTrue, CrewSumsUp}
-use Rattle.shared_summaries.proofs.summary_publish.Ranges.{any_behind, orderly_front, stop, stop_later, orderly_behind}
+use Rattle.shared_summaries.proofs.summary_publish.Ranges.{any_behind, orderly_front, stop, orderly_behind}
 use Rattle.shared_summaries.proofs.summary_publish.Fitting.{one_of}
-use Rattle.shared_summaries.proofs.summary_publish.Honest.{redo_below, point_below, point_behind, first_point, next_point, honest_on, holds_files, next_least, EndsBy, over_end_by, last_end_by}
+use Rattle.shared_summaries.proofs.summary_publish.Holding.{all_append, all_filter, holds_held, expired_holds}
+use Rattle.shared_summaries.proofs.summary_publish.Honest.{redo_below, point_below, first_point, next_point, honest_on, holds_files, next_least, EndsBy, over_end_by, last_end_by}
 
 pub runs_begin_true : RunsBeginTrue
 runs_begin_true found files honest name bytes sum at named file = record {
@@ -90,23 +92,22 @@ true_point found own low [] point all = point
 true_point found own low (s ∷ ss) point all = true_point found own s.end.0 ss all.0.honest.ends all.1
 
 -- the place behind which summaries are published is a redo point, where there is any entry
-starts_at_point : (found own : List Entry) (h : List Entry) → h ≡ found ++ own → (files : Files) (kept : List Summary) → IsTrue found own files → AreKept files kept
+starts_at_point : (found own : List Entry) (h : List Entry) → h ≡ found ++ own → (kept : List Summary) → AllByRecursion (IsTrueSummary found own) kept
     → (h ≡ [] → ⊥) → is_redo_point (found ++ own) (end_behind (first_start h) kept) ≡ true
-starts_at_point found own [] same files kept holds held some = absurd (some refl)
-starts_at_point found own (e ∷ es) same files kept holds held some =
-    let all = holds_kept (IsTrueSummary found own) files 0 (keys files) kept holds held in
+starts_at_point found own [] same kept all some = absurd (some refl)
+starts_at_point found own (e ∷ es) same kept all some =
     true_point found own e.start kept (subst (λ (l : List Entry). is_redo_point l e.start ≡ true) same (first_point e es)) all
 
 some_next : (h : List Entry) (made place : ℕ) (sum : Summary) → IsNext h made place sum → h ≡ [] → ⊥
 some_next [] made place sum next none = let e = next.ends in cc
 some_next (e ∷ es) made place sum next none = cc
 
-pub published_true : (found own : List Entry) (made : ℕ) (files : Files) (kept sums : List Summary) → IsOrderly 0 (found ++ own) → IsTrue found own files → AreKept files kept
+pub published_true : (found own : List Entry) (made : ℕ) (kept sums : List Summary) → IsOrderly 0 (found ++ own) → AllByRecursion (IsTrueSummary found own) kept
     → AreNext (found ++ own) made (end_behind (first_start (found ++ own)) kept) sums → AllByRecursion (IsTrueSummary found own) sums
-published_true found own made files kept [] order holds held next = tt
-published_true found own made files kept (s ∷ ss) order holds held next =
+published_true found own made kept [] order all next = tt
+published_true found own made kept (s ∷ ss) order all next =
     let h : List Entry = found ++ own in
-    all_true found own made (end_behind (first_start h) kept) (s ∷ ss) order (starts_at_point found own h refl files kept holds held (some_next h made (end_behind (first_start h) kept) s next.0)) next
+    all_true found own made (end_behind (first_start h) kept) (s ∷ ss) order (starts_at_point found own h refl kept all (some_next h made (end_behind (first_start h) kept) s next.0)) next
 
 -- ---- a file that was written in part
 
@@ -129,30 +130,39 @@ holds_torn P old new s holds is whole may name bytes t at named file =
 
 -- ---- publishing, wholly or in part
 
-behind_all : (found own : List Entry) (low : ℕ) (sums : List Summary) (files : Files) (kept : List Summary) → low ≡ end_behind (first_start (found ++ own)) kept → IsTrue found own files → AreKept files kept
-    → AllByRecursion (IsTrueSummary found own) sums → ((found ++ own) ≡ [] → ⊥) → is_redo_point (found ++ own) (end_behind low sums) ≡ true
-behind_all found own low sums files kept same holds held all some =
-    true_point found own low sums (subst (λ (n : ℕ). is_redo_point (found ++ own) n ≡ true) (sym same) (starts_at_point found own (found ++ own) refl files kept holds held some)) all
+-- the files behind a publishing
+written_true : (told : Type 0) → told → (found own : List Entry) (made : ℕ) (old new : Files) (kept sums : List Summary) → IsOrderly 0 (found ++ own) → IsTrue found own old → AllByRecursion (IsTrueSummary found own) kept
+    → (told → AreNext (found ++ own) made (end_behind (first_start (found ++ own)) kept) sums) → AllByRecursion IsWhole sums
+    → LeavesFiles told (found ++ own) made (end_behind (end_behind (first_start (found ++ own)) kept) sums) sums old new → IsTrue found own new
+written_true told t found own made old new kept sums order holds all next whole left =
+    let h : List Entry = found ++ own in
+    let low = end_behind (first_start h) kept in
+    let more = published_true found own made kept sums order all (next t) in
+    let first : Holds (IsTrueSummary found own) (with_files sums old) = holds_files (IsTrueSummary found own) old sums holds more whole in
+    ⊎_elim (λ (same : new ≡ with_files sums old). subst (IsTrue found own) (sym same) first)
+    (λ torn.
+    let one = torn.2 t in
+    let point = true_point found own low sums (starts_at_point found own h refl kept all (some_next h made (end_behind low sums) torn.0 one)) more in
+    holds_torn (IsTrueSummary found own) (with_files sums old) new torn.0 first (next_true found own made (end_behind low sums) torn.0 order point one) torn.3 torn.4)
+    left
 
-some_true : (found own : List Entry) (made : ℕ) (old new : Files) (kept : List Summary) → IsOrderly 0 (found ++ own) → IsTrue found own old → AreKept old kept
-    → (l : LeavesSome (Unit {0}) (found ++ own) made (end_behind (first_start (found ++ own)) kept) old new) → AllByRecursion (IsTrueSummary found own) l.sums
-some_true found own made old new kept order holds held l = published_true found own made old kept l.sums order holds held (l.next tt)
+partly_at : (told : Type 0) → told → (found own : List Entry) (made limit first : ℕ) (old new : Files) (kept between now : List Summary) (mid : Option Files) → IsOrderly 0 (found ++ own) → IsTrue found own old → AreHeld old kept
+    → first ≡ first_start (found ++ own) → LeavesFirst told (found ++ own) made first (Some old) mid kept between → MayExpire limit mid (Some new) between now → IsTrue found own new
+partly_at told t found own made limit first old new kept between now None order holds held is some expiry = absurd some.left
+partly_at told t found own made limit first old new kept between now (Some m) order holds held is some expiry =
+    let h : List Entry = found ++ own in
+    expired_holds (IsTrueSummary found own) limit m new between now expiry
+    (written_true told t found own made old m kept some.sums order holds (holds_held (IsTrueSummary found own) old kept holds held)
+    (λ u. subst (λ n. AreNext h made (end_behind n kept) some.sums) is (some.next u)) some.whole
+    (subst (λ n. LeavesFiles told h made (end_behind (end_behind n kept) some.sums) some.sums old m) is some.left))
+
+pub partly_true : (told : Type 0) → told → (found own : List Entry) (made limit : ℕ) (old new : Files) (kept now : List Summary) → IsOrderly 0 (found ++ own) → IsTrue found own old → AreHeld old kept
+    → AdvancesPartly told (found ++ own) made limit (Some old) (Some new) kept now → IsTrue found own new
+partly_true told t found own made limit old new kept now order holds held p =
+    partly_at told t found own made limit p.first old new kept p.between now p.mid order holds held (p.first_is t) p.some p.expiry
 
 pub publishing_keeps_true : PublishingKeepsTrue
-publishing_keeps_true found own made old new order holds (inl same) = subst (IsTrue found own) (sym same) holds
-publishing_keeps_true found own made old new order holds (inr may_so) =
-    let h : List Entry = found ++ own in
-    let may : MayPublish (Unit {0}) h made old new = may_so tt in
-    let low = end_behind (first_start h) may.kept in
-    let some = may.some in
-    let all = some_true found own made old new may.kept order holds may.held some in
-    let first : Holds (IsTrueSummary found own) (with_files some.sums old) = holds_files (IsTrueSummary found own) old some.sums holds all some.whole in
-    ⊎_elim (λ (same : new ≡ with_files some.sums old). subst (IsTrue found own) (sym same) first)
-    (λ torn.
-    let next = torn.1 tt in
-    let point = behind_all found own low some.sums old may.kept refl holds may.held all (some_next h made (end_behind low some.sums) torn.0 next) in
-    holds_torn (IsTrueSummary found own) (with_files some.sums old) new torn.0 first (next_true found own made (end_behind low some.sums) torn.0 order point next) torn.2 torn.3)
-    some.left
+publishing_keeps_true found own made limit old new kept now order holds held p = partly_true (Unit {0}) tt found own made limit old new kept now order holds held p
 
 -- ---- what covers a range
 
@@ -163,14 +173,19 @@ all_end_by : (found own : List Entry) (to : ℕ) (sums : List Summary) → list_
 all_end_by found own to [] redo all = tt
 all_end_by found own to (s ∷ ss) redo all = (ends_by found own to s redo all.0, all_end_by found own to ss redo all.1)
 
+honest_of : (found own : List Entry) (sums : List Summary) → AllByRecursion (IsTrueSummary found own) sums → AreHonest (found ++ own) sums
+honest_of found own [] all = tt
+honest_of found own (s ∷ ss) all = (all.0.honest.says, honest_of found own ss all.1)
+
 pub crew_sums_up : CrewSumsUp
-crew_sums_up found own made files sums kept from to sum order redo holds p held lt covers =
+crew_sums_up found own made limit files kept sums from to sum order redo holds p lt covers =
     let h : List Entry = found ++ own in
-    let all = published_true found own made files p.kept sums order holds p.held p.next in
-    let now : IsTrue found own (with_files sums files) = holds_files (IsTrueSummary found own) files sums holds all p.whole in
-    let kept_true = holds_kept (IsTrueSummary found own) (with_files sums files) 0 (keys (with_files sums files)) kept now held in
+    let rest : List Summary = unexpired limit (kept ++ sums) in
+    let were = holds_held (IsTrueSummary found own) files kept holds p.held in
+    let all = all_append (IsTrueSummary found own) kept sums were (published_true found own made kept sums order were p.next) in
+    let rest_true = all_filter (IsTrueSummary found own) (λ s. not (is_expired limit (kept ++ sums) s)) (kept ++ sums) all in
     let begins = covers.begins in
     let ends = covers.ends in
     let same : sum.end.0 ≡ to =
-    ⊎_elim (λ le. omega (arith, le, ends)) (λ none. omega (arith, none, begins, ends, lt)) (last_end_by to sum.start.0 sum.end.0 (overlapping from to kept) (over_end_by from to kept (all_end_by found own to kept redo kept_true)) covers.range) in
-    (same, covers.begins, subst (λ (n : ℕ). IsSummary (summary_of h sum.start.0 n) sum.forks) same (covering_sums_up h kept from to sum order (honest_kept h (with_files sums files) kept (true_is_honest found own (with_files sums files) now) held) covers))
+    ⊎_elim (λ le. omega (arith, le, ends)) (λ none. omega (arith, none, begins, ends, lt)) (last_end_by to sum.start.0 sum.end.0 (overlapping from to rest) (over_end_by from to rest (all_end_by found own to rest redo rest_true)) covers.range) in
+    (same, covers.begins, subst (λ (n : ℕ). IsSummary (summary_of h sum.start.0 n) sum.forks) same (covering_sums_up h rest from to sum order (honest_of found own rest rest_true) covers))

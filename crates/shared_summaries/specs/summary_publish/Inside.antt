@@ -1,5 +1,5 @@
 -- What functions inside the crate answer. No public contract cites these.
-use Rattle.std.specs.Prelude.{◌≡◌, nat_le, ◌⊎◌, ℕ, ◌+◌, ◌-◌, ◌^◌, ◌<◌, ◌≤◌, List, [], ◌∷◌, length, Option, Some, None}
+use Rattle.std.specs.Prelude.{◌≡◌, nat_le, ◌⊎◌, ℕ, ◌-◌, ◌^◌, ◌<◌, ◌≤◌, List, [], ◌∷◌, ◌++◌, length, Option, Some, None}
 use Rattle.std.specs.Option.{option_map}
 use Rattle.std.specs.List.{AllByRecursion, filter}
 use Rattle.lsn_core.specs.Files.{Files}
@@ -24,11 +24,10 @@ use Rattle.history.specs.fuzzy_copies.Sound.{window}
 use Rattle.wal_summary.specs.declared.summary.Summary.{Summary}
 use Rattle.wal_summary.specs.declared.kept.CoverFault.{CoverFault}
 use Rattle.wal_summary.specs.declared.kept.CoverFault.TheVariants as cover
-use Rattle.summary_file.specs.File.{IsWritable}
 use Rattle.summary_store.specs.Kept.{end_behind}
 use Rattle.shared_store.specs.Records.{IsPlaceOf}
 use Rattle.shared_summaries.specs.summary_publish.Entries.{next_redo}
-use Rattle.shared_summaries.specs.summary_publish.Published.{IsNext, AreNext, IsWhole, with_file, with_files}
+use Rattle.shared_summaries.specs.summary_publish.Published.{IsNext, AreNext, IsWhole, CanFollow, AreFollowing, with_file, with_files}
 use Rattle.shared_summaries.specs.summary_publish.Partly.{MayWriteSummary}
 use Rattle.store_faults.specs.declared.advance_fault.AdvanceFault.{AdvanceFault}
 use Rattle.store_faults.specs.declared.advance_fault.AdvanceFault.TheVariants as advance
@@ -96,26 +95,20 @@ abbrev pub StartsBy : Lsn → Lsn → Lsn → Lsn → Type 0
 StartsBy old new bound first = ((new ≡ old) × (old.0 ≤ bound.0)) ⊎ (new ≡ first)
 
 -- so it has behind a range that was found
-abbrev pub MayGoOn : List Entry → Option Lsn → ℕ → Type 0
+abbrev pub MayGoOn : List Entry → Option Summary → ℕ → Type 0
 MayGoOn history None at = Unit {0}
-MayGoOn history (Some end) at = CanStart history end.0 at
+MayGoOn history (Some sum) at = CanStart history sum.end.0 at
 
 -- the summary of the next range, where there is one
 abbrev pub NextAnswer : List Entry → ℕ → ℕ → Option Summary → Type 0
 NextAnswer history made place None = next_redo place history ≡ None
 NextAnswer history made place (Some sum) = IsNext history made place sum
 
--- a summary that can be kept and written behind a place
-pub record CanFollow (place : ℕ) (sum : Summary) : Type 0 where
-  pub starts : sum.start.0 ≡ place
-  pub written : IsWritable sum
-
 -- one more summary was published, which ends there, or there is none
 abbrev pub PublishesNext : {V : Type 0} → Ghosts V → Type 0 → List Entry → ℕ → ℕ → V → V
-    → Option Lsn → Type 0
-PublishesNext g told history place made old new (Some end) =
-    (sum : Summary) × (sum.end ≡ end) × (place < end.0)
-    × (told → IsNext history made place sum) × IsWhole sum
+    → Option Summary → Type 0
+PublishesNext g told history place made old new (Some sum) =
+    CanFollow place sum × (told → IsNext history made place sum) × IsWhole sum
     × (g.files new ≡ option_map (with_file sum) (g.files old))
 PublishesNext g told history place made old new None =
     (new ≡ old) × (told → next_redo place history ≡ None)
@@ -125,34 +118,35 @@ PublishesNext g told history place made old new None =
 pub record LeavesOne (told : Type 0) (history : List Entry) (made place : ℕ) (old new : Files)
     : Type 0 where
   pub left : (new ≡ old)
-      ⊎ ((sum : Summary) × (told → IsNext history made place sum) × IsWhole sum
-      × MayWriteSummary sum old new)
+      ⊎ ((sum : Summary) × CanFollow place sum × (told → IsNext history made place sum)
+      × IsWhole sum × MayWriteSummary sum old new)
 
 abbrev pub LeavesNext :
     Type 0 → List Entry → ℕ → ℕ → Option Files → Option Files → Type 0
 LeavesNext told history made place old new =
     Related (LeavesOne told history made place) old new
 
--- summaries were published from a place up to another one, so many
+-- summaries were published behind those that are kept, up to a place, and are kept
 pub record PublishesTo {V : Type 0} (g : Ghosts V) (told : Type 0) (history : List Entry)
-    (from made : ℕ) (old new : V) (at count : ℕ) : Type 0 where
+    (first made : ℕ) (old new : V) (kept now : List Summary) (at : ℕ) : Type 0 where
   pub sums : List Summary
-  pub next : told → AreNext history made from sums
+  pub now_is : now ≡ kept ++ sums
+  pub follow : AreFollowing (end_behind first kept) sums
+  pub next : told → AreNext history made (end_behind first kept) sums
   pub whole : AllByRecursion IsWhole sums
-  pub ends : at ≡ end_behind from sums
-  pub counted : count ≡ length sums
-  pub fits : from + count ≤ at
+  pub ends : at ≡ end_behind (end_behind first kept) sums
   pub files : g.files new ≡ option_map (with_files sums) (g.files old)
 
--- summaries were published from a place on up to the last redo point, durably: none lies past the end,
--- which is that of the last one
+-- summaries were published behind those that are kept, up to the last redo point, durably, and are
+-- kept: none lies past their end
 pub record Publishes {V : Type 0} (g : Ghosts V) (told : Type 0) (history : List Entry)
-    (from made : ℕ) (old new : V) (count end : ℕ) : Type 0 where
+    (first made : ℕ) (old new : V) (kept now : List Summary) (count : ℕ) : Type 0 where
   pub sums : List Summary
-  pub next : told → AreNext history made from sums
+  pub now_is : now ≡ kept ++ sums
+  pub follow : AreFollowing (end_behind first kept) sums
+  pub next : told → AreNext history made (end_behind first kept) sums
   pub whole : AllByRecursion IsWhole sums
-  pub ends : end ≡ end_behind from sums
-  pub last : told → next_redo (end_behind from sums) history ≡ None
+  pub last : told → next_redo (end_behind (end_behind first kept) sums) history ≡ None
   pub counted : count ≡ length sums
   pub files : g.files new ≡ option_map (with_files sums) (g.files old)
   pub durable : IsDurable (g.files new) (g.past new)

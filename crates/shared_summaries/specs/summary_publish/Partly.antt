@@ -1,5 +1,5 @@
 -- What a publishing leaves that may have failed.
-use Rattle.std.specs.Prelude.{◌≡◌, ◌≢◌, ◌⊎◌, ℕ, List, Option, Some, None}
+use Rattle.std.specs.Prelude.{◌≡◌, ◌≢◌, ◌⊎◌, ℕ, List, ◌++◌, Option, Some, None}
 use Rattle.std.specs.List.{AllByRecursion}
 use Rattle.std.specs.FinMap.{get}
 use Rattle.lsn_core.specs.Files.{Files}
@@ -8,9 +8,11 @@ use Rattle.history.specs.Entry.{Entry}
 use Rattle.wal_summary.specs.declared.summary.Summary.{Summary}
 use Rattle.summary_file.specs.File.{IsFileOf, summary_bytes}
 use Rattle.summary_file.specs.Name.{summary_name_bytes}
-use Rattle.summary_store.specs.Kept.{AreKept, end_behind}
+use Rattle.summary_store.specs.Kept.{end_behind}
 use Rattle.shared_summaries.specs.summary_publish.Entries.{first_start}
-use Rattle.shared_summaries.specs.summary_publish.Published.{IsNext, AreNext, IsWhole, with_files}
+use Rattle.shared_summaries.specs.summary_publish.Published.{IsNext, AreNext, IsWhole, CanFollow, AreFollowing, AreKnown, AreListed, AreNow, with_files}
+use Rattle.shared_summaries.specs.declared.summary_publish.known.Known.{Known}
+use Rattle.summary_store.specs.Expiry.{MayExpire}
 
 -- a file was written anew, or not to its end: no other file changed; and where a summary's file stands
 -- under the name now, it is the one that was to be written, or the one that stood there before
@@ -25,36 +27,49 @@ abbrev pub MayWriteSummary : Summary → Files → Files → Type 0
 MayWriteSummary sum old new =
     MayWrite (summary_name_bytes sum.start.0 sum.end.0) (summary_bytes sum) old new
 
--- of the summaries of the ranges behind a place the first ones were published, and maybe the next one,
--- or a part of it
-pub record LeavesSome (told : Type 0) (history : List Entry) (made from : ℕ) (old new : Files)
-    : Type 0 where
+-- the files behind so many that were published, and maybe the next one, or a part of it
+abbrev pub LeavesFiles :
+    Type 0 → List Entry → ℕ → ℕ → List Summary → Files → Files → Type 0
+LeavesFiles told history made place sums old new =
+    (new ≡ with_files sums old)
+    ⊎ ((sum : Summary) × CanFollow place sum × (told → IsNext history made place sum)
+    × IsWhole sum × MayWriteSummary sum (with_files sums old) new)
+
+-- of the summaries of the ranges behind those that are kept the first ones were published, which are
+-- kept then, and maybe the next one, or a part of it
+pub record LeavesFirst (told : Type 0) (history : List Entry) (made first : ℕ)
+    (old new : Option Files) (kept now : List Summary) : Type 0 where
   pub sums : List Summary
-  pub next : told → AreNext history made from sums
+  pub now_is : now ≡ kept ++ sums
+  pub follow : AreFollowing (end_behind first kept) sums
+  pub next : told → AreNext history made (end_behind first kept) sums
   pub whole : AllByRecursion IsWhole sums
-  pub left : (new ≡ with_files sums old)
-      ⊎ ((sum : Summary) × (told → IsNext history made (end_behind from sums) sum) × IsWhole sum
-      × MayWriteSummary sum (with_files sums old) new)
+  pub left : Related (LeavesFiles told history made (end_behind (end_behind first kept) sums) sums)
+      old new
 
--- so it is where the area tells its files
-abbrev pub LeavesFirst :
-    Type 0 → List Entry → ℕ → ℕ → Option Files → Option Files → Type 0
-LeavesFirst told history made from old new =
-    Related (LeavesSome told history made from) old new
+-- so it was, and of those that were kept then the first expired ones were removed, and maybe the next
+-- one
+pub record AdvancesPartly (told : Type 0) (history : List Entry) (made limit : ℕ)
+    (old new : Option Files) (kept now : List Summary) : Type 0 where
+  pub first : ℕ
+  pub first_is : told → first ≡ first_start history
+  pub mid : Option Files
+  pub between : List Summary
+  pub some : LeavesFirst told history made first old mid kept between
+  pub expiry : MayExpire limit mid new between now
 
--- behind what was kept of an area's files the first of the summaries were published that a history has,
--- and maybe the next one, or a part of it
-pub record MayPublish (told : Type 0) (history : List Entry) (made : ℕ) (old new : Files)
-    : Type 0 where
+-- so it was, behind what was known
+pub record AdvancesKnown (told : Type 0) (history : List Entry) (made limit : ℕ)
+    (old new : Option Files) (before known : Known) : Type 0 where
   pub kept : List Summary
-  pub held : AreKept old kept
-  pub some : LeavesSome told history made (end_behind (first_start history) kept) old new
+  pub known_before : AreKnown old before kept
+  pub listed : AreListed old kept
+  pub now : List Summary
+  pub known_now : AreNow known now
+  pub advances : AdvancesPartly told history made limit old new kept now
 
--- or none was
-abbrev pub MayAdvance : Type 0 → List Entry → ℕ → Files → Files → Type 0
-MayAdvance told history made old new = (new ≡ old) ⊎ (told → MayPublish told history made old new)
-
--- so it is where the area tells its files
-abbrev pub AdvancesPartly :
-    Type 0 → List Entry → ℕ → Option Files → Option Files → Type 0
-AdvancesPartly told history made old new = Related (MayAdvance told history made) old new
+-- or nothing was done
+abbrev pub MayAdvance : Type 0 → List Entry → ℕ → ℕ → Option Files → Option Files → Known → Known
+    → Type 0
+MayAdvance told history made limit old new before known =
+    ((new ≡ old) × (known ≡ before)) ⊎ AdvancesKnown told history made limit old new before known

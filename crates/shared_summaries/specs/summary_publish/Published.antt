@@ -1,5 +1,6 @@
 -- Which summaries are published of a history, and what that leaves of their area.
-use Rattle.std.specs.Prelude.{◌≡◌, ◌⊎◌, ℕ, List, [], ◌∷◌, length, Option, Some, None, IfSome, Result, Ok, Err}
+use Rattle.std.specs.Prelude.{◌≡◌, ◌⊎◌, ℕ, List, [], ◌∷◌, ◌++◌, length, Option, Some, None, IfSome, Result, Ok, Err}
+use Rattle.std.specs.Global.{Vec}
 use Rattle.std.specs.Option.{option_map}
 use Rattle.std.specs.List.{AllByRecursion}
 use Rattle.std.specs.FinMap.{insert}
@@ -16,9 +17,11 @@ use Rattle.history.specs.fuzzy_copies.Summary.{summary_of}
 use Rattle.wal_summary.specs.declared.summary.Summary.{Summary}
 use Rattle.wal_summary.specs.Summary.{IsSummary}
 use Rattle.wal_summary.specs.Kept.{IsCovering, IsGap}
-use Rattle.summary_file.specs.File.{IsFileOf, summary_bytes}
+use Rattle.summary_file.specs.File.{IsFileOf, IsWritable, summary_bytes}
 use Rattle.summary_file.specs.Name.{summary_name_bytes}
+use Rattle.wal_summary.specs.Kept.{AreInOrder}
 use Rattle.summary_store.specs.Kept.{AreKept, end_behind}
+use Rattle.summary_store.specs.Expiry.{AreHeld, expired, unexpired, without}
 use Rattle.shared_store.specs.Seen.{Seen, SharesStay, TakesFault}
 use Rattle.shared_store.specs.Locked.{IsOfWal}
 use Rattle.shared_store.specs.Records.{IsPlaceOf}
@@ -48,65 +51,96 @@ abbrev pub with_files : List Summary → Files → Files
 with_files [] files = files
 with_files (sum ∷ sums) files = with_files sums (with_file sum files)
 
--- the name of the file of a range's summary
-abbrev pub IsSummaryName : List ℕ → Type 0
-IsSummaryName name = (start : ℕ) × (end : ℕ) × (name ≡ summary_name_bytes start end)
-
 -- the bytes that are written of a summary are its file
 abbrev pub IsWhole : Summary → Type 0
 IsWhole sum = IsFileOf sum (summary_bytes sum)
 
--- what is kept of an area's files ends at a place, or where nothing is kept, that is a first one
-pub record KeepsUpTo (first end : ℕ) (files : Files) : Type 0 where
-  pub kept : List Summary
-  pub held : AreKept files kept
-  pub end_is : end ≡ end_behind first kept
+-- a summary that can be kept and written behind a place
+pub record CanFollow (place : ℕ) (sum : Summary) : Type 0 where
+  pub starts : sum.start.0 ≡ place
+  pub written : IsWritable sum
 
--- where publishing goes on: the WAL is read from a place on; and the end of what is kept of an area's
--- files is this one, where it is known
+-- and several, one behind the other
+abbrev pub AreFollowing : ℕ → List Summary → Type 0
+AreFollowing place [] = Unit {0}
+AreFollowing place (sum ∷ sums) = CanFollow place sum × AreFollowing sum.end.0 sums
+
+-- summaries are kept of an area: each has its file there, and their ranges are in order
+pub record AreListed (files : Option Files) (kept : List Summary) : Type 0 where
+  pub held : IfSome files (λ m. AreHeld m kept)
+  pub order : AreInOrder 0 kept
+
+-- where publishing goes on: the WAL is read from a place on; and these are kept of an area, where they
+-- are known
 pub record GoesOnFrom (told : Type 0) (history : List Entry) (files : Option Files) (known : Known)
     : Type 0 where
   pub at : told → IsPlaceOf history known.place.0
-  pub kept :
-      told → IfSome known.end (λ e. IfSome files (KeepsUpTo (first_start history) e.0))
+  pub kept : IfSome known.kept (λ v. AreListed files v.items)
+
+-- those are kept that were known, or else those that are kept of all files
+abbrev pub AreThose : Option Files → List Summary → Option (Vec Summary) → Type 0
+AreThose files kept None = IfSome files (λ m. AreKept m kept)
+AreThose files kept (Some v) = kept ≡ v.items
+
+abbrev pub AreKnown : Option Files → Known → List Summary → Type 0
+AreKnown files known kept = AreThose files kept known.kept
+
+-- and these are known then
+abbrev pub AreNow : Known → List Summary → Type 0
+AreNow known kept = option_map (λ v. v.items) known.kept ≡ Some kept
 
 -- summaries to publish of a history behind those that are kept of an area's files: from the greatest
 -- kept end on, or from the first entry's start where none is kept, up to the last redo point
-pub record ArePublished (history : List Entry) (made : ℕ) (files : Files) (sums : List Summary)
-    : Type 0 where
-  pub kept : List Summary
-  pub held : AreKept files kept
+pub record ArePublished (history : List Entry) (made : ℕ) (files : Files)
+    (kept sums : List Summary) : Type 0 where
+  pub held : AreHeld files kept
   pub next : AreNext history made (end_behind (first_start history) kept) sums
   pub last : next_redo (end_behind (end_behind (first_start history) kept) sums) history ≡ None
   pub whole : AllByRecursion IsWhole sums
 
--- these were published: the files of an area are those that were there, with theirs, durably. The
--- number is theirs
+-- files with those of the summaries that were published, and without those of the ones that are
+-- expired then
+abbrev pub files_then : ℕ → List Summary → List Summary → Files → Files
+files_then limit kept sums files = without (expired limit (kept ++ sums)) (with_files sums files)
+
+-- these were published, and the expired ones were removed: the files of an area are those that were
+-- there, with those of the one and without those of the other, durably. The number is that of those
+-- that were published
 pub record Advances {V : Type 0} (g : Ghosts V) (told : Type 0) (history : List Entry)
-    (made : ℕ) (old new : V) (count : ℕ) : Type 0 where
+    (made limit : ℕ) (old new : V) (kept now : List Summary) (count : ℕ) : Type 0 where
   pub sums : List Summary
-  pub published : told → IfSome (g.files old) (λ m. ArePublished history made m sums)
+  pub published : told → IfSome (g.files old) (λ m. ArePublished history made m kept sums)
   pub counted : count ≡ length sums
-  pub files : g.files new ≡ option_map (with_files sums) (g.files old)
+  pub kept_is : now ≡ unexpired limit (kept ++ sums)
+  pub files : g.files new ≡ option_map (files_then limit kept sums) (g.files old)
   pub durable : IsDurable (g.files new) (g.past new)
 
--- so it was, and this holds of the summaries that are kept of the area then
-pub record AdvancesTo {V : Type 0} (g : Ghosts V) (told : Type 0) (history : List Entry)
-    (made : ℕ) (old new : V) (P : List Summary → Type 0) : Type 0 where
-  pub count : ℕ
-  pub advances : Advances g told history made old new count
+-- so it was, behind what was known, and this is known then
+pub record IsAdvanced {V : Type 0} (g : Ghosts V) (told : Type 0) (history : List Entry)
+    (made limit : ℕ) (old new : V) (before known : Known) (count : ℕ) : Type 0 where
   pub kept : List Summary
-  pub held : IfSome (g.files new) (λ m. AreKept m kept)
-  pub so : P kept
+  pub known_before : AreKnown (g.files old) before kept
+  pub listed : AreListed (g.files old) kept
+  pub now : List Summary
+  pub known_now : AreNow known now
+  pub advances : Advances g told history made limit old new kept now count
+
+-- so it was, and this holds of the summaries that are kept then
+pub record AdvancesTo {V : Type 0} (g : Ghosts V) (told : Type 0) (history : List Entry)
+    (made limit : ℕ) (old new : V) (before known : Known) (P : List Summary → Type 0) : Type 0 where
+  pub count : ℕ
+  pub advanced : IsAdvanced g told history made limit old new before known count
+  pub so : P advanced.now
 
 -- what covers a range then, or else the least place of it that nothing covers
-abbrev pub AdvanceAnswers : {V : Type 0} → Ghosts V → Type 0 → List Entry → ℕ → ℕ → ℕ → V → V
-    → Result Summary AdvanceFault → Type 0
-AdvanceAnswers g told history made from to old new (Ok sum) =
-    AdvancesTo g told history made old new (λ kept. IsCovering kept from to sum)
-AdvanceAnswers g told history made from to old new (Err (Gap place)) =
-    AdvancesTo g told history made old new (λ kept. IsGap kept from to place.0)
-AdvanceAnswers g told history made from to old new (Err (Store fault)) = Unit {0}
+abbrev pub AdvanceAnswers : {V : Type 0} → Ghosts V → Type 0 → List Entry → ℕ → ℕ → ℕ → ℕ → V → V
+    → Known → Known → Result Summary AdvanceFault → Type 0
+AdvanceAnswers g told history made limit from to old new before known (Ok sum) =
+    AdvancesTo g told history made limit old new before known (λ kept. IsCovering kept from to sum)
+AdvanceAnswers g told history made limit from to old new before known (Err (Gap place)) =
+    AdvancesTo g told history made limit old new before known (λ kept. IsGap kept from to place.0)
+AdvanceAnswers g told history made limit from to old new before known (Err (Store fault)) =
+    Unit {0}
 
 -- a pass only looked on: nothing that it had seen is lost, the worker stays, no command of it is
 -- counted and no mark, and no fault that it was answered is forgotten

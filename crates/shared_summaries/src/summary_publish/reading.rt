@@ -10,8 +10,8 @@ ghost use Rattle.summary_file.specs.File.{IsWritable};
 ghost use Rattle.shared_summaries.specs.summary_publish.Entries.{next_redo};
 ghost use Rattle.history.specs.fuzzy_copies.Orderly.{IsOrderly};
 ghost use Rattle.shared_store.specs.Records.{IsPlaceOf};
-ghost use Rattle.shared_summaries.specs.summary_publish.Published.{LooksOn, ReadTakes};
-ghost use Rattle.shared_summaries.specs.summary_publish.Inside.{CanStart, NextAnswer, CanFollow, HasCount, HaveCounts, place_or, last_end};
+ghost use Rattle.shared_summaries.specs.summary_publish.Published.{CanFollow, LooksOn, ReadTakes};
+ghost use Rattle.shared_summaries.specs.summary_publish.Inside.{CanStart, NextAnswer, HasCount, HaveCounts, place_or, last_end};
 
 use crate::summary_publish::feed::records_from;
 use lsn_core::{Lsn, NoMemory, StoreFault};

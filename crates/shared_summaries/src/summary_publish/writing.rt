@@ -7,7 +7,8 @@ ghost use Rattle.lsn_core.specs.Causes.{HasCause};
 ghost use Rattle.vault.specs.Area.{Related};
 ghost use Rattle.vault.specs.Frame.{ChangesOnly};
 ghost use Rattle.summary_file.specs.File.{IsWritable};
-ghost use Rattle.shared_summaries.specs.summary_publish.Published.{IsSummaryName, IsWhole, with_file};
+ghost use Rattle.shared_summaries.specs.summary_publish.Published.{IsWhole, with_file};
+ghost use Rattle.summary_store.specs.Expiry.{IsSummaryName};
 ghost use Rattle.shared_summaries.specs.summary_publish.Partly.{MayWrite};
 ghost use Rattle.shared_summaries.specs.summary_publish.Torn.{first_byte, HasFront, IsLeft};
 

@@ -5,8 +5,8 @@ use Rattle.crew.proofs.summaries.summarise.Goals as goal
 
 pub returns-in-Ok : goal.returns-in-Ok
 returns-in-Ok g c =
-    published (g.J.OfStore.tells ≡ true) (basis_of g.J.OfCrew.settings c.args.when g.J.OfCrew.found g.J.OfCrew.sums) c.args.pass.now c.advance.new.pass c.in-Ok.count c.in-Ok.ensures.published c.advance.ensures.looks
+    published (g.J.OfStore.tells ≡ true) (basis_of g.J.OfCrew.settings c.args.when g.J.OfCrew.found g.J.OfCrew.sums g.J.OfRetention.limit) c.args.pass.now c.advance.new.pass c.in-Ok.count c.in-Ok.ensures.published c.advance.ensures.looks
 
 pub returns-in-Err : goal.returns-in-Err
 returns-in-Err g c =
-    failed (g.J.OfStore.tells ≡ true) (basis_of g.J.OfCrew.settings c.args.when g.J.OfCrew.found g.J.OfCrew.sums) c.args.pass.now c.advance.new.pass c.in-Err.why c.advance.ensures.looks c.in-Err.ensures.faults
+    failed (g.J.OfStore.tells ≡ true) (basis_of g.J.OfCrew.settings c.args.when g.J.OfCrew.found g.J.OfCrew.sums g.J.OfRetention.limit) c.args.pass.now c.advance.new.pass c.in-Err.why c.advance.ensures.looks c.in-Err.ensures.faults

@@ -1,4 +1,4 @@
--- `follow` reads the input, and `combine` and `drill` don't.
+-- `run` and `follow` read the input and `run` the clock, and `combine` and `drill` don't.
 use Rattle.std.proofs.Common.{◌≡◌, ℕ, List, inl, inr, ap, refl, subst, sym, Some, None}
 use Rattle.command_line.specs.declared.words.Command.{Command}
 use Rattle.command_line.specs.Words.{asks}
@@ -8,6 +8,12 @@ use Rattle.chain_commands.specs.Combine.{CombineResult, CombineDoes}
 use Rattle.pgbackup_cli.specs.Top.{DoesAsked}
 use Rattle.pgbackup_cli.proofs.Drills.{Streams, drill_beside}
 use Rattle.pgbackup_cli.proofs.top.done.Goals as goal
+
+pub returns-in-Run-clause-input : goal.returns-in-Run-clause-input
+returns-in-Run-clause-input g c = inl (inl (c.in-Run.options.frames, c.in-Run.options.days, ap (λ (x : Command). Some (asks x)) c.in-Run.is))
+
+pub returns-in-Run-clause-clock : goal.returns-in-Run-clause-clock
+returns-in-Run-clause-clock g c = inl (inl (c.in-Run.options.frames, c.in-Run.options.days, ap (λ (x : Command). Some (asks x)) c.in-Run.is))
 
 pub returns-in-Follow-clause-input : goal.returns-in-Follow-clause-input
 returns-in-Follow-clause-input g c =

@@ -1,4 +1,5 @@
 use Rattle.std.proofs.Common.{[], arith}
+use Rattle.summary_store.specs.Expiry.{age_limit}
 use Rattle.run_command.specs.Run.{RunAnswer, run_workers}
 use Rattle.command_base.specs.Outside.{of_site, of_all}
 use Rattle.command_base.proofs.Decided.{err_as}
@@ -16,8 +17,8 @@ returns-in_err-script-clause-does g c = (
   c.in_err-script.ensures.later,
   c.in_err-script.ensures.taken,
   err_as c.from_residual.result c.in_err-script.field-0.0
-      (RunAnswer c.now-when.result [] (of_all g.S.Site g.I.Source g.C.Clock c.args.site.now c.args.input.now c.args.clock.now) (of_all g.S.Site g.I.Source g.C.Clock c.args.site.now c.script_of.new.input c.now-when.new.self))
-      c.from_residual.ensures.1 (c.in_err-script.ensures.refused c.now-when.result [] (of_site g.S.Site c.args.site.now) (g.C.Clock.moment c.args.clock.now) (g.C.Clock.moment c.now-when.new.self)),
+      (RunAnswer c.now-when.result (age_limit c.args.days c.now-when.result) [] (of_all g.S.Site g.I.Source g.C.Clock c.args.site.now c.args.input.now c.args.clock.now) (of_all g.S.Site g.I.Source g.C.Clock c.args.site.now c.script_of.new.input c.now-when.new.self))
+      c.from_residual.ensures.1 (c.in_err-script.ensures.refused c.now-when.result (age_limit c.args.days c.now-when.result) [] (of_site g.S.Site c.args.site.now) (g.C.Clock.moment c.args.clock.now) (g.C.Clock.moment c.now-when.new.self)),
 )
 
 pub returns-clause-does : goal.returns-clause-does
@@ -28,7 +29,7 @@ returns-clause-does g c = (
   c.run_script.ensures.site,
   c.in_ok-script.ensures.later,
   c.in_ok-script.ensures.taken,
-  of_input c.now-when.result c.in_ok-script.script (of_site g.S.Site c.args.site.now) (of_site g.S.Site c.run_script.new.site) (g.I.Source.left c.args.input.now) (g.I.Source.left c.script_of.new.input) (g.I.Source.faults c.args.input.now) (g.I.Source.faults c.script_of.new.input)
+  of_input c.now-when.result (age_limit c.args.days c.now-when.result) c.in_ok-script.script (of_site g.S.Site c.args.site.now) (of_site g.S.Site c.run_script.new.site) (g.I.Source.left c.args.input.now) (g.I.Source.left c.script_of.new.input) (g.I.Source.faults c.args.input.now) (g.I.Source.faults c.script_of.new.input)
       (g.C.Clock.moment c.args.clock.now) (g.C.Clock.moment c.now-when.new.self) c.run_script.result c.in_ok-script.ensures.script c.run_script.ensures.answer,
 )
 

@@ -1,6 +1,7 @@
 -- The store is begun at what was found of it, its ledgers are those that are handed over, and it has as
 -- many passes as its script needs.
 use Rattle.std.specs.Prelude.{box_value}
+use Rattle.summary_store.specs.Expiry.{age_limit}
 use Rattle.run_command.specs.Inner.{tell_found, entries_named, faults_named, passes_for, wal_start, starts_of}
 use Rattle.run_command.proofs.running.run_named.Given as goal
 
@@ -27,3 +28,6 @@ ghosts-run_found-J-OfCrew g a = record {
   workers = passes_for a.work.seats.items;
   sums = g.V.Vault.files (box_value a.sums);
 }
+
+abbrev pub ghosts-run_found-J-OfRetention : goal.ghosts-run_found-J-OfRetention
+ghosts-run_found-J-OfRetention g a = record { limit = age_limit a.days a.when }

@@ -1,4 +1,4 @@
-use Rattle.std.proofs.Common.{◌≡◌, true, ap, subst, sym, ◌∙◌}
+use Rattle.std.proofs.Common.{ap, subst, sym}
 use mathlib.Core.List.{IsPrefix}
 use Rattle.journal.specs.Lawful.{IsLawful}
 use Rattle.shared_store.specs.Locked.{RunsOn}

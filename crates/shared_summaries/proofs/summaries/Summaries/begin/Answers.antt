@@ -1,4 +1,4 @@
-use Rattle.std.proofs.Common.{◌≡◌, true, box_value, sym, subst, ap, ◌∙◌, arith}
+use Rattle.std.proofs.Common.{◌≡◌, true, box_value, sym, subst, ◌∙◌, arith}
 use Rattle.journal.specs.Lawful.{IsLawful}
 use Rattle.shared_store.specs.Locked.{RunsOn}
 use Rattle.shared_store.specs.Records.{IsPlaceOf}
@@ -19,6 +19,8 @@ invariant_of-new g c =
       lawful = λ t. subst (IsLawful g.J.OfCrew.settings.segment) same (c.know.ensures.lawful t);
       shelved = subst (λ l. AreShelved told found g.J.OfCrew.sums l (g.V.Vault.files (box_value c.args.area))) same
           (shelved_begin told found list g.J.OfCrew.sums (g.V.Vault.files (box_value c.args.area)) (begins_so found list c.know.ensures.grown) c.requires.begun);
-      going = record { at = λ t. subst (λ l. IsPlaceOf l c.first_start.result.0) same (c.first_start.ensures.place t); kept = λ t. tt };
+      kept = c.requires.begun;
+      limit_is = c.age_limit.ensures.limit ∙ sym c.requires.limit;
+      at = λ t. subst (λ l. IsPlaceOf l c.first_start.result.0) same (c.first_start.ensures.place t);
       risen = (omega (arith, start), omega (arith, start, none));
     }

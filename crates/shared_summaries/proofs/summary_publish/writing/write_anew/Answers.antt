@@ -1,7 +1,6 @@
-use Rattle.std.proofs.Common.{◌≡◌, ◌<◌, ◌∷◌, [], List, ℕ, length, OnOk, Result, Ok, Err, ap, sym, refl, subst, ◌∙◌, arith}
+use Rattle.std.proofs.Common.{◌∷◌, []}
 use Rattle.vault.proofs.Changed.{changes_on}
-use Rattle.shared_summaries.specs.summary_publish.Torn.{first_byte}
-use Rattle.shared_summaries.specs.summary_publish.Published.{IsSummaryName}
+use Rattle.summary_store.specs.Expiry.{IsSummaryName}
 use Rattle.shared_summaries.proofs.summary_publish.Frames.{write_changes, cut_changes}
 use Rattle.shared_summaries.proofs.summary_publish.Torn.{StandsIn, zero_is, cut_left, cut_stands_in, written_stands_in, left_in, put_ok, zero_only, rest_only, front_only_of, rest_grown}
 use Rattle.shared_summaries.proofs.summary_publish.writing.write_anew.Goals as goal
