@@ -35,9 +35,9 @@ use Rattle.shared_summaries.specs.Laws.{AnswersSumUp}
 use Rattle.shared_summaries.specs.Shelf.{HasCoveredSo}
 use Rattle.manifest.specs.Listing.{Listing}
 use Rattle.manifest.specs.Text.{manifest_text}
-use Rattle.shared_store.specs.Copied.{HasRedoPoint}
-use Rattle.shared_store.specs.Seen.{accepted_by}
-use Rattle.shared_store.proofs.RedoPoints.{redo_runs}
+use Rattle.store_locks.specs.Copied.{HasRedoPoint}
+use Rattle.store_locks.specs.Seen.{accepted_by}
+use Rattle.store_locks.proofs.RedoPoints.{redo_runs}
 use Rattle.backup_files.specs.Directory.{manifest_name, listing_with}
 use Rattle.backup_sending.specs.Directory.{IsDirectory, IsFullBackup, incr_label}
 use Rattle.incr_backup.specs.Prior.{HasListing}

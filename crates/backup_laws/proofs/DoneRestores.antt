@@ -37,7 +37,7 @@ use Rattle.backup_restore.proofs.Rising.{parted_at}
 use Rattle.chain_files.specs.Held.{IsStoreOfChain}
 use Rattle.chain_files.specs.Segments.{AllHaveForms, chain_segments}
 use Rattle.chain_check.specs.declared.member.Member.{Member}
-use Rattle.shared_store.specs.Records.{HoldsRecords}
+use Rattle.store_locks.specs.Records.{HoldsRecords}
 use Rattle.command_base.specs.Areas.{wal_name, output_name}
 use Rattle.command_base.specs.Faults.{wal_status}
 use Rattle.command_base.specs.Outside.{Outside}

@@ -15,7 +15,7 @@ use Rattle.vault.proofs.SetAreas.{same_or_not}
 use Rattle.backup_files.specs.Directory.{manifest_name}
 use Rattle.wal_reader.specs.Settings.{IsSettingsOf}
 use Rattle.wal_reader.proofs.OneSettings.{one_settings}
-use Rattle.shared_store.specs.Records.{HoldsRecords}
+use Rattle.store_locks.specs.Records.{HoldsRecords}
 use Rattle.chain_check.specs.declared.member.Member.{Member}
 use Rattle.chain_files.specs.Told.{all_told}
 use Rattle.command_base.specs.Areas.{wal_name, sums_name, backup_name}

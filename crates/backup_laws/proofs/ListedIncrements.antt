@@ -20,7 +20,7 @@ use Rattle.incr_file.specs.Reading.{HasFront}
 use Rattle.incr_file.specs.declared.plan.FilePlan.{FilePlan}
 use Rattle.incr_file.specs.declared.plan.FilePlan.TheVariants.{Whole, Incr}
 use Rattle.incr_file.specs.Laws.{PlannedHeadsAreWritten, WrittenHeadsAreRead}
-use Rattle.shared_store.specs.Copied.{listed_length}
+use Rattle.store_locks.specs.Copied.{listed_length}
 use Rattle.backup_sending.specs.declared.basis.Basis.{Basis}
 use Rattle.backup_sending.specs.Directory.{incr_label}
 use Rattle.backup_sending.specs.Sent.{SegmentPlan, SentFile, AreListed, AreSent, IsCopyOf, IsSentAs, blocks_at, blocks_sent, file_of, front_bytes, is_known, is_part, segment_plan, sent_path}

@@ -16,7 +16,7 @@ use Rattle.history.specs.Written.{is_redo, tip_past, tip_over, tip_of}
 use Rattle.history.proofs.Histories.{tip_over_read, tip_over-append}
 use Rattle.journal.specs.Lawful.{StandInPlace}
 use Rattle.journal.proofs.Stands.{start_later, stand_behind, over_later}
-use Rattle.shared_store.specs.Copied.{is_redo_at, HasRedoPoint}
+use Rattle.store_locks.specs.Copied.{is_redo_at, HasRedoPoint}
 
 -- ---- a redo point among entries
 

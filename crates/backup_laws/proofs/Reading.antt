@@ -31,7 +31,7 @@ use Rattle.recovery.specs.declared.reading.Beginning.TheVariants.{FirstEntry, At
 use Rattle.recovery.specs.Onward.{is_set_behind, found_on, IsReadFrom, replayed_to, ending_by, end_from}
 use Rattle.recovery.specs.Onward as onward
 use Rattle.recovery.proofs.OneWal.{Stops}
-use Rattle.shared_store.specs.Records.{HoldsRecords}
+use Rattle.store_locks.specs.Records.{HoldsRecords}
 use Rattle.wal_reader.proofs.wal_pieces.Onwards.{entry_found, goes_on}
 use Rattle.backup_restore.proofs.Rising.{reads_rise, rise_from, parted_at, replayed_in, starts_behind, rest_rises, replayed_rest, none_left}
 

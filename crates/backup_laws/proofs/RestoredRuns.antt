@@ -31,7 +31,7 @@ use Rattle.recovery.specs.Causes.{HasSettings}
 use Rattle.recovery.specs.Onward.{IsReadFrom, replayed_to, end_from, ending_by}
 use Rattle.recovery.specs.declared.reading.Beginning.TheVariants.{AtPlace}
 use Rattle.recovery.specs.declared.replaying.Replayed.{Replayed}
-use Rattle.shared_store.specs.Records.{HoldsRecords}
+use Rattle.store_locks.specs.Records.{HoldsRecords}
 use Rattle.backup_sending.specs.Directory.{IsFullBackup}
 use Rattle.backup_restore.specs.Restored.{MakesOf, IsRestored}
 use Rattle.backup_restore.specs.Directories.{FilesHoldOneStore}

@@ -20,9 +20,9 @@ use Rattle.history.proofs.fuzzy_copies.Restored.{logged_sound}
 use Rattle.history.proofs.fuzzy_copies.Taken.{taken_sound}
 use Rattle.journal.specs.Lawful.{IsLawful}
 use Rattle.journal.proofs.Stands.{lawful_orderly}
-use Rattle.shared_store.specs.Calls.{IsOfRun}
-use Rattle.shared_store.specs.Copied.{HasRedoPoint}
-use Rattle.shared_store.proofs.RedoPoints.{redo_runs}
+use Rattle.store_locks.specs.Calls.{IsOfRun}
+use Rattle.store_locks.specs.Copied.{HasRedoPoint}
+use Rattle.store_locks.proofs.RedoPoints.{redo_runs}
 use Rattle.run_answers.specs.declared.answer.Answer.TheVariants.{Backup}
 use Rattle.backup_sending.specs.Entries.{HasBackupAt}
 use Rattle.backup_sending.proofs.Marks.{checkpoint_on, checkpoints_have_redo_points}

@@ -13,7 +13,7 @@ use Rattle.wal_archive.specs.Laws.{HasNoGap}
 use Rattle.wal_reader.specs.Settings.{IsSettingsOf}
 use Rattle.wal_writer.specs.Stops.{IsSegmentFile}
 use Rattle.history.specs.Written.{wal_of, tip_of}
-use Rattle.shared_store.specs.Records.{HoldsRecords}
+use Rattle.store_locks.specs.Records.{HoldsRecords}
 use Rattle.command_base.specs.Areas.{wal_name}
 use Rattle.command_base.proofs.Told.{some_told}
 use Rattle.store_commands.specs.Init.{InitDone, HasFirstAlone, new_settings, first_entry, new_tip, init_areas}

@@ -7,7 +7,7 @@ use Rattle.vault.specs.Site.{Areas, AreaState, IsStill}
 use Rattle.vault.specs.Lending.{Names, IsOneOf}
 use Rattle.vault.proofs.SetAreas.{same_or_not}
 use Rattle.history.specs.Entry.{Entry}
-use Rattle.shared_store.proofs.Kept.{some_back, some_on}
+use Rattle.store_locks.proofs.Kept.{some_back, some_on}
 use Rattle.backup_files.specs.Area.{TellAlike}
 use Rattle.backup_files.proofs.Manifests.{alike_same}
 use Rattle.store_faults.specs.declared.backup_fault.BackupFault.TheVariants as backup

@@ -25,7 +25,7 @@ use Rattle.history.specs.fuzzy_copies.Orderly.{IsOrderly}
 use Rattle.history.proofs.fuzzy_copies.Repeats.{entries_rise}
 use Rattle.journal.specs.Lawful.{StandInPlace}
 use Rattle.journal.proofs.Stands.{stand_front}
-use Rattle.shared_store.specs.Records.{HoldsRecords}
+use Rattle.store_locks.specs.Records.{HoldsRecords}
 use Rattle.store_faults.specs.declared.begin_why.BeginWhy.TheVariants as begin
 use Rattle.command_base.specs.Areas.{wal_name}
 use Rattle.command_base.specs.Outside.{Outside}

@@ -13,7 +13,7 @@ use Rattle.history.specs.fuzzy_copies.Covers.{AreTidy}
 use Rattle.manifest.specs.Listing.{Listing}
 use Rattle.backup_sending.specs.Directory.{IsDirectory, IsFullBackup, incr_label}
 use Rattle.incr_backup.specs.Prior.{HasListing}
-use Rattle.shared_store.specs.Seen.{accepted_by}
+use Rattle.store_locks.specs.Seen.{accepted_by}
 use Rattle.chain_laws.specs.Chain.{IsSoundChain}
 use Rattle.command_base.specs.Areas.{backup_name, sums_name}
 use Rattle.scripts.specs.declared.script.Command.TheVariants.{Incr}

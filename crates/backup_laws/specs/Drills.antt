@@ -7,7 +7,7 @@ use Rattle.lsn_core.specs.declared.lsn.Lsn.{Lsn}
 use Rattle.wal_record.specs.declared.record.Record.{Record}
 use Rattle.history.specs.Pages.{page_count}
 use Rattle.history.specs.Whole.{whole}
-use Rattle.shared_store.specs.Records.{HoldsRecords}
+use Rattle.store_locks.specs.Records.{HoldsRecords}
 use Rattle.command_base.specs.Areas.{wal_name}
 use Rattle.command_base.specs.Outside.{Outside}
 use Rattle.chain_commands.specs.Chain.{backup_names}

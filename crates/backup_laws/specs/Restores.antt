@@ -16,7 +16,7 @@ use Rattle.history.specs.Pages.{page_count}
 use Rattle.rel_files.specs.Forks.{Holds, HasWholePages}
 use Rattle.history.specs.Whole.{whole}
 use Rattle.recovery.specs.Causes.{HasSettings}
-use Rattle.shared_store.specs.Records.{HoldsRecords}
+use Rattle.store_locks.specs.Records.{HoldsRecords}
 use Rattle.command_base.specs.Areas.{wal_name, output_name, backup_name}
 use Rattle.command_base.specs.Outside.{Outside}
 use Rattle.run_answers.specs.declared.outcome.RunReport.{RunReport}

@@ -24,7 +24,7 @@ use Rattle.wal_summary.specs.declared.summary.Summary.{Summary}
 use Rattle.summary_file.specs.File.{IsFileOf}
 use Rattle.summary_file.specs.Name.{summary_name_bytes}
 use Rattle.summary_store.specs.Honest.{IsHonestSummary}
-use Rattle.shared_store.specs.Calls.{IsOfRun}
+use Rattle.store_locks.specs.Calls.{IsOfRun}
 use Rattle.store_restart.specs.Survivors.{SurviveIn, has_start}
 use Rattle.command_base.specs.Areas.{wal_name, sums_name, output_name}
 use Rattle.command_base.specs.Outside.{Outside}

@@ -5,7 +5,7 @@ use Rattle.lsn_core.specs.Causes.{HasCause}
 use Rattle.lsn_core.specs.declared.fault.AreaFault.{AreaFault}
 use Rattle.lsn_core.specs.declared.fault.StoreFault.{StoreFault}
 use Rattle.vault.specs.declared.area.Vault.{Ghosts}
-use Rattle.shared_store.specs.Seen.{Seen}
+use Rattle.store_locks.specs.Seen.{Seen}
 use Rattle.store_faults.specs.declared.backup_fault.BackupFault.{BackupFault}
 use Rattle.backup_sending.specs.Backup.{LooksOn, Site, site_of}
 use Rattle.backup_files.specs.Area.{SparesManifest}

@@ -12,7 +12,7 @@ use Rattle.backup_label.specs.Laws.{WrittenLabelsAreRead, TimesHaveNoLineEnd}
 use Rattle.backup_label.specs.Time.{IsTimeText}
 use Rattle.vault.specs.Area.{after_write}
 use Rattle.manifest.specs.declared.listing.FileRow.{FileRow}
-use Rattle.shared_store.specs.declared.receipt.Redo.{Redo}
+use Rattle.store_locks.specs.declared.receipt.Redo.{Redo}
 use Rattle.backup_files.specs.Area.{Lacks}
 use Rattle.backup_files.specs.Directory.{label_name, manifest_name}
 use Rattle.backup_files.specs.Rows.{row_with}

@@ -24,7 +24,7 @@ use Rattle.rel_files.proofs.KnownLengths.{noted_is}
 use Rattle.history.specs.Apply.{is_same_fork}
 use Rattle.history.specs.Entry.{Entry}
 use Rattle.history.specs.partitions.Parts.{is_of, partition_of}
-use Rattle.shared_store.specs.Copied.{HasRedoPoint, ListsPart, listed_length}
+use Rattle.store_locks.specs.Copied.{HasRedoPoint, ListsPart, listed_length}
 use Rattle.backup_sending.specs.Inside.{IsForkListed, ListsForks, NotesAll, known_length, lengths_in, or_else}
 
 -- ---- one list

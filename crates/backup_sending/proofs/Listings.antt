@@ -24,7 +24,7 @@ use Rattle.backup_label.specs.Time.{IsTimeText}
 use Rattle.manifest.specs.Reading.{ReadAnswers}
 use Rattle.manifest.specs.Text.{IsWritableRow, manifest_text}
 use Rattle.manifest.specs.declared.listing.FileRow.{FileRow}
-use Rattle.shared_store.specs.declared.receipt.Redo.{Redo}
+use Rattle.store_locks.specs.declared.receipt.Redo.{Redo}
 use Rattle.backup_files.specs.Area.{Lacks, with_file}
 use Rattle.backup_files.specs.Directory.{directory_with, listing_with, label_name, manifest_name, row_of}
 use Rattle.backup_files.specs.Rows.{AreListable, ListsRows, path_of}

@@ -11,9 +11,9 @@ use Rattle.history.specs.Entry.{Entry, RedoMark, Online, BackupEnd, is_of_run}
 use Rattle.history.specs.Written.{is_redo}
 use Rattle.history.specs.fuzzy_copies.Orderly.{AllEndBy}
 use Rattle.history.proofs.fuzzy_copies.Ranges.{all_at}
-use Rattle.shared_store.specs.declared.receipt.Redo.{Redo}
-use Rattle.shared_store.specs.Calls.{IsMarkOf}
-use Rattle.shared_store.specs.Copied.{is_redo_at}
+use Rattle.store_locks.specs.declared.receipt.Redo.{Redo}
+use Rattle.store_locks.specs.Calls.{IsMarkOf}
+use Rattle.store_locks.specs.Copied.{is_redo_at}
 use Rattle.shared_store.specs.Shared.{HasCheckpointIn, HasEnded}
 use Rattle.backup_sending.specs.Entries.{HasCheckpointAt, HasBackupAt}
 use Rattle.backup_sending.specs.Laws.{CheckpointsHaveRedoPoints, BackupsEndBehind, RedoPointsAreOwn}

@@ -11,7 +11,7 @@ use Rattle.lsn_core.specs.declared.ids.BlockId.{BlockId}
 use Rattle.lsn_core.specs.declared.ids.ForkId.{ForkId}
 use Rattle.pg_page.specs.Header.{zero_page}
 use Rattle.history.specs.Entry.{Entry}
-use Rattle.shared_store.specs.Copied.{HasRedoPoint, CopiesBlock}
+use Rattle.store_locks.specs.Copied.{HasRedoPoint, CopiesBlock}
 use Rattle.backup_sending.specs.Inside.{IsPageCopied, ArePagesCopied, AreCopies, AddsCopies, page_bytes}
 
 -- ---- one page

@@ -17,10 +17,11 @@ use Rattle.wal_record.specs.Tips.{wal_limit}
 use Rattle.wal_writer.specs.declared.state.Flushed.{Flushed}
 use Rattle.history.specs.Entry.{Entry, BackupEnd}
 use Rattle.history.specs.fuzzy_copies.Taken.{IsTaken}
-use Rattle.shared_store.specs.declared.receipt.Redo.{Redo}
+use Rattle.store_locks.specs.declared.receipt.Redo.{Redo}
 use Rattle.manifest.specs.declared.listing.FileRow.{FileRow}
-use Rattle.shared_store.specs.Seen.{Seen}
-use Rattle.shared_store.specs.Shared.{HasCheckpointIn, HasEnded, IsPlaced, MayFindNoRoom, MayFindNoRoomFor, TakesMarkFault}
+use Rattle.store_locks.specs.Seen.{Seen}
+use Rattle.shared_store.specs.Shared.{HasCheckpointIn, HasEnded, MayFindNoRoom, MayFindNoRoomFor, TakesMarkFault}
+use Rattle.store_locks.specs.Calls.{IsPlaced}
 use Rattle.shared_store.proofs.Booked.{takes_rose}
 use Rattle.shared_store.proofs.SharedLaws.{end_comes_behind}
 use Rattle.store_faults.specs.declared.backup_fault.BackupFault.{BackupFault}

@@ -8,9 +8,9 @@ use Rattle.lsn_core.specs.Store.{Store}
 use Rattle.history.specs.Entry.{Entry, Online}
 use Rattle.history.specs.fuzzy_copies.Taken.{IsSeen, IsTaken}
 use Rattle.history.proofs.fuzzy_copies.Taken.{taken_sound}
-use Rattle.shared_store.specs.Calls.{IsMarkOf}
-use Rattle.shared_store.specs.Copied.{HasRedoPoint}
-use Rattle.shared_store.proofs.RedoPoints.{redo_runs, redo_stays}
+use Rattle.store_locks.specs.Calls.{IsMarkOf}
+use Rattle.store_locks.specs.Copied.{HasRedoPoint}
+use Rattle.store_locks.proofs.RedoPoints.{redo_runs, redo_stays}
 use Rattle.backup_sending.specs.Entries.{HasBackupAt, HasCheckpointAt}
 use Rattle.backup_sending.specs.Laws.{FullBackupsAreSound}
 use Rattle.backup_sending.proofs.Marks.{checkpoints_have_redo_points}

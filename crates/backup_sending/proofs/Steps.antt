@@ -9,11 +9,11 @@ use Rattle.lsn_core.specs.declared.fault.StoreFault.TheVariants as store
 use Rattle.lsn_core.specs.declared.fault.AreaFault.{AreaFault}
 use Rattle.lsn_core.specs.declared.fault.AreaFault.TheVariants as area
 use Rattle.vault.specs.declared.area.Vault.{Ghosts}
-use Rattle.shared_store.specs.Seen.{Seen, StaysBy, ShareRose, TakesFault}
+use Rattle.store_locks.specs.Seen.{Seen, StaysBy, ShareRose, TakesFault}
 use Rattle.shared_store.specs.Shared.{TakesFaults, TakesMarkFault}
-use Rattle.shared_store.specs.Copied.{HasRedoPoint}
+use Rattle.store_locks.specs.Copied.{HasRedoPoint}
 use Rattle.shared_store.proofs.Booked.{mark_stays, takes_rose, takes_stays}
-use Rattle.shared_store.proofs.RedoPoints.{redo_stays}
+use Rattle.store_locks.proofs.RedoPoints.{redo_stays}
 use Rattle.backup_sending.specs.Backup.{LooksOn, Site, site_of}
 use Rattle.backup_files.specs.Area.{SparesManifest}
 use Rattle.backup_sending.specs.Inside.{CallCause, CopiesOn, CopyCause}

@@ -29,7 +29,7 @@ use Rattle.lsn_core.proofs.StoreFiles.{same_fork, forks_tie, held}
 use Rattle.history.specs.Apply.{is_same_fork}
 use Rattle.history.specs.Entry.{Entry}
 use Rattle.manifest.specs.declared.listing.FileRow.{FileRow}
-use Rattle.shared_store.specs.Copied.{listed_length}
+use Rattle.store_locks.specs.Copied.{listed_length}
 use Rattle.backup_files.specs.Area.{HoldsNothing, Lacks}
 use Rattle.backup_sending.specs.Inside.{ArePagesCopied, IsPageCopied, LacksFork, PutsFiles, PutsFork, PutsStore, ListsForks, IsForkListed, IsNamedFork, IsWholeFork, CopiesStore}
 use Rattle.backup_sending.proofs.PageLists.{pages_later}

@@ -11,8 +11,8 @@ use Rattle.lsn_core.specs.declared.fault.AreaFault.TheVariants as area
 use Rattle.lsn_core.specs.declared.lsn.Lsn.{Lsn}
 use Rattle.vault.specs.declared.area.Vault.{Ghosts}
 use Rattle.manifest.specs.declared.listing.FileRow.{FileRow}
-use Rattle.shared_store.specs.declared.receipt.Redo.{Redo}
-use Rattle.shared_store.specs.Seen.{Seen}
+use Rattle.store_locks.specs.declared.receipt.Redo.{Redo}
+use Rattle.store_locks.specs.Seen.{Seen}
 use Rattle.store_faults.specs.declared.backup_fault.BackupFault.{BackupFault}
 use Rattle.store_faults.specs.declared.backup_fault.BackupFault.TheVariants as fault
 use Rattle.backup_files.specs.Area.{KeepsManifest, RoseTwice, LeavesText, with_file}

@@ -7,7 +7,7 @@ use Rattle.lsn_core.specs.Segment.{StoreSettings}
 use Rattle.lsn_core.specs.Store.{Store}
 use Rattle.vault.specs.declared.area.Vault.{Ghosts}
 use Rattle.history.specs.fuzzy_copies.Taken.{IsTaken}
-use Rattle.shared_store.specs.Seen.{Seen, StaysBy, SharesStay, ShareRose}
+use Rattle.store_locks.specs.Seen.{Seen, StaysBy, SharesStay, ShareRose}
 use Rattle.backup_sending.specs.declared.done.Done.{Done}
 use Rattle.store_faults.specs.declared.backup_fault.BackupFault.{BackupFault}
 use Rattle.store_faults.specs.declared.backup_fault.BackupFault.TheVariants.{NotEmpty, WalFull, StoreFailed, OutFailed, NoMemory}

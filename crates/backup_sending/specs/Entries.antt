@@ -1,7 +1,7 @@
 -- The entries of a worker's checkpoints and backups, among those of others.
 use Rattle.std.specs.Prelude.{◌≡◌, ℕ, ◌<◌, ◌≤◌, ◌⊎◌, List, slice_get, Some}
 use Rattle.history.specs.Entry.{Entry, Mark, RedoMark, Online, BackupEnd}
-use Rattle.shared_store.specs.Calls.{IsMarkOf, HasNoRoom}
+use Rattle.store_locks.specs.Calls.{IsMarkOf, HasNoRoom}
 use Rattle.shared_store.specs.Shared.{FindsNoRoomIn}
 
 -- ---- checkpoints

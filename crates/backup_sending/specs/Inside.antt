@@ -39,9 +39,9 @@ use Rattle.backup_label.specs.Label.{HasNoLineEnd, IsLabel, label_text}
 use Rattle.backup_label.specs.Time.{IsTimeText}
 use Rattle.manifest.specs.Shape.{is_path}
 use Rattle.manifest.specs.declared.listing.FileRow.{FileRow}
-use Rattle.shared_store.specs.declared.receipt.Redo.{Redo}
-use Rattle.shared_store.specs.Seen.{Seen, ShareRose}
-use Rattle.shared_store.specs.Copied.{HasRedoPoint, listed_length}
+use Rattle.store_locks.specs.declared.receipt.Redo.{Redo}
+use Rattle.store_locks.specs.Seen.{Seen, ShareRose}
+use Rattle.store_locks.specs.Copied.{HasRedoPoint, listed_length}
 use Rattle.store_faults.specs.declared.backup_fault.BackupFault.{BackupFault}
 use Rattle.store_faults.specs.declared.backup_fault.BackupFault.TheVariants as fault
 use Rattle.backup_files.specs.Area.{HoldsSomething}

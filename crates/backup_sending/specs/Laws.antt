@@ -9,8 +9,8 @@ use Rattle.history.specs.Written.{is_redo}
 use Rattle.history.specs.fuzzy_copies.Sound.{IsSoundCopy}
 use Rattle.history.specs.fuzzy_copies.Taken.{IsSeen}
 use Rattle.journal.specs.Lawful.{IsLawful}
-use Rattle.shared_store.specs.Seen.{Seen}
-use Rattle.shared_store.specs.Copied.{HasRedoPoint}
+use Rattle.store_locks.specs.Seen.{Seen}
+use Rattle.store_locks.specs.Copied.{HasRedoPoint}
 use Rattle.backup_sending.specs.declared.done.Done.{Done}
 use Rattle.backup_sending.specs.Backup.{IsTakenFull}
 use Rattle.backup_sending.specs.Entries.{HasCheckpointAt, HasBackupEndAt}

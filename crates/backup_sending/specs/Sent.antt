@@ -18,7 +18,7 @@ use Rattle.incr_file.specs.Plan.{plan_of, planned}
 use Rattle.incr_file.specs.declared.plan.FilePlan.{FilePlan}
 use Rattle.incr_file.specs.declared.plan.FilePlan.TheVariants.{Whole, Incr}
 use Rattle.manifest.specs.declared.listing.FileRow.{FileRow}
-use Rattle.shared_store.specs.Copied.{listed_length}
+use Rattle.store_locks.specs.Copied.{listed_length}
 use Rattle.backup_sending.specs.declared.basis.Basis.{Basis}
 
 -- ---- what is planned

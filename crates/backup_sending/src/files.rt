@@ -1,7 +1,7 @@
 //! Copying blocks of an open store into the file of a segment.
 
 ghost use Rattle.std.specs.Prelude.{◌≡◌, ◌≢◌, ◌+◌, ◌*◌, ◌-◌, ◌^◌, ◌<◌, true, IfOk, OnOk, IfErr};
-ghost use Rattle.shared_store.specs.Copied.{HasRedoPoint};
+ghost use Rattle.store_locks.specs.Copied.{HasRedoPoint};
 ghost use Rattle.backup_files.specs.Area.{Lacks};
 ghost use Rattle.backup_files.specs.Directory.{manifest_name};
 ghost use Rattle.backup_sending.specs.Backup.{site_of};
@@ -11,10 +11,11 @@ use crate::gate::Gate;
 use crate::pages::copy_pages;
 use lsn_core::{ForkId, Lsn, PAGE};
 use sha2::{Digest, Sha256};
-use shared_store::{OfCrew, Pass, Store};
+use shared_store::{Pass, Store};
 use std::alloc::Global;
 use std::sync::Wait;
 use store_faults::BackupFault;
+use store_locks::OfCrew;
 use vault::Vault;
 
 /// How many blocks are copied and written at once: 64 KiB.

@@ -5,7 +5,7 @@ ghost use Rattle.std.specs.List.Sorted.{IsStrictlySortedBy};
 ghost use Rattle.lsn_core.specs.Names.{fork_path_bytes, IsNamed};
 ghost use Rattle.lsn_core.specs.Segment.{IsRelseg};
 ghost use Rattle.lsn_core.specs.Store.{fork_cmp, segment_count};
-ghost use Rattle.shared_store.specs.Copied.{HasRedoPoint};
+ghost use Rattle.store_locks.specs.Copied.{HasRedoPoint};
 ghost use Rattle.backup_files.specs.Area.{HoldsNothing, Lacks};
 ghost use Rattle.backup_sending.specs.Backup.{site_of};
 ghost use Rattle.backup_sending.specs.Inside.{CopyCause, CopiesOn, LacksFork, PutsSegment, PutsFork, PutsStore};
@@ -15,10 +15,11 @@ use crate::gate::Gate;
 use backup_files::file_row;
 use lsn_core::{ForkId, ForkLen, Lsn, NoMemory, PAGE, Text, fork_path};
 use manifest::FileRow;
-use shared_store::{OfCrew, Pass, Store};
+use shared_store::{Pass, Store};
 use std::alloc::Global;
 use std::sync::Wait;
 use store_faults::BackupFault;
+use store_locks::OfCrew;
 use vault::Vault;
 
 /// The path of a segment file of a fork, plain or incremental.

@@ -1,7 +1,7 @@
 //! A full backup.
 
 ghost use Rattle.std.specs.Prelude.{◌≡◌, ◌<◌, ◌≤◌, ℕ, true, codes, IfOk, OnOk, OnErr, IfErr};
-ghost use Rattle.shared_store.specs.Copied.{HasRedoPoint};
+ghost use Rattle.store_locks.specs.Copied.{HasRedoPoint};
 ghost use Rattle.backup_label.specs.Time.{IsTimeText};
 ghost use Rattle.backup_files.specs.Area.{EndsSynced, HoldsNothing};
 ghost use Rattle.backup_sending.specs.Backup.{LooksOn, site_of, IsTakenFull, IsTakenWhole, KeepsFull};
@@ -19,10 +19,11 @@ use backup_files::{is_empty, manifest_text, publish};
 use backup_label::time_text;
 use lsn_core::{Lsn, Settings, Text};
 use manifest::FileRow;
-use shared_store::{OfCrew, Pass, Redo, Store};
+use shared_store::{Pass, Store};
 use std::alloc::Global;
 use std::sync::Wait;
 use store_faults::BackupFault;
+use store_locks::{OfCrew, Redo};
 use vault::Vault;
 
 /// Looks whether an area is empty. Errs with `NotEmpty` exactly where it holds a file.

@@ -15,8 +15,8 @@ use backup_label::{Label, time_text, write_label, written_labels_are_read};
 use lsn_core::{AreaFault, Lsn, NoMemory, Settings, Text};
 use manifest::FileRow;
 use sha2::{Digest, Sha256};
-use shared_store::Redo;
 use std::alloc::Global;
+use store_locks::Redo;
 use vault::Vault;
 
 /// The name of the label's file.

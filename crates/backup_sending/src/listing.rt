@@ -3,16 +3,17 @@
 ghost use Rattle.std.specs.Prelude.{◌≡◌, ◌<◌, true, [], ◌∷◌, IfOk, OnOk, IfErr};
 ghost use Rattle.lsn_core.specs.Store.{fork_cmp};
 ghost use Rattle.std.specs.BTreeMap.{IsOrdered};
-ghost use Rattle.shared_store.specs.Copied.{HasRedoPoint};
+ghost use Rattle.store_locks.specs.Copied.{HasRedoPoint};
 ghost use Rattle.backup_sending.specs.Backup.{LooksOn};
 ghost use Rattle.backup_sending.specs.Inside.{CallCause, NotesAll, ListsForks, lengths_in};
 
 use crate::gate::{Gate, StepKind};
 use lsn_core::{ForkId, ForkLen, Lsn, NoMemory, StoreFault};
-use shared_store::{OfCrew, Pass, Store};
+use shared_store::{Pass, Store};
 use std::alloc::Global;
 use std::collections::BTreeMap;
 use std::sync::Wait;
+use store_locks::OfCrew;
 use vault::Vault;
 
 /// Notes the length of a fork, unless one is known.

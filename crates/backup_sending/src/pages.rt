@@ -1,16 +1,17 @@
 //! Copying blocks of an open store.
 
 ghost use Rattle.std.specs.Prelude.{◌≡◌, ◌+◌, ◌^◌, ◌<◌, true, OnOk, IfErr};
-ghost use Rattle.shared_store.specs.Copied.{HasRedoPoint};
+ghost use Rattle.store_locks.specs.Copied.{HasRedoPoint};
 ghost use Rattle.backup_sending.specs.Backup.{LooksOn};
 ghost use Rattle.backup_sending.specs.Inside.{AddsCopies, CallCause};
 
 use crate::gate::{Gate, StepKind};
 use lsn_core::{BlockId, ForkId, Lsn, StoreFault};
 use pg_page::zero_page;
-use shared_store::{OfCrew, Pass, Store};
+use shared_store::{Pass, Store};
 use std::alloc::Global;
 use std::sync::Wait;
+use store_locks::OfCrew;
 use vault::Vault;
 
 /// Adds a block to a piece, as it is copied now. A block that is gone is zeros.

@@ -2,7 +2,7 @@
 
 ghost use Rattle.std.specs.Prelude.{◌≡◌, ◌≢◌, ◌+◌, ◌*◌, ◌^◌, ◌<◌, true, length, IfOk, OnOk, IfErr};
 ghost use Rattle.std.specs.List.{AllByRecursion};
-ghost use Rattle.shared_store.specs.Copied.{HasRedoPoint};
+ghost use Rattle.store_locks.specs.Copied.{HasRedoPoint};
 ghost use Rattle.backup_files.specs.Area.{Lacks};
 ghost use Rattle.backup_files.specs.Directory.{manifest_name};
 ghost use Rattle.backup_sending.specs.Backup.{LooksOn, site_of};
@@ -13,10 +13,11 @@ use crate::gate::Gate;
 use crate::pages::copy_page;
 use lsn_core::{BlockId, ForkId, Lsn, StoreFault};
 use sha2::{Digest, Sha256};
-use shared_store::{OfCrew, Pass, Store};
+use shared_store::{Pass, Store};
 use std::alloc::Global;
 use std::sync::Wait;
 use store_faults::BackupFault;
+use store_locks::OfCrew;
 use vault::Vault;
 
 /// How many blocks are copied and written at once: 64 KiB.

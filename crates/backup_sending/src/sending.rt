@@ -6,7 +6,7 @@ ghost use Rattle.std.specs.List.Sorted.{IsStrictlySortedBy};
 ghost use Rattle.lsn_core.specs.Names.{fork_path_bytes, IsNamed};
 ghost use Rattle.lsn_core.specs.Segment.{IsRelseg};
 ghost use Rattle.lsn_core.specs.Store.{fork_cmp, segment_count};
-ghost use Rattle.shared_store.specs.Copied.{HasRedoPoint};
+ghost use Rattle.store_locks.specs.Copied.{HasRedoPoint};
 ghost use Rattle.wal_summary.specs.Summary.{AreSorted};
 ghost use Rattle.incr_file.specs.Head.{IsHead};
 ghost use Rattle.backup_files.specs.Area.{HoldsNothing, Lacks};
@@ -25,10 +25,11 @@ use backup_files::file_row;
 use incr_file::{FilePlan, IncrHead, encode_head};
 use lsn_core::{ForkId, ForkLen, Lsn, PAGE, Text};
 use manifest::FileRow;
-use shared_store::{OfCrew, Pass, Store};
+use shared_store::{Pass, Store};
 use std::alloc::Global;
 use std::sync::Wait;
 use store_faults::BackupFault;
+use store_locks::OfCrew;
 use vault::Vault;
 
 /// Copies the blocks that a head lists of a segment of a fork, which begins at a block of it, into

@@ -31,7 +31,7 @@ use Rattle.incr_file.specs.Laws.{PlannedHeadsAreWritten, PlannedHeadsListAll, Wr
 use Rattle.incr_file.specs.Plan.{has_block, planned}
 use Rattle.chain_files.specs.Held.{most_pages, is_full, IsForkOf, IsStoreOf}
 use Rattle.chain_files.specs.Segments.{chain_segments, form_of, forms_of}
-use Rattle.shared_store.specs.Copied.{listed_length}
+use Rattle.store_locks.specs.Copied.{listed_length}
 use Rattle.backup_sending.specs.declared.basis.Basis.{Basis}
 use Rattle.backup_files.specs.Directory.{directory_with}
 use Rattle.backup_sending.specs.Sent.{blocks_at, file_of, is_known}

@@ -29,7 +29,7 @@ use Rattle.incr_file.specs.declared.head.IncrHead.{IncrHead}
 use Rattle.incr_file.specs.declared.plan.FilePlan.{FilePlan}
 use Rattle.incr_file.specs.declared.plan.FilePlan.TheVariants.{Whole, Incr}
 use Rattle.chain_files.specs.Segments.{form_of}
-use Rattle.shared_store.specs.Copied.{listed_length}
+use Rattle.store_locks.specs.Copied.{listed_length}
 use Rattle.backup_sending.specs.declared.basis.Basis.{Basis}
 use Rattle.backup_files.specs.Directory.{label_name, manifest_name, directory_with}
 use Rattle.backup_sending.specs.Sent.{SegmentPlan, SentFile, AreFor, AreListed, AreSent, IsCopyOf, IsSentAs, blocks_sent, file_of, fork_plans, front_bytes, is_part, list_plans, segment_plan, sent_path}

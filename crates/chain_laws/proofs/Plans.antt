@@ -13,7 +13,7 @@ use Rattle.lsn_core.proofs.AnyAll.{all_pieces, all_range}
 use Rattle.history.specs.Apply.{is_same_fork}
 use Rattle.history.proofs.Stores.{fork_is, fork_self}
 use Rattle.wal_summary.proofs.Sums.{apart}
-use Rattle.shared_store.specs.Copied.{listed_length}
+use Rattle.store_locks.specs.Copied.{listed_length}
 use Rattle.backup_sending.specs.declared.basis.Basis.{Basis}
 use Rattle.backup_sending.specs.Sent.{SegmentPlan, fork_plans, list_plans, segment_plan}
 

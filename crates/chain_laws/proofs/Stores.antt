@@ -13,7 +13,7 @@ use Rattle.lsn_core.proofs.ForkOrder.{fork_cmp_total}
 use Rattle.lsn_core.proofs.StoreFiles.{forks_tie}
 use Rattle.history.specs.Apply.{is_same_fork}
 use Rattle.history.proofs.Stores.{fork_is}
-use Rattle.shared_store.specs.Copied.{listed_length}
+use Rattle.store_locks.specs.Copied.{listed_length}
 
 -- a map from keys to what belongs to them
 find_each : {K X : Type 0} (R : K → K → Ordering) → ((a b : K) → eq_by_cmp R a b ≡ true → a ≡ b) → (w : K → X) (ks : List K) (q : K) → find_key R q (map (λ k. (k, w k)) ks) ≡ cond (list_any (eq_by_cmp R q) ks) (Some (w q)) None

@@ -6,7 +6,7 @@ use Rattle.lsn_core.specs.declared.fault.StoreArea.{StoreArea}
 use Rattle.lsn_core.specs.declared.fault.StoreFault.TheVariants as store
 use Rattle.vault.specs.declared.area.Vault.{Ghosts}
 use Rattle.vault.specs.Site.{AreaState, IsStill, state_in}
-use Rattle.shared_store.specs.Seen.{Seen, ShareRose}
+use Rattle.store_locks.specs.Seen.{Seen, ShareRose}
 use Rattle.backup_sending.specs.declared.done.Done.{Done}
 use Rattle.store_faults.specs.declared.backup_fault.BackupFault.{BackupFault}
 use Rattle.store_faults.specs.declared.backup_fault.BackupFault.TheVariants as backup

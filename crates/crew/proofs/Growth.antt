@@ -11,7 +11,7 @@ use Rattle.history.specs.declared.op.Op.{Op}
 use Rattle.history.specs.Entry.{Entry}
 use Rattle.store_faults.specs.declared.insert_fault.InsertFault.{InsertFault}
 use Rattle.store_faults.specs.declared.insert_fault.InsertFault.TheVariants as insert
-use Rattle.shared_store.specs.Seen.{Seen}
+use Rattle.store_locks.specs.Seen.{Seen}
 use Rattle.scripts.specs.declared.script.Command.TheVariants as command
 use Rattle.scripts.specs.declared.order.Order.{Order}
 use Rattle.run_answers.specs.declared.answer.Answer.TheVariants.{Accepted, Refused, Grown, Stopped}

@@ -14,7 +14,7 @@ use Rattle.manifest.specs.Text.{manifest_text}
 use Rattle.backup_sending.specs.Sent.{file_of}
 use Rattle.backup_files.specs.Directory.{manifest_name, directory_with, listing_with}
 use Rattle.incr_backup.specs.Prior.{HasListing}
-use Rattle.shared_store.specs.Seen.{accepted_by}
+use Rattle.store_locks.specs.Seen.{accepted_by}
 use Rattle.command_base.specs.Areas.{backup_name, AreaIsDurable}
 use Rattle.command_base.proofs.Told.{some_told, at_told}
 use Rattle.scripts.specs.declared.script.Command.{Command}

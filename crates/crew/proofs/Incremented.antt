@@ -8,7 +8,7 @@ use Rattle.vault.specs.declared.area.Vault.{Ghosts}
 use Rattle.vault.specs.Frame.{OnlyReads}
 use Rattle.vault.specs.Site.{Areas, AreaState, IsStill, state_in}
 use Rattle.vault.specs.Lending.{IsNoneOf}
-use Rattle.shared_store.specs.Seen.{Seen, ShareRose}
+use Rattle.store_locks.specs.Seen.{Seen, ShareRose}
 use Rattle.backup_sending.specs.declared.done.Done.{Done}
 use Rattle.store_faults.specs.declared.incr_fault.IncrFault.{IncrFault}
 use Rattle.store_faults.specs.declared.incr_fault.IncrFault.TheVariants as incr

@@ -7,7 +7,7 @@ use mathlib.Core.List.{IsPrefix}
 use Rattle.vault.specs.Site.{Areas}
 use Rattle.history.specs.declared.op.Op.{Op}
 use Rattle.history.specs.Entry.{Entry}
-use Rattle.shared_store.specs.Seen.{Seen, is_number, is_by, accepted_by, marks_by}
+use Rattle.store_locks.specs.Seen.{Seen, is_number, is_by, accepted_by, marks_by}
 use Rattle.scripts.specs.declared.script.Command.{Command}
 use Rattle.scripts.specs.declared.script.Line.{Line}
 use Rattle.run_answers.specs.declared.answer.Answer.{Answer}

@@ -10,7 +10,7 @@ use Rattle.vault.specs.Lending.{Names, IsOneOf, IsNoneOf}
 use Rattle.vault.proofs.LentAreas.{one_or_none}
 use Rattle.vault.proofs.SetAreas.{same_or_not}
 use Rattle.history.specs.Entry.{Entry}
-use Rattle.shared_store.specs.Seen.{accepted_by}
+use Rattle.store_locks.specs.Seen.{accepted_by}
 use Rattle.store_faults.specs.declared.insert_fault.InsertFault.{InsertFault}
 use Rattle.store_faults.specs.declared.insert_fault.InsertFault.TheVariants as insert
 use Rattle.store_faults.specs.declared.backup_fault.BackupFault.TheVariants as backup

@@ -9,8 +9,8 @@ use Rattle.lsn_core.specs.declared.fault.StoreFault.TheVariants as store
 use Rattle.lsn_core.specs.Segment.{StoreSettings}
 use Rattle.history.specs.Entry.{Entry}
 use Rattle.wal_writer.specs.declared.state.Flushed.{Flushed}
-use Rattle.shared_store.specs.declared.receipt.Redo as receipt
-use Rattle.shared_store.specs.Seen.{Seen, StaysBy, ShareRose, TakesFault}
+use Rattle.store_locks.specs.declared.receipt.Redo as receipt
+use Rattle.store_locks.specs.Seen.{Seen, StaysBy, ShareRose, TakesFault}
 use Rattle.shared_store.specs.Shared.{HasCheckpointIn, MayFindNoRoom, TakesMarkFault}
 use Rattle.backup_sending.specs.Entries.{HasCheckpointAt}
 use Rattle.scripts.specs.declared.script.Command.TheVariants as command

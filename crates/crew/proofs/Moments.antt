@@ -7,7 +7,7 @@ use mathlib.Core.List.{IsPrefix}
 use Rattle.history.specs.declared.op.Op.{Op}
 use Rattle.history.specs.Entry.{Entry}
 use Rattle.vault.specs.Site.{Areas}
-use Rattle.shared_store.specs.Seen.{accepted_by}
+use Rattle.store_locks.specs.Seen.{accepted_by}
 use Rattle.scripts.specs.declared.script.Line.{Line}
 use Rattle.run_answers.specs.declared.answer.Answer.{Answer}
 use Rattle.crew.specs.Run.{Basis, IsMade, IsTakenAt, Made, LineAnswer, Answered, InOrder}

@@ -6,7 +6,7 @@ use Rattle.std.proofs.lemmas.List.Elements.{All-nil, All-push}
 use Rattle.lsn_core.specs.declared.fault.StoreArea.{StoreArea}
 use Rattle.vault.specs.Site.{Areas}
 use Rattle.history.specs.Entry.{Entry}
-use Rattle.shared_store.specs.Seen.{Seen, SharesStay, ShareRose}
+use Rattle.store_locks.specs.Seen.{Seen, SharesStay, ShareRose}
 use Rattle.scripts.specs.declared.script.Command.{Command}
 use Rattle.scripts.specs.declared.script.Line.{Line}
 use Rattle.run_answers.specs.declared.answer.Answer.{Answer}

@@ -7,7 +7,7 @@ use Rattle.history.specs.Entry.{Entry}
 use Rattle.history.specs.Written.{tip_of}
 use Rattle.store_faults.specs.declared.insert_fault.InsertFault.{InsertFault}
 use Rattle.store_faults.specs.declared.insert_fault.InsertFault.TheVariants as insert
-use Rattle.shared_store.specs.Refusals.{judged_at, IsRefused}
+use Rattle.store_locks.specs.Refusals.{judged_at, IsRefused}
 use Rattle.crew.specs.Run.{AnswersStay, TakenOrRefused}
 use Rattle.crew.proofs.Moments.{answered_later}
 

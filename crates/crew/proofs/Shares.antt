@@ -6,7 +6,7 @@ use Rattle.lsn_core.specs.declared.fault.StoreFault.{StoreFault}
 use Rattle.lsn_core.specs.declared.fault.StoreFault.TheVariants as store
 use Rattle.store_faults.specs.declared.insert_fault.InsertFault.{InsertFault}
 use Rattle.store_faults.specs.declared.insert_fault.InsertFault.TheVariants as insert
-use Rattle.shared_store.specs.Seen.{Seen, Booked, SharesStay, ShareRose, BooksIf, TakesFault, share_of, failed_area}
+use Rattle.store_locks.specs.Seen.{Seen, Booked, SharesStay, ShareRose, BooksIf, TakesFault, share_of, failed_area}
 use Rattle.shared_store.proofs.Booked.{takes_rose, takes_stays, insert_stays}
 
 -- ---- one call behind another

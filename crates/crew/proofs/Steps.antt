@@ -6,12 +6,12 @@ use Rattle.lsn_core.specs.declared.lsn.Place.{Place}
 use Rattle.journal.specs.Lawful.{IsLawful}
 use Rattle.history.specs.declared.op.Op.{Op}
 use Rattle.history.specs.Entry.{Entry}
-use Rattle.shared_store.specs.declared.receipt.Receipt.{Receipt}
+use Rattle.store_locks.specs.declared.receipt.Receipt.{Receipt}
 use Rattle.store_faults.specs.declared.insert_fault.InsertFault.{InsertFault}
 use Rattle.store_faults.specs.declared.insert_fault.InsertFault.TheVariants as insert
-use Rattle.shared_store.specs.Seen.{Seen, StaysBy, SharesStay, BooksIf, failed_area, accepted_by}
+use Rattle.store_locks.specs.Seen.{Seen, StaysBy, SharesStay, BooksIf, failed_area, accepted_by}
 use Rattle.shared_store.specs.Shared.{HasInserted, HasRefused}
-use Rattle.shared_store.specs.Calls.{IsTaken}
+use Rattle.store_locks.specs.Calls.{IsTaken}
 use Rattle.crew.specs.Run.{IsMade, IsTakenAt}
 use Rattle.crew.specs.Running.{WentOn, Inserts}
 use Rattle.crew.proofs.Lists.{prefix_length, next_there, up_to_here}

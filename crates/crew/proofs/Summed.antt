@@ -1,7 +1,7 @@
 -- Summaries that a worker publishes.
 use Rattle.std.proofs.Common.{ℕ, [], refl, inr}
 use Rattle.lsn_core.specs.declared.fault.StoreFault.{StoreFault}
-use Rattle.shared_store.specs.Seen.{Seen, TakesFault}
+use Rattle.store_locks.specs.Seen.{Seen, TakesFault}
 use Rattle.shared_summaries.specs.Shelf.{HasPublished}
 use Rattle.shared_summaries.specs.summary_publish.Published.{LooksOn}
 use Rattle.scripts.specs.declared.script.Command.TheVariants as command

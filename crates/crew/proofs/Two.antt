@@ -9,7 +9,7 @@ use Rattle.vault.specs.declared.lending.Held.{Held}
 use Rattle.vault.specs.Site.{state_in}
 use Rattle.vault.specs.Lending.{IsNoneOf, AreLater}
 use Rattle.vault.proofs.LentAreas.{later_again}
-use Rattle.shared_store.specs.Seen.{Seen}
+use Rattle.store_locks.specs.Seen.{Seen}
 use Rattle.command_base.specs.Areas.{backup_name}
 use Rattle.scripts.specs.declared.script.Command.TheVariants as command
 use Rattle.crew.specs.declared.increments.Turn.{Turn}

@@ -27,8 +27,8 @@ use Rattle.history.specs.Op.{act_of_op}
 use Rattle.history.specs.Written.{record_of, tip_of}
 use Rattle.store_faults.specs.declared.insert_fault.InsertFault.{InsertFault}
 use Rattle.store_faults.specs.declared.insert_fault.InsertFault.TheVariants as insert
-use Rattle.shared_store.specs.Seen.{Seen, StaysBy, ShareRose, accepted_by, marks_by}
-use Rattle.shared_store.specs.Refusals.{judged_at, IsRefusedBehind}
+use Rattle.store_locks.specs.Seen.{Seen, StaysBy, ShareRose, accepted_by, marks_by}
+use Rattle.store_locks.specs.Refusals.{judged_at, IsRefusedBehind}
 use Rattle.shared_store.specs.Shared.{FindsNoRoomIn}
 use Rattle.store_faults.specs.declared.backup_fault.BackupFault.{BackupFault}
 use Rattle.store_faults.specs.declared.backup_fault.BackupFault.TheVariants as backup

@@ -14,7 +14,7 @@ use Rattle.history.specs.declared.op.Op.{Op}
 use Rattle.history.specs.Entry.{Entry}
 use Rattle.store_faults.specs.declared.insert_fault.InsertFault.{InsertFault}
 use Rattle.store_faults.specs.declared.insert_fault.InsertFault.TheVariants as insert
-use Rattle.shared_store.specs.Seen.{Seen, StaysBy, SharesStay, ShareRose}
+use Rattle.store_locks.specs.Seen.{Seen, StaysBy, SharesStay, ShareRose}
 use Rattle.incr_backup.specs.Incr.{IncrSite, incr_site}
 use Rattle.crew.specs.declared.increments.Places.{Places}
 use Rattle.crew.specs.declared.increments.Turn.{Turn}

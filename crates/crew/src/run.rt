@@ -19,12 +19,13 @@ use history::Op;
 use lsn_core::{BlockId, Lsn, NoMemory, Place};
 use run_answers::Answer;
 use scripts::{Command, Line, Order, PageShape, grow_op};
-use shared_store::{OfCrew, Pass, Store};
+use shared_store::{Pass, Store};
 use shared_summaries::{OfRetention, Summaries};
 use std::alloc::Global;
 use std::sync::Wait;
 use store_faults::InsertFault;
 use store_insertion::insert_command;
+use store_locks::OfCrew;
 use vault::{Held, Vault};
 
 /// Inserts a command, which is refused where there was no memory to make it.

@@ -24,9 +24,10 @@ use Rattle.wal_writer.specs.declared.state.Flushed.{Flushed}
 use Rattle.wal_summary.specs.declared.summary.Summary.{Summary}
 use Rattle.manifest.specs.Listing.{Listing}
 use Rattle.manifest.specs.declared.listing.FileRow.{FileRow}
-use Rattle.shared_store.specs.declared.receipt.Redo.{Redo}
-use Rattle.shared_store.specs.Seen.{Seen}
-use Rattle.shared_store.specs.Shared.{HasCheckpointIn, HasEnded, IsPlaced, MayFindNoRoom, MayFindNoRoomFor, TakesMarkFault}
+use Rattle.store_locks.specs.declared.receipt.Redo.{Redo}
+use Rattle.store_locks.specs.Seen.{Seen}
+use Rattle.shared_store.specs.Shared.{HasCheckpointIn, HasEnded, MayFindNoRoom, MayFindNoRoomFor, TakesMarkFault}
+use Rattle.store_locks.specs.Calls.{IsPlaced}
 use Rattle.shared_store.proofs.Booked.{takes_rose}
 use Rattle.shared_store.proofs.SharedLaws.{end_comes_behind}
 use Rattle.shared_summaries.specs.Shelf.{HasCovered, HasCoveredSo, TakesAdvanceFaults}

@@ -11,7 +11,7 @@ use Rattle.vault.specs.declared.area.Vault.{Ghosts}
 use Rattle.history.specs.Entry.{Entry}
 use Rattle.manifest.specs.Listing.{Listing}
 use Rattle.wal_summary.specs.declared.summary.Summary.{Summary}
-use Rattle.shared_store.specs.Seen.{Seen, ShareRose}
+use Rattle.store_locks.specs.Seen.{Seen, ShareRose}
 use Rattle.shared_summaries.specs.Shelf.{HasCoveredSo}
 use Rattle.store_faults.specs.declared.advance_fault.AdvanceFault.{AdvanceFault}
 use Rattle.store_faults.specs.declared.advance_fault.AdvanceFault.TheVariants as advance

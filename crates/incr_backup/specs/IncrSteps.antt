@@ -12,10 +12,11 @@ use Rattle.wal_summary.specs.declared.summary.Summary.{Summary}
 use Rattle.history.specs.Entry.{Entry, Mark, BackupEnd}
 use Rattle.manifest.specs.Listing.{Listing}
 use Rattle.manifest.specs.declared.listing.FileRow.{FileRow}
-use Rattle.shared_store.specs.declared.receipt.Redo.{Redo}
-use Rattle.shared_store.specs.Seen.{Seen, ShareRose}
-use Rattle.shared_store.specs.Calls.{HasNoRoom}
-use Rattle.shared_store.specs.Shared.{HasCheckpointIn, HasEnded, FindsNoRoomIn, IsPlaced}
+use Rattle.store_locks.specs.declared.receipt.Redo.{Redo}
+use Rattle.store_locks.specs.Seen.{Seen, ShareRose}
+use Rattle.store_locks.specs.Calls.{HasNoRoom}
+use Rattle.shared_store.specs.Shared.{HasCheckpointIn, HasEnded, FindsNoRoomIn}
+use Rattle.store_locks.specs.Calls.{IsPlaced}
 use Rattle.shared_summaries.specs.Shelf.{HasCovered}
 use Rattle.store_faults.specs.declared.advance_fault.AdvanceFault.{AdvanceFault}
 use Rattle.store_faults.specs.declared.advance_fault.AdvanceFault.TheVariants as advance

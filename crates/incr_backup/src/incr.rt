@@ -4,7 +4,7 @@ ghost use Rattle.std.specs.Prelude.{◌≡◌, ◌<◌, ◌≤◌, true, IfOk, O
 ghost use Rattle.lsn_core.specs.Segment.{IsRelseg};
 ghost use Rattle.vault.specs.Frame.{OnlyReads};
 ghost use Rattle.wal_summary.specs.Summary.{AreSorted};
-ghost use Rattle.shared_store.specs.Copied.{HasRedoPoint};
+ghost use Rattle.store_locks.specs.Copied.{HasRedoPoint};
 ghost use Rattle.backup_files.specs.Area.{HoldsNothing, SparesManifest};
 ghost use Rattle.backup_sending.specs.Backup.{LooksOn, site_of};
 ghost use Rattle.incr_backup.specs.Prior.{IsOfStore, PriorAnswer};
@@ -16,11 +16,12 @@ use backup_label::time_text;
 use backup_sending::{Basis, Done, Gate, StepKind, check_empty, finish, send_store};
 use lsn_core::{Lsn, Text};
 use manifest::{FileRow, Manifest};
-use shared_store::{Pass, Redo, Store};
+use shared_store::{Pass, Store};
 use shared_summaries::{OfRetention, Summaries};
 use std::alloc::Global;
 use std::sync::Wait;
 use store_faults::{BackupFault, IncrFault};
+use store_locks::Redo;
 use vault::Vault;
 use wal_summary::Summary;
 

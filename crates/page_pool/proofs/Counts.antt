@@ -9,7 +9,7 @@ use Rattle.lsn_core.specs.Store.{Store, ForkPages, fork_cmp}
 use Rattle.lsn_core.specs.Blocks.{block_count}
 use Rattle.lsn_core.proofs.ForkOrder.{fork_cmp_total, fork_cmp-IsAntisymmetric}
 use Rattle.history.specs.Pages.{page_count}
-use Rattle.page_pool.proofs.Judged.{AreAsLong}
+use Rattle.command_judging.proofs.Judged.{AreAsLong}
 
 abbrev lens : List (ForkId × ForkPages) → List (ForkId × ℕ)
 lens es = map (λ e. (e.0, length e.1)) es

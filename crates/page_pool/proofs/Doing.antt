@@ -30,7 +30,7 @@ use Rattle.page_pool.specs.Part.{Part}
 use Rattle.page_pool.specs.Steps.{items_touched, marks_after, works_after, HasApplied}
 use Rattle.page_pool.specs.Ready.{IsOfOp, IsReady, HasRoomAt, HasRoomFor, done_at}
 use Rattle.page_pool.specs.Inside.{ArePlaces, pages_touched, marks_done, works_done, MayBeDone}
-use Rattle.page_pool.proofs.Judged.{put_some}
+use Rattle.command_judging.proofs.Judged.{put_some}
 use Rattle.page_pool.proofs.Local.{count_put}
 
 -- a fork is there where it has a length

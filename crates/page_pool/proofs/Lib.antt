@@ -5,10 +5,6 @@ pub mod Followed
 pub mod Covering
 pub mod Ends
 pub mod Torn
-pub mod Items
-pub mod Judged
-pub mod Walk
-pub mod Counted
 pub mod Readied
 pub mod Doing
 pub mod Making

@@ -28,19 +28,21 @@ use Rattle.history.proofs.Pushes.{all_first, all_rest}
 use Rattle.page_frames.specs.Framed.{Framed, Held}
 use Rattle.page_frames.specs.Overlay.{pages_over, own_pages, page_over}
 use Rattle.page_frames.proofs.Overlays.{count_over, either_block, page_there, page_past}
-use Rattle.page_pool.specs.declared.fault.OpFault.{OpFault}
-use Rattle.page_pool.specs.declared.fault.OpFault.TheVariants as fault
+use Rattle.command_judging.specs.declared.fault.OpFault.{OpFault}
+use Rattle.command_judging.specs.declared.fault.OpFault.TheVariants as fault
 use Rattle.page_pool.specs.Part.{Part}
 use Rattle.page_pool.specs.Calls.{AreWholePages}
 use Rattle.page_pool.specs.declared.ready.Done.{Done}
 use Rattle.page_pool.specs.declared.ready.Done.TheVariants as done
 use Rattle.page_pool.specs.declared.ready.NewPage.{NewPage}
 use Rattle.page_pool.specs.declared.ready.Ready.{Ready}
-use Rattle.page_pool.specs.Refusals.{judged_op, IsRefusedOp}
+use Rattle.command_judging.specs.Refusals.{judged_op, IsRefusedOp}
 use Rattle.page_pool.specs.Room.{blocks_of, HasFrame}
-use Rattle.page_pool.specs.Ready.{HasItems, CheckAnswer, AreGoodPages, pages_put, done_at}
-use Rattle.page_pool.specs.Inside.{page_of_item, page_of_edit, IsDoneBy, IsCounted, IsFound}
-use Rattle.page_pool.proofs.Judged.{AreAsLong, judged-fit}
+use Rattle.page_pool.specs.Ready.{CheckAnswer, AreGoodPages, pages_put, done_at}
+use Rattle.command_judging.specs.Refusals.{HasItems}
+use Rattle.page_pool.specs.Inside.{page_of_item, page_of_edit, IsDoneBy, IsFound}
+use Rattle.command_judging.specs.Judging.{IsCounted}
+use Rattle.command_judging.proofs.Judged.{AreAsLong, judged-fit}
 use Rattle.page_pool.proofs.Local.{AreAlikeAt, commands_alike, count_put}
 use Rattle.page_pool.proofs.Counts.{counted_alike}
 use Rattle.page_pool.proofs.Readied.{made_same, checked}

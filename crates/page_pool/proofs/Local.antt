@@ -21,12 +21,12 @@ use Rattle.history.specs.Written.{kind_of, block_of_item, block_over}
 use Rattle.wal_record.specs.declared.record.BlockRef.{BlockRef}
 use Rattle.wal_record.specs.declared.record.Kind.TheVariants as kind
 use Rattle.history.proofs.Stores.{by_test, get_here, get_there, page_here, page_apart, block_is, block_self}
-use Rattle.page_pool.specs.declared.fault.OpFault.{OpFault}
-use Rattle.page_pool.specs.declared.fault.OpFault.TheVariants.{NoFork, ForkExists, PastEnd, NoBlock, BadPage, ForkFull, CutPastEnd}
+use Rattle.command_judging.specs.declared.fault.OpFault.{OpFault}
+use Rattle.command_judging.specs.declared.fault.OpFault.TheVariants.{NoFork, ForkExists, PastEnd, NoBlock, BadPage, ForkFull, CutPastEnd}
 use Rattle.lsn_core.specs.Sizes.{most_blocks}
 use Rattle.pg_page.specs.Frags.{written_frags, is_good}
-use Rattle.page_pool.specs.Refusals.{judged_op, judged_blocks, judged_edits, judged_edit, judged_length, judged_found, judged_items, judged_cut, behind_item}
-use Rattle.page_pool.proofs.Items.{length-with_block}
+use Rattle.command_judging.specs.Refusals.{judged_op, judged_blocks, judged_edits, judged_edit, judged_length, judged_found, judged_items, judged_cut, behind_item}
+use Rattle.command_judging.proofs.Items.{length-with_block}
 use Rattle.page_pool.specs.Room.{blocks_of}
 
 -- two stores have the same forks, of as many blocks, and the same pages at some blocks

@@ -18,9 +18,9 @@ use Rattle.history.proofs.partitions.Puts.{own, pages_own, page_own, page_at_own
 use Rattle.history.proofs.partitions.Folds.{mapped_some}
 use Rattle.history.proofs.partitions.Removed.{rels_count}
 use Rattle.history.proofs.partitions.OwnActs.{own_fork, OfNoOther, first_own, others_own}
-use Rattle.page_pool.specs.declared.fault.OpFault.{OpFault}
-use Rattle.page_pool.specs.declared.fault.OpFault.TheVariants.{ForkExists, NoFork}
-use Rattle.page_pool.specs.Refusals.{judged_blocks, judged_edits, judged_found, behind_item, judged_items, judged_cut}
+use Rattle.command_judging.specs.declared.fault.OpFault.{OpFault}
+use Rattle.command_judging.specs.declared.fault.OpFault.TheVariants.{ForkExists, NoFork}
+use Rattle.command_judging.specs.Refusals.{judged_blocks, judged_edits, judged_found, behind_item, judged_items, judged_cut}
 use Rattle.page_pool.specs.Laws.{PartsJudgeAlike, PartsCountAlike}
 
 -- ---- how it is judged

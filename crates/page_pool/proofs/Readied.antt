@@ -25,11 +25,12 @@ use Rattle.page_pool.specs.declared.ready.Done.TheVariants as done
 use Rattle.page_pool.specs.declared.ready.NewPage.{NewPage}
 use Rattle.page_pool.specs.declared.ready.Ready.{Ready}
 use Rattle.page_pool.specs.Part.{Part}
-use Rattle.page_pool.specs.Refusals.{judged_blocks, judged_op}
-use Rattle.page_pool.specs.Ready.{HasItems, IsOfOp, IsChecked, pages_put, done_at}
+use Rattle.command_judging.specs.Refusals.{judged_blocks, judged_op}
+use Rattle.page_pool.specs.Ready.{IsOfOp, IsChecked, pages_put, done_at}
+use Rattle.command_judging.specs.Refusals.{HasItems}
 use Rattle.page_pool.specs.Room.{blocks_of}
 use Rattle.page_pool.specs.Inside.{page_of_edit, page_of_item, seen_page, blocks_done, IsDoneBy, IsFound}
-use Rattle.page_pool.proofs.Judged.{formed, blocks_on, judged-tidy, judged-fit}
+use Rattle.command_judging.proofs.Judged.{formed, blocks_on, judged-tidy, judged-fit}
 
 -- the page that an edit leaves has the LSN set
 edit_made : (end : ℕ) (old : List ℕ) (edit : Edit) → IsFitEdit old edit → edited end old edit ≡ Some (with_lsn end (page_of_edit old edit))

@@ -27,7 +27,7 @@ use Rattle.page_pool.specs.Steps.{marks_after, works_after, HasApplied, work_don
 use Rattle.page_pool.specs.Facts.{history_end, Follows}
 use Rattle.page_pool.specs.Calls.{AreWholePages, IsOneWritten}
 use Rattle.page_pool.specs.Told.{told_page}
-use Rattle.page_pool.specs.Refusals.{judged_op}
+use Rattle.command_judging.specs.Refusals.{judged_op}
 
 -- a tidy act done in frames: the disk lacks what it lacked, and what the act touched or entered
 abbrev pub ActsAreEntered : Type 0

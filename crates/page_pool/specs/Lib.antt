@@ -3,7 +3,6 @@ pub mod Told
 pub mod Steps
 pub mod Facts
 pub mod Laws
-pub mod Refusals
 pub mod Ready
 pub mod Room
 pub mod Calls

@@ -1,5 +1,5 @@
 -- A command that is ready to be done on a partition, and its doing.
-use Rattle.std.specs.Prelude.{◌≡◌, ℕ, ◌+◌, ◌≤◌, ◌<◌, ◌^◌, List, [], ◌∷◌, map, length, Some, None, Result, Ok, Err, box_value}
+use Rattle.std.specs.Prelude.{◌≡◌, ℕ, ◌+◌, ◌≤◌, ◌<◌, ◌^◌, List, [], ◌∷◌, map, Some, None, Result, Ok, Err, box_value}
 use Rattle.std.specs.List.{All}
 use Rattle.lsn_core.specs.declared.ids.BlockId.{BlockId}
 use Rattle.lsn_core.specs.Store.{Store}
@@ -15,13 +15,13 @@ use Rattle.history.specs.Written.{kind_of}
 use Rattle.lsn_core.specs.Sizes.{most_blocks}
 use Rattle.page_frames.specs.Framed.{Framed}
 use Rattle.page_frames.specs.Overlay.{HasSlot, IsReserved}
-use Rattle.page_pool.specs.declared.fault.OpFault.{OpFault}
+use Rattle.command_judging.specs.declared.fault.OpFault.{OpFault}
 use Rattle.page_pool.specs.declared.ready.Ready.{Ready}
 use Rattle.page_pool.specs.declared.ready.Done.{Done}
 use Rattle.page_pool.specs.declared.ready.Done.TheVariants.{Created, Cut, Put, Dropped}
 use Rattle.page_pool.specs.declared.ready.NewPage.{NewPage}
 use Rattle.page_pool.specs.Part.{Part}
-use Rattle.page_pool.specs.Refusals.{judged_op, IsRefusedOp, most_items}
+use Rattle.command_judging.specs.Refusals.{judged_op, IsRefusedOp}
 
 -- pages put in turn, by an entry that ends at a place
 abbrev pub pages_put : ℕ → List NewPage → Store → Store
@@ -88,10 +88,3 @@ pub record IsChecked (old new : Part) (command : Op) (redo : ℕ) (ready : Ready
 abbrev pub CheckAnswer : Op → ℕ → Part → Part → Result Ready OpFault → Type 0
 CheckAnswer command redo old new (Ok ready) = IsChecked old new command redo ready
 CheckAnswer command redo old new (Err fault) = IsRefusedOp old.frames command fault
-
--- a change has 1 to 4 items
-abbrev pub HasItems : Op → Type 0
-HasItems (op.Create fork) = Unit {0}
-HasItems (op.Truncate rel count) = Unit {0}
-HasItems (op.Change items) = (1 ≤ length items) × (length items ≤ most_items)
-HasItems (op.Drop rel) = Unit {0}

@@ -15,10 +15,10 @@ use Rattle.store_ledgers.specs.declared.blanks.Blanks.{Blanks}
 use Rattle.store_areas.specs.declared.areas.StoreAreas.{StoreAreas}
 use Rattle.store_areas.specs.declared.found.Found.{Found}
 use Rattle.store_faults.specs.declared.begin_why.BeginWhy.{BeginWhy}
-use Rattle.shared_store.specs.Seen.{Seen}
+use Rattle.store_locks.specs.Seen.{Seen}
 use Rattle.store_areas.specs.Opened.{Faults, NoneFell}
-use Rattle.shared_store.specs.Locked.{AreNumbered, HasRisen, WalStart}
-use Rattle.shared_store.specs.Seen.{fresh_pass}
+use Rattle.store_locks.specs.Locked.{AreNumbered, HasRisen, WalStart}
+use Rattle.store_locks.specs.Seen.{fresh_pass}
 use Rattle.store_lifecycle.specs.Starts.{AreNamed, AreStarts, fresh_passes}
 use Rattle.store_areas.specs.Begin.{IsBegun, faults_of, shown_of}
 use Rattle.store_lifecycle.specs.Close.{IsClosed}

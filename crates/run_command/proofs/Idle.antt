@@ -5,9 +5,9 @@ use Rattle.std.specs.List.{All, filter}
 use Rattle.std.proofs.lemmas.Bool.{eq-eqb}
 use Rattle.std.proofs.lemmas.List.Elements.{All-nil, filter-append}
 use Rattle.history.specs.Entry.{Entry}
-use Rattle.shared_store.specs.Calls.{IsMarkBy, IsOfRun, IsOfWorker}
-use Rattle.shared_store.specs.Seen.{accepted_by, is_by, is_mark_by, is_number, marks_by}
-use Rattle.shared_store.proofs.Tallies.{kept_first, one_if}
+use Rattle.store_locks.specs.Calls.{IsMarkBy, IsOfRun, IsOfWorker}
+use Rattle.store_locks.specs.Seen.{accepted_by, is_by, is_mark_by, is_number, marks_by}
+use Rattle.store_locks.proofs.Tallies.{kept_first, one_if}
 
 -- a worker that made neither commands nor marks has no entry
 by_none : (e : Entry) (found es : List Entry) (p : Entry → Bool) → p e ≡ true → length (filter p (found ++ (e ∷ es))) ≡ 0 → ⊥

@@ -31,8 +31,8 @@ use Rattle.history.proofs.WrittenLaws.{written_is_applied}
 use Rattle.history.specs.fuzzy_copies.Logged.{history_of, log_of, found_before}
 use Rattle.journal.proofs.Ends.{own_alone}
 use Rattle.journal.proofs.Goes.{known_behind}
-use Rattle.shared_store.specs.Seen.{is_number}
-use Rattle.shared_store.specs.Calls.{IsOfWorker}
+use Rattle.store_locks.specs.Seen.{is_number}
+use Rattle.store_locks.specs.Calls.{IsOfWorker}
 
 -- ---- own entries
 

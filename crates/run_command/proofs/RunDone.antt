@@ -42,16 +42,16 @@ use Rattle.timeline.proofs.Prefixes.{prefix_trans}
 use Rattle.store_areas.specs.declared.areas.StoreAreas.{StoreAreas}
 use Rattle.store_areas.specs.declared.found.Found.{Found}
 use Rattle.store_faults.specs.declared.begin_why.BeginWhy.{BeginWhy}
-use Rattle.shared_store.specs.Seen.{Seen, Booked, accepted_by, marks_by, share_of}
+use Rattle.store_locks.specs.Seen.{Seen, Booked, accepted_by, marks_by, share_of}
 use Rattle.shared_store.specs.Shared.{CountsItsOwn}
 use Rattle.store_areas.specs.Opened.{NoneFell}
-use Rattle.shared_store.specs.Locked.{HasRisen}
-use Rattle.shared_store.specs.Calls.{MayWriteWal, IsOfRun}
+use Rattle.store_locks.specs.Locked.{HasRisen}
+use Rattle.store_locks.specs.Calls.{MayWriteWal, IsOfRun}
 use Rattle.store_areas.specs.Begin.{HasBegun, faults_of, shown_of}
-use Rattle.shared_store.specs.Seen.{fresh_pass}
-use Rattle.shared_store.specs.Records.{HoldsRecords}
+use Rattle.store_locks.specs.Seen.{fresh_pass}
+use Rattle.store_locks.specs.Records.{HoldsRecords}
 use Rattle.store_lifecycle.specs.Close.{CloseAnswer, HoldsHistory, area_at, area_of, all_booked, booked_at}
-use Rattle.shared_store.specs.Inside.{end_of}
+use Rattle.store_locks.specs.Inside.{end_of}
 use Rattle.shared_summaries.proofs.Shelves.{crews_keep_honest}
 use Rattle.crew.specs.Backups.{areas_asked, areas_of}
 use Rattle.crew.specs.Run.{Basis, basis_of, IsAnswered, TellsFault}

@@ -6,7 +6,7 @@ use Rattle.std.proofs.lemmas.List.{append_assoc, drop_all, nil_from_length, take
 use Rattle.std.proofs.lemmas.List.Elements.{All-cons}
 use Rattle.std.proofs.lemmas.List.Sums.{sum_by-cons}
 use Rattle.std.proofs.lemmas.Slice.Eq.{bytes_eq-Decides}
-use Rattle.shared_store.specs.Seen.{Seen}
+use Rattle.store_locks.specs.Seen.{Seen}
 use Rattle.vault.specs.declared.area.Vault.{Ghosts as Vaults}
 use Rattle.vault.specs.declared.lending.Held.{Held}
 use Rattle.vault.specs.Lending.{Names, IsOneOf, IsNoneOf, AreLater, names_of}

@@ -18,7 +18,7 @@ use Rattle.store_faults.specs.declared.advance_fault.AdvanceFault.TheVariants as
 use Rattle.command_base.specs.Areas.{backup_name}
 use Rattle.history.specs.declared.op.Op.{Op}
 use Rattle.history.specs.Entry.{Entry}
-use Rattle.shared_store.specs.Seen.{accepted_by}
+use Rattle.store_locks.specs.Seen.{accepted_by}
 use Rattle.scripts.specs.declared.script.Command.{Command}
 use Rattle.scripts.specs.declared.script.Command.TheVariants as command
 use Rattle.scripts.specs.declared.script.Line.{Line}

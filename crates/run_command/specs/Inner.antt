@@ -20,10 +20,10 @@ use Rattle.store_areas.specs.declared.areas.StoreAreas.{StoreAreas}
 use Rattle.store_areas.specs.declared.found.Found.{Found}
 use Rattle.store_faults.specs.declared.begin_why.BeginWhy.{BeginWhy}
 use Rattle.store_faults.specs.declared.begin_why.BeginWhy.TheVariants as begin
-use Rattle.shared_store.specs.Seen.{Seen, StaysBy}
+use Rattle.store_locks.specs.Seen.{Seen, StaysBy}
 use Rattle.store_areas.specs.Opened.{NoneFell}
-use Rattle.shared_store.specs.Locked.{WalStart, HasRisen}
-use Rattle.shared_store.specs.Seen.{fresh_pass}
+use Rattle.store_locks.specs.Locked.{WalStart, HasRisen}
+use Rattle.store_locks.specs.Seen.{fresh_pass}
 use Rattle.store_lifecycle.specs.Starts.{AreBack, fresh_passes}
 use Rattle.store_areas.specs.Begin.{BeginsNot, IsBegun, faults_of, shown_of}
 use Rattle.store_lifecycle.specs.Close.{IsClosed}

@@ -24,9 +24,9 @@ use Rattle.history.specs.Whole.{entry_of}
 use Rattle.history.specs.Written.{wal_of, tip_of}
 use Rattle.journal.specs.Lawful.{IsLawful}
 use Rattle.recovery.specs.Causes.{HasSettings}
-use Rattle.shared_store.specs.Calls.{MayWriteWal, IsOfRun}
+use Rattle.store_locks.specs.Calls.{MayWriteWal, IsOfRun}
 use Rattle.store_areas.specs.Begin.{BeginCause, MayComeFirst, MayComeLate}
-use Rattle.shared_store.specs.Records.{HoldsRecords}
+use Rattle.store_locks.specs.Records.{HoldsRecords}
 use Rattle.store_lifecycle.specs.Close.{HoldsPart}
 use Rattle.store_faults.specs.declared.begin_why.BeginWhy.{BeginWhy}
 use Rattle.store_faults.specs.declared.begin_why.BeginWhy.TheVariants as begin

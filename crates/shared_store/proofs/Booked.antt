@@ -7,9 +7,9 @@ use Rattle.lsn_core.specs.declared.fault.StoreFault.{StoreFault}
 use Rattle.lsn_core.specs.declared.fault.StoreFault.TheVariants as store
 use Rattle.lsn_core.specs.declared.fault.MarkFault.{MarkFault}
 use Rattle.lsn_core.specs.declared.fault.MarkFault.TheVariants as mark
-use Rattle.shared_store.specs.declared.receipt.Receipt.{Receipt}
+use Rattle.store_locks.specs.declared.receipt.Receipt.{Receipt}
 use Rattle.store_faults.specs.declared.insert_fault.InsertFault.{InsertFault}
-use Rattle.shared_store.specs.Seen.{Seen, Booked, SharesStay, ShareRose, BooksOne, BooksIf, IsThere, failed_area, share_of, share_of_data, with_fault, with_data}
+use Rattle.store_locks.specs.Seen.{Seen, Booked, SharesStay, ShareRose, BooksOne, BooksIf, IsThere, failed_area, share_of, share_of_data, with_fault, with_data}
 use Rattle.shared_store.specs.Shared.{TakesFaults, TakesInsertFault, TakesMarkFault}
 
 -- ---- one more of an area

@@ -1,10 +1,10 @@
 -- Checkpoints between which other workers write.
 use Rattle.std.proofs.Common.{◌≡◌, ℕ, ◌≤◌, List, [], ◌∷◌, ◌++◌, sym, ap, subst, ◌∙◌, arith, append_assoc, Some, Result, Ok, Err, IfOk, OnOk, OnErr, IfErr, ◌+◌}
 use Rattle.history.specs.declared.op.Op.{Op}
-use Rattle.shared_store.specs.declared.receipt.Receipt.{Receipt}
+use Rattle.store_locks.specs.declared.receipt.Receipt.{Receipt}
 use Rattle.store_faults.specs.declared.insert_fault.InsertFault.{InsertFault}
-use Rattle.shared_store.specs.Calls.{IsReceipt, IsTaken}
-use Rattle.shared_store.specs.Refusals.{IsRefusedBehind}
+use Rattle.store_locks.specs.Calls.{IsReceipt, IsTaken}
+use Rattle.store_locks.specs.Refusals.{IsRefusedBehind}
 use mathlib.Core.List.{IsPrefix}
 use Rattle.timeline.proofs.Prefixes.{prefix_trans}
 use Rattle.lsn_core.specs.declared.lsn.Place.{Place}
@@ -12,10 +12,10 @@ use Rattle.lsn_core.specs.declared.lsn.Lsn.{Lsn}
 use Rattle.wal_writer.specs.declared.state.Flushed.{Flushed}
 use Rattle.history.specs.Entry.{Entry, Mark, RedoMark, Online, BackupEnd}
 use Rattle.page_pool.specs.Facts.{history_end}
-use Rattle.shared_store.specs.declared.receipt.Redo.{Redo}
-use Rattle.shared_store.specs.Locked.{Standing, Follows, HasMarked, Inserts}
+use Rattle.store_locks.specs.declared.receipt.Redo.{Redo}
+use Rattle.store_locks.specs.Locked.{Standing, Follows, HasMarked, Inserts}
 use Rattle.shared_store.specs.Shared.{HasCheckpointIn, HasEnded}
-use Rattle.shared_store.proofs.Kept.{history_ends}
+use Rattle.store_locks.proofs.Kept.{history_ends}
 
 -- a start, writing, and an end are a checkpoint
 pub checkpoint_in : (a b c d : Standing) (start end : Place) (redo : Redo) (flushed : Flushed) → HasMarked (RedoMark 1) a b start → Follows b c → HasMarked (Online start.start.0) c d end → end.end.0 ≤ flushed.to.0

@@ -9,10 +9,10 @@ use Rattle.lsn_core.specs.declared.fault.StoreFault.TheVariants as store
 use Rattle.lsn_core.specs.declared.fault.MarkFault.TheVariants as mark
 use Rattle.lsn_core.specs.declared.fault.MarkFault.{MarkFault}
 use Rattle.history.specs.Entry.{Entry, Marking, Mark, RedoMark, Online, BackupEnd}
-use Rattle.shared_store.specs.Calls.{HasNoRoom}
-use Rattle.shared_store.specs.Inside.{IsFullFor, mark_fault}
-use Rattle.shared_store.specs.Seen.{Seen}
-use Rattle.shared_store.specs.Locked.{Standing, Follows, GoesOn, HasMarked, AppendsMark, FlushesMark}
+use Rattle.store_locks.specs.Calls.{HasNoRoom}
+use Rattle.store_locks.specs.Inside.{IsFullFor, mark_fault}
+use Rattle.store_locks.specs.Seen.{Seen}
+use Rattle.store_locks.specs.Locked.{Standing, Follows, GoesOn, HasMarked, AppendsMark, FlushesMark}
 use Rattle.shared_store.specs.Shared.{own_of, FindsNoRoomIn, MayFindNoRoom, MayHaveStarted, MayHaveEnded}
 
 -- nothing but what was seen since

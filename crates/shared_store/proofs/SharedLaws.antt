@@ -9,7 +9,7 @@ use Rattle.history.specs.Entry.{Entry, is_of_run}
 use Rattle.history.specs.Written.{is_redo}
 use Rattle.journal.specs.Journal.{IsEndOf}
 use Rattle.journal.proofs.Ends.{end_pushed}
-use Rattle.shared_store.specs.Copied.{is_redo_at}
+use Rattle.store_locks.specs.Copied.{is_redo_at}
 use Rattle.shared_store.specs.Shared.{CheckpointsLeaveRedoPoints, EndsComeBehind}
 use Rattle.history.proofs.fuzzy_copies.Taken.{any_weaker}
 

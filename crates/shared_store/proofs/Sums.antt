@@ -8,10 +8,10 @@ use Rattle.std.proofs.lemmas.List.Sums.{sum_by-cons}
 use Rattle.std.proofs.lemmas.List.Elements.{All-nil, All-cons}
 use Rattle.history.proofs.Pushes.{all_first, all_rest}
 use Rattle.history.specs.Entry.{Entry, is_of_run}
-use Rattle.shared_store.specs.Seen.{Seen, is_by, is_mark_by, is_number, accepted_by, marks_by}
-use Rattle.shared_store.specs.Locked.{AllHeld, gathered, AreNumbered, made_in}
+use Rattle.store_locks.specs.Seen.{Seen, is_by, is_mark_by, is_number, accepted_by, marks_by}
+use Rattle.store_locks.specs.Locked.{AllHeld, gathered, AreNumbered, made_in}
 use Rattle.shared_store.specs.Shared.{CountsItsOwn, CountsNoMore}
-use Rattle.shared_store.proofs.Tallies.{one_if, kept_first}
+use Rattle.store_locks.proofs.Tallies.{one_if, kept_first}
 
 module _ {X : Type 0} where
   first_of : (P : X → Type 0) (x : X) (xs : List X) → All P (x ∷ xs) → P x

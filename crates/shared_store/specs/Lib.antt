@@ -1,10 +1,1 @@
-pub mod Seen
-pub mod Refusals
-pub mod Open
-pub mod Calls
-pub mod Copied
-pub mod Inside
-pub mod Locked
-pub mod ShownCode
 pub mod Shared
-pub mod Records

@@ -9,17 +9,15 @@ use Rattle.lsn_core.specs.declared.fault.MarkFault.TheVariants as mark
 use Rattle.lsn_core.specs.declared.lsn.Lsn.{Lsn}
 use Rattle.wal_writer.specs.declared.state.Flushed.{Flushed}
 use Rattle.history.specs.Entry.{Entry, Marking, Mark, RedoMark, Online, BackupEnd}
-use Rattle.shared_store.specs.declared.receipt.Receipt.{Receipt}
+use Rattle.store_locks.specs.declared.receipt.Receipt.{Receipt}
 use Rattle.store_faults.specs.declared.insert_fault.InsertFault.{InsertFault}
-use Rattle.shared_store.specs.declared.receipt.Redo.{Redo}
-use Rattle.shared_store.specs.Seen.{Seen, Booked, accepted_by, marks_by, TakesFault, BooksOne, BooksIf, failed_area}
-use Rattle.shared_store.specs.Locked.{Standing, AreNumbered, made_in}
-use Rattle.shared_store.specs.Refusals.{IsRefusedBehind}
-use Rattle.history.specs.fuzzy_copies.Orderly.{AllEndBy}
+use Rattle.store_locks.specs.declared.receipt.Redo.{Redo}
+use Rattle.store_locks.specs.Seen.{Seen, Booked, accepted_by, marks_by, TakesFault, BooksOne, BooksIf, failed_area}
+use Rattle.store_locks.specs.Locked.{Standing, AreNumbered, made_in}
+use Rattle.store_locks.specs.Refusals.{IsRefusedBehind}
 use Rattle.history.specs.fuzzy_copies.Taken.{IsSeen}
-use Rattle.wal_record.specs.Tips.{wal_limit}
-use Rattle.shared_store.specs.Copied.{HasRedoPoint}
-use Rattle.shared_store.specs.Calls.{IsReceipt, IsTaken, IsMarkOf, HasNoRoom}
+use Rattle.store_locks.specs.Copied.{HasRedoPoint}
+use Rattle.store_locks.specs.Calls.{IsReceipt, IsTaken, IsMarkOf, HasNoRoom}
 
 -- what a pass knows and has counted, but for the faults of the areas that have a lock of their own
 abbrev pub own_of : Seen → Standing
@@ -136,11 +134,6 @@ pub record HasEnded (worker start : ℕ) (old new : List Entry) (end : Lsn) (flu
   pub is : IsMarkOf worker (BackupEnd start) entry
   pub end_is : end.0 ≡ entry.end
   pub reached : end.0 ≤ flushed.to.0
-
--- all entries that were seen end at a place or before it, which is in the room of the WAL
-pub record IsPlaced (mib : ℕ) (list : List Entry) (end : ℕ) : Type 0 where
-  pub last : AllEndBy end list
-  pub room : end ≤ wal_limit mib
 
 -- one that failed left its entry, or none, in what has been seen now
 pub record MayHaveEnded (worker start : ℕ) (old new : List Entry) : Type 0 where

@@ -4,22 +4,21 @@ ghost use Rattle.std.specs.Prelude.{◌≡◌, ◌+◌, ◌<◌, ◌≤◌, true
 ghost use Rattle.history.specs.Entry.{RedoMark, Online, BackupEnd};
 ghost use Rattle.journal.specs.Lawful.{IsLawful};
 ghost use Rattle.page_pool.specs.Facts.{history_end};
-ghost use Rattle.shared_store.specs.Seen.{StaysBy};
-ghost use Rattle.shared_store.specs.Inside.{AreCleaned, IsCleaned};
-ghost use Rattle.shared_store.specs.Locked.{Follows, GoesOn, AppendsMark, FlushesMark};
+ghost use Rattle.store_locks.specs.Seen.{StaysBy};
+ghost use Rattle.store_locks.specs.Inside.{AreCleaned, IsCleaned};
+ghost use Rattle.store_locks.specs.Locked.{Follows, GoesOn, AppendsMark, FlushesMark};
 ghost use Rattle.shared_store.specs.Shared.{TakesFaults, TakesMarkFault, HasCheckpointIn, HasEnded, own_of, SameData};
-ghost use Rattle.shared_store.specs.Shared.{MayHaveStarted, MayFindNoRoom, MayHaveEnded, MayFindNoRoomFor, IsPlaced};
+ghost use Rattle.shared_store.specs.Shared.{MayHaveStarted, MayFindNoRoom, MayHaveEnded, MayFindNoRoomFor};
+ghost use Rattle.store_locks.specs.Calls.{IsPlaced};
 
-use crate::fault::mark_fault;
 use crate::locking::clean_with;
-use crate::naming::OfCrew;
-use crate::pass::Pass;
-use crate::receipt::Redo;
+use crate::pass::{FaultShares, Pass};
 use crate::store::Store;
 use lsn_core::{Lsn, MarkFault, Place, StoreFault};
 use page_pool::Cleaned;
 use std::alloc::Global;
 use std::sync::Wait;
+use store_locks::{OfCrew, Redo, mark_fault};
 use vault::Vault;
 use wal_writer::Flushed;
 
@@ -53,48 +52,19 @@ impl<J: OfCrew, V: Vault> Store<J, V> {
         ensures faults { TakesFaults pass.old pass.new result }
     {
         let Pass { own, shares } = pass;
+        let FaultShares {
+            data0,
+            data1,
+            data2,
+            data3,
+            ..
+        } = shares;
         let (line, desk) = (&self.line, &self.desk);
         match q {
-            0 => clean_with(
-                rt,
-                alloc,
-                line,
-                desk,
-                &self.part0,
-                own,
-                &mut shares.data0,
-                redo,
-            ),
-            1 => clean_with(
-                rt,
-                alloc,
-                line,
-                desk,
-                &self.part1,
-                own,
-                &mut shares.data1,
-                redo,
-            ),
-            2 => clean_with(
-                rt,
-                alloc,
-                line,
-                desk,
-                &self.part2,
-                own,
-                &mut shares.data2,
-                redo,
-            ),
-            _ => clean_with(
-                rt,
-                alloc,
-                line,
-                desk,
-                &self.part3,
-                own,
-                &mut shares.data3,
-                redo,
-            ),
+            0 => clean_with(rt, alloc, line, desk, &self.part0, own, data0, redo),
+            1 => clean_with(rt, alloc, line, desk, &self.part1, own, data1, redo),
+            2 => clean_with(rt, alloc, line, desk, &self.part2, own, data2, redo),
+            _ => clean_with(rt, alloc, line, desk, &self.part3, own, data3, redo),
         }
     }
 

@@ -1,7 +1,7 @@
 //! Laws of a shared store: each is the contract of a function that does nothing.
 
-ghost use Rattle.shared_store.specs.Copied.{RedoPointsStay, RedoPointsRun};
-ghost use Rattle.shared_store.specs.Records.{RecordsEndAtEntries, PlacesStay};
+ghost use Rattle.store_locks.specs.Copied.{RedoPointsStay, RedoPointsRun};
+ghost use Rattle.store_locks.specs.Records.{RecordsEndAtEntries, PlacesStay};
 ghost use Rattle.shared_store.specs.Shared.{CheckpointsLeaveRedoPoints, EndsComeBehind, PassesCountTheirEntries};
 
 /// A checkpoint leaves its redo point, which stays as the history goes on. From there on a copy may

@@ -2,14 +2,13 @@
 
 ghost use Rattle.std.specs.Prelude.{◌≡◌, ◌<◌, ◌≤◌, true, length};
 ghost use Rattle.journal.specs.Lawful.{IsLawful};
-ghost use Rattle.shared_store.specs.Seen.{accepted_by, marks_by};
-ghost use Rattle.shared_store.specs.Locked.{RunsOn};
+ghost use Rattle.store_locks.specs.Seen.{accepted_by, marks_by};
+ghost use Rattle.store_locks.specs.Locked.{RunsOn};
 
-use crate::naming::OfCrew;
-use crate::standing::Knowing;
 use std::marker::Model;
 use std::sync::ledger::Share;
 use store_ledgers::AreaFaults;
+use store_locks::{Knowing, OfCrew};
 
 /// A worker's shares of the faults of the areas that have a lock of their own.
 #[derive(Drop)]
@@ -39,7 +38,7 @@ pub struct Pass<J: OfCrew> {
 
 impl<J: OfCrew> Model for Pass<J> {
     ghost use Rattle.std.specs.Prelude.{◌≡◌};
-    ghost use Rattle.shared_store.specs.Seen.{Seen};
+    ghost use Rattle.store_locks.specs.Seen.{Seen};
 
     ghost Value = { Seen };
 

@@ -2,16 +2,15 @@
 
 ghost use Rattle.std.specs.Prelude.{◌≡◌, ◌+◌, ◌-◌, ◌<◌, true};
 ghost use Rattle.journal.specs.Lawful.{IsLawful};
-ghost use Rattle.shared_store.specs.Seen.{both_booked, fresh_pass};
-ghost use Rattle.shared_store.specs.Locked.{RunsOn, empty_shares};
+ghost use Rattle.store_locks.specs.Seen.{both_booked, fresh_pass};
+ghost use Rattle.store_locks.specs.Locked.{RunsOn, empty_shares};
 
-use crate::naming::OfCrew;
 use crate::pass::{FaultShares, Pass};
-use crate::standing::Knowing;
 use journal::HistoryEntry;
 use std::marker::Model;
 use std::sync::ledger::Share;
 use store_ledgers::{AreaFaults, Made};
+use store_locks::{Knowing, OfCrew};
 use timeline::Note;
 
 /// Shares of the ledgers of several workers together: those that no worker has yet, or has no more.
@@ -28,7 +27,7 @@ pub struct Shares<J: OfCrew> {
 
 impl<J: OfCrew> Model for Shares<J> {
     ghost use Rattle.std.specs.Prelude.{◌≡◌};
-    ghost use Rattle.shared_store.specs.Locked.{AllHeld};
+    ghost use Rattle.store_locks.specs.Locked.{AllHeld};
 
     ghost Value = { AllHeld };
 

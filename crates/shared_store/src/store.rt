@@ -5,17 +5,14 @@ ghost use mathlib.Core.List.{IsPrefix};
 ghost use Rattle.lsn_core.specs.declared.fault.StoreArea.TheVariants.{Sums};
 ghost use Rattle.journal.specs.Journal.{IsEndOf};
 ghost use Rattle.journal.specs.Lawful.{IsLawful};
-ghost use Rattle.shared_store.specs.Copied.{HasRedoPoint, ListsPart, CopiesBlock};
+ghost use Rattle.store_locks.specs.Copied.{HasRedoPoint, ListsPart, CopiesBlock};
 ghost use Rattle.history.specs.fuzzy_copies.Taken.{IsBlockCopied};
-ghost use Rattle.shared_store.specs.Seen.{StaysBy, with_fault};
-ghost use Rattle.shared_store.specs.Locked.{RunsOn};
+ghost use Rattle.store_locks.specs.Seen.{StaysBy, with_fault};
+ghost use Rattle.store_locks.specs.Locked.{RunsOn};
 ghost use Rattle.shared_store.specs.Shared.{TakesFaults};
 
-use crate::desk::Desk;
-use crate::held::HeldPart;
 use crate::locking::{copy_with, list_with, write_with};
-use crate::naming::OfCrew;
-use crate::pass::Pass;
+use crate::pass::{FaultShares, Pass};
 use crate::shares::Undealt;
 use history::partitions::partition_of;
 use journal::HistoryEntry;
@@ -25,6 +22,7 @@ use std::alloc::Global;
 use std::sync::ledger::Book;
 use std::sync::{Mutex, Wait};
 use store_ledgers::AreaFaults;
+use store_locks::{Desk, HeldPart, OfCrew};
 use timeline::{Note, Timeline};
 use vault::{BoxedArea, Vault};
 use wal_writer::Flushed;
@@ -179,48 +177,19 @@ impl<J: OfCrew, V: Vault> Store<J, V> {
         ensures marks { pass.new.marks ≡ pass.old.marks }
     {
         let Pass { own, shares } = pass;
+        let FaultShares {
+            data0,
+            data1,
+            data2,
+            data3,
+            ..
+        } = shares;
         let (line, desk) = (&self.line, &self.desk);
         match q {
-            0 => list_with(
-                rt,
-                alloc,
-                line,
-                desk,
-                &self.part0,
-                own,
-                &mut shares.data0,
-                from,
-            ),
-            1 => list_with(
-                rt,
-                alloc,
-                line,
-                desk,
-                &self.part1,
-                own,
-                &mut shares.data1,
-                from,
-            ),
-            2 => list_with(
-                rt,
-                alloc,
-                line,
-                desk,
-                &self.part2,
-                own,
-                &mut shares.data2,
-                from,
-            ),
-            _ => list_with(
-                rt,
-                alloc,
-                line,
-                desk,
-                &self.part3,
-                own,
-                &mut shares.data3,
-                from,
-            ),
+            0 => list_with(rt, alloc, line, desk, &self.part0, own, data0, from),
+            1 => list_with(rt, alloc, line, desk, &self.part1, own, data1, from),
+            2 => list_with(rt, alloc, line, desk, &self.part2, own, data2, from),
+            _ => list_with(rt, alloc, line, desk, &self.part3, own, data3, from),
         }
     }
 
@@ -276,52 +245,19 @@ impl<J: OfCrew, V: Vault> Store<J, V> {
         ensures marks { pass.new.marks ≡ pass.old.marks }
     {
         let Pass { own, shares } = pass;
+        let FaultShares {
+            data0,
+            data1,
+            data2,
+            data3,
+            ..
+        } = shares;
         let (line, desk) = (&self.line, &self.desk);
         match partition_of(at.fork.rel) {
-            0 => copy_with(
-                rt,
-                alloc,
-                line,
-                desk,
-                &self.part0,
-                own,
-                &mut shares.data0,
-                from,
-                at,
-            ),
-            1 => copy_with(
-                rt,
-                alloc,
-                line,
-                desk,
-                &self.part1,
-                own,
-                &mut shares.data1,
-                from,
-                at,
-            ),
-            2 => copy_with(
-                rt,
-                alloc,
-                line,
-                desk,
-                &self.part2,
-                own,
-                &mut shares.data2,
-                from,
-                at,
-            ),
-            _ => copy_with(
-                rt,
-                alloc,
-                line,
-                desk,
-                &self.part3,
-                own,
-                &mut shares.data3,
-                from,
-                at,
-            ),
+            0 => copy_with(rt, alloc, line, desk, &self.part0, own, data0, from, at),
+            1 => copy_with(rt, alloc, line, desk, &self.part1, own, data1, from, at),
+            2 => copy_with(rt, alloc, line, desk, &self.part2, own, data2, from, at),
+            _ => copy_with(rt, alloc, line, desk, &self.part3, own, data3, from, at),
         }
     }
 }

@@ -4,10 +4,10 @@ use Rattle.lsn_core.specs.declared.fault.StoreArea.TheVariants.{Wal, Data, Sums}
 use Rattle.lsn_core.specs.declared.fault.StoreFault.{StoreFault}
 use Rattle.lsn_core.specs.declared.fault.StoreFault.TheVariants as store
 use mathlib.Core.List.{IsPrefix}
-use Rattle.shared_store.specs.Seen.{Seen, SharesStay, TakesFault, with_fault}
+use Rattle.store_locks.specs.Seen.{Seen, SharesStay, TakesFault, with_fault}
 use Rattle.shared_store.proofs.Booked.{one_stays}
 use Rattle.shared_store.specs.Shared.{TakesFaults}
-use Rattle.shared_store.specs.Locked.{HasRisen}
+use Rattle.store_locks.specs.Locked.{HasRisen}
 use Rattle.shared_summaries.specs.summary_publish.Published.{LooksOn, PublishCause, PublishTakes, AdvanceTakes}
 use Rattle.shared_summaries.proofs.summary_publish.Adding.{stays_same}
 use Rattle.shared_summaries.proofs.summary_publish.Later.{prefix_self}

@@ -13,10 +13,10 @@ use Rattle.wal_summary.specs.declared.summary.Summary.{Summary}
 use Rattle.summary_store.specs.Kept.{AreKept, end_behind}
 use Rattle.summary_store.specs.Expiry.{AreHeld, AreGone, young}
 use Rattle.summary_store.specs.Honest.{IsHonest}
-use Rattle.shared_store.specs.Locked.{RunsOn}
+use Rattle.store_locks.specs.Locked.{RunsOn}
 use Rattle.shared_summaries.specs.summary_publish.Entries.{first_start}
 use Rattle.shared_summaries.specs.summary_publish.Published.{AreNext, Advances, IsAdvanced, AdvanceAnswers, AreListed, AreThose, GoesOnFrom}
-use Rattle.shared_store.specs.Records.{IsPlaceOf}
+use Rattle.store_locks.specs.Records.{IsPlaceOf}
 use Rattle.shared_summaries.specs.summary_publish.Partly.{LeavesFiles, MayAdvance, AdvancesPartly}
 use Rattle.shared_summaries.specs.declared.summary_publish.known.Known.{Known}
 use Rattle.shared_summaries.specs.Inside.{AreKeptThere}

@@ -9,9 +9,9 @@ use Rattle.lsn_core.specs.declared.fault.StoreFault.TheVariants as store
 use Rattle.vault.specs.declared.area.Vault.{Ghosts}
 use Rattle.history.specs.Entry.{Entry}
 use Rattle.journal.specs.Lawful.{IsLawful}
-use Rattle.shared_store.specs.Seen.{Seen, Booked, with_fault}
-use Rattle.shared_store.specs.Locked.{RunsOn, HasRisen}
-use Rattle.shared_store.specs.Records.{IsPlaceOf}
+use Rattle.store_locks.specs.Seen.{Seen, Booked, with_fault}
+use Rattle.store_locks.specs.Locked.{RunsOn, HasRisen}
+use Rattle.store_locks.specs.Records.{IsPlaceOf}
 use Rattle.wal_summary.specs.declared.summary.Summary.{Summary}
 use Rattle.shared_summaries.specs.declared.summary_publish.known.Known.{Known}
 use Rattle.store_faults.specs.declared.advance_fault.AdvanceFault.{AdvanceFault}

@@ -9,7 +9,7 @@ use Rattle.wal_summary.specs.declared.summary.Summary.{Summary}
 use Rattle.wal_summary.specs.Kept.{IsCovering, IsGap}
 use Rattle.summary_store.specs.Kept.{AreKept}
 use Rattle.summary_store.specs.Honest.{IsHonest}
-use Rattle.shared_store.specs.Seen.{Seen, TakesFault}
+use Rattle.store_locks.specs.Seen.{Seen, TakesFault}
 use Rattle.shared_summaries.specs.summary_publish.Entries.{first_start}
 use Rattle.shared_summaries.specs.summary_publish.Published.{Advances, AreListed}
 use Rattle.shared_summaries.specs.summary_publish.True.{IsTrue}

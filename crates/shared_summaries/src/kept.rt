@@ -3,7 +3,7 @@
 ghost use Rattle.std.specs.Prelude.{◌≡◌, ◌<◌, ◌≤◌, true, IfOk, box_value};
 ghost use Rattle.journal.specs.Lawful.{IsLawful};
 ghost use mathlib.Core.List.{IsPrefix};
-ghost use Rattle.shared_store.specs.Locked.{HasRisen, RunsOn};
+ghost use Rattle.store_locks.specs.Locked.{HasRisen, RunsOn};
 ghost use Rattle.shared_store.specs.Shared.{TakesFaults};
 ghost use Rattle.shared_summaries.specs.summary_publish.Published.{LooksOn};
 ghost use Rattle.shared_summaries.specs.Shelf.{AreShelved, HasPublished, HasCovered, TakesAdvanceFaults};

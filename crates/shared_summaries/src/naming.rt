@@ -1,7 +1,7 @@
 //! What the names of an open store and its crew say of the summaries.
 
-use shared_store::OfCrew;
 use std::marker::Brand;
+use store_locks::OfCrew;
 
 /// Names of a run that keeps summaries for some time.
 pub trait OfRetention: OfCrew {

@@ -2,7 +2,7 @@
 
 ghost use Rattle.std.specs.Prelude.{◌≡◌, ◌<◌, ◌≤◌, true, IfOk, box_value};
 ghost use Rattle.journal.specs.Lawful.{IsLawful};
-ghost use Rattle.shared_store.specs.Locked.{HasRisen};
+ghost use Rattle.store_locks.specs.Locked.{HasRisen};
 ghost use Rattle.shared_store.specs.Shared.{TakesFaults};
 ghost use Rattle.summary_store.specs.Expiry.{age_limit};
 ghost use Rattle.shared_summaries.specs.summary_publish.Published.{LooksOn};

@@ -9,11 +9,11 @@ use Rattle.history.specs.declared.op.Op.TheVariants as op
 use Rattle.history.specs.declared.op.Item.{Item}
 use Rattle.history.specs.Op.{act_of_op}
 use Rattle.history.specs.partitions.Parts.{partition_of, is_item_of, ConcernsNoOther}
-use Rattle.page_pool.specs.Refusals.{most_items}
+use Rattle.command_judging.specs.Refusals.{most_items}
 use Rattle.store_faults.specs.declared.insert_fault.InsertFault.{InsertFault}
 use Rattle.store_faults.specs.declared.insert_fault.InsertFault.TheVariants as fault
-use Rattle.shared_store.specs.Refusals.{is_same_rel, are_of_one, judged_items_form, judged_form}
-use Rattle.shared_store.specs.Inside.{IsOfFirst}
+use Rattle.store_locks.specs.Refusals.{is_same_rel, are_of_one, judged_items_form, judged_form}
+use Rattle.store_locks.specs.Inside.{IsOfFirst}
 
 -- a test that found nothing
 pub none_found : (t : Bool) (f : InsertFault) (rest : Option InsertFault) → cond t (Some f) rest ≡ None → (t ≡ false) × (rest ≡ None)

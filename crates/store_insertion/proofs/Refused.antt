@@ -6,9 +6,9 @@ use Rattle.history.specs.declared.op.Op.{Op}
 use Rattle.history.specs.Entry.{Entry}
 use Rattle.history.specs.Written.{tip_of}
 use Rattle.journal.specs.Lawful.{IsLawful}
-use Rattle.shared_store.specs.Refusals.{IsRefused, IsRefusedBehind}
-use Rattle.shared_store.specs.Inside.{insert_fault}
-use Rattle.shared_store.specs.Locked.{Standing, Follows, Inserts}
+use Rattle.store_locks.specs.Refusals.{IsRefused, IsRefusedBehind}
+use Rattle.store_locks.specs.Inside.{insert_fault}
+use Rattle.store_locks.specs.Locked.{Standing, Follows, Inserts}
 
 pub fault_refuses : (mib : ℕ) (history : List Entry) (command : Op) (f : StoreFault) → IsLawful mib history → IsRefusedBehind mib history command (insert_fault f)
 fault_refuses mib history command f lawful = record { store = lawful.store; state = lawful.made; why = free f }

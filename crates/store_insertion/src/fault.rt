@@ -1,11 +1,11 @@
 //! Why an open store refuses a command.
 
 ghost use Rattle.std.specs.Prelude.{◌≡◌};
-ghost use Rattle.shared_store.specs.Refusals.{fault_at};
-ghost use Rattle.shared_store.specs.Inside.{NamesNoArea, insert_fault};
+ghost use Rattle.store_locks.specs.Refusals.{fault_at};
+ghost use Rattle.store_locks.specs.Inside.{NamesNoArea, insert_fault};
 
+use command_judging::OpFault;
 use lsn_core::StoreFault;
-use page_pool::OpFault;
 use store_faults::InsertFault;
 
 /// The refusal of a partition, which was judged against so many entries.

@@ -5,9 +5,9 @@ ghost use Rattle.std.specs.List.{list_all};
 ghost use Rattle.std.specs.Result.{result_err};
 ghost use Rattle.history.specs.Op.{act_of_op};
 ghost use Rattle.history.specs.partitions.Parts.{ConcernsNoOther};
-ghost use Rattle.page_pool.specs.Ready.{HasItems};
-ghost use Rattle.shared_store.specs.Refusals.{are_of_one, is_same_rel, judged_items_form, judged_form};
-ghost use Rattle.shared_store.specs.Inside.{IsOfFirst, NamesNoArea};
+ghost use Rattle.command_judging.specs.Refusals.{HasItems};
+ghost use Rattle.store_locks.specs.Refusals.{are_of_one, is_same_rel, judged_items_form, judged_form};
+ghost use Rattle.store_locks.specs.Inside.{IsOfFirst, NamesNoArea};
 
 use history::partitions::partition_of;
 use history::{Item, Op};

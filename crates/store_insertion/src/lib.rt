@@ -1,7 +1,7 @@
 //! Commands inserted into an open store that workers share.
 //!
 //! `insert_command` judges a command one at a time by its form and by the pages of the partition
-//! that it concerns (`specs/Refusals.antt` of `shared_store`), makes room for its pages, appends
+//! that it concerns (`specs/Refusals.antt` of `store_locks`), makes room for its pages, appends
 //! its entry to the WAL and the history, and changes the pages in memory. The partition's lock is
 //! taken first, then the WAL's, which isn't held while pages are written.
 //!

@@ -2,18 +2,18 @@
 
 ghost use Rattle.std.specs.Prelude.{◌≡◌, ◌+◌, ◌≤◌, true, OnOk, IfErr, IfSome};
 ghost use Rattle.lsn_core.specs.declared.fault.StoreArea.TheVariants.{Wal};
-ghost use Rattle.page_pool.specs.Ready.{HasItems};
+ghost use Rattle.command_judging.specs.Refusals.{HasItems};
 ghost use Rattle.page_pool.specs.Room.{blocks_of, room_end};
 ghost use Rattle.page_pool.specs.Facts.{IsPartOf};
-ghost use Rattle.shared_store.specs.Calls.{most_waiting};
-ghost use Rattle.shared_store.specs.Inside.{AreaCause, KeepsWal, written_end};
+ghost use Rattle.store_locks.specs.Calls.{most_waiting};
+ghost use Rattle.store_locks.specs.Inside.{AreaCause, KeepsWal, written_end};
 
 use history::Op;
 use journal::{Journal, OfStore};
 use lsn_core::StoreFault;
 use page_pool::Partition;
-use shared_store::{flush_past, flush_whole};
 use std::alloc::Global;
+use store_locks::{flush_past, flush_whole};
 use vault::Vault;
 use wal_writer::Flushed;
 

@@ -3,20 +3,21 @@
 ghost use Rattle.std.specs.Prelude.{◌≡◌, ◌<◌, true, None, IfOk, OnOk, IfErr};
 ghost use Rattle.history.specs.Op.{act_of_op};
 ghost use Rattle.history.specs.partitions.Parts.{ConcernsNoOther};
-ghost use Rattle.page_pool.specs.Ready.{HasItems};
+ghost use Rattle.command_judging.specs.Refusals.{HasItems};
 ghost use Rattle.journal.specs.Lawful.{IsLawful};
-ghost use Rattle.shared_store.specs.Seen.{StaysBy};
-ghost use Rattle.shared_store.specs.Refusals.{IsRefusedBehind, judged_form};
-ghost use Rattle.shared_store.specs.Inside.{NamesNoArea};
+ghost use Rattle.store_locks.specs.Seen.{StaysBy};
+ghost use Rattle.store_locks.specs.Refusals.{IsRefusedBehind, judged_form};
+ghost use Rattle.store_locks.specs.Inside.{NamesNoArea};
 ghost use Rattle.shared_store.specs.Shared.{TakesInsertFault, InsertAnswer};
 
 use crate::desk::admit_at;
 use crate::locking::insert_with;
 use history::Op;
-use shared_store::{OfCrew, Pass, Receipt, Store};
+use shared_store::{FaultShares, Pass, Store};
 use std::alloc::Global;
 use std::sync::Wait;
 use store_faults::InsertFault;
+use store_locks::{OfCrew, Receipt};
 use vault::Vault;
 
 /// Inserts a command: judges its form and what it shows by itself, makes room for its pages in
@@ -90,47 +91,18 @@ fn insert_into<J: OfCrew, V: Vault>(
     ensures faults { TakesInsertFault pass.old pass.new result }
 {
     let Pass { own, shares } = pass;
+    let FaultShares {
+        data0,
+        data1,
+        data2,
+        data3,
+        ..
+    } = shares;
     let (line, desk) = (&store.line, &store.desk);
     match q {
-        0 => insert_with(
-            rt,
-            alloc,
-            line,
-            desk,
-            &store.part0,
-            own,
-            &mut shares.data0,
-            op,
-        ),
-        1 => insert_with(
-            rt,
-            alloc,
-            line,
-            desk,
-            &store.part1,
-            own,
-            &mut shares.data1,
-            op,
-        ),
-        2 => insert_with(
-            rt,
-            alloc,
-            line,
-            desk,
-            &store.part2,
-            own,
-            &mut shares.data2,
-            op,
-        ),
-        _ => insert_with(
-            rt,
-            alloc,
-            line,
-            desk,
-            &store.part3,
-            own,
-            &mut shares.data3,
-            op,
-        ),
+        0 => insert_with(rt, alloc, line, desk, &store.part0, own, data0, op),
+        1 => insert_with(rt, alloc, line, desk, &store.part1, own, data1, op),
+        2 => insert_with(rt, alloc, line, desk, &store.part2, own, data2, op),
+        _ => insert_with(rt, alloc, line, desk, &store.part3, own, data3, op),
     }
 }

@@ -22,12 +22,12 @@ use Rattle.page_pool.specs.Part.{Part, newest_end}
 use Rattle.page_pool.specs.Calls.{IsAllWritten, ChangesForks, MayWriteAll}
 use Rattle.page_pool.proofs.Ends.{unwritten_of_history}
 use Rattle.page_pool.specs.Facts.{IsPartOf}
-use Rattle.shared_store.specs.Open.{IsWalOf}
+use Rattle.store_locks.specs.Open.{IsWalOf}
 use Rattle.store_lifecycle.specs.Close.{HoldsPart}
 use Rattle.store_lifecycle.specs.Ended.{IsAllFlushed}
-use Rattle.shared_store.proofs.Recorded.{IsHeld, history_held}
-use Rattle.shared_store.proofs.Kept.{end_within, some_on, forks_kept}
-use Rattle.shared_store.proofs.Behind.{part_made}
+use Rattle.store_locks.proofs.Recorded.{IsHeld, history_held}
+use Rattle.store_locks.proofs.Kept.{end_within, some_on, forks_kept}
+use Rattle.store_locks.proofs.Behind.{part_made}
 
 -- ---- a partition
 

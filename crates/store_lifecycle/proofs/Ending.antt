@@ -20,15 +20,15 @@ use Rattle.page_pool.specs.Part.{Part}
 use Rattle.store_areas.specs.declared.areas.StoreAreas.{StoreAreas}
 use Rattle.store_areas.specs.Opened.{Opened, Faults, NoneFell, StoreCause, count_of}
 use Rattle.store_lifecycle.specs.Ended.{IsOpen, opened_of}
-use Rattle.shared_store.specs.Calls.{MayWriteWal}
+use Rattle.store_locks.specs.Calls.{MayWriteWal}
 use Rattle.store_areas.specs.Begin.{faults_of}
 use Rattle.store_areas.specs.Begin.{data_area}
 use Rattle.store_lifecycle.specs.Close.{HoldsPart, AreDurable, HoldsHistory}
 use Rattle.store_lifecycle.specs.Ended.{EndAnswer, IsEnded}
-use Rattle.shared_store.specs.Inside.{AreaCause}
+use Rattle.store_locks.specs.Inside.{AreaCause}
 use Rattle.store_lifecycle.specs.Ended.{IsAllFlushed, HoldsWhole, PartAnswer, place_of}
-use Rattle.shared_store.proofs.Kept.{some_on}
-use Rattle.shared_store.proofs.Recorded.{IsHeld, some_of}
+use Rattle.store_locks.proofs.Kept.{some_on}
+use Rattle.store_locks.proofs.Recorded.{IsHeld, some_of}
 use Rattle.store_lifecycle.proofs.Closed.{held_at, top_at, holds_part}
 
 each : (P : ℕ → Type 0) → P 0 → P 1 → P 2 → P 3 → (q : ℕ) → q < 4 → P q

@@ -25,17 +25,17 @@ use Rattle.store_ledgers.specs.Counts.{Counts}
 use Rattle.store_areas.specs.declared.areas.StoreAreas.{StoreAreas}
 use Rattle.store_areas.specs.Opened.{Faults, count_of, data_count}
 use Rattle.store_lifecycle.specs.Ended.{opened_of}
-use Rattle.shared_store.specs.Calls.{MayWriteWal, IsOfRun}
+use Rattle.store_locks.specs.Calls.{MayWriteWal, IsOfRun}
 use Rattle.store_areas.specs.Begin.{faults_of}
 use Rattle.store_areas.specs.Begin.{data_area}
 use Rattle.store_lifecycle.specs.Close.{area_at, booked_at, all_booked, HoldsPart, HoldsHistory, HasFailed, CloseAnswer, IsClosed}
 use Rattle.store_lifecycle.specs.Ended.{EndAnswer, IsEnded, off_heap}
-use Rattle.shared_store.specs.Inside.{written_end, end_of}
-use Rattle.shared_store.specs.Seen.{Seen, Booked, both_booked}
+use Rattle.store_locks.specs.Inside.{written_end, end_of}
+use Rattle.store_locks.specs.Seen.{Seen, Booked, both_booked}
 use Rattle.shared_store.specs.Shared.{CountsItsOwn}
-use Rattle.shared_store.specs.Locked.{AllHeld, gathered, empty_shares, WalStart, IsDesk, HasRisen}
-use Rattle.shared_store.proofs.Goes.{writes_on}
-use Rattle.shared_store.proofs.Keeping.{four}
+use Rattle.store_locks.specs.Locked.{AllHeld, gathered, empty_shares, WalStart, IsDesk, HasRisen}
+use Rattle.store_locks.proofs.Goes.{writes_on}
+use Rattle.store_locks.proofs.Keeping.{four}
 
 -- ---- faults of all workers
 

@@ -4,9 +4,9 @@ use Rattle.std.proofs.lemmas.List.{get_or-replicate, length-replicate}
 use Rattle.wal_record.specs.declared.record.Record.{Record}
 use Rattle.history.specs.Entry.{Entry}
 use Rattle.history.specs.Whole.{entry_of}
-use Rattle.shared_store.specs.Seen.{accepted_by}
-use Rattle.shared_store.specs.Locked.{made_in}
-use Rattle.shared_store.specs.Open.{AreCounts}
+use Rattle.store_locks.specs.Seen.{accepted_by}
+use Rattle.store_locks.specs.Locked.{made_in}
+use Rattle.store_locks.specs.Open.{AreCounts}
 
 -- ---- no worker has an entry of it
 

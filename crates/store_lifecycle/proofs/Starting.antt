@@ -14,14 +14,14 @@ use Rattle.journal.specs.Lawful.{IsLawful}
 use Rattle.page_pool.specs.Part.{Part}
 use Rattle.store_ledgers.specs.Counts.{Counts, Held, count_at, none}
 use Rattle.page_pool.specs.Facts.{IsPartOf}
-use Rattle.shared_store.specs.Open.{AreCounts}
-use Rattle.shared_store.specs.Calls.{MayWriteWal, IsOfRun}
-use Rattle.shared_store.specs.Inside.{written_end}
+use Rattle.store_locks.specs.Open.{AreCounts}
+use Rattle.store_locks.specs.Calls.{MayWriteWal, IsOfRun}
+use Rattle.store_locks.specs.Inside.{written_end}
 use Rattle.store_areas.specs.Read.{IsFound}
-use Rattle.shared_store.specs.Locked.{RunsOn, IsDesk, IsHeldPart, WalStart, made_in, own_count}
-use Rattle.shared_store.proofs.Growths.{behind_is}
-use Rattle.shared_store.proofs.Goes.{writes_none}
-use Rattle.shared_store.proofs.Keeping.{four}
+use Rattle.store_locks.specs.Locked.{RunsOn, IsDesk, IsHeldPart, WalStart, made_in, own_count}
+use Rattle.store_locks.proofs.Growths.{behind_is}
+use Rattle.store_locks.proofs.Goes.{writes_none}
+use Rattle.store_locks.proofs.Keeping.{four}
 use Rattle.store_areas.proofs.Readings.{found_tells}
 use Rattle.store_lifecycle.proofs.NoneMade.{none_counted, none_of_run}
 

@@ -9,7 +9,7 @@ use Rattle.store_ledgers.specs.Counts.{Counts, Held, count_at, none}
 use Rattle.store_lifecycle.specs.declared.beginning.Rest.{Rest}
 use Rattle.page_pool.specs.Facts.{IsPartOf}
 use Rattle.store_areas.specs.Read.{IsFound}
-use Rattle.shared_store.specs.Locked.{WalStart}
+use Rattle.store_locks.specs.Locked.{WalStart}
 
 -- nothing is booked yet, and each partition has its share
 pub record AreBooks (entries : Counts) (first second third fourth : Held)

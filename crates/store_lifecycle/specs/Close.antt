@@ -18,11 +18,11 @@ use Rattle.history.specs.fuzzy_copies.Logged.{log_of}
 use Rattle.journal.specs.Lawful.{IsLawful}
 use Rattle.store_areas.specs.declared.areas.StoreAreas.{StoreAreas}
 use Rattle.store_areas.specs.Begin.{data_area}
-use Rattle.shared_store.specs.Calls.{MayWriteWal, IsOfRun}
-use Rattle.shared_store.specs.Records.{HoldsRecords}
-use Rattle.shared_store.specs.Seen.{Seen, Booked}
-use Rattle.shared_store.specs.Inside.{end_of}
-use Rattle.shared_store.specs.Locked.{RunsOn, WalStart, HasRisen}
+use Rattle.store_locks.specs.Calls.{MayWriteWal, IsOfRun}
+use Rattle.store_locks.specs.Records.{HoldsRecords}
+use Rattle.store_locks.specs.Seen.{Seen, Booked}
+use Rattle.store_locks.specs.Inside.{end_of}
+use Rattle.store_locks.specs.Locked.{RunsOn, WalStart, HasRisen}
 use Rattle.shared_store.specs.Shared.{CountsItsOwn}
 
 -- an area tells just the files of a partition's part of a store

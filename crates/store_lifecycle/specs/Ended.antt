@@ -18,9 +18,9 @@ use Rattle.page_pool.specs.Facts.{IsPartOf}
 use Rattle.store_areas.specs.declared.areas.StoreAreas.{StoreAreas}
 use Rattle.store_areas.specs.Opened.{Opened, NoneFell, StoreCause, wal_top}
 use Rattle.store_areas.specs.Begin.{faults_of}
-use Rattle.shared_store.specs.Open.{AreCounts, IsWalOf}
-use Rattle.shared_store.specs.Calls.{MayWriteWal}
-use Rattle.shared_store.specs.Inside.{AreaCause}
+use Rattle.store_locks.specs.Open.{AreCounts, IsWalOf}
+use Rattle.store_locks.specs.Calls.{MayWriteWal}
+use Rattle.store_locks.specs.Inside.{AreaCause}
 use Rattle.store_lifecycle.specs.Close.{HoldsHistory}
 
 -- what an open store keeps of its parts: each partition follows the history that the WAL tells, and

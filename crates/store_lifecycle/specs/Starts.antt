@@ -5,9 +5,9 @@ use Rattle.history.specs.Entry.{Entry}
 use Rattle.store_areas.specs.declared.areas.StoreAreas.{StoreAreas}
 use Rattle.store_areas.specs.declared.found.Found.{Found}
 use Rattle.store_ledgers.specs.declared.blanks.Blanks.{Blanks}
-use Rattle.shared_store.specs.Seen.{Seen, fresh_pass}
+use Rattle.store_locks.specs.Seen.{Seen, fresh_pass}
 use Rattle.store_areas.specs.Opened.{past_of}
-use Rattle.shared_store.specs.Locked.{WalStart}
+use Rattle.store_locks.specs.Locked.{WalStart}
 use Rattle.store_areas.specs.Begin.{faults_of, files_of_data, shown_of}
 
 -- the passes of so many workers, in order

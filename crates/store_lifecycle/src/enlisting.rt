@@ -3,15 +3,16 @@
 ghost use Rattle.std.specs.Prelude.{◌≡◌, true, IfOk, OnOk, replicate};
 ghost use Rattle.journal.specs.Lawful.{IsLawful};
 ghost use Rattle.store_ledgers.specs.Counts.{count_at, none};
-ghost use Rattle.shared_store.specs.Locked.{RunsOn, empty_shares};
+ghost use Rattle.store_locks.specs.Locked.{RunsOn, empty_shares};
 ghost use Rattle.store_lifecycle.specs.Starts.{AreNamed, fresh_passes};
 
 use journal::HistoryEntry;
 use lsn_core::NoMemory;
-use shared_store::{FaultShares, OfCrew, Pass, Shares};
+use shared_store::{FaultShares, Pass, Shares};
 use std::alloc::Global;
 use std::sync::ledger::Book;
 use store_ledgers::{AreaFaults, Blanks, EntryBooks, EntryShares, Made};
+use store_locks::OfCrew;
 use timeline::{Pen, Timeline};
 
 /// The books of a store in which nothing is booked yet, and the shares of its partitions' entries.

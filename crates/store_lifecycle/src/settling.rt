@@ -3,14 +3,15 @@
 ghost use Rattle.std.specs.Prelude.{◌≡◌, [], ◌∷◌, length};
 ghost use Rattle.std.specs.List.{All};
 ghost use mathlib.Core.List.{IsPrefix};
-ghost use Rattle.shared_store.specs.Seen.{Seen};
+ghost use Rattle.store_locks.specs.Seen.{Seen};
 ghost use Rattle.shared_store.specs.Shared.{CountsItsOwn, CountsNoMore};
-ghost use Rattle.shared_store.specs.Locked.{AreNumbered, empty_shares, gathered, made_in};
+ghost use Rattle.store_locks.specs.Locked.{AreNumbered, empty_shares, gathered, made_in};
 
 use journal::HistoryEntry;
-use shared_store::{Desk, Knowing, OfCrew, Pass, Shares};
+use shared_store::{Pass, Shares};
 use std::sync::ledger::Share;
 use store_ledgers::Made;
+use store_locks::{Desk, Knowing, OfCrew};
 use timeline::Timeline;
 use vault::Vault;
 

@@ -1,7 +1,7 @@
 //! Commands on one relation, for tests.
 
 ghost use Rattle.std.specs.Prelude.{IfOk};
-ghost use Rattle.page_pool.specs.Ready.{HasItems};
+ghost use Rattle.command_judging.specs.Refusals.{HasItems};
 
 use crate::flushed::page_of;
 use history::{Edit, Item, Items, Op, init_fork};

@@ -8,7 +8,7 @@ ghost use Rattle.store_areas.specs.Begin.{IsStanding};
 
 use crate::commands::{Does, op_of};
 use lsn_core::NoMemory;
-use shared_store::{OfCrew, Pass, Store};
+use shared_store::{Pass, Store};
 use std::alloc::Global;
 use std::marker::Brand;
 use std::sync::Wait;
@@ -18,6 +18,7 @@ use store_finding::find;
 use store_insertion::insert_command;
 use store_ledgers::Blanks;
 use store_lifecycle::{Began, begin};
+use store_locks::OfCrew;
 use test_areas::{NEW_WAL, SEGMENT, SETTINGS, Wrong};
 use vault::{MemVault, Vault};
 

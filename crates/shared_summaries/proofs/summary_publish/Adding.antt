@@ -22,9 +22,9 @@ use Rattle.shared_summaries.proofs.summary_publish.Later.{prefix_trans}
 use Rattle.history.specs.fuzzy_copies.Orderly.{IsOrderly}
 use mathlib.Core.List.{IsPrefix}
 use Rattle.lsn_core.specs.declared.fault.StoreFault.{StoreFault}
-use Rattle.shared_store.specs.Locked.{IsOfWal}
+use Rattle.store_locks.specs.Locked.{IsOfWal}
 use Rattle.shared_store.specs.Shared.{TakesFaults}
-use Rattle.shared_store.specs.Seen.{Seen, Booked, share_of, SharesStay}
+use Rattle.store_locks.specs.Seen.{Seen, Booked, share_of, SharesStay}
 use Rattle.shared_store.proofs.Booked.{shares_on}
 use Rattle.shared_summaries.specs.summary_publish.Published.{LooksOn, ReadTakes}
 use Rattle.shared_summaries.proofs.summary_publish.Later.{are_next_on}

@@ -14,7 +14,7 @@ use Rattle.history.specs.fuzzy_copies.Summary.{BlockRefTable, table_of, summed, 
 use Rattle.wal_summary.proofs.Tables.{regrouped}
 use Rattle.wal_summary.specs.declared.summary.Summary.{Summary}
 use Rattle.wal_summary.specs.Summary.{IsSummary}
-use Rattle.shared_store.specs.Records.{is_place_of, IsPlaceOf}
+use Rattle.store_locks.specs.Records.{is_place_of, IsPlaceOf}
 use Rattle.shared_summaries.specs.summary_publish.Entries.{first_start, next_redo}
 use Rattle.shared_summaries.specs.summary_publish.Published.{IsNext, AreNext}
 use Rattle.shared_summaries.specs.summary_publish.Inside.{CanStart, from_place}

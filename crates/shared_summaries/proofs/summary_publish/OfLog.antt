@@ -15,7 +15,7 @@ use Rattle.history.proofs.fuzzy_copies.ReadBack.{log_is_written}
 use Rattle.journal.specs.Lawful.{IsLawful}
 use Rattle.wal_summary.proofs.Tables.{same_table}
 use Rattle.lsn_core.specs.Segment.{StoreSettings}
-use Rattle.shared_store.specs.Records.{HasRecords, EndBehind}
+use Rattle.store_locks.specs.Records.{HasRecords, EndBehind}
 use Rattle.shared_summaries.specs.summary_publish.Inside.{AreRecordsOf, RiseBehind, from_place}
 
 -- what is written of an act starts a checkpoint where the act does

@@ -10,7 +10,7 @@ use Rattle.history.specs.Whole.{entry_of}
 use Rattle.journal.specs.Lawful.{IsLawful}
 use Rattle.journal.proofs.Stands.{lawful_orderly}
 use Rattle.history.specs.fuzzy_copies.Orderly.{IsOrderly}
-use Rattle.shared_store.specs.Records.{is_place_of, IsPlaceOf}
+use Rattle.store_locks.specs.Records.{is_place_of, IsPlaceOf}
 use Rattle.shared_summaries.specs.summary_publish.Entries.{first_start}
 use Rattle.shared_summaries.proofs.summary_publish.Ranges.{or_left}
 

@@ -15,8 +15,8 @@ use Rattle.history.specs.fuzzy_copies.Sound.{is_in, window}
 use Rattle.history.specs.fuzzy_copies.Summary.{BlockRefTable, table_of, summed, both_summed, summary_of}
 use Rattle.wal_summary.proofs.Tables.{before_none, regrouped, lists_summed}
 use mathlib.Core.List.{IsPrefix}
-use Rattle.shared_store.proofs.Pieces.{places_stay}
-use Rattle.shared_store.specs.Records.{is_place_of, IsPlaceOf}
+use Rattle.store_locks.proofs.Pieces.{places_stay}
+use Rattle.store_locks.specs.Records.{is_place_of, IsPlaceOf}
 use Rattle.shared_summaries.specs.summary_publish.Entries.{first_start, next_redo}
 use Rattle.shared_summaries.specs.summary_publish.Inside.{from_place, AreRecordsOf, RiseBehind}
 use Rattle.wal_summary.specs.declared.summary.Summary.{Summary}

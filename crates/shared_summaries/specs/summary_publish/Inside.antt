@@ -25,7 +25,7 @@ use Rattle.wal_summary.specs.declared.summary.Summary.{Summary}
 use Rattle.wal_summary.specs.declared.kept.CoverFault.{CoverFault}
 use Rattle.wal_summary.specs.declared.kept.CoverFault.TheVariants as cover
 use Rattle.summary_store.specs.Kept.{end_behind}
-use Rattle.shared_store.specs.Records.{IsPlaceOf}
+use Rattle.store_locks.specs.Records.{IsPlaceOf}
 use Rattle.shared_summaries.specs.summary_publish.Entries.{next_redo}
 use Rattle.shared_summaries.specs.summary_publish.Published.{IsNext, AreNext, IsWhole, CanFollow, AreFollowing, with_file, with_files}
 use Rattle.shared_summaries.specs.summary_publish.Partly.{MayWriteSummary}

@@ -22,9 +22,9 @@ use Rattle.summary_file.specs.Name.{summary_name_bytes}
 use Rattle.wal_summary.specs.Kept.{AreInOrder}
 use Rattle.summary_store.specs.Kept.{AreKept, end_behind}
 use Rattle.summary_store.specs.Expiry.{AreHeld, expired, unexpired, without}
-use Rattle.shared_store.specs.Seen.{Seen, SharesStay, TakesFault}
-use Rattle.shared_store.specs.Locked.{IsOfWal}
-use Rattle.shared_store.specs.Records.{IsPlaceOf}
+use Rattle.store_locks.specs.Seen.{Seen, SharesStay, TakesFault}
+use Rattle.store_locks.specs.Locked.{IsOfWal}
+use Rattle.store_locks.specs.Records.{IsPlaceOf}
 use Rattle.shared_summaries.specs.summary_publish.Entries.{first_start, next_redo}
 use Rattle.shared_summaries.specs.declared.summary_publish.known.Known.{Known}
 use Rattle.store_faults.specs.declared.advance_fault.AdvanceFault.{AdvanceFault}

@@ -2,15 +2,16 @@
 
 ghost use Rattle.std.specs.Prelude.{◌≡◌, true, take, IfOk};
 ghost use Rattle.history.specs.fuzzy_copies.Orderly.{IsOrderly};
-ghost use Rattle.shared_store.specs.Records.{IsPlaceOf};
+ghost use Rattle.store_locks.specs.Records.{IsPlaceOf};
 ghost use Rattle.shared_summaries.specs.summary_publish.Entries.{first_start};
 ghost use Rattle.shared_summaries.specs.summary_publish.Inside.{AreRecordsOf, RiseBehind, from_place};
 ghost use Rattle.shared_summaries.specs.summary_publish.Published.{LooksOn, ReadTakes};
 
 use lsn_core::{Lsn, StoreFault};
-use shared_store::{OfCrew, Pass, Store};
+use shared_store::{Pass, Store};
 use std::alloc::Global;
 use std::sync::Wait;
+use store_locks::OfCrew;
 use vault::Vault;
 use wal_pages::Layout;
 use wal_record::Record;

@@ -3,7 +3,7 @@
 ghost use Rattle.std.specs.Prelude.{◌≡◌, true, ◌≤◌, IfOk};
 ghost use Rattle.history.specs.fuzzy_copies.Orderly.{IsOrderly};
 ghost use Rattle.vault.specs.Frame.{ChangesOnly};
-ghost use Rattle.shared_store.specs.Records.{IsPlaceOf};
+ghost use Rattle.store_locks.specs.Records.{IsPlaceOf};
 ghost use Rattle.summary_store.specs.Kept.{end_behind};
 ghost use Rattle.summary_store.specs.Expiry.{IsSummaryName};
 ghost use Rattle.shared_summaries.specs.summary_publish.Published.{LooksOn, PublishTakes};
@@ -13,9 +13,10 @@ ghost use Rattle.shared_summaries.specs.summary_publish.Inside.{CanStart, Publis
 use crate::summary_publish::reading::next_range;
 use crate::summary_publish::writing::write_summary;
 use lsn_core::{AreaFault, Lsn, StoreArea, StoreFault};
-use shared_store::{OfCrew, Pass, Store};
+use shared_store::{Pass, Store};
 use std::alloc::Global;
 use std::sync::Wait;
+use store_locks::OfCrew;
 use summary_store::end_behind;
 use vault::Vault;
 use wal_summary::Summary;

@@ -9,15 +9,16 @@ ghost use Rattle.wal_summary.specs.Marks.{table_of_marks};
 ghost use Rattle.summary_file.specs.File.{IsWritable};
 ghost use Rattle.shared_summaries.specs.summary_publish.Entries.{next_redo};
 ghost use Rattle.history.specs.fuzzy_copies.Orderly.{IsOrderly};
-ghost use Rattle.shared_store.specs.Records.{IsPlaceOf};
+ghost use Rattle.store_locks.specs.Records.{IsPlaceOf};
 ghost use Rattle.shared_summaries.specs.summary_publish.Published.{CanFollow, LooksOn, ReadTakes};
 ghost use Rattle.shared_summaries.specs.summary_publish.Inside.{CanStart, NextAnswer, HasCount, HaveCounts, place_or, last_end};
 
 use crate::summary_publish::feed::records_from;
 use lsn_core::{Lsn, NoMemory, StoreFault};
-use shared_store::{OfCrew, Pass, Store};
+use shared_store::{Pass, Store};
 use std::alloc::Global;
 use std::sync::Wait;
+use store_locks::OfCrew;
 use vault::Vault;
 use wal_record::{Kind, Record};
 use wal_summary::{MarkMap, Summary};

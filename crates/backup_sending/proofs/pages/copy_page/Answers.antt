@@ -1,5 +1,5 @@
 use Rattle.std.proofs.Common.{◌≡◌, true, arith}
-use Rattle.shared_store.proofs.RedoPoints.{redo_stays}
+use Rattle.store_locks.proofs.RedoPoints.{redo_stays}
 use Rattle.backup_sending.proofs.PageLists.{adds_one}
 use Rattle.backup_sending.proofs.Steps.{call_looks}
 use Rattle.backup_sending.proofs.pages.copy_page.Goals as goal

@@ -1,6 +1,6 @@
 use Rattle.std.proofs.Common.{◌≡◌, true}
 use Rattle.wal_writer.specs.declared.state.Flushed.{Flushed}
-use Rattle.shared_store.specs.declared.receipt.Redo.{Redo}
+use Rattle.store_locks.specs.declared.receipt.Redo.{Redo}
 use Rattle.crew.proofs.Marks.{redone, not_redone}
 use Rattle.crew.proofs.run.checkpoint.Goals as goal
 

@@ -2,7 +2,7 @@
 use Rattle.std.proofs.Common.{sym, subst}
 use Rattle.page_frames.specs.Overlay.{own_pages}
 use Rattle.page_pool.specs.Room.{HasFrames}
-use Rattle.page_pool.proofs.Judged.{judged-fit}
+use Rattle.command_judging.proofs.Judged.{judged-fit}
 use Rattle.page_pool.proofs.Readied.{made_blocks, made_narrow}
 use Rattle.page_pool.proofs.checking.check.Goals as goal
 

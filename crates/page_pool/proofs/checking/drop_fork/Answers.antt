@@ -6,7 +6,7 @@ use Rattle.page_frames.specs.Overlay.{pages_over, marks_over}
 use Rattle.page_frames.proofs.Overlays.{count_over}
 use Rattle.page_pool.specs.declared.work.Work.TheVariants.{Remove}
 use Rattle.page_pool.specs.declared.work.Pending.{Pending}
-use Rattle.page_pool.proofs.Counted.{no_count}
+use Rattle.command_judging.proofs.Counted.{no_count}
 use Rattle.page_pool.proofs.Doing.{there_over}
 use Rattle.page_pool.proofs.checking.drop_fork.Goals as goal
 

@@ -2,7 +2,7 @@
 use Rattle.std.proofs.Common.{◌≡◌, ℕ, true, List, length, max, get_or, ap, subst, sym, ◌∙◌, ◌≤◌, arith}
 use Rattle.std.specs.Prelude.{slice_set}
 use Rattle.store_lifecycle.specs.Starts.{fresh_passes}
-use Rattle.shared_store.specs.Seen.{Seen}
+use Rattle.store_locks.specs.Seen.{Seen}
 use Rattle.crew.specs.Run.{basis_of}
 use Rattle.run_command.specs.Inner.{passes_for}
 use Rattle.summary_store.proofs.Expiring.{limit_below}

@@ -1,4 +1,4 @@
-use Rattle.shared_store.proofs.Pieces.{ends_at_entries, places_stay}
+use Rattle.store_locks.proofs.Pieces.{ends_at_entries, places_stay}
 use Rattle.shared_store.proofs.laws.records_go_on.Goals as goal
 
 pub returns-clause-end : goal.returns-clause-end

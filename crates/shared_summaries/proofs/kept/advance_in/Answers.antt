@@ -1,9 +1,9 @@
 use Rattle.std.proofs.Common.{◌≡◌, true, IfOk, subst, sym, ◌∙◌, arith}
 use mathlib.Core.List.{IsPrefix}
 use Rattle.journal.specs.Lawful.{IsLawful}
-use Rattle.shared_store.specs.Locked.{RunsOn}
+use Rattle.store_locks.specs.Locked.{RunsOn}
 use Rattle.shared_store.specs.Shared.{TakesFaults}
-use Rattle.shared_store.specs.Records.{IsPlaceOf}
+use Rattle.store_locks.specs.Records.{IsPlaceOf}
 use Rattle.shared_summaries.specs.summary_publish.Published.{LooksOn, IsAdvanced}
 use Rattle.shared_summaries.specs.summary_publish.Partly.{MayAdvance}
 use Rattle.shared_summaries.proofs.summary_publish.Going.{goes_later}

@@ -1,7 +1,7 @@
 use Rattle.std.proofs.Common.{ap, subst, sym}
 use mathlib.Core.List.{IsPrefix}
 use Rattle.journal.specs.Lawful.{IsLawful}
-use Rattle.shared_store.specs.Locked.{RunsOn}
+use Rattle.store_locks.specs.Locked.{RunsOn}
 use Rattle.shared_summaries.proofs.summary_publish.Adding.{stays_same}
 use Rattle.shared_summaries.proofs.kept.learn.Goals as goal
 

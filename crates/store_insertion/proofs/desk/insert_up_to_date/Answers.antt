@@ -3,15 +3,15 @@ use mathlib.Core.List.{IsPrefix}
 use Rattle.timeline.proofs.Prefixes.{prefix_refl}
 use Rattle.history.specs.Entry.{Entry}
 use Rattle.journal.specs.Lawful.{IsLawful}
-use Rattle.shared_store.specs.Calls.{IsTaken}
-use Rattle.shared_store.specs.Seen.{accepted_by, marks_by}
+use Rattle.store_locks.specs.Calls.{IsTaken}
+use Rattle.store_locks.specs.Seen.{accepted_by, marks_by}
 use Rattle.journal.specs.Journal.{Written}
 use Rattle.page_pool.specs.Facts.{IsPartOf}
-use Rattle.shared_store.specs.Locked.{Standing, Shown, RunsOn, HasRisen}
-use Rattle.shared_store.proofs.Kept.{resized}
-use Rattle.shared_store.proofs.Keeping.{held_with}
-use Rattle.shared_store.proofs.Tallies.{tally_fits}
-use Rattle.shared_store.proofs.Desks.{desk_same, desk_inserted, held_inserted, accepted_more, no_fewer_marks, runs_next}
+use Rattle.store_locks.specs.Locked.{Standing, Shown, RunsOn, HasRisen}
+use Rattle.store_locks.proofs.Kept.{resized}
+use Rattle.store_locks.proofs.Keeping.{held_with}
+use Rattle.store_locks.proofs.Tallies.{tally_fits}
+use Rattle.store_locks.proofs.Desks.{desk_same, desk_inserted, held_inserted, accepted_more, no_fewer_marks, runs_next}
 use Rattle.store_insertion.proofs.desk.insert_up_to_date.Goals as goal
 
 pub invariant_of-desk : goal.invariant_of-desk

@@ -1,5 +1,5 @@
-use Rattle.shared_store.proofs.Desks.{desk_flushed, wal_stays}
-use Rattle.shared_store.proofs.Keeping.{wal_counted}
+use Rattle.store_locks.proofs.Desks.{desk_flushed, wal_stays}
+use Rattle.store_locks.proofs.Keeping.{wal_counted}
 use Rattle.store_insertion.proofs.desk.reach_room.Goals as goal
 
 pub invariant_of-desk : goal.invariant_of-desk

@@ -1,5 +1,5 @@
 use Rattle.std.proofs.Common.{subst}
-use Rattle.shared_store.specs.Inside.{IsOfFirst}
+use Rattle.store_locks.specs.Inside.{IsOfFirst}
 use Rattle.store_insertion.proofs.OfOne.{change_alone}
 use Rattle.store_insertion.proofs.form.partition_of_op.Goals as goal
 

@@ -2,8 +2,8 @@ use Rattle.std.specs.Prelude.{Some}
 use Rattle.std.proofs.Common.{rules, sym, subst}
 use Rattle.history.specs.Op.{act_of_op}
 use Rattle.journal.specs.Journal.{MayFollow}
-use Rattle.shared_store.proofs.Goes.{adds_of}
-use Rattle.shared_store.proofs.Checked.{next_of, ready_as, done_in}
+use Rattle.store_locks.proofs.Goes.{adds_of}
+use Rattle.store_locks.proofs.Checked.{next_of, ready_as, done_in}
 use Rattle.store_insertion.proofs.insert.append_in.Goals as goal
 
 pub append_command-requires-clause-next : goal.append_command-requires-clause-next

@@ -1,6 +1,6 @@
 use Rattle.std.proofs.Common.{sym, ◌∙◌}
 use Rattle.lsn_core.specs.Tip.{tip_with}
-use Rattle.shared_store.proofs.Checked.{refused_in, full_in, admitted_in, follows_in}
+use Rattle.store_locks.proofs.Checked.{refused_in, full_in, admitted_in, follows_in}
 use Rattle.store_insertion.proofs.insert.check_in.Goals as goal
 
 pub returns-in-Err-clause-refused : goal.returns-in-Err-clause-refused

@@ -1,10 +1,10 @@
 use Rattle.std.proofs.Common.{rules, sym, ap, ◌∙◌}
 use Rattle.lsn_core.specs.Tip.{Tip, tip_with}
 use Rattle.history.specs.Op.{act_of_op}
-use Rattle.shared_store.proofs.Kept.{part_same, sized}
-use Rattle.shared_store.proofs.Goes.{adds_none}
-use Rattle.shared_store.proofs.Tallies.{seq_is, next_fits, counts_on}
-use Rattle.shared_store.proofs.Checked.{room_in, memory_in, receipt_of, taken_of}
+use Rattle.store_locks.proofs.Kept.{part_same, sized}
+use Rattle.store_locks.proofs.Goes.{adds_none}
+use Rattle.store_locks.proofs.Tallies.{seq_is, next_fits, counts_on}
+use Rattle.store_locks.proofs.Checked.{room_in, memory_in, receipt_of, taken_of}
 use Rattle.store_insertion.proofs.insert.insert_prepared.Goals as goal
 
 pub append_in-requires-after_bounds : goal.append_in-requires-after_bounds

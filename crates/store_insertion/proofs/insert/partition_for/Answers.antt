@@ -1,6 +1,6 @@
 use Rattle.std.proofs.Common.{sym, ◌∙◌}
 use Rattle.lsn_core.specs.Tip.{tip_with}
-use Rattle.shared_store.proofs.Behind.{form_refuses, alone_refuses}
+use Rattle.store_locks.proofs.Behind.{form_refuses, alone_refuses}
 use Rattle.store_insertion.proofs.insert.partition_for.Goals as goal
 
 pub returns-in-Err-clause-refused : goal.returns-in-Err-clause-refused

@@ -1,6 +1,6 @@
 use Rattle.std.proofs.Common.{◌≡◌, true, Err, sym, subst}
 use Rattle.store_faults.specs.declared.insert_fault.InsertFault.{InsertFault}
-use Rattle.shared_store.specs.Locked.{Inserts}
+use Rattle.store_locks.specs.Locked.{Inserts}
 use Rattle.store_insertion.proofs.Refused.{fault_answers}
 use Rattle.store_insertion.proofs.locking.insert_held.Goals as goal
 

@@ -6,8 +6,8 @@ use Rattle.lsn_core.specs.declared.lsn.Lsn.{Lsn}
 use Rattle.journal.specs.Journal.{IsEndOf}
 use Rattle.page_pool.specs.Room.{blocks_of}
 use Rattle.page_pool.proofs.Ends.{room_of_history}
-use Rattle.shared_store.proofs.Kept.{none_past}
-use Rattle.shared_store.proofs.Goes.{keeps_none}
+use Rattle.store_locks.proofs.Kept.{none_past}
+use Rattle.store_locks.proofs.Goes.{keeps_none}
 use Rattle.store_insertion.proofs.room.flush_before.Goals as goal
 
 -- ---- up to the WAL's end

@@ -7,9 +7,9 @@ use Rattle.history.specs.Entry.{Entry}
 use Rattle.journal.specs.Lawful.{IsLawful}
 use Rattle.vault.specs.Boxed.{on_heap}
 use Rattle.store_areas.specs.declared.areas.StoreAreas.{StoreAreas}
-use Rattle.shared_store.specs.Seen.{Seen}
+use Rattle.store_locks.specs.Seen.{Seen}
 use Rattle.shared_store.specs.Shared.{CountsItsOwn}
-use Rattle.shared_store.specs.Locked.{AllHeld, empty_shares}
+use Rattle.store_locks.specs.Locked.{AllHeld, empty_shares}
 use Rattle.store_lifecycle.specs.Ended.{opened_of}
 use Rattle.store_lifecycle.specs.Close.{IsClosed}
 use Rattle.store_lifecycle.specs.Ended.{IsEnded}

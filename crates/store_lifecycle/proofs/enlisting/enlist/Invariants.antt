@@ -1,6 +1,6 @@
 use Rattle.std.proofs.Common.{◌≡◌, ◌-◌, replicate}
 use Rattle.store_lifecycle.specs.Starts.{fresh_passes}
-use Rattle.shared_store.specs.Locked.{empty_shares}
+use Rattle.store_locks.specs.Locked.{empty_shares}
 use Rattle.store_lifecycle.proofs.enlisting.enlist.Given as goal
 
 -- the first workers are there

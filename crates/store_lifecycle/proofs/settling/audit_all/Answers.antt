@@ -1,6 +1,6 @@
 use Rattle.std.proofs.Common.{ap, ◌∙◌, List, length}
 use Rattle.history.specs.Entry.{Entry}
-use Rattle.shared_store.specs.Locked.{made_in}
+use Rattle.store_locks.specs.Locked.{made_in}
 use Rattle.store_lifecycle.proofs.settling.audit_all.Goals as goal
 
 pub returns-clause-all : goal.returns-clause-all

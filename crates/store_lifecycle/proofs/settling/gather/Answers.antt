@@ -3,9 +3,9 @@ use Rattle.std.specs.List.{All}
 use Rattle.std.proofs.lemmas.List.Elements.{All-cons}
 use mathlib.Core.List.{IsPrefix}
 use Rattle.history.specs.Entry.{Entry}
-use Rattle.shared_store.specs.Seen.{Seen}
+use Rattle.store_locks.specs.Seen.{Seen}
 use Rattle.shared_store.specs.Shared.{CountsNoMore}
-use Rattle.shared_store.specs.Locked.{AllHeld, gathered}
+use Rattle.store_locks.specs.Locked.{AllHeld, gathered}
 use Rattle.store_lifecycle.proofs.settling.gather.Goals as goal
 
 pub loop-pass-preserved : goal.loop-pass-preserved

@@ -1,9 +1,9 @@
 use Rattle.std.proofs.Common.{◌≡◌, List, ◌++◌, length}
 use Rattle.std.specs.List.{All}
 use mathlib.Core.List.{IsPrefix}
-use Rattle.shared_store.specs.Seen.{Seen}
+use Rattle.store_locks.specs.Seen.{Seen}
 use Rattle.shared_store.specs.Shared.{CountsNoMore}
-use Rattle.shared_store.specs.Locked.{gathered}
+use Rattle.store_locks.specs.Locked.{gathered}
 use Rattle.store_lifecycle.proofs.settling.gather.Given as goal
 
 -- the passes that are gone were taken in

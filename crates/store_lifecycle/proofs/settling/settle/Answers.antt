@@ -1,5 +1,5 @@
 use Rattle.std.proofs.Common.{refl, ap, ◌∙◌, arith}
-use Rattle.shared_store.specs.Locked.{AllHeld, gathered, empty_shares}
+use Rattle.store_locks.specs.Locked.{AllHeld, gathered, empty_shares}
 use Rattle.shared_store.proofs.Sums.{settled, gathered_parts, gathered_made}
 use Rattle.store_lifecycle.proofs.settling.settle.Goals as goal
 

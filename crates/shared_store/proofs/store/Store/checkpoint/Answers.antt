@@ -1,7 +1,7 @@
 use Rattle.std.proofs.Common.{refl, arith}
 use Rattle.history.specs.Entry.{RedoMark, Online}
 use Rattle.shared_store.specs.Shared.{own_of}
-use Rattle.shared_store.proofs.Marked.{mark_late}
+use Rattle.store_locks.proofs.Marked.{mark_late}
 use Rattle.shared_store.proofs.Checkpoints.{checkpoint_in}
 use Rattle.shared_store.proofs.MarkFaults.{not_started, end_full, flushed_marks}
 use Rattle.shared_store.proofs.store.Store.checkpoint.Goals as goal

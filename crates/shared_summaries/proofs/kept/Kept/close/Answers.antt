@@ -1,5 +1,5 @@
 use Rattle.std.proofs.Common.{◌≡◌, true, box_value, sym, subst}
-use Rattle.shared_store.specs.Locked.{HasRisen}
+use Rattle.store_locks.specs.Locked.{HasRisen}
 use Rattle.shared_summaries.proofs.summary_publish.Adding.{stays_same}
 use Rattle.shared_summaries.specs.Shelf.{AreShelved}
 use Rattle.shared_summaries.proofs.Shelves.{begins_so, shelved_later}

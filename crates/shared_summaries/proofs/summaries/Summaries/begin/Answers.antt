@@ -1,7 +1,7 @@
 use Rattle.std.proofs.Common.{◌≡◌, true, box_value, sym, subst, ◌∙◌, arith}
 use Rattle.journal.specs.Lawful.{IsLawful}
-use Rattle.shared_store.specs.Locked.{RunsOn}
-use Rattle.shared_store.specs.Records.{IsPlaceOf}
+use Rattle.store_locks.specs.Locked.{RunsOn}
+use Rattle.store_locks.specs.Records.{IsPlaceOf}
 use Rattle.shared_summaries.specs.Shelf.{AreShelved}
 use Rattle.shared_summaries.proofs.Shelves.{begins_so, shelved_begin}
 use Rattle.shared_summaries.proofs.summaries.Summaries.begin.Goals as goal

@@ -3,7 +3,7 @@ use Rattle.history.specs.fuzzy_copies.Orderly.{IsOrderly}
 use Rattle.wal_summary.specs.Marks.{table_of_marks}
 use Rattle.wal_summary.specs.Summary.{IsSummary}
 use Rattle.history.specs.fuzzy_copies.Summary.{summary_of}
-use Rattle.shared_store.specs.Records.{IsPlaceOf}
+use Rattle.store_locks.specs.Records.{IsPlaceOf}
 use Rattle.shared_summaries.specs.summary_publish.Inside.{AreRecordsOf, RiseBehind, from_place}
 use Rattle.history.specs.Whole.{entry_of}
 use Rattle.shared_summaries.specs.summary_publish.Inside.{place_or}

@@ -2,7 +2,7 @@ use Rattle.std.proofs.Common.{◌≡◌, ◌-◌, ◌^◌, true, cond}
 use Rattle.std.specs.Prelude.{None}
 use Rattle.history.specs.fuzzy_copies.Orderly.{IsOrderly}
 use Rattle.wal_summary.specs.Marks.{table_of_marks}
-use Rattle.shared_store.specs.Records.{IsPlaceOf}
+use Rattle.store_locks.specs.Records.{IsPlaceOf}
 use Rattle.shared_summaries.specs.summary_publish.Published.{LooksOn}
 use Rattle.shared_summaries.specs.summary_publish.Entries.{next_redo}
 use Rattle.shared_summaries.proofs.summary_publish.Ranges.{IsReadTo}

@@ -1,0 +1,4 @@
+pub mod Items
+pub mod Judged
+pub mod Walk
+pub mod Counted

@@ -1,0 +1,13 @@
+pub mod Tallies
+pub mod Kept
+pub mod Goes
+pub mod Behind
+pub mod Checked
+pub mod Marked
+pub mod RedoPoints
+pub mod Copies
+pub mod Growths
+pub mod Keeping
+pub mod Desks
+pub mod Recorded
+pub mod Pieces

@@ -1,0 +1,9 @@
+pub mod Seen
+pub mod Refusals
+pub mod Open
+pub mod Calls
+pub mod Copied
+pub mod Inside
+pub mod Locked
+pub mod ShownCode
+pub mod Records
