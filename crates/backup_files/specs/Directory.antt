@@ -1,5 +1,5 @@
--- What the directory of any backup has beside the files of its forks: the label, and the manifest that
--- lists the others (PostgreSQL manual, Backup Manifest Format).
+-- What the directory of any backup has beside the files of its forks: the label, and the manifest
+-- that lists the others (PostgreSQL manual, Backup Manifest Format).
 use Rattle.std.specs.Prelude.{ℕ, List, map, length, codes, Some}
 use Rattle.std.specs.List.Sorted.{IsPermutation, IsStrictlySortedBy}
 use Rattle.std.specs.Ordering.{nat_cmp}

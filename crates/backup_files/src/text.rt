@@ -8,8 +8,8 @@ use lsn_core::{Lsn, NoMemory};
 use manifest::{FileRow, Manifest, manifests_are_read_again, write_manifest};
 use std::alloc::Global;
 
-/// The text of the manifest of a store with this system identifier that lists these rows, in order of
-/// their paths, and a WAL from a place to another.
+/// The text of the manifest of a store with this system identifier that lists these rows, in order
+/// of their paths, and a WAL from a place to another.
 pub fn manifest_text(
     alloc: Global,
     system: u64,

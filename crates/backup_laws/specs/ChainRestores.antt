@@ -1,5 +1,6 @@
 -- What `restore` makes of a chain of completed backups is what a replay of the whole WAL makes. A
--- backup is completed that a run answered, or that `combine` or `merge-incr` made of completed ones.
+-- backup is completed that a run answered, or that `combine` or `merge-incr` made of completed
+-- ones.
 use Rattle.std.specs.Prelude.{◌≡◌, ◌⊎◌, ℕ, List, [], ◌∷◌, Option, Some, IfSome, Ok}
 use Rattle.std.specs.List.{AllByRecursion}
 use Rattle.lsn_core.specs.Files.{Files}
@@ -152,8 +153,9 @@ RunsOfScriptsGoOn =
     → AreTold before.areas → RunOfScript when script before left came
     → Related GoesOnFrom (before.areas wal_name).files (left.areas wal_name).files
 
--- what a run finds is this program's own, where the one before it found so and closed its store, and
--- where the WAL and the summaries are as it left them: whether one of its workers was stopped or not
+-- what a run finds is this program's own, where the one before it found so and closed its store,
+-- and where the WAL and the summaries are as it left them: whether one of its workers was stopped
+-- or not
 abbrev pub RunsLeaveTheirOwn : Type 0
 RunsLeaveTheirOwn =
     (run next : PastRun) (ran : HasRun run.before run.left run.report run.end)
@@ -190,8 +192,8 @@ RanSince made run [] = EndedWell run × AreAsLeft made run.before
 RanSince made run (prior ∷ earlier) =
     EndedWell run × AreAsLeft prior.left run.before × RanSince made prior earlier
 
--- so the runs since `init` made the store are in turn, where each of them closed its store and nothing
--- else wrote the WAL and the summaries
+-- so the runs since `init` made the store are in turn, where each of them closed its store and
+-- nothing else wrote the WAL and the summaries
 abbrev pub RunsSinceInitAreInTurn : Type 0
 RunsSinceInitAreInTurn =
     (options : InitOptions) (old made : Outside) (end : Lsn)

@@ -121,7 +121,8 @@ pub record IsSoundIncrement
       → IsSoundChain s.relseg history chain manifest.start to
       → IsSoundChain s.relseg history (chain ++ (files ∷ [])) start.0 (max to end.0)
 
--- each full backup that a run answered is a sound chain of one, for the history that the run came to
+-- each full backup that a run answered is a sound chain of one, for the history that the run came
+-- to
 abbrev pub FullBackupsOfRunsAreSound : Type 0
 FullBackupsOfRunsAreSound =
     (when : ℕ) (old new : Areas) (report : RunReport) (run : RunDone when old new report)

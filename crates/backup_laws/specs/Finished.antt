@@ -101,8 +101,8 @@ pub record IsListedBackup (name : List ℕ) (start end : Lsn) (files : Files) : 
   pub listed : IsAsListed files member
 
 -- where the areas that a run asks for tell their files all the while, each backup that it answered,
--- full or incremental, under a name that ends no line, is one when the run ends, durably, however it
--- ends
+-- full or incremental, under a name that ends no line, is one when the run ends, durably, however
+-- it ends
 abbrev pub AnsweredBackupsAreListed : Type 0
 AnsweredBackupsAreListed =
     (when : ℕ) (before left : Areas) (report : RunReport) (run : RunDone when before left report)

@@ -1,5 +1,5 @@
--- What is kept of an area of summaries when more are published there, and where what nothing covers of
--- the WAL since a prior backup lies.
+-- What is kept of an area of summaries when more are published there, and where what nothing covers
+-- of the WAL since a prior backup lies.
 use Rattle.std.specs.Prelude.{◌≡◌, ◌<◌, ◌≤◌, ℕ, Bool, true, List, ◌∷◌, ◌++◌, drop, length, slice_get, Some, IfSome, Ok, Err}
 use Rattle.std.specs.List.{list_any}
 use mathlib.Core.List.{IsPrefix}
@@ -86,8 +86,8 @@ AnswersAreCovered {V} g =
 
 -- ---- incremental backups
 
--- a prior backup and the start of a checkpoint, between which there is such a gap: at its start or past
--- it, and below the new backup's start
+-- a prior backup and the start of a checkpoint, between which there is such a gap: at its start or
+-- past it, and below the new backup's start
 pub record HasOldGap {V : Type 0} (g : Ghosts V) (o : Origin) (old new : IncrSite V)
     (kept : List Summary) (place : ℕ) : Type 0 where
   pub prior : Listing
@@ -96,8 +96,8 @@ pub record HasOldGap {V : Type 0} (g : Ghosts V) (o : Origin) (old new : IncrSit
   pub begins : HasCheckpointAt old.seen.worker (length old.seen.list) new.seen.list start
   pub gap : IsOldGap (first_start new.seen.list) o.limit kept prior.start start place
 
--- summaries that the area kept when the run began, which found an entry and of which a worker has seen
--- what it found
+-- summaries that the area kept when the run began, which found an entry and of which a worker has
+-- seen what it found
 pub record KeptAtFirst (o : Origin) (seen : List Entry) (kept : List Summary) : Type 0 where
   pub some : 0 < length o.found
   pub found : IsPrefix o.found seen
@@ -105,8 +105,8 @@ pub record KeptAtFirst (o : Origin) (seen : List Entry) (kept : List Summary) : 
   pub told : o.sums ≡ Some files
   pub held : AreKept files kept
 
--- a place that an incremental backup is refused for, since nothing covers it, is one, whatever other
--- workers published since
+-- a place that an incremental backup is refused for, since nothing covers it, is one, whatever
+-- other workers published since
 abbrev pub RefusedGapsAreOld : {V : Type 0} → Ghosts V → Type 0
 RefusedGapsAreOld {V} g =
     (tells : Bool) (o : Origin) (name : List ℕ) (when : ℕ) (old new : IncrSite V) (place : Lsn)
@@ -130,8 +130,8 @@ pub record IsRefusedFor (told : List Told) (place : Lsn) : Type 0 where
   pub later : List Answer
   pub answers : drop number by.answers ≡ IncrRefused (Gap place) ∷ later
 
--- the manifest that the prior backup's area told then, and the start of the line's checkpoint, between
--- which the gap lies
+-- the manifest that the prior backup's area told then, and the start of the line's checkpoint,
+-- between which the gap lies
 pub record HasGapOfRun
     (system limit : ℕ) (history : List Entry) (kept : List Summary) (line : Line) (place : ℕ)
     : Type 0 where
@@ -145,9 +145,9 @@ pub record HasGapOfRun
   pub redo : list_any (is_redo_start start) history ≡ true
   pub gap : IsOldGap (first_start history) limit kept manifest.start start place
 
--- where a run's areas tell their files, such a place is one that no summary covers that the area kept
--- when the run began and that isn't old, and it is below their greatest end or the start of the WAL's
--- first entry
+-- where a run's areas tell their files, such a place is one that no summary covers that the area
+-- kept when the run began and that isn't old, and it is below their greatest end or the start of
+-- the WAL's first entry
 abbrev pub GapsOfRunsAreOld : Type 0
 GapsOfRunsAreOld =
     (when : ℕ) (old new : Areas) (report : RunReport) (run : RunDone when old new report)

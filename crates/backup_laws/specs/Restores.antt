@@ -26,8 +26,8 @@ use Rattle.store_commands.specs.Replay.{ReplayDoes, end_by}
 use Rattle.chain_commands.specs.Restore.{RestoreDoes}
 use Rattle.backup_laws.specs.Runs.{IsBackedUp, IsLastOfName}
 
--- a script was run, at a moment, on a store whose areas tell their files, and the store was closed: the
--- WAL ends there. Whether the script was read or made is open
+-- a script was run, at a moment, on a store whose areas tell their files, and the store was closed:
+-- the WAL ends there. Whether the script was read or made is open
 pub record HasRun (before left : Outside) (report : RunReport) (end : Lsn) : Type 0 where
   pub told : AreTold before.areas
   pub when : ℕ
@@ -48,8 +48,8 @@ pub record PastRun : Type 0 where
   pub report : RunReport
   pub end : Lsn
 
--- `restore` ended well, of the chain of backups of some names and to an output, which tell their files;
--- those of the WAL and of the backups are as they were left before
+-- `restore` ended well, of the chain of backups of some names and to an output, which tell their
+-- files; those of the WAL and of the backups are as they were left before
 pub record HasRestored
     (left : Outside) (upto : Option Lsn) (out : List ℕ) (names : Names) (old new : Outside)
     (report : ReplayReport)
@@ -67,9 +67,9 @@ abbrev pub replay_end : Option Lsn → Lsn → ℕ
 replay_end None end = end.0
 replay_end (Some target) end = target.0
 
--- an output has just the files of the store that all records of a WAL make from nothing which end at a
--- place or before it, a store of whole pages, and these files hold just that; and where the last of
--- the records ends, and how many forks and pages there are, is told
+-- an output has just the files of the store that all records of a WAL make from nothing which end
+-- at a place or before it, a store of whole pages, and these files hold just that; and where the
+-- last of the records ends, and how many forks and pages there are, is told
 pub record IsWholeReplay
     (wal : Option Files) (end : Lsn) (place : ℕ) (report : ReplayReport) (out : Option Files)
     : Type 0 where
@@ -105,7 +105,8 @@ RunsAndRestoresAreReplays =
 
 -- ---- beside the command `replay`
 
--- `replay` ended well, to an output that tells its files; those of the WAL are as they were left before
+-- `replay` ended well, to an output that tells its files; those of the WAL are as they were left
+-- before
 pub record HasReplayed
     (left : Outside) (upto : Option Lsn) (out : List ℕ) (old new : Outside) (report : ReplayReport)
     : Type 0 where
@@ -149,8 +150,8 @@ IsWholeTo end files =
     (s : StoreSettings) → IsSettingsOf files s
     → (records : List Record) × HoldsRecords s records end.0 files
 
--- a backup is restored so over every WAL that goes on from what its run left and is whole, where its
--- area is as it was left
+-- a backup is restored so over every WAL that goes on from what its run left and is whole, where
+-- its area is as it was left
 abbrev pub LaterRestoresAreReplays : Type 0
 LaterRestoresAreReplays =
     (before left last old new : Outside) (run : RunReport) (end top start stop : Lsn)

@@ -39,8 +39,8 @@ abbrev pub IsLastOfName :
     (told : List Told) (name : List ℕ) (start end : Lsn) → IsBackedUp told name start end → Type 0
 IsLastOfName told name start end taken = IsNoneOf (backup_name name) (areas_asked taken.behind)
 
--- an area's files are the directory of a full backup of a name, of a copy that replay completes from
--- its start on, for each place from its end on, over a WAL of these records
+-- an area's files are the directory of a full backup of a name, of a copy that replay completes
+-- from its start on, for each place from its end on, over a WAL of these records
 pub record IsSoundBackup
     (s : StoreSettings) (when : ℕ) (records : List Record) (name : List ℕ) (start end : Lsn)
     (files : Option Files)

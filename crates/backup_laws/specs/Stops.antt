@@ -94,10 +94,10 @@ KeepsOrPublishes history flushed old new =
     → (get old name ≡ Some bytes)
     ⊎ (IsHonestSummary history sum × (has_start flushed sum.end.0 ≡ true))
 
--- a stop left of the WAL what survived, and changed only files of segments that the run may write. A
--- summary is made of entries that are read of the WAL, so of flushed ones, up to where the last of
--- these starts; and what is left of a file that was written in part is no summary's, unless its sum
--- matches by chance
+-- a stop left of the WAL what survived, and changed only files of segments that the run may write.
+-- A summary is made of entries that are read of the WAL, so of flushed ones, up to where the last
+-- of these starts; and what is left of a file that was written in part is no summary's, unless its
+-- sum matches by chance
 pub record StopLeft (before stopped : Areas) (come : HadCome before) : Type 0 where
   pub wal : IfSome (stopped wal_name).files
       (LeavesSurvivors come.settings (come_records come) come.flushed)
@@ -110,7 +110,8 @@ pub record StopLeft (before stopped : Areas) (come : HadCome before) : Type 0 wh
 
 -- ---- what came behind it
 
--- a run that was stopped from outside: what it found, what the stop left, and what the next run finds
+-- a run that was stopped from outside: what it found, what the stop left, and what the next run
+-- finds
 pub record PastStop : Type 0 where
   pub before : Outside
   pub stopped : Outside
@@ -122,8 +123,8 @@ abbrev pub ComesBehind : Outside → Outside → Type 0
 ComesBehind stopped left =
     ((report : ReplayReport) × RestartDoes stopped left (Ok report)) ⊎ AreAsLeft stopped left
 
--- the run was stopped so. Restarts behind it may have been stopped too: what they left is such as the
--- first stop may have left
+-- the run was stopped so. Restarts behind it may have been stopped too: what they left is such as
+-- the first stop may have left
 pub record WasStopped (stop : PastStop) : Type 0 where
   pub come : HadCome stop.before.areas
   pub leaves : StopLeft stop.before.areas stop.stopped.areas come

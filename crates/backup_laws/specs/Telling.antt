@@ -44,8 +44,8 @@ AreTakenOnce (line ∷ lines) (answer ∷ answers) =
 
 -- ---- the law
 
--- all areas that a run's lines ask for tell their files when it begins, those of its backups when it
--- ends, and each worker took its backups once
+-- all areas that a run's lines ask for tell their files when it begins, those of its backups when
+-- it ends, and each worker took its backups once
 pub record TellsAround (old new : Areas) (report : RunReport) : Type 0 where
   pub before : AllTell (backups_asked (tasks_told report.told)) old
   pub sums : SumsTold report.told old

@@ -36,9 +36,9 @@ use shared_summaries::answers_sum_up;
 use vault::Vault;
 
 /// What a finished backup left, full or incremental, is a directory as its manifest lists it:
-/// `verify` takes it, and so does the check before a restore. So it is, durably, of each backup that
-/// a run answered, where its areas tell their files all the while: `verify` of what the run left
-/// takes it, unless its area isn't handed out, its device fails or memory runs out.
+/// `verify` takes it, and so does the check before a restore. So it is, durably, of each backup
+/// that a run answered, where its areas tell their files all the while: `verify` of what the run
+/// left takes it, unless its area isn't handed out, its device fails or memory runs out.
 pub fn finished_backups_are_listed()
     ensures full { FinishedBackupsAreListed }
     ensures incremental { FinishedIncrementsAreListed }
@@ -60,10 +60,10 @@ pub fn backups_of_runs_are_sound()
 
 /// Each full backup that a run answered is a sound chain of one for the history that the run came
 /// to, where its areas tell their files all the while. Each incremental one names the start of its
-/// prior backup as its prior LSN, and extends each sound chain of that history from there, up to the
-/// later of both ends, where the area of summaries was honest and what the run found was tidy. What
-/// was a sound chain before the run is one of its history, and all are sound for the WAL that the
-/// run left.
+/// prior backup as its prior LSN, and extends each sound chain of that history from there, up to
+/// the later of both ends, where the area of summaries was honest and what the run found was tidy.
+/// What was a sound chain before the run is one of its history, and all are sound for the WAL that
+/// the run left.
 pub fn backups_of_runs_make_sound_chains()
     ensures full { FullBackupsOfRunsAreSound }
     ensures incremental { IncrementsOfRunsExtendChains }
@@ -110,12 +110,12 @@ pub fn runs_and_restores_are_replays()
 
 /// So it is of every chain of completed backups that `restore` restores with status 0. A backup is
 /// completed that a run answered, or that `combine` or `merge-incr` made, with status 0, of
-/// completed ones: `restore` leaves just the files of what the whole WAL makes up to the same place.
-/// It doesn't matter in which order they were taken, combined and merged, under which names they
-/// stand, what became of those that were combined or merged, and which runs came between and behind
-/// them, as long as the WAL goes on: what `restore` accepts stands in the right order. What these
-/// runs found has to be this program's own, which it is where nothing else writes `wal` and `sums`
-/// (`runs_leave_their_own`).
+/// completed ones: `restore` leaves just the files of what the whole WAL makes up to the same
+/// place. It doesn't matter in which order they were taken, combined and merged, under which names
+/// they stand, what became of those that were combined or merged, and which runs came between and
+/// behind them, as long as the WAL goes on: what `restore` accepts stands in the right order. What
+/// these runs found has to be this program's own, which it is where nothing else writes `wal` and
+/// `sums` (`runs_leave_their_own`).
 pub fn completed_chains_are_replays()
     ensures { CompletedChainsAreReplays }
 {
@@ -136,11 +136,11 @@ pub fn completed_chains_are_replays()
     chains_are_sound_alike();
 }
 
-/// What `drill` restored with status 0 is what a replay of its whole WAL makes: `o/drill` holds just
-/// the files of that store, and the numbers of forks and pages and the sum that are told are those of
-/// these files. Nothing is asked of directories: the run took all three backups, since the restore
-/// took them, and the area of a backup that was refused has no manifest. All that is asked is that the
-/// areas tell their files before the drill, and those of its backups behind it.
+/// What `drill` restored with status 0 is what a replay of its whole WAL makes: `o/drill` holds
+/// just the files of that store, and the numbers of forks and pages and the sum that are told are
+/// those of these files. Nothing is asked of directories: the run took all three backups, since the
+/// restore took them, and the area of a backup that was refused has no manifest. All that is asked
+/// is that the areas tell their files before the drill, and those of its backups behind it.
 pub fn drills_are_replays()
     ensures replays { DrillsAreReplays }
     ensures backups { DrillsTakeTheirBackups }
@@ -150,8 +150,8 @@ pub fn drills_are_replays()
 }
 
 /// These laws speak of each script that was run, whether it was read or made, over areas that tell
-/// their files. So they speak of `run`, of the script of its input; and the name of each backup that it
-/// answered is one line, as they ask of a name.
+/// their files. So they speak of `run`, of the script of its input; and the name of each backup
+/// that it answered is one line, as they ask of a name.
 pub fn runs_of_inputs_are_runs()
     ensures run { RunsOfInputsAreRuns }
     ensures lines { AnsweredNamesAreLines }
@@ -176,11 +176,11 @@ pub fn runs_leave_their_own()
 /// A run that was stopped from outside leaves to later ones what such chains ask, with a restart
 /// behind it or without. Behind a restart with status 0 the WAL is just the first records of the
 /// history that the run had come to, with all that were flushed. In both cases the WAL goes on from
-/// what the run found, and what a later run finds there is this program's own, where the stopped one
-/// had found so: what survived is tidy, and `sums` is honest for it. So of all runs since `init`, of
-/// which some were stopped, those that closed their store are in turn. What a stop leaves of `wal`
-/// and `sums` is asked (`StopLeft`): of the WAL all that was flushed, and of what wasn't a beginning;
-/// of summaries those that stood there, and such of flushed entries.
+/// what the run found, and what a later run finds there is this program's own, where the stopped
+/// one had found so: what survived is tidy, and `sums` is honest for it. So of all runs since
+/// `init`, of which some were stopped, those that closed their store are in turn. What a stop
+/// leaves of `wal` and `sums` is asked (`StopLeft`): of the WAL all that was flushed, and of what
+/// wasn't a beginning; of summaries those that stood there, and such of flushed entries.
 pub fn stops_leave_their_own()
     ensures restarted { RestartsHoldSurvivors }
     ensures on { StopsGoOn }
@@ -205,10 +205,11 @@ pub fn runs_tell_throughout()
 {}
 
 /// Of an area of summaries all are kept that were kept before, and behind them all that are
-/// published, but for old ones, of which the last one stays. So a place that `advance_covering` finds uncovered below a redo point of the history
-/// is one that no summary kept before covers that isn't old, below their greatest end or the first entry's start;
-/// and what it answers covers the range up to its end. An incremental backup is refused for such a
-/// place alone, at or past the prior backup's start and below its own.
+/// published, but for old ones, of which the last one stays. So a place that `advance_covering`
+/// finds uncovered below a redo point of the history is one that no summary kept before covers that
+/// isn't old, below their greatest end or the first entry's start; and what it answers covers the
+/// range up to its end. An incremental backup is refused for such a place alone, at or past the
+/// prior backup's start and below its own.
 pub fn gaps_are_old<V: Vault>()
     ensures one_list { FilesKeepOneList }
     ensures kept { PublishedAreKept }

@@ -1,7 +1,7 @@
 //! Laws of backups and of their restore, on what the commands do.
 //!
-//! What `run`, `combine`, `merge-incr`, `restore` and `replay` do stands in their own crates, each for
-//! itself.
+//! What `run`, `combine`, `merge-incr`, `restore` and `replay` do stands in their own crates, each
+//! for itself.
 //! These laws join them: what a backup leaves is a directory that `verify` takes
 //! (`specs/Finished.antt`); what `run` answered to be a backup is one that replay completes, over
 //! the WAL that the run left (`Runs.antt`), alone or as a member of a chain (`Chains.antt`); what

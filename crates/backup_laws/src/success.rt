@@ -42,8 +42,8 @@ pub fn stores_are_served()
 {}
 
 /// So `verify` is done over a directory that is as its manifest lists it, and `combine` over such
-/// directories that are accepted as a chain, and `merge-incr` over such that are accepted as a series,
-/// where their files' names are text, to an output that holds no file.
+/// directories that are accepted as a chain, and `merge-incr` over such that are accepted as a
+/// series, where their files' names are text, to an output that holds no file.
 pub fn listed_backups_are_taken()
     ensures verified { ListedBackupsAreVerified }
     ensures combined { AcceptedChainsAreCombined }

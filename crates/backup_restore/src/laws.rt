@@ -45,7 +45,8 @@ pub fn restores_have_one_answer()
 {}
 
 /// Two restores of the same files, up to the same target, are both done, or refused for one reason:
-/// so each refusal comes exactly where its case holds. Want of memory and failing devices are aside.
+/// so each refusal comes exactly where its case holds. Want of memory and failing devices are
+/// aside.
 pub fn restores_end_alike()
     ensures { RestoresEndAlike }
 {}

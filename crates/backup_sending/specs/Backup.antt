@@ -52,9 +52,9 @@ pub record Site (V : Type 0) : Type 0 where
 abbrev pub site_of : {V : Type 0} → Seen → V → Site V
 site_of seen out = record { seen = seen; out = out }
 
--- why it is refused: the area holds a file, and nothing was done; the WAL had no room behind all that
--- the worker has seen now; or a device failed, of the store one of whose faults the pass's share rose,
--- or the area's, whose count rose. Want of memory may come at any time
+-- why it is refused: the area holds a file, and nothing was done; the WAL had no room behind all
+-- that the worker has seen now; or a device failed, of the store one of whose faults the pass's
+-- share rose, or the area's, whose count rose. Want of memory may come at any time
 abbrev pub BackupCause : {V : Type 0} → Ghosts V → ℕ → Site V → Site V → BackupFault → Type 0
 BackupCause g mib old new NotEmpty = HoldsSomething (g.files old.out) × (new.seen ≡ old.seen)
 BackupCause g mib old new (WalFull n) =

@@ -39,10 +39,11 @@ abbrev pub directory_of : ℕ → Store → List ℕ → List ℕ → Files
 directory_of relseg copy label manifest =
     insert (insert (files_of relseg copy) label_name label) manifest_name manifest
 
--- files are the directory of a full backup of these pages, which was begun at a moment under a name.
--- It starts at a place and its checkpoint at another, ends at a third, and lists so many files. The
--- copy can be kept as files: its forks' numbers and lengths fit, and its pages are whole. Label and
--- manifest are read as what they were written from, the label where the name is one line
+-- files are the directory of a full backup of these pages, which was begun at a moment under a
+-- name. It starts at a place and its checkpoint at another, ends at a third, and lists so many
+-- files. The copy can be kept as files: its forks' numbers and lengths fit, and its pages are
+-- whole. Label and manifest are read as what they were written from, the label where the name is
+-- one line
 pub record IsFullBackup (settings : StoreSettings) (name : List ℕ) (when : ℕ) (copy : Store)
     (start checkpoint end : Lsn) (count : ℕ) (files : Option Files) : Type 0 where
   pub named : HasNamedForks copy
@@ -76,8 +77,9 @@ incr_label start checkpoint prior begun name = record {
 }
 
 -- the files of an area are these, a label and a manifest that lists them, and no others. The label
--- is one that tells when the backup was begun, and the manifest's range of the WAL goes from a place
--- to another. Both are read as what they were written from, the label where its name is one line
+-- is one that tells when the backup was begun, and the manifest's range of the WAL goes from a
+-- place to another. Both are read as what they were written from, the label where its name is one
+-- line
 pub record IsDirectory (settings : StoreSettings) (label_of : List ℕ → Label) (when : ℕ)
     (put : List (List ℕ × List ℕ)) (start end : Lsn) (count : ℕ) (files : Option Files)
     : Type 0 where

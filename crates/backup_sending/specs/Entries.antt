@@ -60,8 +60,8 @@ pub record HasBackupEndAt (worker before : ℕ) (now : List Entry) (start end : 
 
 -- ---- a WAL that is full
 
--- a worker's backup, behind so many entries, found no room for its checkpoint, or for its end behind
--- that
+-- a worker's backup, behind so many entries, found no room for its checkpoint, or for its end
+-- behind that
 abbrev pub MeetsFullWal : ℕ → ℕ → ℕ → List Entry → Type 0
 MeetsFullWal mib worker before now =
     FindsNoRoomIn mib worker before now

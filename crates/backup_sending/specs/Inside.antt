@@ -113,8 +113,8 @@ pub record AddsCopies (tells : Type 0) (seen : List Entry) (from : ℕ) (fork : 
   pub copies : AreCopies tells seen from fork block count pages
   pub grown : new ≡ old ++ page_bytes pages
 
--- their bytes were written behind so many earlier pages of a file, and hashed behind what the hasher
--- held
+-- their bytes were written behind so many earlier pages of a file, and hashed behind what the
+-- hasher held
 pub record AddsPiece (tells : Type 0) (seen : List Entry) (from : ℕ) (fork : ForkId)
     (block done count : ℕ) (path : List ℕ) (old new : Option Files) (before now : Sha256)
     : Type 0 where

@@ -32,8 +32,8 @@ CheckpointsHaveRedoPoints =
     (worker before : ℕ) (now : List Entry) (redo : ℕ)
     → HasCheckpointAt worker before now redo → HasRedoPoint now redo
 
--- what a worker had seen before it ended its backup it had seen behind the backup's start and before
--- its end, however many entries of others stand between
+-- what a worker had seen before it ended its backup it had seen behind the backup's start and
+-- before its end, however many entries of others stand between
 abbrev pub BackupsEndBehind : Type 0
 BackupsEndBehind =
     (worker start from : ℕ) (seen old new : List Entry) (end : ℕ)

@@ -132,14 +132,15 @@ pub fn finish<V: Vault>(
 
 /// Takes a full backup of an open store into an area, under a name and at a moment in seconds since
 /// 1970 UTC, while other workers change the store: a checkpoint, whose redo point is the backup's
-/// start; the forks of each partition; their blocks, file by file, zeros for a block that is gone when
-/// it is copied; the end of the backup; the label; and the manifest behind a sync, which a sync
-/// follows. The gate is passed behind each step that is done on the store. Beside a buffer of 64 KiB it
-/// takes memory for the manifest's rows and text alone, and has that before it writes the manifest.
+/// start; the forks of each partition; their blocks, file by file, zeros for a block that is gone
+/// when it is copied; the end of the backup; the label; and the manifest behind a sync, which a
+/// sync follows. The gate is passed behind each step that is done on the store. Beside a buffer of
+/// 64 KiB it takes memory for the manifest's rows and text alone, and has that before it writes the
+/// manifest.
 ///
 /// Errs with `NotEmpty` exactly where the area holds a file, before anything is done to the store,
-/// otherwise with what the store's calls answer. After a refusal the area has no manifest, unless the
-/// manifest's removal failed too (PostgreSQL manual, pg_basebackup; the order: profile).
+/// otherwise with what the store's calls answer. After a refusal the area has no manifest, unless
+/// the manifest's removal failed too (PostgreSQL manual, pg_basebackup; the order: profile).
 pub fn take_full<J: OfCrew, V: Vault>(
     rt: &impl Wait,
     alloc: Global,

@@ -2,8 +2,8 @@
 
 use chain_check::{ChainFault, FileWhy, ManifestWhy, Member, Refusal, check_dir};
 use lsn_core::{NoMemory, Text};
+use memory_vault::MemVault;
 use std::alloc::Global;
-use vault::MemVault;
 
 /// A word, a path and numbers, with a space between them.
 fn line_of(alloc: Global, word: &[u8], path: &[u8], numbers: &[u64]) -> Result<Vec<u8>, NoMemory> {

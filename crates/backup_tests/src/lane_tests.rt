@@ -2,10 +2,10 @@
 
 use crate::dir_lines::told;
 use lsn_core::AreaFault;
+use memory_vault::MemVault;
 use std::alloc::Global;
 use std::test::Fail;
 use test_areas::{Change, make, make_all};
-use vault::MemVault;
 
 /// A label and eight files of several sizes, the content made by a rule (sums: hashlib).
 const FILES: &[Change<'static>] = &[

@@ -1,6 +1,6 @@
 //! Sums of bytes: CRC-32C, by pieces of several lengths, and SHA-256 of four messages side by side.
-//! The expected values are those of the formats' documents, of a CRC-32C bit by bit in Python, and of
-//! Python's `hashlib`.
+//! The expected values are those of the formats' documents, of a CRC-32C bit by bit in Python, and
+//! of Python's `hashlib`.
 
 use lsn_core::NoMemory;
 use sha_lanes::Lanes;

@@ -1,9 +1,9 @@
 //! The archive and its settings, in bytes that an independent implementation of the formats wrote.
 
 use lsn_core::{Lsn, NoMemory, SegSize, WalTip};
+use memory_vault::MemVault;
 use std::alloc::Global;
 use test_areas::{ARCHIVE, BEFORE_PADDING, Change, archive_with, make};
-use vault::MemVault;
 use wal_pages::HeadFault;
 use wal_reader::{Broken, Damage, FileName, WalCursor, WalFault, read_settings, settings_text};
 

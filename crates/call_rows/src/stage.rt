@@ -2,15 +2,16 @@
 
 ghost use Rattle.std.specs.Prelude.{IfOk};
 ghost use Rattle.vault.specs.Site.{AllHome};
-ghost use Rattle.vault.specs.MemorySite.{areas_of};
+ghost use Rattle.memory_vault.specs.MemorySite.{areas_of};
 
 use lsn_core::{AreaFault, NoMemory, Text};
+use memory_vault::{MemSink, MemSite, MemSource, MemVault, SetClock};
 use pgbackup_cli::{Status, pgbackup};
 use std::alloc::Global;
 use std::sync::Wait;
 use std::thread::Threads;
 use test_areas::{Change, make};
-use vault::{MemSink, MemSite, MemSource, MemVault, SetClock, Site, Vault, read_in};
+use vault::{Site, Vault, read_in};
 
 /// The moment of a new site, in 2023.
 const MOMENT: u32 = 1_700_000_000;

@@ -20,7 +20,7 @@ use Rattle.manifest.specs.declared.listing.FileRow.{FileRow}
 use Rattle.backup_files.specs.Directory.{manifest_name, label_name}
 use Rattle.chain_check.specs.Directory.{HasManifest, IsRowAsListed, is_listed, may_stand, HasNoOther, IsLabelFrom}
 use Rattle.chain_check.specs.Collisions.{Collision, EndsInSum, RowCollides, RowsCollide, OneSumIsOneDirectory}
-use Rattle.chain_check.specs.Sums.{sum_of}
+use Rattle.file_sums.specs.Sums.{sum_of}
 use Rattle.chain_check.proofs.LastLine.{decoded_plain, one_listing}
 use Rattle.chain_check.proofs.OneText.{one_value, lined_once}
 

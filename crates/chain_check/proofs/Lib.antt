@@ -1,4 +1,3 @@
-mod Pieces
 mod Searched
 mod Sorted
 mod Others
@@ -13,8 +12,6 @@ mod Links
 mod HeldForms
 mod Judged
 pub mod ListedForms
-mod Known
-mod Seen
 mod Sized
 mod LineEnds
 mod LastTokens

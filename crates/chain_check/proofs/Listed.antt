@@ -11,7 +11,7 @@ use Rattle.lsn_core.specs.Files.{Files}
 use Rattle.backup_label.specs.declared.label.Label.{Label}
 use Rattle.manifest.specs.Listing.{Listing}
 use Rattle.manifest.specs.declared.listing.FileRow.{FileRow}
-use Rattle.chain_check.specs.Sums.{sum_of, is_decoded, has_sum}
+use Rattle.file_sums.specs.Sums.{sum_of, is_decoded, has_sum}
 use Rattle.backup_files.specs.Directory.{label_name}
 use Rattle.chain_check.specs.Directory.{HasManifest, IsRowAsListed, is_listed, IsAsListed}
 use Rattle.chain_check.specs.Refusals.{file_fault, row_fault, rows_fault, label_row_fault, extra_fault, listing_fault}

@@ -10,11 +10,12 @@ use Rattle.lsn_core.specs.declared.fault.AreaFault.TheVariants as area
 use Rattle.manifest.specs.declared.listing.FileRow.{FileRow}
 use Rattle.chain_check.specs.Refusals.{row_fault, rows_fault, rows_checked, refusal_of, chain_fault_of}
 use Rattle.chain_check.specs.Inside.{Answers, CountsRows, RowsAnswer}
-use Rattle.chain_check.specs.LaneSums.{IsSized, FirstAnswer, Knows, AreKnown}
+use Rattle.file_sums.specs.LaneSums.{Knows, AreKnown}
+use Rattle.chain_check.specs.Sizes.{IsSized, FirstAnswer}
 use Rattle.chain_check.specs.declared.refusal.Refusal.{Refusal}
 use Rattle.chain_check.specs.declared.fault.ChainFault.{ChainFault}
 use Rattle.chain_check.specs.declared.fault.ChainFault.TheVariants.{NoManifest, ManifestDamaged, ManifestVersion, TimelineDiffers, FileMissing, FileSize, FileSum, FileExtra, LabelDamaged, FileDamaged, Failed, NoMemory}
-use Rattle.chain_check.proofs.Known.{known_next}
+use Rattle.file_sums.proofs.Known.{known_next}
 use Rattle.chain_check.proofs.Turns.{neither}
 
 -- ---- the rows so far, and the next one

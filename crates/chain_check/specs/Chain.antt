@@ -46,8 +46,8 @@ pub record IsHeld (rows : List FileRow) (path : List ℕ) : Type 0 where
   pub listed : (f : IsIncrementalPath path)
       → (is_listed rows path || is_listed rows (file_path f.folder f.name false)) ≡ true
 
--- a later member and its predecessor: its manifest is of version 2, it names the predecessor's start,
--- is of the same store, starts where the predecessor has ended, and the predecessor has its
+-- a later member and its predecessor: its manifest is of version 2, it names the predecessor's
+-- start, is of the same store, starts where the predecessor has ended, and the predecessor has its
 -- incremental files in a form
 pub record IsLinked (prior member : Member) : Type 0 where
   pub version : member.manifest.version ≡ 2

@@ -10,7 +10,7 @@ use Rattle.manifest.specs.declared.kinds.SumKind.TheVariants.{Sha256}
 use Rattle.manifest.specs.declared.listing.FileRow.{FileRow}
 use Rattle.backup_files.specs.Directory.{manifest_name}
 use Rattle.chain_check.specs.Directory.{is_listed, IsAsListed}
-use Rattle.chain_check.specs.Sums.{sum_of}
+use Rattle.file_sums.specs.Sums.{sum_of}
 use Rattle.chain_check.specs.declared.member.Member.{Member}
 
 -- two texts that differ have one sum of a kind

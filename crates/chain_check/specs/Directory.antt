@@ -13,7 +13,7 @@ use Rattle.chain_files.specs.Segments.{IsIncrFile}
 use Rattle.manifest.specs.Listing.{Listing}
 use Rattle.manifest.specs.Reading.{ReadAnswers}
 use Rattle.manifest.specs.declared.listing.FileRow.{FileRow}
-use Rattle.chain_check.specs.Sums.{HasSum}
+use Rattle.file_sums.specs.Sums.{HasSum}
 use Rattle.chain_check.specs.declared.member.Member.{Member}
 
 -- ---- what the manifest lists

@@ -1,8 +1,7 @@
-pub mod Sums
 pub mod Directory
 pub mod Refusals
 pub mod Inside
-pub mod LaneSums
+pub mod Sizes
 pub mod Laws
 pub mod Chain
 pub mod Collisions

@@ -20,7 +20,7 @@ use Rattle.manifest.specs.Reading.{ReadAnswers}
 use Rattle.manifest.specs.declared.fault.ManifestFault.{ManifestFault}
 use Rattle.manifest.specs.declared.fault.ManifestFault.TheVariants as manifest
 use Rattle.manifest.specs.declared.listing.FileRow.{FileRow}
-use Rattle.chain_check.specs.Sums.{has_sum}
+use Rattle.file_sums.specs.Sums.{has_sum}
 use Rattle.backup_files.specs.Directory.{manifest_name, label_name}
 use Rattle.chain_check.specs.Directory.{HasManifest, is_listed, may_stand, IsLabelFrom, HasForm, IsAsListed}
 use Rattle.chain_check.specs.declared.member.Member.{Member}
@@ -106,7 +106,8 @@ abbrev pub IsAlone : Files → List ℕ → Type 0
 IsAlone files path =
     (f : IsIncrementalPath path) × (get files (file_path f.folder f.name false) ≡ None)
 
--- the file of a row is incremental, isn't there in the plain form, and has a head that is refused so
+-- the file of a row is incremental, isn't there in the plain form, and has a head that is refused
+-- so
 abbrev pub HasHeadFault : Files → FileRow → HeadFault → Type 0
 HasHeadFault files row fault =
     IsAlone files row.path × HeadAnswers (bytes_of files row.path) row.size (Err fault)

@@ -53,11 +53,11 @@ fn check_all_later(alloc: Global, first: &Member, later: &[Member]) -> Result<()
 }
 
 /// Judges a chain of backups, the oldest one first, whose directories were found to be as listed
-/// (PostgreSQL manual, pg_combinebackup; the order: profile). It is accepted exactly where it has at
-/// most 64 members, each with a manifest of version 2, the first is a full backup, and each later
-/// one names its predecessor's start, is of the same store, starts at or behind the predecessor's
-/// end, and has no incremental file that the predecessor lists in neither form, all on timeline 1.
-/// Otherwise it is refused for the first
+/// (PostgreSQL manual, pg_combinebackup; the order: profile). It is accepted exactly where it has
+/// at most 64 members, each with a manifest of version 2, the first is a full backup, and each
+/// later one names its predecessor's start, is of the same store, starts at or behind the
+/// predecessor's end, and has no incremental file that the predecessor lists in neither form, all
+/// on timeline 1. Otherwise it is refused for the first
 /// fault, in the order of `LinkFault`, of the first member that has one.
 pub fn check_chain(alloc: Global, members: &[Member]) -> Result<(), ChainRefusal>
     requires { 1 ≤ length members.now }

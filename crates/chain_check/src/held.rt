@@ -34,7 +34,8 @@ fn has_path(rows: &[FileRow], rising: bool, path: &[u8]) -> bool
     }
 }
 
-/// Whether a file of this path can be rebuilt from a backup with these rows, whose paths rise or not.
+/// Whether a file of this path can be rebuilt from a backup with these rows, whose paths rise or
+/// not.
 fn is_held(alloc: Global, rows: &[FileRow], rising: bool, path: &[u8]) -> Result<bool, NoMemory>
     requires { rising ≡ true → IsSortedByKey path_of (slice_cmp nat_cmp) rows.now }
     ensures held { IfOk result (λ held. held ≡ true → IsHeld rows.now path.now) }

@@ -30,11 +30,11 @@ pub fn chains_have_one_answer()
 {}
 
 /// Two directories that are as listed, and whose manifests end in the same sum, hold the same: the
-/// manifests' lines before the last one, what they and the labels say, and each other file but those
-/// in the folder of the WAL that aren't listed. Digits of a sum may be of either case. Or sums match
-/// by chance: the lines of the two manifests differ and have one sum, or the two files of one row.
-/// So a directory that was changed since it was taken is refused, unless its manifest ends in
-/// another sum than it did, or sums match by chance.
+/// manifests' lines before the last one, what they and the labels say, and each other file but
+/// those in the folder of the WAL that aren't listed. Digits of a sum may be of either case. Or
+/// sums match by chance: the lines of the two manifests differ and have one sum, or the two files
+/// of one row. So a directory that was changed since it was taken is refused, unless its manifest
+/// ends in another sum than it did, or sums match by chance.
 pub fn one_sum_is_one_directory()
     ensures { OneSumIsOneDirectory }
 {

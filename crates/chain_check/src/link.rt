@@ -32,8 +32,8 @@ pub enum LinkFault {
     /// The label names a prior that starts at the first place, and the predecessor starts at the
     /// second.
     WrongPrior(Lsn, Lsn),
-    /// The member starts at the first place, and the predecessor ends at the second, which is behind
-    /// it.
+    /// The member starts at the first place, and the predecessor ends at the second, which is
+    /// behind it.
     Overlap(Lsn, Lsn),
     /// The file of this path is incremental, the first such one in byte order that the predecessor
     /// lists in neither form.

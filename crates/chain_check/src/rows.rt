@@ -9,12 +9,12 @@ ghost use Rattle.vault.specs.Frame.{OnlyReads};
 ghost use Rattle.chain_check.specs.declared.fault.ChainFault.TheVariants as chain;
 ghost use Rattle.chain_check.specs.Refusals.{row_fault, FailsRisen, RefusesRisen};
 ghost use Rattle.chain_check.specs.Inside.{Answers, RowsAnswer};
-ghost use Rattle.chain_check.specs.LaneSums.{IsSized, SizeAnswer, SizesAnswer, Knows, AreKnown};
+ghost use Rattle.file_sums.specs.LaneSums.{Knows, AreKnown};
+ghost use Rattle.chain_check.specs.Sizes.{IsSized, SizeAnswer, SizesAnswer};
 
 use crate::fault::ChainFault;
-use crate::lanes::lane_sums;
 use crate::refusal::Refusal;
-use crate::sums::has_sum;
+use file_sums::{has_sum, lane_sums};
 use lsn_core::byte_words::zeros;
 use lsn_core::{AreaFault, Text};
 use manifest::FileRow;

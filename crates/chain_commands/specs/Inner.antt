@@ -207,8 +207,8 @@ AnswersRestorable vaults upto names places wal areas out wal_now areas_now out_n
 abbrev pub member_of : List ℕ → ℕ → ℕ
 member_of places area = unwrap_or (position (λ place. place == area) places) (length places)
 
--- how a restore into an area ends: what was written is as it was, and durable, or, where the WAL couldn't be
--- redone, it is taken away
+-- how a restore into an area ends: what was written is as it was, and durable, or, where the WAL
+-- couldn't be redone, it is taken away
 abbrev pub EndsRestore : {V : Type 0} → Vaults V → List ℕ → Result Replayed Unrestored → V → V
     → RestoreResult → Type 0
 EndsRestore vaults places (Ok r) old new (Ok report) =

@@ -38,7 +38,8 @@ pub record RestoreSeen : Type 0 where
   pub members : List AreaState
   pub out : AreaState
 
--- the same as what is restored of them: of the members what they tell, and how often each has failed
+-- the same as what is restored of them: of the members what they tell, and how often each has
+-- failed
 abbrev pub restored_areas : RestoreSeen → RestoreAreas
 restored_areas seen = record {
   wal = seen.wal;
@@ -132,9 +133,9 @@ pub record IsUnredone
   pub cause : CauseOf (wal_causes_from upto old newest.label.start newest.manifest.end)
       old.wal.faults new.wal.faults why
 
--- why `restore` of the members of these names comes to its answer, where an area that isn't handed out
--- means this. What it finds leaves the output as it was, and so does any fault where it held a file;
--- of one that was empty a failed device or want of memory says nothing
+-- why `restore` of the members of these names comes to its answer, where an area that isn't handed
+-- out means this. What it finds leaves the output as it was, and so does any fault where it held a
+-- file; of one that was empty a failed device or want of memory says nothing
 abbrev pub RestoreAnswer : Option Lsn → Names → Untakens → RestoreSeen → RestoreSeen
     → RestoreResult → Type 0
 RestoreAnswer upto names Untaken old new (Ok report) =
@@ -170,8 +171,8 @@ RestoreRan upto names out old new r =
     RestoreAnswer upto names (IsUntaken (restore_asks names out) old new)
     (restore_seen names out old) (restore_seen names out new) r
 
--- `restore` up to a target, where one is given, to an output of a name, of the members of these names.
--- No file changes but those of the output
+-- `restore` up to a target, where one is given, to an output of a name, of the members of these
+-- names. No file changes but those of the output
 abbrev pub RestoreDoes : Option Lsn → List ℕ → Names → Outside → Outside → RestoreResult → Type 0
 RestoreDoes upto out names old new r =
     Works (output_name out ∷ []) old new

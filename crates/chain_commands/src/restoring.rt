@@ -1,4 +1,5 @@
-//! `restore`: a chain of backups, and the WAL from the newest one's start on, restored to an output.
+//! `restore`: a chain of backups, and the WAL from the newest one's start on, restored to an
+//! output.
 
 ghost use Rattle.std.specs.Prelude.{◌≡◌, ◌≤◌, ◌<◌, [], ◌∷◌, ◌++◌, length, IfOk};
 ghost use Rattle.lsn_core.specs.declared.fault.AreaFault.TheVariants as area;

@@ -17,7 +17,8 @@ use Rattle.chain_files.specs.declared.mapping.SourcePages.{SourcePages}
 use Rattle.chain_files.specs.declared.mapping.SourcePages.TheVariants.{Plain, Mapped}
 use Rattle.chain_files.specs.declared.source.SegmentSource.{SegmentSource}
 
--- pages were read into a piece, from one on, counted from 0: as many as there are, but at most so many
+-- pages were read into a piece, from one on, counted from 0: as many as there are, but at most so
+-- many
 pub record AreRead (pages : ForkPages) (number most : ℕ) (piece : List ℕ) (count : ℕ) : Type 0 where
   pub counted : count ≡ min most (length pages - number)
   pub are : take (count * 8192) piece ≡ pages_bytes (take count (drop number pages))
@@ -69,8 +70,8 @@ pub record GivesPages (combined : Option ForkPages) (chain : List Files) (source
   pub are : combined ≡ Some (source_pages chain source.paths source.pages)
   pub counted : page_count source.pages ≡ length (source_pages chain source.paths source.pages)
 
--- what is found of a file in a chain: nothing where it is combined to no such file, or a source that
--- gives its pages
+-- what is found of a file in a chain: nothing where it is combined to no such file, or a source
+-- that gives its pages
 abbrev pub IsSourceAt : List Files → List ℕ → List ℕ → Option SegmentSource → Type 0
 IsSourceAt chain folder name None = chain_pages chain folder name ≡ None
 IsSourceAt chain folder name (Some source) =

@@ -1,9 +1,9 @@
 //! The files that a chain of backups is combined to (PostgreSQL manual, pg_combinebackup).
 //!
 //! `specs/Paths.antt` says which paths are those of incremental files, `specs/Segments.antt` what a
-//! chain of directories is combined to, `specs/Held.antt` which store such files hold. `incremental`
-//! reads a path. `open_file` finds where the pages of one file stand, and `open_segment` those of a
-//! segment file of a fork: in the plain file
+//! chain of directories is combined to, `specs/Held.antt` which store such files hold.
+//! `incremental` reads a path. `open_file` finds where the pages of one file stand, and
+//! `open_segment` those of a segment file of a fork: in the plain file
 //! of the newest member, or each at a place of its own, which a map has; of the members' files only
 //! one head is held at a time, never a whole file. `SegmentSource::read_pages` reads pages from
 //! there. The members' areas are lent, and two members may have one. `read_head` reads the head of

@@ -56,9 +56,9 @@ fn is_odd_name(name: &[u8]) -> bool
 }
 
 /// The folder and the plain name of the incremental file that has this path (PostgreSQL manual,
-/// pg_combinebackup): its last component is `INCREMENTAL.` and that name, and its folder is `global`,
-/// or lies below `base/` or `pg_tblspc/`. None exactly where the path is that of no such file. A name
-/// that is empty, `.`, `..` or an incremental file's itself is none.
+/// pg_combinebackup): its last component is `INCREMENTAL.` and that name, and its folder is
+/// `global`, or lies below `base/` or `pg_tblspc/`. None exactly where the path is that of no such
+/// file. A name that is empty, `.`, `..` or an incremental file's itself is none.
 pub fn incremental(path: &[u8]) -> Option<(&[u8], &[u8])>
     ensures found { IfSome result (λ x. path.now ≡ file_path x.0.now x.1.now true) }
     ensures placed { IfSome result (λ x. IsRelationFile x.0.now x.1.now) }

@@ -10,9 +10,9 @@ use Rattle.backup_files.specs.Directory.{directory_with}
 use Rattle.backup_sending.specs.Sent.{SentFile, AreListed, AreSent, file_of}
 
 -- a directory's files are those of the forks that were listed while a history was written, from one
--- place to another, each as it is planned; beside them it has a label and a manifest, and no others.
--- The plans are by the summary of the history's entries from an earlier place on up to the first one,
--- and by any prior manifest
+-- place to another, each as it is planned; beside them it has a label and a manifest, and no
+-- others. The plans are by the summary of the history's entries from an earlier place on up to the
+-- first one, and by any prior manifest
 pub record IsIncrementOf
     (history : List Entry) (place from to : ℕ) (basis : Basis) (files : Files)
     : Type 0 where

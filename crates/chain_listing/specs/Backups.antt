@@ -16,9 +16,9 @@ kind_name Full = codes "full"
 kind_name Incremental = codes "incremental"
 kind_name Combined = codes "combined"
 
--- an incremental backup's label tells where its prior starts. A full one is combined where its label
--- has the name of another backup than its folder (profile): a chain that is combined keeps the label
--- of its last member
+-- an incremental backup's label tells where its prior starts. A full one is combined where its
+-- label has the name of another backup than its folder (profile): a chain that is combined keeps
+-- the label of its last member
 abbrev pub kind_of : List ℕ → Label → Kind
 kind_of folder label =
     if is_some label.prior then Incremental

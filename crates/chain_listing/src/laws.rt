@@ -15,9 +15,9 @@ pub fn newest_chains_are_told()
     ensures newest { FoundIsNewest }
 {}
 
-/// `restore` and `combine` refuse no chain that is shown for versions or for what its labels tell: a
-/// full backup may be the first member, and one that stands on another may come behind that. What is
-/// left to them is whether the files are as listed, and fit those of the prior.
+/// `restore` and `combine` refuse no chain that is shown for versions or for what its labels tell:
+/// a full backup may be the first member, and one that stands on another may come behind that. What
+/// is left to them is whether the files are as listed, and fit those of the prior.
 pub fn shown_chains_are_taken()
     ensures first { FullAreFirst }
     ensures behind { PriorsAreBefore }

@@ -1,8 +1,9 @@
-//! The backups below a folder, and the chains that they make, by what their labels and manifests tell
-//! (PostgreSQL manual, pg_combinebackup).
+//! The backups below a folder, and the chains that they make, by what their labels and manifests
+//! tell (PostgreSQL manual, pg_combinebackup).
 //!
-//! `specs/Shown.antt` says what a folder shows by its manifest and its label: a backup, or its first
-//! fault. `specs/Listing.antt` says what is listed of an area as a function of what its folders show,
+//! `specs/Shown.antt` says what a folder shows by its manifest and its label: a backup, or its
+//! first fault. `specs/Listing.antt` says what is listed of an area as a function of what its
+//! folders show,
 //! `specs/Chains.antt` on which backup another one stands, which chain it ends, and which chain is
 //! the newest for a place; `laws` say of these what they are, however they are found, and that by
 //! their labels `restore` takes them.

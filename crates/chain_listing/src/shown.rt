@@ -13,8 +13,8 @@ use lsn_core::{Lsn, NoMemory};
 use manifest::{Manifest, ManifestFault, read_manifest};
 use std::alloc::Global;
 
-/// Why a folder is no backup that can be a member of a chain. All but the last stand in the order in
-/// which they are judged.
+/// Why a folder is no backup that can be a member of a chain. All but the last stand in the order
+/// in which they are judged.
 #[derive(Clone, Copy, Debug, PartialEq, Eq)]
 pub enum FolderFault {
     /// Its name is none that `pgbackup` takes.
@@ -81,7 +81,8 @@ fn other_timeline(label: &Label) -> Option<u32>
     }
 }
 
-/// The manifest, of version 2, and the label of two texts, which belong to one backup on timeline 1.
+/// The manifest, of version 2, and the label of two texts, which belong to one backup on timeline
+/// 1.
 fn heads_in(
     alloc: Global,
     manifest: Option<&[u8]>,

@@ -54,8 +54,8 @@ unless_chained (Some chain) cell = Nothing
 abbrev pub fault_cell : Member → Cell
 fault_cell member = unless_chained member.chain (broken_cell member.backup.prior member.prior)
 
--- the line of a backup: its chain, name, kind, start, end and prior, its files, their bytes, and why
--- it ends no chain
+-- the line of a backup: its chain, name, kind, start, end and prior, its files, their bytes, and
+-- why it ends no chain
 abbrev pub member_line : Member → List Cell
 member_line member =
     cell_of member.chain

@@ -143,8 +143,8 @@ fn add_damaged(alloc: Global, lines: &mut Vec<Line>, damaged: &[Damaged]) -> Res
 }
 
 /// The lines of a listing: those of each chain, in the order of its backups, and the chains in the
-/// order of their first ones; then those of the backups that end no chain; then the folders that are
-/// no backup.
+/// order of their first ones; then those of the backups that end no chain; then the folders that
+/// are no backup.
 pub fn lines_of(alloc: Global, listing: &Listing) -> Result<Vec<Line>, NoMemory>
     ensures { IfOk result (λ lines. lines.items ≡ lines_of listing.now) }
 {

@@ -83,9 +83,9 @@ fn answered<S: Site, O: Sink>(
     }
 }
 
-/// All that the program does: it takes the words of the command line, reads the manifests and labels
-/// of the backups in the folder that they name, prints the listing or the members of the chain that
-/// they ask for, and answers what it came to. No file changes.
+/// All that the program does: it takes the words of the command line, reads the manifests and
+/// labels of the backups in the folder that they name, prints the listing or the members of the
+/// chain that they ask for, and answers what it came to. No file changes.
 pub fn show_chains<S: Site, O: Sink>(
     alloc: Global,
     words: &[Text],

@@ -45,9 +45,9 @@ abbrev pub CannotList : Listing → Type 0
 CannotList m =
     (paths : List (List ℕ)) × ArePathsFor (other_rows m.files) paths × (CanList m paths → ⊥)
 
--- why it is refused: the output holds a file; it is empty, but no manifest can list the files; or the
--- device of a member's area or of the output failed, whose count rose. Want of memory may come at any
--- time
+-- why it is refused: the output holds a file; it is empty, but no manifest can list the files; or
+-- the device of a member's area or of the output failed, whose count rose. Want of memory may come
+-- at any time
 abbrev pub CombineCause : {V : Type 0} → Ghosts V → Listing → List (Held V) → V → List (Held V) → V
     → CombineFault → Type 0
 CombineCause g m areas out areas_now out_now NotEmpty = HoldsSomething (g.files out)
@@ -69,9 +69,9 @@ KeepsOut g out now (MemberFailed place) = Unit {0}
 KeepsOut g out now OutFailed = Unit {0}
 KeepsOut g out now NoMemory = Unit {0}
 
--- what a refusal leaves of the output's manifest: nothing. Its removal alone, which follows a fault in
--- writing or syncing it, may fail too: then the count rose twice, or once and there was no memory; or
--- memory was missing twice, and the whole directory stands
+-- what a refusal leaves of the output's manifest: nothing. Its removal alone, which follows a fault
+-- in writing or syncing it, may fail too: then the count rose twice, or once and there was no
+-- memory; or memory was missing twice, and the whole directory stands
 abbrev pub LeavesManifest : {V : Type 0} → Ghosts V → Type 0 → V → V → CombineFault → Type 0
 LeavesManifest g whole out now NotEmpty = KeepsManifest (g.files out) (g.files now)
 LeavesManifest g whole out now Unlisted = KeepsManifest (g.files out) (g.files now)

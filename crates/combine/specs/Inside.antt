@@ -45,8 +45,8 @@ write_fault (write.MemberFailed place) = fault.MemberFailed place
 write_fault write.OutFailed = fault.OutFailed
 write_fault write.NoMemory = fault.NoMemory
 
--- reading or writing failed: the device of a member or of the output did whose count rose, or memory
--- ran out
+-- reading or writing failed: the device of a member or of the output did whose count rose, or
+-- memory ran out
 abbrev pub WorkCause : {V : Type 0} → Ghosts V → List (Held V) → V → List (Held V) → V
     → CombineFault → Type 0
 WorkCause g areas out areas_now out_now fault.NotEmpty = ⊥
@@ -93,8 +93,8 @@ pub record CanPut (m : Listing) (out : Option Files) (targets : List Target) : T
 abbrev pub IsLast : List ℕ → ℕ → Type 0
 IsLast places place = (before : List ℕ) × (places ≡ before ++ (place ∷ []))
 
--- bytes are what stands for a file, where the chain tells: the pages that it is combined to, at most as
--- many as a segment file has, or what the newest member's file keeps
+-- bytes are what stands for a file, where the chain tells: the pages that it is combined to, at
+-- most as many as a segment file has, or what the newest member's file keeps
 pub record IsContentOf (chain : List Files) (target : Target) (bytes : List ℕ) : Type 0 where
   pub rebuilt : (f : IsIncrementalPath target.from)
       → IfSome (chain_pages chain f.folder f.name) (λ pages. bytes ≡ pages_bytes (take 131072 pages))

@@ -30,7 +30,8 @@ full_label l = record {
   prior = None;
 }
 
--- the full backup that a chain with this newest member is combined to, under a name, with these rows
+-- the full backup that a chain with this newest member is combined to, under a name, with these
+-- rows
 abbrev pub full_member : List ℕ → Member → List FileRow → Member
 full_member name member rows = record {
   name = name;

@@ -9,8 +9,8 @@ pub fn combined_directories_hold_the_same()
 {}
 
 /// What a chain is combined to is as its manifest lists it, under any name: its label is the newest
-/// member's without its prior, and it lists the range of the WAL that the newest member lists. Where
-/// the chain was accepted, it is a chain of one that is accepted too.
+/// member's without its prior, and it lists the range of the WAL that the newest member lists.
+/// Where the chain was accepted, it is a chain of one that is accepted too.
 pub fn combined_directories_are_chains()
     ensures listed { CombinedIsAsListed }
     ensures accepted { FullMembersAreChains }

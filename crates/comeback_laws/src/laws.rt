@@ -17,8 +17,8 @@ pub fn comebacks_are_whole<V: Vault>()
 {}
 
 /// A store that was restarted after a stop has the WAL of just the entries that survived, the first
-/// of its history with all that were flushed, and in its data areas the files of just what these make
-/// from nothing. So many forks and pages were told.
+/// of its history with all that were flushed, and in its data areas the files of just what these
+/// make from nothing. So many forks and pages were told.
 pub fn restarts_hold_whole<V: Vault>()
     ensures { RestartsHoldWhole V.Vault }
 {}

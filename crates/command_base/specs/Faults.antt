@@ -1,5 +1,5 @@
--- What is printed of faults that several commands have, the status that they give, and the number of
--- a status (profile).
+-- What is printed of faults that several commands have, the status that they give, and the number
+-- of a status (profile).
 use Rattle.std.specs.Prelude.{ℕ, List, [], ◌∷◌, ◌++◌, codes}
 use Rattle.std.specs.Fmt.{decimal}
 use Rattle.lsn_core.specs.Names.{lsn_bytes, segment_name_bytes}

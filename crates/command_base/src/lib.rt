@@ -1,9 +1,10 @@
 //! What the commands share: the outside that they work on, as one value (`specs/Outside.antt`), the
 //! names of areas, whether one holds a file, what is printed of faults, and the exit status.
 //!
-//! Each text and each status is an equation of its fault (`specs/Faults.antt`, `specs/Backups.antt`), so that a command's
-//! lines are those of its parts. Faults keep their causes: what a fault means is said by the crate
-//! that answers it, and by the command that passes it on.
+//! Each text and each status is an equation of its fault (`specs/Faults.antt`,
+//! `specs/Backups.antt`), so that a command's lines are those of its parts. Faults keep their
+//! causes: what a fault means is said by the crate that answers it, and by the command that passes
+//! it on.
 //!
 //! Left to others: the faults themselves (`wal_archive`, `recovery`), how areas are
 //! lent (`vault`), and what each command does (`run_command`, `store_commands`, `chain_commands`).

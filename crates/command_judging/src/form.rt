@@ -11,8 +11,8 @@ use history::{Edit, Item, Op, is_same_block};
 use lsn_core::BlockId;
 use pg_page::check_frags;
 
-/// Whether a command shows by itself that it can't be done, whatever the pages are: an item names the
-/// block of an earlier one, or has a bad fragment.
+/// Whether a command shows by itself that it can't be done, whatever the pages are: an item names
+/// the block of an earlier one, or has a bad fragment.
 pub fn judge_alone(op: &Op) -> Result<(), OpFault>
     requires { HasItems op.now }
     ensures { result_err result ≡ judged_alone op.now }

@@ -1,5 +1,5 @@
--- The command of `clap` that reads the words (profile): a subcommand for each command. An option is a
--- long one with one value, and every other word has its place.
+-- The command of `clap` that reads the words (profile): a subcommand for each command. An option is
+-- a long one with one value, and every other word has its place.
 use Rattle.std.specs.Prelude.{◌≡◌, Bool, true, false, List, [], ◌∷◌, Some, codes}
 use Rattle.std.specs.List.{fold}
 use Rattle.clap.specs.Lexer.{usize_max}

@@ -20,11 +20,12 @@ use Rattle.command_line.specs.Members.{are_members, are_series}
 use Rattle.command_line.specs.Options.{segment_value, relseg_value, decimal_number, frames_value, days_value, most_days, drill_number, given, IsFrameCount, IsInRange}
 
 -- a new store, a script to be run with so many frames of each partition and summaries that are kept
--- for so many days, a replay to an output of that name, up to a target where one is given, the check of the backup of a name, the chain of the
--- backups of some names restored to an output of a name, up to a target where one is given, such a
--- chain combined to a backup of a name, a series of incremental ones merged to one, the summary of a
--- range of the WAL, the stream of a WAL with segments of so many MiB followed to an output of a name,
--- so many blocks of a fork in each file, the drill of a number, or the store brought back after a stop
+-- for so many days, a replay to an output of that name, up to a target where one is given, the
+-- check of the backup of a name, the chain of the backups of some names restored to an output of a
+-- name, up to a target where one is given, such a chain combined to a backup of a name, a series of
+-- incremental ones merged to one, the summary of a range of the WAL, the stream of a WAL with
+-- segments of so many MiB followed to an output of a name, so many blocks of a fork in each file,
+-- the drill of a number, or the store brought back after a stop
 pub data Asked : Type 0 where
   Init : InitOptions → Asked
   Run : ℕ → ℕ → Asked
@@ -185,7 +186,8 @@ asks (command.Follow sizes name) = Follow sizes.segment sizes.relseg name
 asks (command.Drill n) = Drill n
 asks command.Restart = Restart
 
--- the options of a command are in their ranges, a range has a place, a chain a member, and a series two
+-- the options of a command are in their ranges, a range has a place, a chain a member, and a series
+-- two
 abbrev pub HasRange : Command → Type 0
 HasRange (command.Init options) = IsInRange options
 HasRange (command.Run options) = IsFrameCount options.frames × (options.days ≤ most_days)

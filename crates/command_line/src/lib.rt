@@ -2,8 +2,8 @@
 //!
 //! `command_of` reads the words by a command of `clap` with a subcommand for each command. It has
 //! none exactly where `specs/Words.antt` asks nothing: a word isn't text, the command, which
-//! `specs/App.antt` writes out, doesn't take the words, or a value is none of its option's or of its
-//! word's (`specs/Options.antt`).
+//! `specs/App.antt` writes out, doesn't take the words, or a value is none of its option's or of
+//! its word's (`specs/Options.antt`).
 //!
 //! Left to others: which characters a name has (`scripts`), how numbers and LSNs are written
 //! (`text_numbers`, `lsn_core`), and what a command does (`run_command`, `store_commands`,

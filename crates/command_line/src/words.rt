@@ -49,8 +49,8 @@ pub enum Command {
     Restore(Option<Lsn>, Text, Vec<Text>),
     /// The chain of the backups of these names combined to a backup of this name.
     Combine(Text, Vec<Text>),
-    /// The series of the incremental backups of these names, two or more, merged to a backup of this
-    /// name.
+    /// The series of the incremental backups of these names, two or more, merged to a backup of
+    /// this name.
     Merge(Text, Vec<Text>),
     /// What the kept summaries tell of the range from the first place to below the second, which is
     /// past it.

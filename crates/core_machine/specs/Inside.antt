@@ -66,8 +66,8 @@ part_behind end command part = record {
   point = part.point;
 }
 
--- a partition without a fork in its frames: nothing of the fork is dirty, and its removal is entered
--- where it was there
+-- a partition without a fork in its frames: nothing of the fork is dirty, and its removal is
+-- entered where it was there
 abbrev pub part_without : ForkId → Part → Part
 part_without fork part = record {
   frames = without_fork part.frames fork;

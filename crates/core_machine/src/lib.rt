@@ -1,5 +1,5 @@
-//! The machine of steps in memory: its partitions, its workers with their backups under way, and the
-//! finished backups.
+//! The machine of steps in memory: its partitions, its workers with their backups under way, and
+//! the finished backups.
 //!
 //! `Machine` is made to be plain and not fast: it holds and answers what the specs of `store_core`
 //! say (`specs/Shown.antt`). `run_steps` takes steps in turn.

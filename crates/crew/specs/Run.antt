@@ -119,9 +119,9 @@ IsCheckpointRefused mib worker before now mark.NoMemory = Unit {0}
 
 -- ---- backups
 
--- what lines run on: the settings of the store, the moment of their backups, the entries that the run
--- found, the files that the area of summaries had then, where it told them, and the moment before
--- which a summary is old that was made then
+-- what lines run on: the settings of the store, the moment of their backups, the entries that the
+-- run found, the files that the area of summaries had then, where it told them, and the moment
+-- before which a summary is old that was made then
 pub record Basis : Type 0 where
   pub settings : StoreSettings
   pub when : ℕ
@@ -161,8 +161,8 @@ abbrev pub StaysFull : AreaState → AreaState → Type 0
 StaysFull old new = IfSome old.files (λ m. m ≢ empty → IsStill old new)
 
 -- why a backup into an area was refused, and what it left there: no manifest, in an area that held
--- none. Where its device failed in the manifest's removal too, or memory was missing then, one may be
--- left: a part of it, or the whole
+-- none. Where its device failed in the manifest's removal too, or memory was missing then, one may
+-- be left: a part of it, or the whole
 abbrev pub IsBackupRefused :
     Type 0 → Basis → ℕ → ℕ → List Entry → List ℕ → AreaState → AreaState → BackupFault → Type 0
 IsBackupRefused tells b worker before now name old new backup.NotEmpty =
@@ -203,9 +203,9 @@ pub record IsPriorOf (system : ℕ) (prior : AreaState) (m : Listing) (start : �
   pub behind : m.end ≤ start
 
 -- the files of its own area are the directory of that backup under a name: those of the forks that
--- were listed, each as it is planned by the prior backup's manifest and the summary of the WAL since
--- that backup's start. Each fork was listed and each page that is sent was copied at a moment of its
--- own, while this history was written
+-- were listed, each as it is planned by the prior backup's manifest and the summary of the WAL
+-- since that backup's start. Each fork was listed and each page that is sent was copied at a moment
+-- of its own, while this history was written
 pub record HoldsIncr (tells : Type 0) (b : Basis) (worker before : ℕ) (now : List Entry)
     (name : List ℕ) (start end : Lsn) (old new : IncrAreas) : Type 0 where
   pub checkpoint : ℕ
@@ -376,8 +376,8 @@ LineAnswer tells b worker before now line (IncrRefused why) made held mid =
     (incr_areas held name prior) (incr_areas mid name prior) why
 LineAnswer tells b worker before now line NotRun made held mid = (made ≡ []) × (mid ≡ held)
 
--- how many marks of a worker a line's answer allows: the start and the end of a checkpoint, and behind
--- these the end of a backup; none of a line that asks for neither
+-- how many marks of a worker a line's answer allows: the start and the end of a checkpoint, and
+-- behind these the end of a backup; none of a line that asks for neither
 abbrev pub marks_allowed : Answer → ℕ
 marks_allowed (Redo redo) = 2
 marks_allowed (CheckpointRefused why) = 2
@@ -389,8 +389,8 @@ marks_allowed answer = 0
 -- ---- lines in turn
 
 -- lines and their answers, one each, from a moment of a history to another, the entries that their
--- commands made, and what they left of the areas that are held. Each answer is a fact of the beginning
--- of the history that the worker had seen when it was given
+-- commands made, and what they left of the areas that are held. Each answer is a fact of the
+-- beginning of the history that the worker had seen when it was given
 abbrev pub Answered :
     Type 0 → Basis → ℕ → List Entry → ℕ → List Line → List Answer → List Entry → ℕ
     → Areas → Areas → Type 0
@@ -423,9 +423,9 @@ SharesRose answers old new =
 
 -- ---- a worker's run
 
--- a worker ran its lines: over what it has seen now each is answered, its accepted commands there are
--- those that the answers name, in order, it made no more marks than these allow, and an answer names
--- an area of the store, or of summaries, only where the pass's share of its faults rose
+-- a worker ran its lines: over what it has seen now each is answered, its accepted commands there
+-- are those that the answers name, in order, it made no more marks than these allow, and an answer
+-- names an area of the store, or of summaries, only where the pass's share of its faults rose
 pub record RunsLines (tells : Type 0) (b : Basis) (lines : List Line) (old new : Seen)
     (held mid : Areas) (answers : List Answer) : Type 0 where
   pub stays : StaysBy old new
@@ -451,14 +451,14 @@ pub record IsAnswered (tells : Type 0) (b : Basis) (worker : ℕ) (history : Lis
 
 -- ---- what stands of backups when all lines were run
 
--- nothing happened since to the area of a name, which was this one: where it told its files then, or
--- where no line behind names it too
+-- nothing happened since to the area of a name, which was this one: where it told its files then,
+-- or where no line behind names it too
 abbrev pub KeepsTo : List ℕ → List Line → AreaState → Areas → Type 0
 KeepsTo name lines area areas =
     IsSome area.files ⊎ IsNoneOf name (areas_asked lines) → IsStill area (areas name)
 
--- where a line was answered that its backup was taken, the area of its name had the directory of the
--- backup then, durably, taken over a beginning of the history; and has it still
+-- where a line was answered that its backup was taken, the area of its name had the directory of
+-- the backup then, durably, taken over a beginning of the history; and has it still
 abbrev pub StandsFor :
     Type 0 → Basis → ℕ → List Entry → Line → List Line → Answer → Areas → Type 0
 StandsFor tells b worker history line lines (Backup start end) areas =
@@ -504,8 +504,8 @@ IsHonestFor history area = IfSome area.files (IsHonest history)
 -- ---- what stands of incremental backups when all lines were run
 
 -- where a line was answered that its incremental backup was taken, the area of its name had the
--- directory of the backup then, durably, taken over a beginning of the history, behind what was found,
--- on what the prior's area held; both have it still
+-- directory of the backup then, durably, taken over a beginning of the history, behind what was
+-- found, on what the prior's area held; both have it still
 abbrev pub IncrStandsFor :
     Type 0 → Basis → ℕ → List Entry → Line → List Line → Answer → Areas → Type 0
 IncrStandsFor tells b worker history line lines (Backup start end) areas =
@@ -528,8 +528,8 @@ IncrsStand tells b worker history (line ∷ lines) (answer ∷ answers) areas =
 
 -- ---- laws
 
--- what was answered over a beginning of a history is answered over the history, whatever other workers
--- do later
+-- what was answered over a beginning of a history is answered over the history, whatever other
+-- workers do later
 abbrev pub AnswersStay : Type 0
 AnswersStay =
     (tells : Bool) (b : Basis) (worker : ℕ) (seen history : List Entry) (from to : ℕ)
@@ -539,8 +539,8 @@ AnswersStay =
     → Answered (tells ≡ true) b worker history from lines answers made to held new
 
 -- how a worker's pass began and ended in a run: it saw what was found, and what it has seen is a
--- beginning of the history, where as many of its commands stand as were accepted, and as many marks as
--- it made
+-- beginning of the history, where as many of its commands stand as were accepted, and as many marks
+-- as it made
 pub record RanSo (tells : Type 0) (b : Basis) (history : List Entry) (worker : ℕ)
     (lines : List Line) (answers : List Answer) (held kept : Areas) : Type 0 where
   pub old : Seen

@@ -26,16 +26,16 @@ use Rattle.crew.specs.Backups.{area_asked}
 use Rattle.crew.specs.Run.{Basis, basis_of, IsMade, IsRefusedNow, LineAnswer, TellsFault, marks_allowed, span_of}
 use Rattle.run_answers.specs.Stopping.{is_not_run}
 
--- a worker has seen more, and its accepted commands of these entries are counted, and so many marks at
--- most; no share of its faults fell
+-- a worker has seen more, and its accepted commands of these entries are counted, and so many marks
+-- at most; no share of its faults fell
 pub record WentOn (most : ℕ) (old new : Seen) (made : List Entry) : Type 0 where
   pub stays : StaysBy old new
   pub counted : new.accepted ≡ old.accepted + length made
   pub marked : new.marks ≤ old.marks + most
   pub shares : SharesStay old.faults new.faults
 
--- a command's entry stands behind all that was seen, at this place; or the command is refused behind
--- all that is seen now, for an area only where the share of its faults rose
+-- a command's entry stands behind all that was seen, at this place; or the command is refused
+-- behind all that is seen now, for an area only where the share of its faults rose
 abbrev pub Inserts : Type 0 → ℕ → Op → Seen → Seen → Result Place InsertFault → Type 0
 Inserts tells mib asked old new (Ok place) =
     (entry : Entry) × (number : ℕ) × (length old.list ≤ number)

@@ -3,8 +3,8 @@
 ghost use Rattle.crew.specs.Run.{AnswersStay, CrewIsJoined, AnswersTellBackups, TakenOrRefused};
 ghost use Rattle.crew.specs.Run.{AnswersTellIncrs};
 
-/// Lines that were answered over a beginning of a history are answered so over the history, whatever
-/// other workers do later.
+/// Lines that were answered over a beginning of a history are answered so over the history,
+/// whatever other workers do later.
 pub fn answers_stay()
     ensures { AnswersStay }
 {}
@@ -14,15 +14,16 @@ pub fn crew_is_joined()
     ensures { CrewIsJoined }
 {}
 
-/// A worker's answers tell of its backups: the directory of each that was taken stands in its area when
-/// all lines were run, where the area tells its files, or where no later line names the backup too; and
-/// an area failed only where its count of faults rose.
+/// A worker's answers tell of its backups: the directory of each that was taken stands in its area
+/// when all lines were run, where the area tells its files, or where no later line names the backup
+/// too; and an area failed only where its count of faults rose.
 pub fn answers_tell_backups()
     ensures { AnswersTellBackups }
 {}
 
-/// A worker's answers tell of its incremental backups too: the directory of each that was taken stands
-/// in its area when all lines were run, as those of full ones do, and so does what it was taken on.
+/// A worker's answers tell of its incremental backups too: the directory of each that was taken
+/// stands in its area when all lines were run, as those of full ones do, and so does what it was
+/// taken on.
 pub fn answers_tell_incrs()
     ensures { AnswersTellIncrs }
 {}

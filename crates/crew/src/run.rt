@@ -248,11 +248,11 @@ fn put(answers: &mut Vec<Answer>, answer: Answer)
     }
 }
 
-/// Runs the lines of a worker on an open store that workers share, each on what the store holds then,
-/// and puts their answers where there is room for them. The areas of its backups are held by their names;
-/// that of summaries lies under a lock that workers share. `when` is the moment of what is written there,
-/// in seconds since 1970 UTC. After a device that failed or want of memory the other lines aren't run.
-/// The gate is called, with no lock held, behind each step.
+/// Runs the lines of a worker on an open store that workers share, each on what the store holds
+/// then, and puts their answers where there is room for them. The areas of its backups are held by
+/// their names; that of summaries lies under a lock that workers share. `when` is the moment of
+/// what is written there, in seconds since 1970 UTC. After a device that failed or want of memory
+/// the other lines aren't run. The gate is called, with no lock held, behind each step.
 pub fn run_worker<J: OfRetention, V: Vault>(
     rt: &impl Wait,
     alloc: Global,

@@ -24,8 +24,8 @@ abbrev pub held_by : {V : Type 0} → Ghosts V → ℕ → DataAreas V → ℕ �
 held_by g relseg areas q pages = HoldsPages relseg (g.files (area_of areas q)) pages
 
 -- a partition was made of the pages that its area holds, from a place on, up to which the WAL is
--- flushed: the area has just the files of these pages, all of them segment files of forks, and a stop
--- leaves them
+-- flushed: the area has just the files of these pages, all of them segment files of forks, and a
+-- stop leaves them
 pub record IsRebuilt (relseg from faults : ℕ) (told : Option Files) (part : Part) : Type 0 where
   pub frames : (pages : Store) → HoldsPages relseg told pages → part.frames ≡ pages
   pub clean : IsClean part

@@ -54,7 +54,8 @@ pub record IsMade (P : List ℕ → Type 0) (path : List ℕ) (old new : Option 
   pub content : P bytes
   pub stands : new ≡ with_file path bytes old
 
--- a piece was written behind what a file held: of another file from a place on, at most so many bytes
+-- a piece was written behind what a file held: of another file from a place on, at most so many
+-- bytes
 pub record AddsPiece (told : Option Files) (from : List ℕ) (at most : ℕ) (path : List ℕ)
     (old new : Option Files) (before now : Growing) : Type 0 where
   pub piece : List ℕ

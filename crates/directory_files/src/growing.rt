@@ -12,7 +12,8 @@ use lsn_core::AreaFault;
 use sha2::{Digest, Sha256};
 use vault::Vault;
 
-/// A file of the output that is written piece by piece: how many bytes it has, and what hashes them.
+/// A file of the output that is written piece by piece: how many bytes it has, and what hashes
+/// them.
 #[derive(Drop)]
 pub struct Growing {
     size: u64,

@@ -13,8 +13,8 @@ fn lines_ended(byte: u8) -> u32
     if byte == b'\n' { 1 } else { 0 }
 }
 
-/// Where the lines of a label's text end that the label of each backup has (PostgreSQL manual, Making a
-/// Base Backup Using the Low Level API).
+/// Where the lines of a label's text end that the label of each backup has (PostgreSQL manual,
+/// Making a Base Backup Using the Low Level API).
 pub fn full_end(text: &[u8]) -> usize
     ensures within { result ≤ length text.now }
     ensures front { take result text.now ≡ first_lines 7 text.now }

@@ -1,14 +1,15 @@
 //! What writes a directory that a manifest lists, each file in place of one that another backup's
 //! manifest lists.
 //!
-//! `specs/Relisted.antt` says what such a directory is, with the rule for its files as a parameter. A
-//! file grows piece by piece and is hashed as it is written (`Growing`): `copy_file` copies one of a
-//! member's area, `rebuild_file` writes the pages that a chain has of a segment file, `add_pages` some
-//! of them. `can_list` says whether a manifest can list the files, `list_file` lists one,
+//! `specs/Relisted.antt` says what such a directory is, with the rule for its files as a parameter.
+//! A file grows piece by piece and is hashed as it is written (`Growing`): `copy_file` copies one
+//! of a member's area, `rebuild_file` writes the pages that a chain has of a segment file,
+//! `add_pages` some of them. `can_list` says whether a manifest can list the files, `list_file`
+//! lists one,
 //! `relisted_text` is the manifest. The members' areas are lent, and read in pieces of 64 KiB.
 //!
-//! Left to others: which files stand for which (`combine` and what merges backups), where the pages of
-//! a file stand (`chain_files`), and the writing of the manifest (`backup_files`).
+//! Left to others: which files stand for which (`combine` and what merges backups), where the pages
+//! of a file stand (`chain_files`), and the writing of the manifest (`backup_files`).
 #![tactic(auto)]
 
 mod copying;

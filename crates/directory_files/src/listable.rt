@@ -88,7 +88,8 @@ fn are_distinct(alloc: Global, targets: &[Target]) -> Result<bool, NoMemory>
     Ok(is_rising(&paths))
 }
 
-/// Whether a manifest can list files of these paths, and what another manifest tells beside its rows.
+/// Whether a manifest can list files of these paths, and what another manifest tells beside its
+/// rows.
 pub fn can_list(alloc: Global, m: &Manifest, targets: &[Target]) -> Result<bool, NoMemory>
     ensures { IfOk result (λ can. IsTrue can ↔ CanList m.now (map to_of targets.now)) }
 {

@@ -26,8 +26,8 @@ pub(crate) fn size_at<V: Vault>(
     }
 }
 
-/// Reads a file of the area of this place, from a place on, at most so many bytes, and says how many it
-/// read.
+/// Reads a file of the area of this place, from a place on, at most so many bytes, and says how
+/// many it read.
 pub(crate) fn piece_at<V: Vault>(
     areas: &mut [Held<V>],
     place: u32,

@@ -49,8 +49,8 @@ pub fn add_pages<V: Vault>(
     Ok(())
 }
 
-/// Rebuilds the file of a folder and a plain name into a file of the output, which isn't there: at most
-/// as many pages as a segment file has.
+/// Rebuilds the file of a folder and a plain name into a file of the output, which isn't there: at
+/// most as many pages as a segment file has.
 pub fn rebuild_file<V: Vault>(
     alloc: Global,
     areas: &mut [Held<V>],

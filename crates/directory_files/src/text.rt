@@ -9,8 +9,8 @@ use lsn_core::NoMemory;
 use manifest::{FileRow, Manifest};
 use std::alloc::Global;
 
-/// The text of a manifest with these rows, in order of their paths, that tells the rest as another one
-/// does, of version 2.
+/// The text of a manifest with these rows, in order of their paths, that tells the rest as another
+/// one does, of version 2.
 pub fn relisted_text(alloc: Global, m: &Manifest, rows: Vec<FileRow>) -> Result<Vec<u8>, NoMemory>
     requires rows { AreListable rows.items }
     requires system { IsSome m.now.system }

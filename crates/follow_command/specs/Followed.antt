@@ -39,8 +39,8 @@ pub record IsReplayed (mib relseg : ℕ) (bytes : List ℕ) (f : Following) (end
 abbrev pub followed : List ℕ → List ℕ
 followed bytes = take most_input bytes
 
--- the archive of those is damaged so, as a replay of it finds, behind entries that can be applied; it
--- ends within an entry or a head only where they are all
+-- the archive of those is damaged so, as a replay of it finds, behind entries that can be applied;
+-- it ends within an entry or a head only where they are all
 pub record IsDamagedStream (mib relseg : ℕ) (bytes : List ℕ) (d : Damage) : Type 0 where
   pub rs : List Record
   pub store : Store

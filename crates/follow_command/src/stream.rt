@@ -16,8 +16,8 @@ use vault::Source;
 use wal_follow::Follower;
 
 /// Follows an input from its beginning to its end as the stream of a WAL, whose segments have this
-/// size: the follower behind all of it, and where its archive ends. What is held of the input is one
-/// piece and an entry that isn't whole.
+/// size: the follower behind all of it, and where its archive ends. What is held of the input is
+/// one piece and an entry that isn't whole.
 pub fn follow_stream<I: Source>(
     alloc: Global,
     segment: SegSize,

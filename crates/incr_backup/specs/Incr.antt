@@ -50,8 +50,8 @@ incr_site seen prior out = record { seen = seen; prior = prior; out = out }
 -- ---- summaries
 
 -- behind a worker's checkpoint of this redo point, all summaries of what it had seen then were
--- published in an area that was true for that, and the old ones removed, and this is what covers the
--- WAL from a place up to the redo point
+-- published in an area that was true for that, and the old ones removed, and this is what covers
+-- the WAL from a place up to the redo point
 pub record SumsUp (tells : Type 0) (found : List Entry) (begun : Option Files)
     (when limit worker before : ℕ) (now : List Entry) (redo from : ℕ)
     (answer : Result Summary AdvanceFault) : Type 0 where
@@ -130,9 +130,9 @@ LeavesGap g tells o when old new place =
     × IsSummedUp tells o when old.seen new.seen start m.start (Err (advance.Gap place))
 
 -- why it is refused: the area holds a file; the prior's manifest; the two ranges overlap; a place
--- isn't covered; the WAL had no room behind all that the worker has seen now; or a device failed, of
--- the store or of the summaries one of whose faults the pass's share rose, or an area's, whose count
--- rose. Want of memory may come at any time
+-- isn't covered; the WAL had no room behind all that the worker has seen now; or a device failed,
+-- of the store or of the summaries one of whose faults the pass's share rose, or an area's, whose
+-- count rose. Want of memory may come at any time
 abbrev pub IncrCause :
     {V : Type 0} → Ghosts V → Type 0 → Origin → ℕ → IncrSite V → IncrSite V → IncrFault → Type 0
 IncrCause g tells o when old new NotEmpty = HoldsSomething (g.files old.out)

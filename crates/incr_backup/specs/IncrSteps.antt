@@ -114,8 +114,8 @@ pub record IsSentWhole (tells : Type 0) (mib : ℕ) (old new : Seen) (b : Basis)
   pub placed : IsPlaced mib new.list end.0
   pub size : 1 ≤ mib
 
--- the WAL had no room for the backup's end; or a device failed: of the store one of whose faults the
--- pass's share rose, or the area's, whose count rose
+-- the WAL had no room for the backup's end; or a device failed: of the store one of whose faults
+-- the pass's share rose, or the area's, whose count rose
 abbrev pub SendCause :
     {V : Type 0} → Ghosts V → ℕ → Redo → Site V → Site V → BackupFault → Type 0
 SendCause g mib redo old new backup.NotEmpty = ⊥

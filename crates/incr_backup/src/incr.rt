@@ -142,13 +142,13 @@ fn send_all<J: OfRetention, V: Vault>(
 }
 
 /// Takes an incremental backup of an open store into an area, over a prior backup in an area of its
-/// own, under a name and at a moment in seconds since 1970 UTC, while other workers change the store
-/// and publish summaries: a checkpoint, whose redo point is the backup's start; the summaries of the
-/// WAL that can be published; the forks of each partition; of their segment files, each whole or with
-/// the blocks that changed since the prior backup's start, zeros for a block that is gone when it is
-/// copied; the end of the backup; the label; and the manifest behind a sync, which a sync follows. Of
-/// the prior backup it reads the manifest alone. The gate is passed behind each step that is done on
-/// the store and on the summaries.
+/// own, under a name and at a moment in seconds since 1970 UTC, while other workers change the
+/// store and publish summaries: a checkpoint, whose redo point is the backup's start; the summaries
+/// of the WAL that can be published; the forks of each partition; of their segment files, each
+/// whole or with the blocks that changed since the prior backup's start, zeros for a block that is
+/// gone when it is copied; the end of the backup; the label; and the manifest behind a sync, which
+/// a sync follows. Of the prior backup it reads the manifest alone. The gate is passed behind each
+/// step that is done on the store and on the summaries.
 ///
 /// Errs with the first refusal in the order of `IncrFault`, the first four before anything is done
 /// to the store, to the summaries and to the area, otherwise with what the store's calls answer.

@@ -6,8 +6,8 @@
 //! writes label and manifest. `specs/Incr.antt` says what is answered, and what stands after each
 //! refusal.
 //!
-//! Left to others: the summaries of the WAL (`shared_summaries`), and the files and what every backup
-//! has (`backup_sending`).
+//! Left to others: the summaries of the WAL (`shared_summaries`), and the files and what every
+//! backup has (`backup_sending`).
 #![tactic(auto)]
 
 mod incr;

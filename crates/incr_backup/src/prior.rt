@@ -48,8 +48,8 @@ fn manifest_in(alloc: Global, bytes: &[u8]) -> Result<Manifest, IncrFault>
     }
 }
 
-/// The manifest of a text of a store with this system identifier, or why it is refused: one of version
-/// 1 tells none.
+/// The manifest of a text of a store with this system identifier, or why it is refused: one of
+/// version 1 tells none.
 fn manifest_for(alloc: Global, bytes: &[u8], system: u64) -> Result<Manifest, IncrFault>
     ensures answer { FileAnswer bytes.now system result }
     ensures ours { IfOk result (IsOfStore system) }

@@ -57,9 +57,9 @@ CanMerge g places m areas =
     OfChain (chain_told g areas places) (λ series. (paths : List (List ℕ))
     → AreMergedPaths series (other_rows m.files) paths → CanList m paths)
 
--- why it is refused: the output holds a file; it is empty, but no manifest can list the files; or the
--- device of a member's area or of the output failed, whose count rose. Want of memory may come at any
--- time
+-- why it is refused: the output holds a file; it is empty, but no manifest can list the files; or
+-- the device of a member's area or of the output failed, whose count rose. Want of memory may come
+-- at any time
 abbrev pub MergeCause : {V : Type 0} → Ghosts V → List ℕ → Listing → List (Held V) → V
     → List (Held V) → V → CombineFault → Type 0
 MergeCause g places m areas out areas_now out_now NotEmpty = HoldsSomething (g.files out)

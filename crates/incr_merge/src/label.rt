@@ -46,8 +46,8 @@ fn label_text<V: Vault>(
     Ok(merged_label(alloc, &first, &last)?)
 }
 
-/// Writes the label of the merged backup: that of the newest member, whose area has the second place,
-/// with the prior of the oldest one, whose area has the first.
+/// Writes the label of the merged backup: that of the newest member, whose area has the second
+/// place, with the prior of the oldest one, whose area has the first.
 pub(crate) fn write_label<V: Vault>(
     alloc: Global,
     areas: &mut [Held<V>],

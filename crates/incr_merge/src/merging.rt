@@ -21,7 +21,8 @@ use manifest::Manifest;
 use std::alloc::Global;
 use vault::{Held, Vault};
 
-/// The files that stand for those of a member, where its output is empty and a manifest can list them.
+/// The files that stand for those of a member, where its output is empty and a manifest can list
+/// them.
 fn targets_for<V: Vault>(
     alloc: Global,
     areas: &mut [Held<V>],
@@ -47,8 +48,8 @@ fn targets_for<V: Vault>(
     Ok(targets)
 }
 
-/// Writes the files that stand for those of the newest member and then the manifest, and says how many
-/// files this lists.
+/// Writes the files that stand for those of the newest member and then the manifest, and says how
+/// many files this lists.
 fn put_all<V: Vault>(
     alloc: Global,
     areas: &mut [Held<V>],
@@ -83,18 +84,19 @@ fn put_all<V: Vault>(
 }
 
 /// Merges a series of consecutive incremental backups into one that may stand for it in a chain, of
-/// which `places` says for each member, the oldest one first, which of the areas is its own, into an
-/// output that holds no file, at a moment in seconds since 1970 UTC. `newest` is the last member, as its
-/// directory was found to be; the series was accepted. Each file that it lists is written in the order
-/// of its rows: an incremental one rebuilt under its plain path where an older member has it plain, and
-/// else with the blocks that the members have and the least truncation length; the label with the
-/// oldest member's prior, any other byte for byte; then a manifest of version 2 behind a sync, which a
-/// sync follows, with SHA-256 sums, the moment, and the newest member's system identifier and range of
-/// the WAL. The answer is how many files that lists.
+/// which `places` says for each member, the oldest one first, which of the areas is its own, into
+/// an output that holds no file, at a moment in seconds since 1970 UTC. `newest` is the last
+/// member, as its directory was found to be; the series was accepted. Each file that it lists is
+/// written in the order of its rows: an incremental one rebuilt under its plain path where an older
+/// member has it plain, and else with the blocks that the members have and the least truncation
+/// length; the label with the oldest member's prior, any other byte for byte; then a manifest of
+/// version 2 behind a sync, which a sync follows, with SHA-256 sums, the moment, and the newest
+/// member's system identifier and range of the WAL. The answer is how many files that lists.
 ///
-/// Errs with `NotEmpty` exactly where the output holds a file, with `Unlisted` where no manifest can
-/// list what the series is merged to, otherwise with what the areas' calls answer. After a refusal the
-/// output has no manifest, unless the manifest's removal failed too (the order: profile).
+/// Errs with `NotEmpty` exactly where the output holds a file, with `Unlisted` where no manifest
+/// can list what the series is merged to, otherwise with what the areas' calls answer. After a
+/// refusal the output has no manifest, unless the manifest's removal failed too (the order:
+/// profile).
 pub fn merge_incr<V: Vault>(
     alloc: Global,
     areas: &mut [Held<V>],

@@ -21,8 +21,8 @@ use series_files::merged_head;
 use std::alloc::Global;
 use vault::{Held, Vault};
 
-/// Writes a file with this head, whose blocks are pages of a source, into a file of the output, which
-/// isn't there.
+/// Writes a file with this head, whose blocks are pages of a source, into a file of the output,
+/// which isn't there.
 fn write_part<V: Vault>(
     alloc: Global,
     areas: &mut [Held<V>],
@@ -57,8 +57,8 @@ fn write_part<V: Vault>(
     Ok(file)
 }
 
-/// Writes the incremental file of a folder and a plain name to which a series is merged that doesn't
-/// have it whole, into a file of the output, which isn't there.
+/// Writes the incremental file of a folder and a plain name to which a series is merged that
+/// doesn't have it whole, into a file of the output, which isn't there.
 pub(crate) fn merge_file<V: Vault>(
     alloc: Global,
     areas: &mut [Held<V>],

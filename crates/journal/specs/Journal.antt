@@ -42,8 +42,8 @@ pub record HoldsLog (log : Log) (files : Files) (records : List Record) : Type 0
   pub ended : log.touched ≤ tip.end → HasNoGap log.mib (archive_of log.mib files) tip.end
       → IsWal record_at log.mib log.system files stable tip
 
--- a log ends with a history, whatever its area tells: it counts as many entries, ends where the last
--- one does, and none ends behind it
+-- a log ends with a history, whatever its area tells: it counts as many entries, ends where the
+-- last one does, and none ends behind it
 pub record EndsWith (log : Log) (history : List Entry) : Type 0 where
   pub counted : length history ≡ log.tip.count
   pub end : (tip_of log.mib history).end ≡ log.tip.end

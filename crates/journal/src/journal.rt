@@ -218,8 +218,8 @@ impl<J: OfStore, V: Vault> Journal<J, V> {
         self.wal.flush_to(alloc, to)
     }
 
-    /// The first entries of the WAL of these settings from a place on, so many of them, as far as it
-    /// is flushed: what `read_piece` answers of the area. Nothing is looked at from the flushed
+    /// The first entries of the WAL of these settings from a place on, so many of them, as far as
+    /// it is flushed: what `read_piece` answers of the area. Nothing is looked at from the flushed
     /// place on, and nothing changes.
     pub fn read_flushed(
         &mut self,

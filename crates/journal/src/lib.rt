@@ -5,7 +5,8 @@
 //! alone, and the number of the store's pages. It promises that the history is lawful
 //! (`specs/Lawful.antt`), that the WAL ends where the history does, and, where areas tell their
 //! files, that the archive is the records of the first entries, while those of the others wait in
-//! memory (`specs/Journal.antt`), also after calls that failed. `laws` says what a lawful history gives to those who read it, and how it goes on.
+//! memory (`specs/Journal.antt`), also after calls that failed. `laws` says what a lawful history
+//! gives to those who read it, and how it goes on.
 //!
 //! Left to others: that an entry's act may come next, as it is written (the partitions' values and
 //! `checkpointer`), the lock, when to flush, and what a stop leaves.

@@ -1,8 +1,8 @@
 //! What a series of consecutive incremental backups is merged to, and that the merged backup stands
 //! for the series.
 //!
-//! `specs/Merged.antt` says which files stand for those of a series, `specs/Members.antt` which member of
-//! a chain the merged backup is.
+//! `specs/Merged.antt` says which files stand for those of a series, `specs/Members.antt` which
+//! member of a chain the merged backup is.
 //!
 //! Left to others: which series are accepted (`series_check`), what one file stands for
 //! (`merged_forms`), what a directory is whose files stand for listed ones, and what writes it
@@ -27,8 +27,8 @@ pub fn merged_directories_stand_for_series()
     directories_have_one_answer();
 }
 
-/// A merged backup is as its manifest lists it, and where a chain with the series is accepted, so is
-/// the chain with the merged backup in its place.
+/// A merged backup is as its manifest lists it, and where a chain with the series is accepted, so
+/// is the chain with the merged backup in its place.
 pub fn merged_directories_are_members()
     ensures listed { MergedIsAsListed }
     ensures accepted { MergedChainsAreAccepted }

@@ -6,9 +6,10 @@ use chain_check::Member;
 use incr_merge::merge_incr;
 use lsn_core::{Lsn, Text};
 use manifest::{FileRow, Manifest, SumKind};
+use memory_vault::MemVault;
 use std::alloc::Global;
 use std::test::Fail;
-use vault::{Held, MemVault, Vault, read_whole};
+use vault::{Held, Vault, read_whole};
 
 const FORK: &[u8] = b"base/5/INCREMENTAL.16384";
 

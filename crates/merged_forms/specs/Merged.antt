@@ -16,8 +16,8 @@ rests_on_plain (Absent ∷ older) = false
 rests_on_plain (Plain pages ∷ older) = true
 rests_on_plain (Part head pages ∷ older) = rests_on_plain older
 
--- the least of a number and of the truncation lengths of the newest forms, down to the first one that
--- isn't incremental
+-- the least of a number and of the truncation lengths of the newest forms, down to the first one
+-- that isn't incremental
 abbrev pub least_length : ℕ → List Form → ℕ
 least_length least [] = least
 least_length least (Absent ∷ older) = least
@@ -39,8 +39,8 @@ merged_part series least count =
     Part (head_with least (merged_blocks series least count))
     (merged_pages series (merged_blocks series least count))
 
--- one form in place of several: the file is rebuilt where it rests on a plain one, and otherwise has
--- what the series says of it
+-- one form in place of several: the file is rebuilt where it rests on a plain one, and otherwise
+-- has what the series says of it
 abbrev pub merged_form : List Form → Form
 merged_form [] = Absent
 merged_form (Absent ∷ older) = Absent

@@ -15,8 +15,8 @@ pub fn memory_note(alloc: Global) -> Result<Text, NoMemory> {
     )
 }
 
-/// A call of the system on what has this name failed, or memory ran out. What the system said stands
-/// on a line of its own.
+/// A call of the system on what has this name failed, or memory ran out. What the system said
+/// stands on a line of its own.
 pub fn area_note(alloc: Global, name: &[u8], why: AreaFault) -> Result<Text, NoMemory> {
     match why {
         AreaFault::Failed => note(

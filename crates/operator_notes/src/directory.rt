@@ -142,7 +142,8 @@ fn listed_note(alloc: Global, of: &Judged, fault: &ChainFault) -> Result<Text, N
     }
 }
 
-/// No manifest can list what a chain to this backup is combined to: its manifest isn't as it was read.
+/// No manifest can list what a chain to this backup is combined to: its manifest isn't as it was
+/// read.
 pub fn unlisted_note(alloc: Global, backup: &[u8]) -> Result<Text, NoMemory> {
     let of = Judged {
         backup,

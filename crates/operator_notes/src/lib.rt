@@ -2,8 +2,8 @@
 //! what to do next; of words that aren't taken, how the program is used.
 //!
 //! `note_of` is a function of the words and of what they came to, and reads nothing. Its texts are
-//! the program's own (profile), are tried by tables of cases, and are in no contract. What is printed
-//! on standard output stands in `pgbackup_cli` and is the same with them and without.
+//! the program's own (profile), are tried by tables of cases, and are in no contract. What is
+//! printed on standard output stands in `pgbackup_cli` and is the same with them and without.
 //!
 //! Left to others: what the system said of a device that failed (`vault_os`), and printing.
 #![tactic(auto)]

@@ -125,8 +125,8 @@ fn ending_note(alloc: Global, report: &RunReport) -> Result<Text, NoMemory> {
     }
 }
 
-/// The note on what the lines of a run were answered, none of which stopped its worker: on the first
-/// incremental backup that lacks a summary.
+/// The note on what the lines of a run were answered, none of which stopped its worker: on the
+/// first incremental backup that lacks a summary.
 fn answers_note(alloc: Global, report: &RunReport) -> Result<Text, NoMemory> {
     for told in report.told.as_slice() {
         if let Some(at) = gap_in(told.answers.as_slice()) {

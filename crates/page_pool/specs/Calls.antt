@@ -19,8 +19,8 @@ use Rattle.page_pool.specs.Steps.{IsClean}
 
 -- ---- what a partition is known to be
 
--- its area's files hold a store, which may have short pages; it lacks of the frames what is dirty or
--- pending, and nothing else
+-- its area's files hold a store, which may have short pages; it lacks of the frames what is dirty
+-- or pending, and nothing else
 pub record HoldsPart (part : Part) (files : Files) : Type 0 where
   pub raw : Store
   pub held : Holds part.relseg files raw

@@ -111,7 +111,8 @@ OwnEntriesAreFollowed =
     → history_end history ≤ e.start → e.start ≤ e.end → ConcernsNoOther q e.act
     → HasApplied e.end e.act old new → Follows q history old → Follows q (history ++ (e ∷ [])) new
 
--- and over entries of others, of which it knows nothing, where the history ends no earlier with them
+-- and over entries of others, of which it knows nothing, where the history ends no earlier with
+-- them
 abbrev pub OtherEntriesAreFollowed : Type 0
 OtherEntriesAreFollowed =
     (q : ℕ) (history more : List Entry) (part : Part)

@@ -87,8 +87,8 @@ pub record ChangedWhereUnwritten (old new : Store) (marks : DirtyMarks) (works :
   pub forks : (fork : ForkId) → is_to_settle works fork ≡ false
       → contains_key new fork ≡ contains_key old fork
 
--- a partition after some of it was written, of its works the first ones. Of an area that doesn't tell
--- its files it isn't known that it gives back what was written
+-- a partition after some of it was written, of its works the first ones. Of an area that doesn't
+-- tell its files it isn't known that it gives back what was written
 pub record HasWritten (old new : Part) : Type 0 where
   pub frames : IsSome old.disk → new.frames ≡ old.frames
   pub marks : (fork : ForkId) (block end : ℕ) → touch_end new.marks fork block ≡ Some end

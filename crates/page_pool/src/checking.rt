@@ -126,7 +126,8 @@ fn reserve_pages(frames: &mut Frames, pages: &[NewPage]) -> Result<(), NoMemory>
     Ok(())
 }
 
-/// Does this to the pages, by an entry that ends there, where there is room for it. Takes no memory.
+/// Does this to the pages, by an entry that ends there, where there is room for it. Takes no
+/// memory.
 fn finish(frames: &mut Frames, works: &mut Vec<Pending>, done: Done, end: Lsn)
     requires { MayBeDone frames.old (room_in works.old) done }
     ensures pages { (behind : BlockId → List ℕ)

@@ -60,8 +60,8 @@ pub fn followers_cover()
     ensures { FollowersCover }
 {}
 
-/// A command that concerns one partition alone is judged by the partition's pages as by those of the
-/// whole store.
+/// A command that concerns one partition alone is judged by the partition's pages as by those of
+/// the whole store.
 pub fn parts_judge_alike()
     ensures { PartsJudgeAlike }
 {}

@@ -7,8 +7,9 @@
 //! nothing else, also after a torn write, that replay makes it good, and that a command of the
 //! partition alone is judged, and counts, by its pages as by those of the whole store.
 //!
-//! Left to others: the frames and their marks (`page_frames`), what an entry does to a store
-//! (`history`), which part is a partition's (`partitions`), and what replay needs (`fuzzy_copies`).
+//! Left to others: the frames and their marks (`page_frames`), why a command is refused
+//! (`command_judging`), what an entry does to a store (`history`), which part is a partition's
+//! (`partitions`), and what replay needs (`fuzzy_copies`).
 #![tactic(auto)]
 
 mod checking;

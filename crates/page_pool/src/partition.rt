@@ -26,9 +26,9 @@ use std::alloc::Global;
 use std::marker::Model;
 use vault::Vault;
 
-/// A partition of a store: its pages, some in frames and the others in its area alone, which lacks of
-/// them what is dirty or pending. Contracts see a `Part`. What was written before a fault stays written, and what
-/// wasn't stays dirty or pending.
+/// A partition of a store: its pages, some in frames and the others in its area alone, which lacks
+/// of them what is dirty or pending. Contracts see a `Part`. What was written before a fault stays
+/// written, and what wasn't stays dirty or pending.
 #[derive(Drop)]
 pub struct Partition<V: Vault, const Q: u32> {
     pub(crate) disk: Forks<V>,
@@ -67,8 +67,8 @@ pub struct Unopened<V: Vault> {
 
 impl<V: Vault, const Q: u32> Partition<V, Q> {
     /// The partition of an area that has these pages, which are clean: the lengths of its forks are
-    /// read, and no page is in a frame yet, of so many. Replay has to begin at the point, and the WAL
-    /// is flushed up to a place.
+    /// read, and no page is in a frame yet, of so many. Replay has to begin at the point, and the
+    /// WAL is flushed up to a place.
     pub fn open(
         alloc: Global,
         disk: Forks<V>,

@@ -26,8 +26,8 @@ pub(crate) enum Done {
     Dropped(Rel),
 }
 
-/// A command that may be done on a partition, as `Partition::check_op` found it: the kind of its WAL
-/// entry, how many pages it adds and takes away, and all memory that its doing needs.
+/// A command that may be done on a partition, as `Partition::check_op` found it: the kind of its
+/// WAL entry, how many pages it adds and takes away, and all memory that its doing needs.
 #[derive(Drop)]
 pub struct Ready {
     pub(crate) kind: Kind,

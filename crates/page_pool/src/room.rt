@@ -46,10 +46,10 @@ impl<V: Vault, const Q: u32> Partition<V, Q> {
         Some(Lsn(later(works, Some(pages))?))
     }
 
-    /// Makes room for a command, which has 1 to 4 items where it changes blocks: those of its blocks
-    /// that are there get frames, and frames are left for the others. Frames are given up as the
-    /// clock's hand comes to them, none of these blocks'; a dirty page is written first, after all
-    /// pending works in their order. The pages are as before, whatever it answers.
+    /// Makes room for a command, which has 1 to 4 items where it changes blocks: those of its
+    /// blocks that are there get frames, and frames are left for the others. Frames are given up as
+    /// the clock's hand comes to them, none of these blocks'; a dirty page is written first, after
+    /// all pending works in their order. The pages are as before, whatever it answers.
     pub fn make_room(&mut self, alloc: Global, op: &Op, mark: &Flushed) -> Result<(), AreaFault>
         requires items { HasItems op.now }
         requires flushed { IfSome (room_end self.old.framed self.old.works (blocks_of op.now))
@@ -306,8 +306,8 @@ impl<V: Vault, const Q: u32> Partition<V, Q> {
         self.frames.note_use(at);
     }
 
-    /// Reads the page of a block into a frame. A block that the area doesn't give is taken as a zero
-    /// page.
+    /// Reads the page of a block into a frame. A block that the area doesn't give is taken as a
+    /// zero page.
     fn fetch(&mut self, alloc: Global, at: &BlockId) -> Result<(), AreaFault>
         requires left { len self.old.framed.held < self.old.framed.limit }
         requires none { held_page self.old.framed.held at.now ≡ None }

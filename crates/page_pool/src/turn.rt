@@ -17,7 +17,8 @@ pub enum Wrote {
     Wrote(BlockId),
 }
 
-/// One turn at writing what a partition has dirty or pending. Only `Partition::write_one` makes one.
+/// One turn at writing what a partition has dirty or pending. Only `Partition::write_one` makes
+/// one.
 #[derive(Debug, Drop)]
 pub struct Turn {
     pub(crate) part: u32,

@@ -20,8 +20,8 @@ use vault::Vault;
 use wal_writer::Flushed;
 
 impl<V: Vault, const Q: u32> Partition<V, Q> {
-    /// Writes what comes first: pending works in their order, then the first dirty page. A stop at any
-    /// moment leaves what no entry up to the mark changes, where it did so before.
+    /// Writes what comes first: pending works in their order, then the first dirty page. A stop at
+    /// any moment leaves what no entry up to the mark changes, where it did so before.
     pub fn write_one(&mut self, mark: &Flushed) -> Result<Turn, AreaFault>
         requires { MayWriteNext self.old mark.now.to.0 }
         ensures part { IfOk result (λ turn. turn.part ≡ Q) }
@@ -37,8 +37,8 @@ impl<V: Vault, const Q: u32> Partition<V, Q> {
         Ok(Turn { part: Q, wrote })
     }
 
-    /// Writes all that is dirty or pending, syncs the area, and raises the point to that redo point.
-    /// After a fault some of it may be written, and the point stands.
+    /// Writes all that is dirty or pending, syncs the area, and raises the point to that redo
+    /// point. After a fault some of it may be written, and the point stands.
     pub fn clean_all(&mut self, redo: Lsn, mark: &Flushed) -> Result<Cleaned, AreaFault>
         requires { MayWriteAll self.old mark.now.to.0 }
         ensures part { IfOk result (λ cleaned. cleaned.part ≡ Q) }
@@ -63,7 +63,8 @@ impl<V: Vault, const Q: u32> Partition<V, Q> {
         self.flushed = Lsn(self.flushed.0.max(mark.to().0));
     }
 
-    /// Writes all that is dirty or pending, syncs the area, and raises the point to that redo point.
+    /// Writes all that is dirty or pending, syncs the area, and raises the point to that redo
+    /// point.
     fn write_all(&mut self, redo: Lsn) -> Result<(), AreaFault>
         ensures written { OnOk result (IsAllWritten redo.0 self.old self.new) }
         ensures kept { OnErr result (HasWritten self.old self.new) }

@@ -40,7 +40,8 @@ fn progress_of(rt: &HostRuntime) -> Option<Progress> {
     Progress::new(rt.clone().ok()?)
 }
 
-/// Does what the words of the command line ask. What waits for a lock does so by the handle `waits`.
+/// Does what the words of the command line ask. What waits for a lock does so by the handle
+/// `waits`.
 fn run_words(rt: &HostRuntime, waits: &(impl Threads + Wait + Sync)) -> Result<Status, NoMemory> {
     let words = words_of(rt)?;
     let mut site = OsSite::new(rt.clone()?, progress_of(rt));

@@ -1,5 +1,5 @@
-//! The program `pgbackup-chains`: `main` hands the function `show_chains` the words of the command line
-//! and the system's areas and standard output, and ends with its status.
+//! The program `pgbackup-chains`: `main` hands the function `show_chains` the words of the command
+//! line and the system's areas and standard output, and ends with its status.
 #![tactic(auto)]
 
 use chain_view::{Outcome, show_chains};
@@ -31,8 +31,8 @@ fn words_of(rt: &HostRuntime) -> Result<Vec<Text>, NoMemory> {
     Ok(words)
 }
 
-/// Prints on standard error what there is to say of an outcome, and what the system said of a device
-/// that failed.
+/// Prints on standard error what there is to say of an outcome, and what the system said of a
+/// device that failed.
 fn say(rt: &HostRuntime, outcome: Outcome, said: Option<&str>) {
     let _ = match outcome {
         Outcome::Usage => eprint!(rt; "{USAGE}"),

@@ -59,8 +59,8 @@ ReadsInput words =
     ((frames days : ℕ) × (words ≡ Some (Run frames days)))
     ⊎ ((mib relseg : ℕ) × (name : List ℕ) × (words ≡ Some (Follow mib relseg name)))
 
--- `run`, `combine`, `merge-incr` and `drill` read the clock, and `init`, where no system identifier is
--- given
+-- `run`, `combine`, `merge-incr` and `drill` read the clock, and `init`, where no system identifier
+-- is given
 abbrev pub ReadsClock : Option Asked → Type 0
 ReadsClock words =
     ((frames days : ℕ) × (words ≡ Some (Run frames days)))

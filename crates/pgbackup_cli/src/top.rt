@@ -169,8 +169,8 @@ pub fn answered<S: Site, I: Source, O: Sink, C: Clock>(
 
 /// All that the program does: it takes the words of the command line, does what they ask over the
 /// areas of the site, prints its lines and answers the exit status. Every area is given back. Only
-/// `run` and `follow` read the input, and only `run`, `combine`, `merge-incr`, `drill` and `init` the
-/// clock, the last where no system identifier is given.
+/// `run` and `follow` read the input, and only `run`, `combine`, `merge-incr`, `drill` and `init`
+/// the clock, the last where no system identifier is given.
 pub fn pgbackup<S: Site, I: Source, O: Sink, C: Clock>(
     rt: &(impl Threads + Wait + Sync),
     alloc: Global,

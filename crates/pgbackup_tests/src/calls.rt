@@ -3,12 +3,13 @@
 ghost use Rattle.vault.specs.Site.{AllHome};
 
 use lsn_core::{NoMemory, Text};
+use memory_vault::{MemSink, MemSite, MemSource, MemVault, SetClock};
 use pgbackup_cli::{Status, pgbackup};
 use std::alloc::Global;
 use std::sync::Wait;
 use std::thread::Threads;
 use test_areas::Wrong;
-use vault::{MemSink, MemSite, MemSource, MemVault, SetClock, Site};
+use vault::Site;
 
 /// A moment of 2023, in seconds.
 const MOMENT: u64 = 1_700_000_000;

@@ -4,18 +4,18 @@
 
 ghost use Rattle.std.specs.Prelude.{IfOk};
 ghost use Rattle.vault.specs.Site.{AllHome};
-ghost use Rattle.vault.specs.MemorySite.{areas_of};
+ghost use Rattle.memory_vault.specs.MemorySite.{areas_of};
 
 use crate::calls::{Call, INIT, make_calls, take_behind};
 use crate::changes::change_all;
 use crate::combine_tests::CHAIN;
 use crate::outputs::are_same;
+use memory_vault::{MemSite, MemVault};
 use pgbackup_cli::Status;
 use std::alloc::Global;
 use std::sync::Wait;
 use std::thread::Threads;
 use test_areas::{Change, Wrong};
-use vault::{MemSite, MemVault};
 
 const FORK: &[u8] = b"base/5/16384";
 

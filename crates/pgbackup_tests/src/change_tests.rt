@@ -4,12 +4,13 @@
 ghost use Rattle.vault.specs.Site.{AllHome};
 
 use crate::calls::{Call, make_calls, make_calls_in_few_frames};
+use memory_vault::MemSite;
 use pgbackup_cli::Status;
 use std::alloc::Global;
 use std::sync::Wait;
 use std::thread::Threads;
 use test_areas::Wrong;
-use vault::{MemSite, Site, read_in};
+use vault::{Site, read_in};
 
 /// The calls that make a store of one entry, and run a script on it.
 fn calls_of<'a>(script: &'a str, printed: &'a str) -> [Call<'a>; 2] {

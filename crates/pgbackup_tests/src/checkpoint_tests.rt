@@ -6,12 +6,13 @@ ghost use Rattle.vault.specs.Site.{AllHome};
 
 use crate::calls::{Call, make_calls, make_calls_in_few_frames};
 use lsn_core::AreaFault;
+use memory_vault::MemSite;
 use pgbackup_cli::Status;
 use std::alloc::Global;
 use std::sync::Wait;
 use std::thread::Threads;
 use test_areas::{SiteStep, Wrong, take_site_steps};
-use vault::{MemSite, Site, read_in};
+use vault::{Site, read_in};
 
 const INIT: &str = "init --segment-mib 1 --system-id 7";
 

@@ -4,9 +4,9 @@
 
 use crate::calls::{Call, INIT, make_calls};
 use crate::outputs::are_same;
+use memory_vault::MemSite;
 use pgbackup_cli::Status;
 use test_areas::{SiteStep, Wrong, take_site_steps};
-use vault::MemSite;
 
 const FORK: &[u8] = b"base/5/16384";
 

@@ -3,9 +3,9 @@
 //! run, and the line doesn't.
 
 use crate::calls::{Call, make_calls};
+use memory_vault::MemSite;
 use pgbackup_cli::Status;
 use test_areas::{SiteStep, Wrong, take_site_steps};
-use vault::MemSite;
 
 /// A drill, and another one over what it left.
 static DRILLS: [Call; 2] = [

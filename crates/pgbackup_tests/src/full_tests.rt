@@ -3,17 +3,18 @@
 
 ghost use Rattle.std.specs.Prelude.{IfOk};
 ghost use Rattle.vault.specs.Site.{AllHome};
-ghost use Rattle.vault.specs.MemorySite.{areas_of};
+ghost use Rattle.memory_vault.specs.MemorySite.{areas_of};
 
 use crate::calls::{Call, NONE, make_calls, run};
 use crate::verify_tests::{F1_LABEL, F1_MANIFEST};
 use lsn_core::AreaFault;
+use memory_vault::{MemSite, MemVault};
 use pgbackup_cli::Status;
 use std::alloc::Global;
 use std::sync::Wait;
 use std::thread::Threads;
 use test_areas::{Change, NEW_WAL, SEGMENT, SETTINGS, SiteStep, Wrong, make_all, take_site_steps};
-use vault::{MemSite, MemVault, Site};
+use vault::Site;
 
 const SCRIPT: &str = "worker w
 create 5/16384

@@ -3,10 +3,10 @@
 
 use crate::calls::{Call, make_calls};
 use lsn_core::NoMemory;
+use memory_vault::MemSite;
 use pgbackup_cli::Status;
 use std::alloc::Global;
 use test_areas::{SEGMENT, SETTINGS, SiteStep, Wrong, take_site_steps};
-use vault::MemSite;
 
 /// Segment 1 of a WAL with segments of 1 MiB and system identifier 7. Behind the shutdown checkpoint
 /// it has the creations of both forks of 5/16384; images of blocks 0 and 1 of the main one, and a

@@ -6,12 +6,13 @@ ghost use Rattle.vault.specs.Site.{AllHome};
 use crate::calls::{Call, INIT, NONE, make_calls, run};
 use crate::outputs::are_same;
 use crate::verify_tests::F1_LABEL;
+use memory_vault::MemSite;
 use pgbackup_cli::Status;
 use std::alloc::Global;
 use std::sync::Wait;
 use std::thread::Threads;
 use test_areas::{SiteStep, Wrong, take_site_steps};
-use vault::{MemSite, Site};
+use vault::Site;
 
 const FORK: &[u8] = b"base/5/16384";
 

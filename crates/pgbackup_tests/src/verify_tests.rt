@@ -4,16 +4,16 @@
 
 ghost use Rattle.std.specs.Prelude.{IfOk};
 ghost use Rattle.vault.specs.Site.{AllHome};
-ghost use Rattle.vault.specs.MemorySite.{areas_of};
+ghost use Rattle.memory_vault.specs.MemorySite.{areas_of};
 
 use crate::calls::{Call, is_answered, make_calls};
 use lsn_core::NoMemory;
+use memory_vault::{MemSite, MemVault};
 use pgbackup_cli::Status;
 use std::alloc::Global;
 use std::sync::Wait;
 use std::thread::Threads;
 use test_areas::{Change, Wrong, make_all};
-use vault::{MemSite, MemVault};
 
 const LABEL: &[u8] = b"backup_label";
 

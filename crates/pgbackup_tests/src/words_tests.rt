@@ -1,9 +1,9 @@
 //! Words of `follow` and of `drill` that aren't taken.
 
 use crate::calls::{Call, make_calls};
+use memory_vault::MemSite;
 use pgbackup_cli::Status;
 use test_areas::Wrong;
-use vault::MemSite;
 
 const USAGE: &str = "refused 1 Usage\n";
 

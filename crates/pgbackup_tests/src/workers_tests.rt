@@ -6,12 +6,13 @@ ghost use Rattle.vault.specs.Site.{AllHome};
 
 use crate::calls::{Call, INIT, NONE, make_calls, run};
 use lsn_core::NoMemory;
+use memory_vault::MemSite;
 use pgbackup_cli::Status;
 use std::alloc::Global;
 use std::sync::Wait;
 use std::thread::Threads;
 use test_areas::Wrong;
-use vault::{MemSite, Site};
+use vault::Site;
 
 /// Of the workers of a run, one alone writes: the others have no lines, only read, write what isn't
 /// there, or are refused by what their lines show. The last run is of one worker.

@@ -3,8 +3,9 @@
 //!
 //! `specs/Onward.antt` says what a reading is: the entries that are read, the tip behind them, and
 //! where the archive is damaged or ends too early. `specs/Replay.antt` has what a reading from the
-//! first entry on makes from nothing, `specs/Recovered.antt` what entries make of a store that pages
-//! show, `specs/Causes.antt` the cause of each fault. `specs/Reading.antt` is of a reading alone, and
+//! first entry on makes from nothing, `specs/Recovered.antt` what entries make of a store that
+//! pages show, `specs/Causes.antt` the cause of each fault. `specs/Reading.antt` is of a reading
+//! alone, and
 //! `specs/Replayed.antt` says what `replay` leaves of pages, and what a listener hears of the
 //! entries. That each area has one such answer at most, by its bytes, is the law
 //! `wal_has_one_answer`.

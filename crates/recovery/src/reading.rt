@@ -77,9 +77,9 @@ pub fn whole_to(upto: Option<Lsn>, tip: WalTip) -> Result<WalTip, RecoveryFault>
     Ok(tip)
 }
 
-/// Reads the WAL of these settings from a beginning on up to the first end at or past the target, or
-/// to its end where no target is given, and changes nothing: the tip behind all that was read. It
-/// holds one entry of the WAL.
+/// Reads the WAL of these settings from a beginning on up to the first end at or past the target,
+/// or to its end where no target is given, and changes nothing: the tip behind all that was read.
+/// It holds one entry of the WAL.
 pub fn read_from<V: Vault>(
     alloc: Global,
     wal: &mut V,

@@ -140,9 +140,10 @@ impl Progress {
     }
 }
 
-/// Reads the WAL of these settings from a beginning on up to the first end at or past the target, or
-/// to its end where no target is given, and redoes over the pages the entries that end at the
-/// target or before it. A listener is told each entry that is read, in order, before that is redone.
+/// Reads the WAL of these settings from a beginning on up to the first end at or past the target,
+/// or to its end where no target is given, and redoes over the pages the entries that end at the
+/// target or before it. A listener is told each entry that is read, in order, before that is
+/// redone.
 fn redo_from<V: Vault, P: Pages, L: Listener>(
     alloc: Global,
     wal: &mut V,
@@ -171,8 +172,8 @@ fn redo_from<V: Vault, P: Pages, L: Listener>(
     Ok(progress.finish(upto, last)?)
 }
 
-/// Reads the WAL of these settings from a beginning on up to the first end at or past the target, or
-/// to its end where no target is given, and redoes over the pages the entries that end at the
+/// Reads the WAL of these settings from a beginning on up to the first end at or past the target,
+/// or to its end where no target is given, and redoes over the pages the entries that end at the
 /// target or before it: an image is restored, a delta is done where the page's LSN is below the
 /// entry's end. Of the store that the pages show so many forks and pages are counted, and what the
 /// answer counts goes on from there. The whole of the WAL is read before it is told that an entry
@@ -199,8 +200,8 @@ pub fn recover<V: Vault, P: Pages>(
     )
 }
 
-/// Replays the WAL of these settings from its first entry on, over pages that show a store: over the
-/// empty one they show then what the WAL makes from nothing.
+/// Replays the WAL of these settings from its first entry on, over pages that show a store: over
+/// the empty one they show then what the WAL makes from nothing.
 pub fn replay<V: Vault, P: Pages>(
     alloc: Global,
     wal: &mut V,

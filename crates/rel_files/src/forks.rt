@@ -49,8 +49,8 @@ impl<V: Vault> Forks<V> {
         }
     }
 
-    /// Files that hold a store may hold others, by how a short page is counted. The lengths that are
-    /// known are right of all of them, where they are of one.
+    /// Files that hold a store may hold others, by how a short page is counted. The lengths that
+    /// are known are right of all of them, where they are of one.
     pub fn know_all(&self)
         ensures { HoldAlike V.Vault self.now }
     {

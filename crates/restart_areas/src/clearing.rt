@@ -33,8 +33,8 @@ fn clear_file<V: Vault>(area: &mut V, name: &[u8]) -> Result<(), AreaFault>
     Ok(())
 }
 
-/// Removes the segment files of all forks. Files of other names stay. After a fault some of them may
-/// be gone.
+/// Removes the segment files of all forks. Files of other names stay. After a fault some of them
+/// may be gone.
 pub fn clear_forks<V: Vault>(alloc: Global, area: &mut V) -> Result<(), AreaFault>
     ensures cleared { OnOk result (IfSome (V.files area.new) HasNoForks) }
     ensures changes { ChangesOnly V.Vault IsForkPath area.old area.new }

@@ -2,10 +2,10 @@
 //!
 //! `StorePages` shows four data areas as the pages of one store, whatever store their segment files
 //! hold. `clear_all` removes the segment files of all forks, `neaten_all` makes those that a stop
-//! left neat, `sync_all` makes all durable, and `count_all` counts forks and pages, each of the four
-//! areas. Files of other names stay. Each fault has its cause: the count of the area that it names
-//! rose, or memory ran out (`specs/`). A value of `StorePages` has a known size where its areas do,
-//! as those on the heap.
+//! left neat, `sync_all` makes all durable, and `count_all` counts forks and pages, each of the
+//! four areas. Files of other names stay. Each fault has its cause: the count of the area that it
+//! names rose, or memory ran out (`specs/`). A value of `StorePages` has a known size where its
+//! areas do, as those on the heap.
 //!
 //! Left to others: which entries are replayed into the pages, and what a stop leaves of the areas.
 #![tactic(auto)]

@@ -46,7 +46,8 @@ impl CallFaults {
 }
 
 impl<V: Vault> StorePages<V> {
-    /// The pages that the segment files of these areas hold, `relseg` blocks of a fork in each file.
+    /// The pages that the segment files of these areas hold, `relseg` blocks of a fork in each
+    /// file.
     pub fn new(alloc: Global, areas: DataAreas<V>, relseg: u32) -> StorePages<V>
         requires relseg { IsRelseg relseg }
         ensures areas { AreForksOf relseg areas (seen result) }

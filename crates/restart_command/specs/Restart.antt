@@ -70,7 +70,8 @@ pub record HasNoSettings (old new : StoreState) (fault : RecoveryFault) : Type 0
   pub wal_still : IsStill old.wal new.wal
   pub data_same : SameData old new
 
--- by the settings of its WAL, which has segments of so many MiB, it wasn't brought back for this reason
+-- by the settings of its WAL, which has segments of so many MiB, it wasn't brought back for this
+-- reason
 pub record IsUnrestarted (old new : StoreState) (mib : ℕ) (fault : RestartWhy) : Type 0 where
   pub settings : StoreSettings
   pub given : HasSettings old.wal.files settings

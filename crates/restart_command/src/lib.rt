@@ -2,9 +2,9 @@
 //! such as a power cut.
 //!
 //! What it changes, why it comes to its answer, what it prints and how it ends stand in
-//! `specs/Restart.antt`: it asks for the areas of a store, reads the settings of its WAL, and brings
-//! the store back by these. Settings that can't be read change nothing. The areas go back in any
-//! case, and no other area changes.
+//! `specs/Restart.antt`: it asks for the areas of a store, reads the settings of its WAL, and
+//! brings the store back by these. Settings that can't be read change nothing. The areas go back in
+//! any case, and no other area changes.
 //!
 //! Left to others: how a store is brought back (`store_restart`), the settings of a WAL
 //! (`recovery`), texts and statuses of faults (`command_base`), and where the site comes from

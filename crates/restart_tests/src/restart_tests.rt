@@ -1,11 +1,11 @@
 //! A WAL that is cut off at a byte, and segment files that end within a page or stand behind a gap.
 
 use lsn_core::{Lsn, SegSize};
+use memory_vault::MemVault;
 use rel_neat::neaten;
 use std::alloc::Global;
 use store_restart::{Survivors, read_survivors, trim};
 use test_areas::{ADDED, Change, NEW_WAL, SEGMENT, SETTINGS, Step, Wrong, make_all, take_steps};
-use vault::MemVault;
 use wal_reader::{WalFault, read_settings};
 
 /// The name of the second segment file.
@@ -41,8 +41,8 @@ static CUT: [(u64, u64, u64); 6] = [
     (96, 0x100060, 1),
 ];
 
-/// Whether so many entries survive in a WAL that is cut to so many bytes, end there, and begin at the
-/// first one.
+/// Whether so many entries survive in a WAL that is cut to so many bytes, end there, and begin at
+/// the first one.
 fn survive(alloc: Global, size: u64, end: u64, count: u64) -> Result<bool, Wrong> {
     let mut area = cut_to(alloc, size)?;
     match survivors(alloc, &mut area) {

@@ -159,8 +159,8 @@ abbrev pub closed_line : Result Lsn StoreFault → List ℕ
 closed_line (Ok end) = codes "wal " ++ (lsn_bytes end.0 ++ (10 ∷ []))
 closed_line (Err why) = refused_line (store_text why)
 
--- a run ends with the line by which a worker was stopped first; where none was, as closing the store
--- did
+-- a run ends with the line by which a worker was stopped first; where none was, as closing the
+-- store did
 abbrev pub ending_line : Option (Line × Stop) → Result Lsn StoreFault → List ℕ
 ending_line None closed = closed_line closed
 ending_line (Some first) closed =

@@ -41,8 +41,8 @@ abbrev pub last_text : RunResult → List ℕ
 last_text (Ok report) = last_line report
 last_text (Err fault) = refused_line (run_fault_text fault)
 
--- the status of a run by how it ended: with the line by which a worker was stopped first; where none
--- was, as closing the store did
+-- the status of a run by how it ended: with the line by which a worker was stopped first; where
+-- none was, as closing the store did
 abbrev pub stop_status : Stop → Status
 stop_status (stop.Store why) = store_status why
 stop_status stop.Backup = status.Device

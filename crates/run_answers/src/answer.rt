@@ -14,8 +14,8 @@ pub enum Answer {
     Accepted(Place),
     /// Its command was refused, and changed neither the history nor a page.
     Refused(InsertFault),
-    /// All of its so many blocks were put; their entries stand between the first one's start and the
-    /// last one's end.
+    /// All of its so many blocks were put; their entries stand between the first one's start and
+    /// the last one's end.
     Grown(u32, Place),
     /// So many of its blocks were put before this refusal.
     Stopped(u32, InsertFault),

@@ -61,7 +61,8 @@ impl ToldTasks {
         &self.list
     }
 
-    /// The first line, in the order of the script, by whose answer a worker was stopped, and by what.
+    /// The first line, in the order of the script, by whose answer a worker was stopped, and by
+    /// what.
     pub fn stop(&self) -> Option<(&Line, Stop)>
         ensures { option_map (λ x. (x.0.now, x.1)) result ≡ first_told self.now }
     {

@@ -124,8 +124,8 @@ HasRoom list count = (list.items ≡ []) × (vec_len list ≡ 0) × (count ≤ v
 abbrev pub HasPlaces : {T : Type 0} → Vec T → ℕ → Type 0
 HasPlaces list count = vec_len list + count ≤ vec_capacity list
 
--- no backup of a worker's lines is its own prior one, and there is room for the answers to these and
--- for its areas
+-- no backup of a worker's lines is its own prior one, and there is room for the answers to these
+-- and for its areas
 pub record IsReady {V : Type 0} (seat : Seat V) : Type 0 where
   pub priors : HaveOtherPriors seat.task.lines
   pub answers : HasRoom seat.answers (length seat.task.lines)
@@ -141,8 +141,8 @@ pub record AddsSeat {V : Type 0} (seat : Seat V) (old new : Names) : Type 0 wher
   pub many : length mine ≡ seat.count
   pub each : AreEachOnce (areas_asked seat.task.lines) mine
 
--- names are those of the areas that the lines of workers ask for, a worker's behind those of the one
--- before it, each once
+-- names are those of the areas that the lines of workers ask for, a worker's behind those of the
+-- one before it, each once
 abbrev pub AreNamesFor : {V : Type 0} → List (Seat V) → Names → Type 0
 AreNamesFor [] names = names ≡ []
 AreNamesFor (seat ∷ seats) names =
@@ -197,8 +197,8 @@ pub record SitOn {J V : Type 0} (crew : List (Worker J V)) (passes now : List Se
 
 -- ---- what workers did
 
--- a worker's part of a run: what it was told, what its pass had seen before and behind its lines, and
--- the areas of its backups then
+-- a worker's part of a run: what it was told, what its pass had seen before and behind its lines,
+-- and the areas of its backups then
 pub record Part (V : Type 0) : Type 0 where
   pub told : Told
   pub from : Seen
@@ -238,8 +238,8 @@ pub record IsLaterPass (old new : Seen) : Type 0 where
   pub marks : new.marks ≡ old.marks
   pub faults : new.faults ≡ old.faults
 
--- these are the passes behind all lines, of which the first one has learned more since; where there is
--- no worker, one that ran nothing
+-- these are the passes behind all lines, of which the first one has learned more since; where there
+-- is no worker, one that ran nothing
 abbrev pub AreLast : {V : Type 0} → List Entry → List (Part V) → Seen → List Seen → Type 0
 AreLast found [] first rest = IsLaterPass (fresh_pass 0 found) first × (rest ≡ [])
 AreLast found (part ∷ parts) first rest =
@@ -251,8 +251,8 @@ AreFresh found parts = map (λ part. part.from) parts ≡ fresh_passes (length p
 
 -- ---- the store
 
--- how often the areas of a store that was found had failed then, and that of summaries: by number, 0 to
--- 3 the data areas, 4 the WAL's, 5 that of summaries
+-- how often the areas of a store that was found had failed then, and that of summaries: by number,
+-- 0 to 3 the data areas, 4 the WAL's, 5 that of summaries
 abbrev pub starts_of : {V : Type 0} → Vaults V → Found V → V → ℕ → ℕ
 starts_of vaults found sums a =
     if a == 0 then found.parts.part0.faults
@@ -299,9 +299,9 @@ abbrev pub basis_found : {V : Type 0} → Vaults V → Found V → V → ℕ →
 basis_found vaults found sums when limit =
     basis_of found.settings when found.opened.list (vaults.files sums) limit
 
--- a script was run by workers that had seen what was found; then the first pass learned what was known
--- of the summaries, whose area is true for all that it has seen now, and of whose faults so many are
--- booked
+-- a script was run by workers that had seen what was found; then the first pass learned what was
+-- known of the summaries, whose area is true for all that it has seen now, and of whose faults so
+-- many are booked
 pub record HasRunTo {V : Type 0} (vaults : Vaults V) (tells : Type 0) (b : Basis) (start : ℕ)
     (first : Seen) (rest : List Seen) (sums : V) (booked : ℕ) (held kept : List (Held V))
     (told : List Told) : Type 0 where

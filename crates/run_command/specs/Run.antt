@@ -138,16 +138,17 @@ found_tip s found = tip_behind (first_tip s.segment) found
 abbrev pub HasFound : StoreSettings → List Record → Files → Type 0
 HasFound s found files = IsWal s files found (found_tip s found)
 
--- what a run's lines run on: the settings of its store, its moment, that before which a summary is old
--- that was made then, the entries that were found, and the files that the area of summaries had then
+-- what a run's lines run on: the settings of its store, its moment, that before which a summary is
+-- old that was made then, the entries that were found, and the files that the area of summaries had
+-- then
 abbrev pub run_basis : StoreSettings → ℕ → ℕ → List Record → Areas → Basis
 run_basis s when limit found old =
     basis_of s when (map entry_of found) (old sums_name).files limit
 
 -- a history goes on behind the entries that were found by entries of the workers alone, and, where
 -- areas tell, lawfully, each entry in the place where it is written; over it
--- each worker's lines were answered so, at this moment, its commands there are those that its answers
--- name, and its marks no more than these allow; and its backups made of its areas those
+-- each worker's lines were answered so, at this moment, its commands there are those that its
+-- answers name, and its marks no more than these allow; and its backups made of its areas those
 pub record HasHistory
     (tells : Type 0) (b : Basis) (told : List Told) (held kept : ℕ → Areas) (history : List Entry)
     : Type 0 where
@@ -164,8 +165,8 @@ abbrev pub all_records : StoreSettings → List Record → List Entry → List R
 all_records s found history = found ++ wal_of s.segment history
 
 -- the areas hold a history, durably: the WAL's records are those that were found and those that the
--- history is written as, replay of them makes the store that the history makes, and each data area has
--- just the files of its partition's part of that store
+-- history is written as, replay of them makes the store that the history makes, and each data area
+-- has just the files of its partition's part of that store
 pub record HoldsRun (s : StoreSettings) (found : List Record) (history : List Entry) (new : Areas)
     : Type 0 where
   pub store : Store
@@ -198,9 +199,9 @@ ToldFaultsRose old new told =
     All (λ t. All (λ answer. (area : StoreArea) → TellsFault area answer
     → StoreFails old new (store.Failed area)) t.answers) told
 
--- the directory of each backup that was answered stands at the site, durably, where its area told it
--- then, or where no later line names the backup too: its pages were copied while a beginning of the
--- history was written
+-- the directory of each backup that was answered stands at the site, durably, where its area told
+-- it then, or where no later line names the backup too: its pages were copied while a beginning of
+-- the history was written
 abbrev pub BackupsDone : Type 0 → Basis → List Entry → Areas → List Told → Type 0
 BackupsDone tells b history new told =
     (worker : ℕ) (t : Told) → slice_get told worker ≡ Some t
@@ -213,15 +214,15 @@ IncrsDone tells b history new told =
     (worker : ℕ) (t : Told) → slice_get told worker ≡ Some t
     → IncrsStand tells b worker history t.task.lines t.answers new
 
--- the area of each backup, or of a prior one, that was told to have failed has a count of faults that
--- rose
+-- the area of each backup, or of a prior one, that was told to have failed has a count of faults
+-- that rose
 abbrev pub ToldBackupsFailed : Areas → Areas → List Told → Type 0
 ToldBackupsFailed old new told =
     (worker : ℕ) (t : Told) → slice_get told worker ≡ Some t
     → BackupFaultsRose t.task.lines t.answers old new
 
--- where areas tell their files, an area of summaries that was honest for the entries that were found
--- is honest for the whole history, however the run ended
+-- where areas tell their files, an area of summaries that was honest for the entries that were
+-- found is honest for the whole history, however the run ended
 abbrev pub KeepsHonest : List Entry → List Entry → Areas → Areas → Type 0
 KeepsHonest found history old new =
     AreTold old → IsHonestFor found (old sums_name) → IsHonestFor history (new sums_name)
@@ -261,9 +262,9 @@ pub record RunDone (when : ℕ) (old new : Areas) (report : RunReport) : Type 0 
 
 -- ---- what running a script comes to
 
--- no store was begun, and the areas of the backups and of summaries are as they were: its WAL can't be
--- begun on, and all is as it was; or it was read, and can't be replayed into the data areas; or one of
--- these failed, or memory ran out while they were rebuilt. The WAL is as it was
+-- no store was begun, and the areas of the backups and of summaries are as they were: its WAL can't
+-- be begun on, and all is as it was; or it was read, and can't be replayed into the data areas; or
+-- one of these failed, or memory ran out while they were rebuilt. The WAL is as it was
 abbrev pub CantBegin : List Task → Areas → Areas → BeginWhy → Type 0
 CantBegin script old new (begin.Wal why) =
     KeepAll (run_asks script) old new
@@ -278,8 +279,9 @@ CantBegin script old new (begin.Data why) =
     KeepAll (others_asked script) old new
     × Keeps (old wal_name) (new wal_name) × DataAreaFails old new why
 
--- why running a script at a moment, with such a limit, comes to its answer, whether it was read or made: it was run; or
--- memory ran out, an area wasn't handed out, or no store can be begun. No input is read
+-- why running a script at a moment, with such a limit, comes to its answer, whether it was read or
+-- made: it was run; or memory ran out, an area wasn't handed out, or no store can be begun. No
+-- input is read
 abbrev pub RunOfScript : ℕ → ℕ → List Task → Outside → Outside → RunResult → Type 0
 RunOfScript when limit script old new (Ok report) =
     (tasks_told report.told ≡ script)
@@ -294,8 +296,8 @@ RunOfScript when limit script old new (Err (run.Begin why)) =
 
 -- ---- what `run` comes to
 
--- why `run` of a script at a moment comes to its answer: the input failed, a line is refused, or memory
--- ran out; or this is the script of the input, and running it comes to the answer
+-- why `run` of a script at a moment comes to its answer: the input failed, a line is refused, or
+-- memory ran out; or this is the script of the input, and running it comes to the answer
 abbrev pub RunAnswer : ℕ → ℕ → List Task → Outside → Outside → RunResult → Type 0
 RunAnswer when limit script old new (Ok report) =
     HasScript old.left new.left script × RunOfScript when limit script old new (Ok report)
@@ -311,8 +313,8 @@ RunAnswer when limit script old new (Err (run.Begin why)) =
     HasScript old.left new.left script
     × RunOfScript when limit script old new (Err (run.Begin why))
 
--- `run`, of a script where the input has one, at the clock's moment, keeping summaries for so many days. Of the input no more is taken
--- than one byte more than a script may have
+-- `run`, of a script where the input has one, at the clock's moment, keeping summaries for so many
+-- days. Of the input no more is taken than one byte more than a script may have
 abbrev pub RunDoes : ℕ → Outside → Outside → RunResult → Type 0
 RunDoes days old new r =
     (when : ℕ) × (script : List Task) × IsMoment old when

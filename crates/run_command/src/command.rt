@@ -24,10 +24,11 @@ use std::thread::Threads;
 use vault::{Clock, Held, Site, Source};
 
 /// Runs a script, read or made, on the store of a site with so many frames of each partition and
-/// summaries that are kept for so many days, or all where these are 0, each worker in a thread of its own, with a gate that is called behind each of its steps, with no lock
-/// held. The moment is in seconds since 1970 (profile: before the year 10000). A script that was read
-/// meets what is asked of its tasks. All memory that a refusal would need is taken before the areas are,
-/// and these are given back in any case. It errs where there is no memory, an area isn't handed out or
+/// summaries that are kept for so many days, or all where these are 0, each worker in a thread of
+/// its own, with a gate that is called behind each of its steps, with no lock held. The moment is
+/// in seconds since 1970 (profile: before the year 10000). A script that was read meets what is
+/// asked of its tasks. All memory that a refusal would need is taken before the areas are, and
+/// these are given back in any case. It errs where there is no memory, an area isn't handed out or
 /// no store can be begun.
 pub fn run_script<R: Threads + Wait + Sync, S: Site, G: Gate>(
     rt: &R,
@@ -83,9 +84,9 @@ fn script_of<I: Source>(alloc: Global, input: &mut I) -> Result<Script, RunFault
     }
 }
 
-/// `run`: reads the clock and the script of the input, and runs it on the store of a site with so many
-/// frames of each partition and summaries that are kept for so many days, each worker in a thread of
-/// its own.
+/// `run`: reads the clock and the script of the input, and runs it on the store of a site with so
+/// many frames of each partition and summaries that are kept for so many days, each worker in a
+/// thread of its own.
 pub fn run<R: Threads + Wait + Sync, S: Site, I: Source, C: Clock>(
     rt: &R,
     alloc: Global,

@@ -113,7 +113,8 @@ fn push_names(alloc: Global, names: &mut Vec<Text>, more: &[&[u8]]) -> Result<()
     Ok(())
 }
 
-/// The areas that a run asks for: behind these of its backups that of summaries, and those of the store.
+/// The areas that a run asks for: behind these of its backups that of summaries, and those of the
+/// store.
 pub fn run_names(alloc: Global, backups: Vec<Text>) -> Result<Vec<Text>, NoMemory>
     ensures { IfOk result
         (λ names. names.items ≡ (backups.items ++ (sums_name ∷ [])) ++ store_asks) }
@@ -164,8 +165,8 @@ fn last_of<V: Vault>(held: &mut Vec<Held<V>>) -> Held<V>
     }
 }
 
-/// Takes the areas of a run, or none of them: those of its backups, that of summaries, and those of its
-/// store.
+/// Takes the areas of a run, or none of them: those of its backups, that of summaries, and those of
+/// its store.
 pub fn take_run<S: Site>(
     alloc: Global,
     site: &mut S,

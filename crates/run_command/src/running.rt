@@ -33,8 +33,8 @@ use store_ledgers::{AreaFaults, Blanks};
 use store_lifecycle::{Began, begin, close};
 use vault::{Held, Vault};
 
-/// Runs the lines of a crew's workers side by side on an open store, with the areas of their backups, at
-/// this moment. There is room for the crew.
+/// Runs the lines of a crew's workers side by side on an open store, with the areas of their
+/// backups, at this moment. There is room for the crew.
 fn run_work<R: Threads + Wait + Sync, J: OfRetention + Send + Sync, V: Vault, G: Gate>(
     rt: &R,
     alloc: Global,
@@ -66,8 +66,8 @@ fn run_work<R: Threads + Wait + Sync, J: OfRetention + Send + Sync, V: Vault, G:
     ToldTasks::from_vec(told)
 }
 
-/// Shares the area of the summaries on an open store, runs a script there, and takes the area back. The
-/// first pass learns what was known of the summaries.
+/// Shares the area of the summaries on an open store, runs a script there, and takes the area back.
+/// The first pass learns what was known of the summaries.
 fn run_shared<R: Threads + Wait + Sync, J: OfRetention + Send + Sync, V: Vault, G: Gate>(
     rt: &R,
     alloc: Global,
@@ -172,8 +172,8 @@ fn areas_back<V: Vault>(found: Found<V>) -> StoreAreas<V>
     }
 }
 
-/// Begins a store that was found, at the name that the call's proof picks, with so many passes and room
-/// for a crew. It errs where there is no memory, and hands the areas back as they were found.
+/// Begins a store that was found, at the name that the call's proof picks, with so many passes and
+/// room for a crew. It errs where there is no memory, and hands the areas back as they were found.
 fn begin_crew<J: OfRetention, V: Vault>(
     alloc: Global,
     found: Found<V>,
@@ -201,8 +201,8 @@ fn begin_crew<J: OfRetention, V: Vault>(
     }
 }
 
-/// Begins a store that was found, at the name that the call's proof picks, for the workers of a script,
-/// runs it there, and closes the store.
+/// Begins a store that was found, at the name that the call's proof picks, for the workers of a
+/// script, runs it there, and closes the store.
 fn run_found<R: Threads + Wait + Sync, J: OfRetention + Send + Sync, V: Vault, G: Gate>(
     rt: &R,
     alloc: Global,
@@ -283,8 +283,8 @@ fn run_named<R: Threads + Wait + Sync, V: Vault, G: Gate>(
     run_found::<R, Brand, V, G>(rt, alloc, found, blanks, sums, held, work, gate, days, when)
 }
 
-/// Finds a store on areas, with so many frames of each partition, begins it, runs a script on it, and
-/// closes it.
+/// Finds a store on areas, with so many frames of each partition, begins it, runs a script on it,
+/// and closes it.
 fn run_store<R: Threads + Wait + Sync, V: Vault, G: Gate>(
     rt: &R,
     alloc: Global,
@@ -313,8 +313,8 @@ fn run_store<R: Threads + Wait + Sync, V: Vault, G: Gate>(
     }
 }
 
-/// The same, with the area of summaries on the heap, and with those of the backups as they are handed
-/// on.
+/// The same, with the area of summaries on the heap, and with those of the backups as they are
+/// handed on.
 pub fn run_areas<R: Threads + Wait + Sync, V: Vault, G: Gate>(
     rt: &R,
     alloc: Global,

@@ -1,5 +1,5 @@
-//! The workers of a script: what each needs before areas are asked for, and how they are seated for a
-//! run, each with its pass and the areas of its backups.
+//! The workers of a script: what each needs before areas are asked for, and how they are seated for
+//! a run, each with its pass and the areas of its backups.
 
 ghost use Rattle.std.specs.Prelude.{◌≡◌, ◌+◌, ◌<◌, ◌≤◌, ◌∷◌, ◌++◌, [], length, map, IfOk, OnOk};
 ghost use Rattle.std.specs.List.{flat_map};
@@ -20,8 +20,8 @@ use shared_summaries::OfRetention;
 use std::alloc::Global;
 use vault::{Held, Vault};
 
-/// A worker that isn't seated yet: its task, how many areas of backups its lines ask for, and room for
-/// these and for the answers.
+/// A worker that isn't seated yet: its task, how many areas of backups its lines ask for, and room
+/// for these and for the answers.
 #[derive(Drop)]
 pub struct Seat<V: Vault> {
     pub task: Task,
@@ -30,7 +30,8 @@ pub struct Seat<V: Vault> {
     pub answers: Vec<Answer>,
 }
 
-/// What a run needs before it asks for areas: the seats of its workers, and room for what they are told.
+/// What a run needs before it asks for areas: the seats of its workers, and room for what they are
+/// told.
 #[derive(Drop)]
 pub struct Work<V: Vault> {
     pub seats: Vec<Seat<V>>,
@@ -79,8 +80,8 @@ fn seat_of<V: Vault>(alloc: Global, task: Task, names: &mut Vec<Text>) -> Result
     })
 }
 
-/// The seats of a script's workers, and the names of the areas that these ask for, a worker's behind
-/// those of the one before it.
+/// The seats of a script's workers, and the names of the areas that these ask for, a worker's
+/// behind those of the one before it.
 pub fn work_of<V: Vault>(alloc: Global, script: Script) -> Result<(Work<V>, Vec<Text>), NoMemory>
     requires few { length script ≤ run_workers }
     requires priors { NamePriors script }
@@ -185,8 +186,8 @@ fn hand_back<V: Vault>(held: &mut Vec<Held<V>>, areas: Vec<Held<V>>)
     }
 }
 
-/// Takes the workers of a crew off their seats: their passes and areas go back where they came from, and
-/// what each was told stands with its task.
+/// Takes the workers of a crew off their seats: their passes and areas go back where they came
+/// from, and what each was told stands with its task.
 pub fn raise_all<J: OfRetention, V: Vault>(
     crew: Vec<Worker<J, V>>,
     passes: &mut Vec<Pass<J>>,

@@ -174,8 +174,8 @@ fn final_lens(alloc: Global, script: &Script) -> Result<Vec<u32>, NoMemory> {
     Ok(lens)
 }
 
-/// How many blocks the forks of the workers have in the end, of the scripts of some numbers. The last
-/// two have none.
+/// How many blocks the forks of the workers have in the end, of the scripts of some numbers. The
+/// last two have none.
 static LENGTHS: [(u32, [u32; 6]); 4] = [
     (0, [28, 47, 27, 34, 0, 0]),
     (1, [27, 29, 17, 30, 0, 0]),

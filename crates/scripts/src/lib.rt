@@ -1,8 +1,8 @@
 //! Scripts of runs: what a worker is told to do, line by line.
 //!
 //! `read_script` takes the bytes of a script as a list of commands for each of its workers, or
-//! refuses it at its first bad line with a reason (`specs/Script.antt`). Of two workers none names a
-//! backup that the other names. What holds of every script are laws (`laws`).
+//! refuses it at its first bad line with a reason (`specs/Script.antt`). Of two workers none names
+//! a backup that the other names. What holds of every script are laws (`laws`).
 //!
 //! Left to others: running the lines (`crew`), whether a command may be done (`shared_store`), and
 //! where the bytes of a script come from.

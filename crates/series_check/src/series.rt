@@ -40,8 +40,8 @@ fn swap_prior(members: &mut [Member], prior: Option<(Lsn, u32)>) -> Option<(Lsn,
 
 /// Judges a series of incremental backups, the oldest one first, whose directories were found to be
 /// as listed. It is accepted exactly where it has at most 64 members, the first has a manifest of
-/// version 2 and names a prior on timeline 1, and each later one is linked to the one before as in a
-/// chain. Otherwise it is refused for the first fault, in the order of `LinkFault`, of the first
+/// version 2 and names a prior on timeline 1, and each later one is linked to the one before as in
+/// a chain. Otherwise it is refused for the first fault, in the order of `LinkFault`, of the first
 /// member that has one. The first member stands for a full backup while the later ones are judged;
 /// the members stay as they were.
 pub fn check_series(alloc: Global, members: &mut [Member]) -> Result<(), ChainRefusal>

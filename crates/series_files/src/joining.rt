@@ -50,9 +50,10 @@ fn ask<V: Vault>(
     Ok(false)
 }
 
-/// Whether a series of consecutive backups has the file of a folder and a plain name whole: one has it
-/// in the plain form, and all newer ones in the incremental form. `places` says of each member, the
-/// oldest one first, which of the areas is its own. Errs where an area's call does, or memory runs out.
+/// Whether a series of consecutive backups has the file of a folder and a plain name whole: one has
+/// it in the plain form, and all newer ones in the incremental form. `places` says of each member,
+/// the oldest one first, which of the areas is its own. Errs where an area's call does, or memory
+/// runs out.
 pub fn is_rebuilt<V: Vault>(
     alloc: Global,
     areas: &mut [Held<V>],

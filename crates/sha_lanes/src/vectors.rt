@@ -99,8 +99,8 @@ pub(crate) fn ch(x: u32x4, y: u32x4, z: u32x4) -> u32x4
     xor(and(x, y), and(not(x), z))
 }
 
-/// Each bit that two of the words have at least. One round's `x ^ y` is the next round's `y ^ z`, so
-/// it is computed once.
+/// Each bit that two of the words have at least. One round's `x ^ y` is the next round's `y ^ z`,
+/// so it is computed once.
 #[inline(always)]
 pub(crate) fn maj(x: u32x4, y: u32x4, z: u32x4) -> u32x4
     ensures { (j : ℕ) → j < 4 → slice_index result j

@@ -63,7 +63,8 @@ abbrev pub InsertAnswer :
 InsertAnswer tells mib command old new (Ok receipt) = HasInserted tells mib command old new receipt
 InsertAnswer tells mib command old new (Err fault) = HasRefused tells mib command old new fault
 
--- it booked the fault of the area that failed before it was judged, where that is why it was refused
+-- it booked the fault of the area that failed before it was judged, where that is why it was
+-- refused
 abbrev pub TakesInsertFault : Seen → Seen → Result Receipt InsertFault → Type 0
 TakesInsertFault old new (Ok receipt) = new.faults ≡ old.faults
 TakesInsertFault old new (Err fault) = BooksIf (failed_area fault) old new
@@ -175,8 +176,8 @@ pub record CountsNoMore (history : List Entry) (pass : Seen) : Type 0 where
   pub commands : pass.accepted ≤ length (accepted_by pass.worker history)
   pub marks : pass.marks ≤ length (marks_by pass.worker history)
 
--- the passes of all workers, in order, that together counted as many entries as workers made, and none
--- more than its worker has in a history: each counted just its worker's
+-- the passes of all workers, in order, that together counted as many entries as workers made, and
+-- none more than its worker has in a history: each counted just its worker's
 abbrev pub PassesCountTheirEntries : Type 0
 PassesCountTheirEntries =
     (passes : List Seen) (history : List Entry)

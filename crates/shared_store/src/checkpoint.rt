@@ -34,8 +34,8 @@ impl<J: OfCrew, V: Vault> Store<J, V> {
         self.desk.lock(rt).start(alloc, &self.line, &mut pass.own)
     }
 
-    /// Writes all that a partition has dirty or pending, the WAL flushed first, and raises its point
-    /// to the redo point, past which the WAL is flushed too.
+    /// Writes all that a partition has dirty or pending, the WAL flushed first, and raises its
+    /// point to the redo point, past which the WAL is flushed too.
     fn clean_part(
         &self,
         rt: &impl Wait,
@@ -130,9 +130,9 @@ impl<J: OfCrew, V: Vault> Store<J, V> {
         Ok([first, second, third, fourth])
     }
 
-    /// A checkpoint: appends its start, flushes the WAL past it, writes all that is dirty or pending
-    /// in each partition, appends its end, and flushes the WAL. Its entries stand behind all that
-    /// the pass had seen; other workers' may stand between them.
+    /// A checkpoint: appends its start, flushes the WAL past it, writes all that is dirty or
+    /// pending in each partition, appends its end, and flushes the WAL. Its entries stand behind
+    /// all that the pass had seen; other workers' may stand between them.
     #[tactic(auto, using(crate::proofs::Checkpoints::checkpoint_in))]
     pub fn checkpoint(
         &self,

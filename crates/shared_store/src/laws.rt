@@ -19,8 +19,8 @@ pub fn passes_count_their_entries()
     ensures { PassesCountTheirEntries }
 {}
 
-/// Each record that is answered ends where an entry does that was seen, so that the next piece can be
-/// asked for from there; and this stays as the history goes on.
+/// Each record that is answered ends where an entry does that was seen, so that the next piece can
+/// be asked for from there; and this stays as the history goes on.
 pub fn records_go_on()
     ensures end { RecordsEndAtEntries }
     ensures stays { PlacesStay }

@@ -4,9 +4,9 @@
 //! Commands are judged one at a time (`specs/Refusals.antt` of `store_locks`), by the pages of the
 //! partition that a command concerns; each accepted one is appended to the WAL and the history, and
 //! changes the pages in memory; pages reach the data areas later, behind the WAL. Workers hold a
-//! `Pass` each, which knows what its worker has seen of the history and how many faults of each area
-//! it was answered. What the calls of `Store` answer is said over what the pass had seen and has
-//! seen then (`specs/Shared.antt`). `records` gives the WAL's records piece by piece, while the
+//! `Pass` each, which knows what its worker has seen of the history and how many faults of each
+//! area it was answered. What the calls of `Store` answer is said over what the pass had seen and
+//! has seen then (`specs/Shared.antt`). `records` gives the WAL's records piece by piece, while the
 //! store is open.
 //!
 //! A partition's lock is taken before the WAL's, and nobody holds two partitions' locks; under the

@@ -1,5 +1,5 @@
-//! What calls do under the locks of an open store: a partition's first, then the WAL's, which is held
-//! for the history and the WAL alone, and not while a data area is read or written.
+//! What calls do under the locks of an open store: a partition's first, then the WAL's, which is
+//! held for the history and the WAL alone, and not while a data area is read or written.
 
 ghost use Rattle.std.specs.Prelude.{◌≡◌, ◌<◌, ◌≤◌, true, IfOk, OnOk};
 ghost use Rattle.history.specs.partitions.Parts.{is_of};
@@ -119,8 +119,8 @@ fn clean_held<J: OfCrew, V: Vault, const Q: u32>(
     part.clean_all(redo, &mark, share)
 }
 
-/// Flushes the WAL past a redo point and past the newest entry of all that a partition has to write,
-/// under the WAL's lock.
+/// Flushes the WAL past a redo point and past the newest entry of all that a partition has to
+/// write, under the WAL's lock.
 fn flush_newest<J: OfCrew, V: Vault, const Q: u32>(
     rt: &impl Wait,
     alloc: Global,
@@ -166,8 +166,8 @@ pub(crate) fn clean_with<J: OfCrew, V: Vault, const Q: u32>(
     clean_held(rt, alloc, line, desk, &mut part, own, share, redo)
 }
 
-/// Brings a partition's area to a redo point: it is cleaned up to the latest one, where it is behind
-/// that place.
+/// Brings a partition's area to a redo point: it is cleaned up to the latest one, where it is
+/// behind that place.
 fn bring<J: OfCrew, V: Vault, const Q: u32>(
     rt: &impl Wait,
     alloc: Global,

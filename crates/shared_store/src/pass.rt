@@ -26,8 +26,8 @@ pub struct FaultShares<J: OfCrew> {
 }
 
 /// What a worker owns of an open store: its number, how many of its commands were accepted, what it
-/// has seen of the history, and how many faults of each area it was answered. `know` tells what holds
-/// of it at any time. Contracts see a `Seen` of `specs/Seen.antt`.
+/// has seen of the history, and how many faults of each area it was answered. `know` tells what
+/// holds of it at any time. Contracts see a `Seen` of `specs/Seen.antt` of `store_locks`.
 #[derive(Drop)]
 pub struct Pass<J: OfCrew> {
     /// What it knows and has counted under the WAL's lock.

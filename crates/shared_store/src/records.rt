@@ -17,11 +17,11 @@ use vault::Vault;
 use wal_record::Record;
 
 impl<J: OfCrew, V: Vault> Store<J, V> {
-    /// Flushes the WAL, and answers the first `most` records of it that start at a place or past it,
-    /// of the whole history, which the pass has seen then. The place is one where an entry that the
-    /// pass has seen starts or ends: to go on behind a piece, where its last record ends. There are
-    /// fewer exactly where the WAL has no more for the history. Over areas that don't tell their
-    /// files, a WAL that can't be read there is taken as ended.
+    /// Flushes the WAL, and answers the first `most` records of it that start at a place or past
+    /// it, of the whole history, which the pass has seen then. The place is one where an entry that
+    /// the pass has seen starts or ends: to go on behind a piece, where its last record ends. There
+    /// are fewer exactly where the WAL has no more for the history. Over areas that don't tell
+    /// their files, a WAL that can't be read there is taken as ended.
     pub fn records(
         &self,
         rt: &impl Wait,

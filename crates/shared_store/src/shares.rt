@@ -14,7 +14,7 @@ use store_locks::{Knowing, OfCrew};
 use timeline::Note;
 
 /// Shares of the ledgers of several workers together: those that no worker has yet, or has no more.
-/// Contracts see an `AllHeld` of `specs/Locked.antt`.
+/// Contracts see an `AllHeld` of `specs/Locked.antt` of `store_locks`.
 #[derive(Drop)]
 pub struct Shares<J: OfCrew> {
     /// Of the workers' entries.

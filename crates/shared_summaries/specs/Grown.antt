@@ -10,9 +10,9 @@ abbrev pub AreBehind : ℕ → List Summary → Type 0
 AreBehind place [] = Unit {0}
 AreBehind place (s ∷ ss) = (s.start.0 ≡ place) × (place < s.end.0) × AreBehind s.end.0 ss
 
--- what is kept comes from what was kept when a run began, and goes on by neighbours, from the greatest
--- end of those or from the first entry's start: it has all of both that weren't made before a moment,
--- as none was that was added, and the same end
+-- what is kept comes from what was kept when a run began, and goes on by neighbours, from the
+-- greatest end of those or from the first entry's start: it has all of both that weren't made
+-- before a moment, as none was that was added, and the same end
 pub record HasGrown (first limit : ℕ) (begun kept : List Summary) : Type 0 where
   pub more : List Summary
   pub behind : AreBehind (end_behind first begun) more

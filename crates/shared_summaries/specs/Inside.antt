@@ -18,8 +18,8 @@ use Rattle.store_faults.specs.declared.advance_fault.AdvanceFault.{AdvanceFault}
 use Rattle.store_faults.specs.declared.advance_fault.AdvanceFault.TheVariants.{Gap, Store}
 use Rattle.shared_summaries.specs.Shelf.{AreShelved, AreKeptOn}
 
--- what the lock holds: the area, the beginning of the history that its summaries were made of, where
--- publishing goes on there, and the faults of the area that are booked
+-- what the lock holds: the area, the beginning of the history that its summaries were made of,
+-- where publishing goes on there, and the faults of the area that are booked
 pub record Shelf (V : Type 0) : Type 0 where
   pub area : V
   pub list : List Entry
@@ -27,16 +27,16 @@ pub record Shelf (V : Type 0) : Type 0 where
   pub limit : ℕ
   pub booked : ℕ
 
--- what is known to be kept has grown since the run began; where nothing is known, the area has still
--- the files that it had then
+-- what is known to be kept has grown since the run began; where nothing is known, the area has
+-- still the files that it had then
 abbrev pub AreKeptThere : Type 0 → List Entry → Option Files → ℕ → Option Files
     → Option (Vec Summary) → Type 0
 AreKeptThere tells found begun limit files None = files ≡ begun
 AreKeptThere tells found begun limit files (Some v) =
     AreKeptOn tells found begun limit files v.items
 
--- what it keeps: that beginning goes on from what was found, lawfully, the area is true for it, what is
--- kept of it has grown, and it failed at least as often as is booked
+-- what it keeps: that beginning goes on from what was found, lawfully, the area is true for it,
+-- what is kept of it has grown, and it failed at least as often as is booked
 pub record IsShelf {V : Type 0} (g : Ghosts V) (tells : Type 0) (s : StoreSettings)
     (found : List Entry) (begun : Option Files) (limit start : ℕ) (shelf : Shelf V)
     : Type 0 where

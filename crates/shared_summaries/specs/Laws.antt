@@ -17,8 +17,8 @@ use Rattle.shared_summaries.specs.summary_publish.Published.{AreNext, ArePublish
 use Rattle.shared_summaries.specs.Grown.{HasGrown, IsOldGap}
 use Rattle.shared_summaries.specs.Shelf.{IsTrueFor, AreShelved}
 
--- what a worker was answered for a range up to the redo point of its own checkpoint, over an area that
--- was true for what it has seen: it ends there, and is the summary from its start to there
+-- what a worker was answered for a range up to the redo point of its own checkpoint, over an area
+-- that was true for what it has seen: it ends there, and is the summary from its start to there
 abbrev pub AnswersSumUp : Type 0
 AnswersSumUp =
     (found own : List Entry) (begun : Option Files) (made limit : ℕ) (files : Files)

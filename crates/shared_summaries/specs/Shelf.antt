@@ -50,8 +50,8 @@ states = record {
   past = λ area. area.past;
 }
 
--- a worker held the lock: of what it has seen now so many summaries were published, behind those that
--- were kept, and the old ones were removed
+-- a worker held the lock: of what it has seen now so many summaries were published, behind those
+-- that were kept, and the old ones were removed
 pub record HasPublished (tells : Type 0) (found : List Entry) (begun : Option Files)
     (now : List Entry) (when limit count : ℕ) : Type 0 where
   pub old : AreaState
@@ -70,7 +70,8 @@ CoversThen kept from to (Ok sum) = IsCovering kept from to sum
 CoversThen kept from to (Err (Gap place)) = IsGap kept from to place.0
 CoversThen kept from to (Err (Store fault)) = ⊥
 
--- so it did, and this covers a range then, or else this is the least place of it that nothing covers
+-- so it did, and this covers a range then, or else this is the least place of it that nothing
+-- covers
 pub record HasCoveredSo (tells : Type 0) (found : List Entry) (begun : Option Files)
     (now : List Entry) (when limit from to : ℕ) (answer : Result Summary AdvanceFault)
     : Type 0 where

@@ -25,9 +25,9 @@ use timeline::Note;
 use vault::Vault;
 use wal_summary::Summary;
 
-/// What the lock holds: the area, a note of what its summaries were made of, where publishing goes on
-/// there, the moment before which a summary is old that was made then, and the book of the area's
-/// faults. Contracts see a `Shelf` of
+/// What the lock holds: the area, a note of what its summaries were made of, where publishing goes
+/// on there, the moment before which a summary is old that was made then, and the book of the
+/// area's faults. Contracts see a `Shelf` of
 /// `specs/Inside.antt`.
 #[derive(Drop)]
 pub(crate) struct Kept<J: OfRetention, V: Vault> {

@@ -4,8 +4,8 @@
 ghost use Rattle.shared_summaries.specs.Laws.{AnswersSumUp, CrewsKeepHonest};
 ghost use Rattle.shared_summaries.specs.Laws.{RunsBeginGrown, PublishingGrows, GapsAreOld};
 
-/// What a worker is answered for a range up to its own redo point is the summary up to there. Behind
-/// the workers the area is honest for the finished history.
+/// What a worker is answered for a range up to its own redo point is the summary up to there.
+/// Behind the workers the area is honest for the finished history.
 pub fn answers_sum_up()
     ensures up { AnswersSumUp }
     ensures honest { CrewsKeepHonest }

@@ -7,8 +7,8 @@ use store_locks::OfCrew;
 pub trait OfRetention: OfCrew {
     ghost use Rattle.std.specs.Prelude.{ℕ};
 
-    /// The moment (in seconds since 1970 UTC) before which a summary that was made then is old. 0 where
-    /// all are kept.
+    /// The moment (in seconds since 1970 UTC) before which a summary that was made then is old. 0
+    /// where all are kept.
     ghost limit: { ℕ };
 }
 

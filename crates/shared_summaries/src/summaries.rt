@@ -31,9 +31,9 @@ pub struct Summaries<J: OfRetention, V: Vault> {
 }
 
 impl<J: OfRetention, V: Vault> Summaries<J, V> {
-    /// Puts an area under its lock, as it is when the run begins, for a run at this moment that keeps
-    /// summaries for so many days, or all where these are 0. It reads nothing, takes no memory, and
-    /// can't fail. Nothing is in the book yet.
+    /// Puts an area under its lock, as it is when the run begins, for a run at this moment that
+    /// keeps summaries for so many days, or all where these are 0. It reads nothing, takes no
+    /// memory, and can't fail. Nothing is in the book yet.
     pub fn begin(
         area: Box<V>,
         store: &Store<J, V>,
@@ -65,9 +65,9 @@ impl<J: OfRetention, V: Vault> Summaries<J, V> {
         }
     }
 
-    /// Publishes under the lock what `crate::summary_publish::advance` publishes of all that the pass
-    /// sees then, and says how many summaries that were; then it removes the old ones, of which those
-    /// that it publishes are none. Memory as there.
+    /// Publishes under the lock what `crate::summary_publish::advance` publishes of all that the
+    /// pass sees then, and says how many summaries that were; then it removes the old ones, of
+    /// which those that it publishes are none. Memory as there.
     pub fn advance(
         &self,
         rt: &impl Wait,
@@ -86,7 +86,8 @@ impl<J: OfRetention, V: Vault> Summaries<J, V> {
         self.kept.lock(rt).advance(rt, alloc, store, pass, when)
     }
 
-    /// The same, and the merge of the summaries that are kept then whose ranges overlap the range from
+    /// The same, and the merge of the summaries that are kept then whose ranges overlap the range
+    /// from
     /// `from` to below `to`, where they cover it. `Gap` exactly where a place of the range isn't
     /// covered, with the least such.
     pub fn advance_covering(
@@ -112,8 +113,8 @@ impl<J: OfRetention, V: Vault> Summaries<J, V> {
             .advance_covering(rt, alloc, store, pass, from, to, when)
     }
 
-    /// Takes the area back from under its lock, behind all workers, with the book of its faults. The
-    /// pass learns what the lock knew: the area is true for that.
+    /// Takes the area back from under its lock, behind all workers, with the book of its faults.
+    /// The pass learns what the lock knew: the area is true for that.
     pub fn close(self, store: &Store<J, V>, pass: &mut Pass<J>) -> (V, Book<AreaFaults<J, 5>>)
         ensures shelved { AreShelved (J.tells ≡ true) J.found J.sums pass.new.list
             (V.files result.0) }

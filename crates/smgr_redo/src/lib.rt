@@ -3,9 +3,9 @@
 //!
 //! `redo_storage` redoes one of them over a store of pages behind calls that may fail. A creation
 //! leaves a fork that is there as it is. A truncation whose flags name the main fork (bit 1) cuts
-//! it to so many blocks, where it is there and has more; one without that bit changes nothing. A commit
-//! removes all forks of each relation that it names; one that isn't there stays so. It takes no
-//! memory of its own.
+//! it to so many blocks, where it is there and has more; one without that bit changes nothing. A
+//! commit removes all forks of each relation that it names; one that isn't there stays so. It takes
+//! no memory of its own.
 //!
 //! Left to others: what a record does to a store (`history`), the pages themselves (`lsn_core`'s
 //! `Pages`), block references (`generic_redo`), and the order of the records (`recovery`).

@@ -11,10 +11,10 @@ use history::{cuts_main, init_fork, main_fork};
 use lsn_core::{AreaFault, Pages, Rel};
 use wal_record::{Kind, Record};
 
-/// Redoes a creation, a truncation or a commit. A fork that is there is left as it is by its creation. The
-/// main fork is cut where the flags of a truncation name it (bit 1), it is there, and it has more
-/// blocks. A commit removes all forks of each relation that it names. Of the pages behind a fault
-/// nothing is said.
+/// Redoes a creation, a truncation or a commit. A fork that is there is left as it is by its
+/// creation. The main fork is cut where the flags of a truncation name it (bit 1), it is there, and
+/// it has more blocks. A commit removes all forks of each relation that it names. Of the pages
+/// behind a fault nothing is said.
 pub fn redo_storage<P: Pages>(target: &mut P, rec: &Record) -> Result<(), AreaFault>
     requires { IsStorage rec.now.kind }
     ensures done { OnOk result (Redoes P.shows target.old target.new (λ s. redo s rec.now)) }

@@ -1,6 +1,6 @@
-//! What a stop leaves of a partition's area, by the history that the partition follows: the store at
-//! its point, but for what entries from there on change whose WAL is flushed. A partition doesn't
-//! know its history, so the contracts of its calls say this of any entries (`page_pool`,
+//! What a stop leaves of a partition's area, by the history that the partition follows: the store
+//! at its point, but for what entries from there on change whose WAL is flushed. A partition
+//! doesn't know its history, so the contracts of its calls say this of any entries (`page_pool`,
 //! `specs/Stops.antt`); the laws here give what those ask for.
 //!
 //! It has no code: `laws` has functions that do nothing, whose contracts are the laws of

@@ -109,7 +109,8 @@ pub record IsBegun {V : Type 0} (g : Ghosts V) (areas : StoreAreas V) (store : O
   pub has : HasBegun (g.files areas.wal) store tip
   pub later : NoneFell (faults_of g areas) store.faults
 
--- what is known of it: its WAL was read whole to this history, durably, which each partition follows
+-- what is known of it: its WAL was read whole to this history, durably, which each partition
+-- follows
 pub record IsStanding {V : Type 0} (g : Ghosts V) (found : Found V) : Type 0 where
   pub is : IsFound (g.files found.wal) found.settings found.opened.list found.pages found.tip
   pub durable : IsDurable (g.files found.wal) (g.past found.wal)
@@ -190,8 +191,8 @@ pub record IsWalPart (files : Option Files) (s : StoreSettings) (q : ℕ) (pages
   pub made : apply_all empty (map entry_of entries) ≡ Some store
   pub part_is : IsPart q store pages
 
--- rebuilding them from the WAL came so far: nothing but the mark of the first one was touched; or it
--- has its mark still; or all four have just their files, and it may be gone
+-- rebuilding them from the WAL came so far: nothing but the mark of the first one was touched; or
+-- it has its mark still; or all four have just their files, and it may be gone
 pub record RebuildsSoFar {V : Type 0} (g : Ghosts V) (old new : StoreAreas V) : Type 0 where
   pub settings : StoreSettings
   pub given : HasSettings (g.files old.wal) settings
@@ -206,8 +207,8 @@ DataFails old new (store.Failed area) =
 DataFails old new store.NoMemory = Unit {0}
 
 -- the WAL can't be begun on, and the data areas are untouched; or it was read, and can't be
--- replayed, and the first data area has the mark of areas that are rebuilt; or a data area failed, or
--- memory ran out while these were rebuilt
+-- replayed, and the first data area has the mark of areas that are rebuilt; or a data area failed,
+-- or memory ran out while these were rebuilt
 abbrev pub BeginsNot : {V : Type 0} → Ghosts V → StoreAreas V → StoreAreas V → BeginWhy → Type 0
 BeginsNot g old new (why.Wal fault) =
     BeginCause (g.files old.wal) (g.faults old.wal) (g.faults new.wal) fault

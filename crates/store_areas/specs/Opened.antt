@@ -60,8 +60,8 @@ count_of Sums faults = 0
 abbrev pub NoneFell : Faults → Faults → Type 0
 NoneFell old new = (area : StoreArea) → count_of area old ≤ count_of area new
 
--- an area failed only where its count rose, which at its type's end stays; want of memory may come at
--- any time
+-- an area failed only where its count rose, which at its type's end stays; want of memory may come
+-- at any time
 abbrev pub StoreCause : Faults → Faults → StoreFault → Type 0
 StoreCause old new (store.Failed area) = Rose (count_of area old) (count_of area new)
 StoreCause old new store.NoMemory = Unit {0}

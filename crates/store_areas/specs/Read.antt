@@ -13,8 +13,8 @@ use Rattle.history.specs.Whole.{entry_of}
 use Rattle.recovery.specs.Reading.{IsReadTo}
 use Rattle.recovery.specs.Causes.{HasSettings}
 
--- a WAL was read whole: its entries are the history, which makes a store of so many pages, where the
--- WAL's area tells its files
+-- a WAL was read whole: its entries are the history, which makes a store of so many pages, where
+-- the WAL's area tells its files
 pub record HasRead (s : StoreSettings) (files : Option Files) (history : List Entry) (pages : ℕ)
     (tip : Tip) : Type 0 where
   pub found : List Record

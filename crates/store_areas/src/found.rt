@@ -15,8 +15,8 @@ pub struct BeginFault<V: Vault> {
     pub why: BeginWhy,
 }
 
-/// A store that was found on its areas, and isn't begun yet: the history that its WAL tells, which has
-/// no name yet, how many pages that makes and where it ends, and the partitions that hold them.
+/// A store that was found on its areas, and isn't begun yet: the history that its WAL tells, which
+/// has no name yet, how many pages that makes and where it ends, and the partitions that hold them.
 #[derive(Drop)]
 pub struct Found<V: Vault> {
     pub opened: Opened<HistoryEntry>,

@@ -1,4 +1,5 @@
--- `follow`: what following an input as the stream of a WAL into an output does, prints and ends with.
+-- `follow`: what following an input as the stream of a WAL into an output does, prints and ends
+-- with.
 use Rattle.std.specs.Prelude.{◌≡◌, ℕ, ◌≤◌, Option, List, [], ◌∷◌, ◌++◌, length, IfSome, Some, None, Result, Ok, Err, codes}
 use Rattle.std.specs.Option.{option_map}
 use Rattle.std.specs.FinMap.{len}
@@ -46,8 +47,8 @@ pub record FollowSeen : Type 0 where
 abbrev pub follow_seen : List ℕ → Outside → FollowSeen
 follow_seen out o = record { out = o.areas out; left = o.left; reads = o.reads }
 
--- an input of these bytes was followed to its end as the stream of a WAL: the output's files are just
--- those that a replay of the stream's archive makes, durably
+-- an input of these bytes was followed to its end as the stream of a WAL: the output's files are
+-- just those that a replay of the stream's archive makes, durably
 pub record FollowDone
     (mib relseg : ℕ) (bytes : List ℕ) (old new : AreaState) (report : ReplayReport)
     : Type 0 where
@@ -84,10 +85,10 @@ KeepsClear old new = IsClear old × Keeps old new
 abbrev pub LeavesInput : FollowSeen → FollowSeen → Type 0
 LeavesInput old new = (new.left ≡ old.left) × (new.reads ≡ old.reads)
 
--- why `follow` with segments of so many MiB, and so many blocks of a fork in each file of the output,
--- comes to its answer, where an area that isn't handed out means this. What the input's bytes are is
--- said where it tells them. Whatever is found of them, the output is as it was; of one that was empty
--- a failed device or want of memory in writing says nothing
+-- why `follow` with segments of so many MiB, and so many blocks of a fork in each file of the
+-- output, comes to its answer, where an area that isn't handed out means this. What the input's
+-- bytes are is said where it tells them. Whatever is found of them, the output is as it was; of one
+-- that was empty a failed device or want of memory in writing says nothing
 abbrev pub FollowAnswer : ℕ → ℕ → Untakens → FollowSeen → FollowSeen → FollowResult → Type 0
 FollowAnswer mib relseg Untaken old new (Ok report) =
     IfSome old.left (λ bytes. FollowDone mib relseg bytes old.out new.out report)

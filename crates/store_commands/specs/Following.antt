@@ -1,5 +1,5 @@
--- What `follow` has to do with `replay`; and what private functions of `follow` answer to those that
--- call them, of which none stands in the contract of a public call.
+-- What `follow` has to do with `replay`; and what private functions of `follow` answer to those
+-- that call them, of which none stands in the contract of a public call.
 use Rattle.std.specs.Prelude.{◌≡◌, ℕ, List, [], Some, None, Result, Ok, Err, IfSome}
 use Rattle.std.specs.Option.{option_map}
 use Rattle.lsn_core.specs.declared.lsn.Lsn.{Lsn}

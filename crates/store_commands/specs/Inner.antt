@@ -106,8 +106,8 @@ AnswersPrepared vaults upto wal out wal_now out_now (Err fault) =
 abbrev pub reported : Replayed → ReplayReport
 reported r = record { end = r.end; forks = r.forks; pages = r.pages }
 
--- how a replay into an area ends: what was written is as it was, and durable, or, where the WAL couldn't be
--- replayed, it is taken away
+-- how a replay into an area ends: what was written is as it was, and durable, or, where the WAL
+-- couldn't be replayed, it is taken away
 abbrev pub FinishAnswer :
     {V : Type 0} → Vaults V → Result Replayed Unreplayed → V → V → ReplayResult → Type 0
 FinishAnswer vaults (Ok r) old new (Ok report) =

@@ -33,8 +33,8 @@ pub record IsKeptGap (from to place : ℕ) (files : Files) : Type 0 where
   pub kept : AreKept files sums
   pub gap : IsGap sums from to place
 
--- why `walsummary` of a range comes to its answer over the area of the summaries, where an area that
--- isn't handed out means this
+-- why `walsummary` of a range comes to its answer over the area of the summaries, where an area
+-- that isn't handed out means this
 abbrev pub WalsummaryAnswer :
     Lsn → Lsn → Untakens → AreaState → AreaState → WalsummaryResult → Type 0
 WalsummaryAnswer from to Untaken old new (Ok sum) =

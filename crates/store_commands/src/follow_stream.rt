@@ -161,8 +161,8 @@ fn follow_in<S: Site, I: Source>(
     answer
 }
 
-/// `follow`: follows the input to its end as the stream of a WAL by these sizes, and writes the pages
-/// that it makes to an output of this name.
+/// `follow`: follows the input to its end as the stream of a WAL by these sizes, and writes the
+/// pages that it makes to an output of this name.
 pub fn follow<S: Site, I: Source>(
     alloc: Global,
     sizes: FollowSizes,
@@ -229,8 +229,8 @@ pub fn follow_status(came: &Result<ReplayReport, FollowFault>) -> Status
     }
 }
 
-/// Where an area of a WAL has the archive of a stream, and its settings are those that the stream is
-/// followed with, what `follow` did is what `replay` of that WAL to its end does.
+/// Where an area of a WAL has the archive of a stream, and its settings are those that the stream
+/// is followed with, what `follow` did is what `replay` of that WAL to its end does.
 pub fn follow_does_as_replay()
     ensures { FollowsAsReplay }
 {}

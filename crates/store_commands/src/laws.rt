@@ -18,8 +18,8 @@ pub fn replay_has_one_answer()
     ensures { HasOneReplay }
 {}
 
-/// `walsummary` of one range comes to one answer, too: what is kept of an area's files is one list of
-/// summaries, which have one merge, or one least place that they don't cover.
+/// `walsummary` of one range comes to one answer, too: what is kept of an area's files is one list
+/// of summaries, which have one merge, or one least place that they don't cover.
 pub fn walsummary_has_one_answer()
     ensures { HasOneWalsummary }
 {

@@ -1,12 +1,12 @@
 //! The commands over a store's WAL: `init`, `replay`, `follow` and `walsummary`.
 //!
-//! What each changes, why it comes to its answer, what it prints and how it ends stand in a file each
-//! (`specs/Init.antt`, `Replay.antt`, `Follow.antt`, `Walsummary.antt`). Laws say that a command comes
-//! to one answer, and that `follow` does as `replay` does.
+//! What each changes, why it comes to its answer, what it prints and how it ends stand in a file
+//! each (`specs/Init.antt`, `Replay.antt`, `Follow.antt`, `Walsummary.antt`). Laws say that a
+//! command comes to one answer, and that `follow` does as `replay` does.
 //!
-//! Left to others: the words (`command_line`), the work of `follow` (`follow_command`), what a replay
-//! and a WAL are (`recovery`, `wal_archive`), which summaries are kept and how one is printed
-//! (`summary_store`, `summary_text`), and the system's objects.
+//! Left to others: the words (`command_line`), the work of `follow` (`follow_command`), what a
+//! replay and a WAL are (`recovery`, `wal_archive`), which summaries are kept and how one is
+//! printed (`summary_store`, `summary_text`), and the system's objects.
 #![tactic(auto)]
 
 mod follow_stream;

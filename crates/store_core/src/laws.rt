@@ -27,10 +27,10 @@ pub fn finished_backups_stay()
     ensures { FinishedBackupsStay }
 {}
 
-/// Of each chain of finished backups, a full one and incremental ones behind it, the store is sound;
-/// and replay of the WAL that the machine wrote, over that store and from the last backup's start
-/// on, gives what replay of the whole WAL from nothing gives, for each place from that backup's end
-/// on; and that is what the history made up to there.
+/// Of each chain of finished backups, a full one and incremental ones behind it, the store is
+/// sound; and replay of the WAL that the machine wrote, over that store and from the last backup's
+/// start on, gives what replay of the whole WAL from nothing gives, for each place from that
+/// backup's end on; and that is what the history made up to there.
 pub fn restored_chains_are_whole()
     ensures { RestoredChainsAreWhole }
 {}

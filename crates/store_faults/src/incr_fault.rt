@@ -19,8 +19,8 @@ pub enum IncrFault {
     NotEmpty,
     /// The prior backup has no file `backup_manifest`.
     NoManifest,
-    /// The manifest of the prior backup is refused, and why: not for want of memory. One of version 1
-    /// is refused for that.
+    /// The manifest of the prior backup is refused, and why: not for want of memory. One of version
+    /// 1 is refused for that.
     ManifestRefused(ManifestFault),
     /// The prior backup is of a store with the first system identifier, and this store has the
     /// second.

@@ -75,8 +75,8 @@ pub record AreFilledBy {V : Type 0} (g : Ghosts V) (relseg : ℕ) (files : Optio
   pub filled : AreFilled (on_heap g) relseg areas
   pub held : HoldHistory (on_heap g) relseg files areas history
 
--- why a WAL that was read isn't replayed into pages: it is refused, or its area failed, or memory ran
--- out; or a call on the pages failed
+-- why a WAL that was read isn't replayed into pages: it is refused, or its area failed, or memory
+-- ran out; or a call on the pages failed
 abbrev pub IsUnreplayed : Option Files → ℕ → ℕ → ℕ → ℕ → ReplayFault → Type 0
 IsUnreplayed files wal_before wal_now before now (Wal fault) =
     BeginCause files wal_before wal_now fault × IfSome files (λ m. MayComeLate fault)

@@ -68,7 +68,8 @@ fn open<V: Vault>(
     }
 }
 
-/// Replays the WAL of a store, which was read, into cleared data areas, and makes partitions of them.
+/// Replays the WAL of a store, which was read, into cleared data areas, and makes partitions of
+/// them.
 fn refill<V: Vault>(
     alloc: Global,
     opened: Opened<HistoryEntry>,
@@ -108,8 +109,8 @@ fn refill<V: Vault>(
     }
 }
 
-/// Clears the data areas of a store whose WAL was read, replays that into them, and makes partitions
-/// of them.
+/// Clears the data areas of a store whose WAL was read, replays that into them, and makes
+/// partitions of them.
 fn rebuild<V: Vault>(
     alloc: Global,
     opened: Opened<HistoryEntry>,
@@ -174,15 +175,15 @@ fn read<V: Vault>(
     }
 }
 
-/// Finds a store on its areas, with so many frames a partition. It reads the settings, syncs the area
-/// of the WAL and reads the WAL whole; then it clears the data areas, replays the WAL into them, and
-/// makes them durable (`data_areas`). Every refusal hands the areas back. Where the WAL can't be read
-/// no data area was touched; meanwhile the first data area has the file `rebuilding`. Whatever it
-/// answers, a stop at any moment of the call leaves the data areas as one at its start may, or that
-/// file, or the whole replay, and after Ok the whole replay alone.
+/// Finds a store on its areas, with so many frames a partition. It reads the settings, syncs the
+/// area of the WAL and reads the WAL whole; then it clears the data areas, replays the WAL into
+/// them, and makes them durable (`data_areas`). Every refusal hands the areas back. Where the WAL
+/// can't be read no data area was touched; meanwhile the first data area has the file `rebuilding`.
+/// Whatever it answers, a stop at any moment of the call leaves the data areas as one at its start
+/// may, or that file, or the whole replay, and after Ok the whole replay alone.
 ///
-/// What was found is a list that has no name: the caller hands it to `begin` at a name that its proof
-/// picks.
+/// What was found is a list that has no name: the caller hands it to `begin` at a name that its
+/// proof picks.
 pub fn find<V: Vault>(
     alloc: Global,
     areas: StoreAreas<V>,

@@ -89,8 +89,8 @@ pub fn insert_prepared<J: OfStore, V: Vault, W: Vault, const Q: u32>(
     })
 }
 
-/// The partition that a command concerns, and it alone; it errs where the command hasn't the form of
-/// one, or can't be done on any pages.
+/// The partition that a command concerns, and it alone; it errs where the command hasn't the form
+/// of one, or can't be done on any pages.
 pub fn partition_for<J: OfStore, V: Vault>(
     journal: &Journal<J, V>,
     op: &Op,
@@ -115,8 +115,8 @@ pub fn partition_for<J: OfStore, V: Vault>(
     }
 }
 
-/// Judges a command, but for the room of the WAL, and makes it ready: with the number of the store's
-/// pages behind it.
+/// Judges a command, but for the room of the WAL, and makes it ready: with the number of the
+/// store's pages behind it.
 fn check_in<J: OfStore, V: Vault, W: Vault, const Q: u32>(
     alloc: Global,
     journal: &Journal<J, V>,

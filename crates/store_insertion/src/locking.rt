@@ -1,5 +1,6 @@
-//! What inserting a command does under the locks of an open store: a partition's first, then the WAL's,
-//! which is held for the history and the WAL alone, and not while a data area is read or written.
+//! What inserting a command does under the locks of an open store: a partition's first, then the
+//! WAL's, which is held for the history and the WAL alone, and not while a data area is read or
+//! written.
 
 ghost use Rattle.std.specs.Prelude.{◌≡◌, ◌<◌, ◌+◌, ◌≤◌, true, None, IfOk, OnOk, IfErr};
 ghost use Rattle.history.specs.Op.{act_of_op};
@@ -55,8 +56,9 @@ pub fn insert_with<J: OfCrew, V: Vault, const Q: u32>(
     insert_held(rt, alloc, line, desk, &mut part, own, share, op)
 }
 
-/// The same under the partition's lock: makes room for the command, then judges it on the pages. The
-/// WAL's lock is taken twice, for the flush and for the command, and not held while pages are written.
+/// The same under the partition's lock: makes room for the command, then judges it on the pages.
+/// The WAL's lock is taken twice, for the flush and for the command, and not held while pages are
+/// written.
 fn insert_held<J: OfCrew, V: Vault, const Q: u32>(
     rt: &impl Wait,
     alloc: Global,
@@ -85,8 +87,8 @@ fn insert_held<J: OfCrew, V: Vault, const Q: u32>(
     }
 }
 
-/// Makes room in a partition for a command, under the partition's lock. The WAL's lock is held for the
-/// flush alone.
+/// Makes room in a partition for a command, under the partition's lock. The WAL's lock is held for
+/// the flush alone.
 fn make_room<J: OfCrew, V: Vault, const Q: u32>(
     rt: &impl Wait,
     alloc: Global,
@@ -113,8 +115,8 @@ fn make_room<J: OfCrew, V: Vault, const Q: u32>(
     part.make_room(alloc, op, &mark, share)
 }
 
-/// Flushes the WAL past what is written to make room for a command, and up to its end where too much
-/// of it waits, under the WAL's lock.
+/// Flushes the WAL past what is written to make room for a command, and up to its end where too
+/// much of it waits, under the WAL's lock.
 fn flush_room<J: OfCrew, V: Vault, const Q: u32>(
     rt: &impl Wait,
     alloc: Global,

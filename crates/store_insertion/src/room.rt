@@ -20,8 +20,8 @@ use wal_writer::Flushed;
 /// The most bytes of the WAL that wait to be flushed before a command (profile).
 const MOST_WAITING: u64 = 4_194_304;
 
-/// Flushes the WAL up to its end where more of it waits than may before a command, since what waits is
-/// held in memory, or where something newer has to be written to make room for the command.
+/// Flushes the WAL up to its end where more of it waits than may before a command, since what waits
+/// is held in memory, or where something newer has to be written to make room for the command.
 pub fn flush_before<J: OfStore, V: Vault, W: Vault, const Q: u32>(
     alloc: Global,
     journal: &mut Journal<J, V>,

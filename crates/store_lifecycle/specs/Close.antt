@@ -86,9 +86,9 @@ CloseAnswer g tells s history starts passes areas (Err (store.Failed which)) =
     HasFailed g starts passes areas which
 CloseAnswer g tells s history starts passes areas (Err store.NoMemory) = Unit {0}
 
--- a store was closed: its history begins with what was found and goes on by its workers' entries; each
--- worker saw a beginning of it, and has in it just the commands that were accepted of it and the marks
--- that it made; of the WAL
+-- a store was closed: its history begins with what was found and goes on by its workers' entries;
+-- each worker saw a beginning of it, and has in it just the commands that were accepted of it and
+-- the marks that it made; of the WAL
 -- only what wasn't flushed at the beginning was written; and the count of each area has risen by at
 -- least the faults that the workers were answered
 pub record IsClosed {V : Type 0} (g : Ghosts V) (tells : Type 0) (s : StoreSettings)

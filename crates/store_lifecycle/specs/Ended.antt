@@ -92,8 +92,8 @@ abbrev pub place_of : Result Flushed StoreFault → Result Lsn StoreFault
 place_of (Ok mark) = Ok mark.to
 place_of (Err why) = Err why
 
--- what ending a store answers: where the WAL ends, and then, where areas tell, they hold the history;
--- or why not all of it is known to be written
+-- what ending a store answers: where the WAL ends, and then, where areas tell, they hold the
+-- history; or why not all of it is known to be written
 abbrev pub EndAnswer : {V : Type 0} → Ghosts V → Type 0 → Opened → StoreAreas V
     → Result Lsn StoreFault → Type 0
 EndAnswer g tells store areas (Ok end) =

@@ -28,8 +28,8 @@ use timeline::{Note, Pen, Timeline};
 use vault::{BoxedArea, Vault};
 use wal_writer::{Flushed, WalState};
 
-/// A store that was begun, a pass for each worker, in order, and the book of the faults of the area of
-/// the summaries.
+/// A store that was begun, a pass for each worker, in order, and the book of the faults of the area
+/// of the summaries.
 #[derive(Drop)]
 pub struct Began<J: OfCrew, V: Vault> {
     pub store: Store<J, V>,

@@ -83,7 +83,8 @@ pub fn close<J: OfCrew, V: Vault>(
     (unboxed_all(areas), answer)
 }
 
-/// A partition that is brought up to date, of whose area's faults all workers gave their shares back.
+/// A partition that is brought up to date, of whose area's faults all workers gave their shares
+/// back.
 fn up_to_date<J: OfCrew, V: Vault, const Q: u32>(
     line: &Timeline<HistoryEntry, J>,
     desk: &mut Desk<J, BoxedArea<V>>,

@@ -46,8 +46,8 @@ concerned q entries = length (filter (concerns q) entries)
 abbrev pub own_count : ℕ → List Entry → List Entry → ℕ
 own_count q found history = concerned q (drop (length found) history)
 
--- an area that had failed so often at the beginning failed since at least as often as is booked, and
--- no failure was forgotten
+-- an area that had failed so often at the beginning failed since at least as often as is booked,
+-- and no failure was forgotten
 abbrev pub HasRisen : ℕ → ℕ → ℕ → Type 0
 HasRisen start booked now = (start ≤ now) × (min (start + booked) (2 ^ 64 - 1) ≤ now)
 
@@ -59,9 +59,9 @@ pub record WalStart : Type 0 where
 
 -- ---- the lock of the WAL
 
--- what its value keeps: the history, which all notes begin and behind what was found is the workers'
--- own, the WAL that tells it, and the books of the partitions' entries, of the workers' entries, and
--- of the faults of the WAL's area
+-- what its value keeps: the history, which all notes begin and behind what was found is the
+-- workers' own, the WAL that tells it, and the books of the partitions' entries, of the workers'
+-- entries, and of the faults of the WAL's area
 pub record IsDesk {W : Type 0} (g : Ghosts W) (settings : StoreSettings) (tells : Type 0)
     (found : List Entry) (workers : ℕ) (from : WalStart) (start : ℕ) (journal : Written W)
     (mark : ℕ) (counts : List ℕ) (entries : Counts) (made faults : ℕ) : Type 0 where
@@ -243,8 +243,8 @@ abbrev pub AppendsMark :
 AppendsMark mib marking old new (Ok place) = HasMarked marking old new place
 AppendsMark mib marking old new (Err fault) = HasNotMarked mib marking old new fault
 
--- where the WAL is flushed up to the mark: it is, or the WAL's area failed behind it, whose fault is
--- booked, or there was no memory for the flush
+-- where the WAL is flushed up to the mark: it is, or the WAL's area failed behind it, whose fault
+-- is booked, or there was no memory for the flush
 abbrev pub FlushesMark :
     ℕ → Marking → Standing → Standing → Result (Place × Flushed) MarkFault → Type 0
 FlushesMark mib marking old new (Ok x) =

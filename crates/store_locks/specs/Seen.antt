@@ -43,8 +43,8 @@ pub record Seen : Type 0 where
   pub list : List Entry
   pub faults : Booked
 
--- a pass that has seen a history: none of its commands was accepted yet, it made no mark, and it was
--- answered no fault
+-- a pass that has seen a history: none of its commands was accepted yet, it made no mark, and it
+-- was answered no fault
 abbrev pub fresh_pass : ℕ → List Entry → Seen
 fresh_pass worker history = record {
   worker = worker;

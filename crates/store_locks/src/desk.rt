@@ -125,8 +125,8 @@ impl<J: OfCrew, W: Vault> Desk<J, W> {
         }
     }
 
-    /// A partition is brought up to date and a worker sees the whole history, and the WAL is flushed
-    /// past the entry of what the partition writes next, where there is anything.
+    /// A partition is brought up to date and a worker sees the whole history, and the WAL is
+    /// flushed past the entry of what the partition writes next, where there is anything.
     pub fn flush_next<const Q: u32>(
         &mut self,
         alloc: Global,
@@ -173,8 +173,8 @@ impl<J: OfCrew, W: Vault> Desk<J, W> {
         }
     }
 
-    /// A partition is brought up to date and a worker sees the whole history, and the WAL is flushed
-    /// past a redo point and past the newest entry of all that the partition has to write.
+    /// A partition is brought up to date and a worker sees the whole history, and the WAL is
+    /// flushed past a redo point and past the newest entry of all that the partition has to write.
     pub fn flush_newest<const Q: u32>(
         &mut self,
         alloc: Global,
@@ -313,8 +313,8 @@ impl<J: OfCrew, W: Vault> Desk<J, W> {
         }
     }
 
-    /// A worker sees the whole history, and appends the start of a checkpoint behind it, which it sees
-    /// too. A refusal changes nothing.
+    /// A worker sees the whole history, and appends the start of a checkpoint behind it, which it
+    /// sees too. A refusal changes nothing.
     pub fn start(
         &mut self,
         alloc: Global,

@@ -108,9 +108,9 @@ impl<J: OfCrew, W: Vault, const Q: u32> HeldPart<J, W, Q> {
         }
     }
 
-    /// Writes all that is to be written, before which the WAL is flushed, syncs the area, and raises
-    /// the point to the redo point, past which the WAL is flushed too: no point is raised past what is
-    /// flushed.
+    /// Writes all that is to be written, before which the WAL is flushed, syncs the area, and
+    /// raises the point to the redo point, past which the WAL is flushed too: no point is raised
+    /// past what is flushed.
     pub fn clean_all(
         &mut self,
         redo: Lsn,

@@ -4,14 +4,14 @@
 //! belong to it; under the lock of each partition a `HeldPart`, which follows a beginning of the
 //! history, also after calls that failed (`specs/Locked.antt`). What a worker has seen of the
 //! history, and how many faults of the WAL's area it was answered, is its `Knowing`
-//! (`specs/Seen.antt`). The WAL is flushed up to a place or past what a partition hasn't written,
-//! marks are appended, and records are read from a place on (`specs/Records.antt`). Why a command is
-//! refused behind a history stands in `specs/Refusals.antt`.
+//! (`Standing` of `specs/Locked.antt`). The WAL is flushed up to a place or past what a partition
+//! hasn't written, marks are appended, and records are read from a place on (`specs/Records.antt`).
+//! Why a command is refused behind a history stands in `specs/Refusals.antt`.
 //!
 //! Left to others: the locks and the order in which they are taken (`shared_store`), how a store
-//! begins and is closed (`store_lifecycle`, to which the values under the locks and their fields are
-//! public), how commands are inserted (`store_insertion`), the history and the WAL that tells it
-//! (`journal`), a partition's pages and its area (`page_pool`), and the ledgers' kinds
+//! begins and is closed (`store_lifecycle`, to which the values under the locks and their fields
+//! are public), how commands are inserted (`store_insertion`), the history and the WAL that tells
+//! it (`journal`), a partition's pages and its area (`page_pool`), and the ledgers' kinds
 //! (`store_ledgers`).
 #![tactic(auto)]
 

@@ -35,8 +35,8 @@ pub(crate) fn append_start<J: OfStore, V: Vault>(
     }
 }
 
-/// Appends the end of the checkpoint of a redo point, behind which all partitions were written, as a
-/// worker. It errs as a whole. No other function appends such an entry.
+/// Appends the end of the checkpoint of a redo point, behind which all partitions were written, as
+/// a worker. It errs as a whole. No other function appends such an entry.
 pub(crate) fn append_end<J: OfStore, V: Vault>(
     alloc: Global,
     line: &Timeline<HistoryEntry, J>,

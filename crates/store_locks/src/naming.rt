@@ -6,8 +6,8 @@ use store_ledgers::OfLedgers;
 
 /// Names what all that belongs to one open store has in common, wherever it lies: the store's
 /// timeline and whether its areas tell their files (`OfStore`), its ledgers (`OfLedgers`), its
-/// settings and its number of workers, the entries that its WAL was found to have, and how its areas
-/// and that of the summaries were when the run began.
+/// settings and its number of workers, the entries that its WAL was found to have, and how its
+/// areas and that of the summaries were when the run began.
 pub trait OfCrew: OfStore + OfLedgers {
     ghost use Rattle.std.specs.Prelude.{ℕ, List, Option};
     ghost use Rattle.lsn_core.specs.Files.{Files};
@@ -15,15 +15,16 @@ pub trait OfCrew: OfStore + OfLedgers {
     ghost use Rattle.history.specs.Entry.{Entry};
     ghost use Rattle.store_locks.specs.Locked.{WalStart};
 
-    /// The settings: a segment's size in MiB, the most blocks of a file, and the number of the system.
+    /// The settings: a segment's size in MiB, the most blocks of a file, and the number of the
+    /// system.
     ghost settings: { StoreSettings };
 
-    /// The entries that the WAL was found to have, from the first one on. What comes behind them is of
-    /// this run.
+    /// The entries that the WAL was found to have, from the first one on. What comes behind them is
+    /// of this run.
     ghost found: { List Entry };
 
-    /// The WAL's area when the run began: its files, where it told them, and the place (a byte of the
-    /// WAL) up to which it was flushed.
+    /// The WAL's area when the run began: its files, where it told them, and the place (a byte of
+    /// the WAL) up to which it was flushed.
     ghost wal: { WalStart };
 
     /// The files of the area of the summaries when the run began, where it told them.

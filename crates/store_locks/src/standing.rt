@@ -16,8 +16,8 @@ use vault::Vault;
 
 /// What a worker knows and has counted: its number, how many of its commands were accepted, a note
 /// of what it has seen of the history, and its shares of the workers' entries and of the faults of
-/// the WAL's area. Those of its entries that aren't commands are marks. What it has seen is lawful at
-/// any time, where areas tell their files. Contracts see a `Standing` of `specs/Locked.antt`.
+/// the WAL's area. Those of its entries that aren't commands are marks. What it has seen is lawful
+/// at any time, where areas tell their files. Contracts see a `Standing` of `specs/Locked.antt`.
 #[derive(Drop)]
 pub struct Knowing<J: OfCrew> {
     /// The worker's number.
@@ -135,7 +135,8 @@ impl<J: OfCrew> Knowing<J> {
         line.join(&mut self.note, note);
     }
 
-    /// It sees the whole history, where a mark of its own stands that it hasn't seen, and counts that.
+    /// It sees the whole history, where a mark of its own stands that it hasn't seen, and counts
+    /// that.
     pub(crate) fn mark<W: Vault>(
         &mut self,
         line: &Timeline<HistoryEntry, J>,

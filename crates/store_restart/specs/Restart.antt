@@ -125,9 +125,9 @@ pub record BeginsAt (s : StoreSettings) (tip : Tip) (start : Option Lsn) (files 
   pub survive : SurviveIn s files records tip
   pub start_is : replay_start records ≡ start
 
--- data areas are brought to the end of the survivors: made anew where the first of them is marked or
--- no redo point is known, and the mark is gone; else brought on from that point. They have so many
--- forks and pages
+-- data areas are brought to the end of the survivors: made anew where the first of them is marked
+-- or no redo point is known, and the mark is gone; else brought on from that point. They have so
+-- many forks and pages
 abbrev pub BringsBack : {V : Type 0} → Ghosts V → StoreSettings → Tip → DataAreas V → DataAreas V
     → Tally → Files → Type 0
 BringsBack g s tip old new tally files =

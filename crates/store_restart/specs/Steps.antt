@@ -1,4 +1,5 @@
--- What functions inside the crate do with data areas that were filled. No public contract cites these.
+-- What functions inside the crate do with data areas that were filled. No public contract cites
+-- these.
 use Rattle.std.specs.Prelude.{◌≡◌, ◌⊎◌, ℕ, Result, Ok, Err}
 use Rattle.lsn_core.specs.Store.{Store}
 use Rattle.vault.specs.declared.area.Vault.{Ghosts}

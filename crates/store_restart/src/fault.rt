@@ -13,7 +13,8 @@ use wal_reader::WalFault;
 /// Why a store is not brought back.
 #[derive(Clone, Copy, Debug, PartialEq, Eq)]
 pub enum RestartWhy {
-    /// The archive is damaged in the place of the first entry, or an entry is whole and isn't taken.
+    /// The archive is damaged in the place of the first entry, or an entry is whole and isn't
+    /// taken.
     Damaged(Damage),
     /// A delta of the entry that starts there leaves a page with a bad header.
     BadDelta(Lsn),
@@ -64,8 +65,8 @@ pub(crate) fn of_reader(fault: WalFault) -> RestartWhy
     }
 }
 
-/// What the fault of a replay is, of entries that were read before. An archive that ends earlier now
-/// was cut off meanwhile.
+/// What the fault of a replay is, of entries that were read before. An archive that ends earlier
+/// now was cut off meanwhile.
 pub(crate) fn of_recovery(fault: RecoveryFault) -> RestartWhy
     ensures { result ≡ replay_why fault }
 {

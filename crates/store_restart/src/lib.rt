@@ -12,16 +12,17 @@
 //! left of it before the place, it leaves at each moment of the call, and also after a fault. The
 //! area's other files don't change.
 //!
-//! `restart` brings a store back, with its areas on the heap meanwhile, so that their sizes are known
-//! (`specs/Restarted.antt`). The WAL is just its survivors then, and the data areas are brought to
-//! their end: made anew from the first entry on, under the file `rebuilding` of the first area, where
-//! that is there already or no redo point is known; else their segment files are made neat, and the
-//! survivors from that point on redone over them (`specs/Restart.antt`). Each refusal has its cause
-//! (`specs/Causes.antt`), and damage that no stop leaves comes before anything is written.
+//! `restart` brings a store back, with its areas on the heap meanwhile, so that their sizes are
+//! known (`specs/Restarted.antt`). The WAL is just its survivors then, and the data areas are
+//! brought to their end: made anew from the first entry on, under the file `rebuilding` of the
+//! first area, where that is there already or no redo point is known; else their segment files are
+//! made neat, and the survivors from that point on redone over them (`specs/Restart.antt`). Each
+//! refusal has its cause (`specs/Causes.antt`), and damage that no stop leaves comes before
+//! anything is written.
 //!
-//! Left to others: which entries survive of those that weren't flushed (`survivor_laws`), what a stop
-//! leaves of the data areas (`stop_laws`), and that replay from a redo point on then makes what all
-//! survivors make (`restart_laws`).
+//! Left to others: which entries survive of those that weren't flushed (`survivor_laws`), what a
+//! stop leaves of the data areas (`stop_laws`), and that replay from a redo point on then makes
+//! what all survivors make (`restart_laws`).
 #![tactic(auto)]
 
 mod boxing;

@@ -20,8 +20,8 @@ use restart_areas::{StorePages, clear_all, fault_of_data, sync_all};
 use std::alloc::Global;
 use vault::{BoxedArea, Vault};
 
-/// Marks the first data area by the file `rebuilding`, durably, and removes the segment files of all
-/// forks of the four.
+/// Marks the first data area by the file `rebuilding`, durably, and removes the segment files of
+/// all forks of the four.
 fn clear_marked<V: Vault>(alloc: Global, areas: &mut DataAreas<V>) -> Result<(), StoreFault>
     ensures cleared { OnOk result (AreClear V.Vault areas.new) }
     ensures changes { OthersStay V.Vault areas.old areas.new }
@@ -67,8 +67,8 @@ pub(crate) fn came_to<V: Vault>(
     }
 }
 
-/// Replays the survivors of the WAL of these settings, which end with a tip, into data areas without
-/// segment files; how many forks and pages they have then.
+/// Replays the survivors of the WAL of these settings, which end with a tip, into data areas
+/// without segment files; how many forks and pages they have then.
 fn fill<V: Vault>(
     alloc: Global,
     wal: &mut BoxedArea<V>,
@@ -117,8 +117,8 @@ fn settle<V: Vault>(
 }
 
 /// Makes the data areas anew from the survivors of the WAL of these settings, which end with a tip.
-/// The first area has the file `rebuilding` meanwhile, durably; that goes once all is durable. After
-/// a fault it is there still, or the areas are whole.
+/// The first area has the file `rebuilding` meanwhile, durably; that goes once all is durable.
+/// After a fault it is there still, or the areas are whole.
 pub(crate) fn rebuild<V: Vault>(
     alloc: Global,
     wal: &mut BoxedArea<V>,

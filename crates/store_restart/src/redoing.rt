@@ -117,9 +117,9 @@ fn finish<V: Vault>(
     counted(alloc, areas, relseg)
 }
 
-/// Brings the data areas from a redo point to the end of the survivors of the WAL of these settings,
-/// which end with a tip, durably: their segment files are made neat, and the survivors from that
-/// point on redone over them. After a fault some of that may be done.
+/// Brings the data areas from a redo point to the end of the survivors of the WAL of these
+/// settings, which end with a tip, durably: their segment files are made neat, and the survivors
+/// from that point on redone over them. After a fault some of that may be done.
 pub(crate) fn redo<V: Vault>(
     alloc: Global,
     wal: &mut BoxedArea<V>,

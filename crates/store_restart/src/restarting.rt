@@ -177,10 +177,10 @@ fn refused<V: Vault>(wal: V, pages: DataAreas<V>, why: RestartWhy) -> RestartFau
 
 /// Brings the WAL of these settings and the data areas back after a stop. The WAL has just its
 /// survivors then, durably. The data areas have the segment files of just what these make: made
-/// anew where the first area has the file `rebuilding` or where no survivor starts at the redo point
-/// that the last checkpoint among them names, and else brought on from that point. Damage in the
-/// place of the WAL's first entry, and an entry that is whole and isn't taken, are refused before
-/// anything is written. Files of other names stay.
+/// anew where the first area has the file `rebuilding` or where no survivor starts at the redo
+/// point that the last checkpoint among them names, and else brought on from that point. Damage in
+/// the place of the WAL's first entry, and an entry that is whole and isn't taken, are refused
+/// before anything is written. Files of other names stay.
 pub fn restart<V: Vault>(
     alloc: Global,
     areas: StoreAreas<V>,

@@ -9,10 +9,10 @@ ghost use Rattle.wal_record.specs.Tips.{IsWithin};
 use history::checkpointer::{change_kind, creation_kind};
 use history::{Edit, Item};
 use lsn_core::{BlockId, Lsn, NoMemory, SegSize, Settings, WalTip};
+use memory_vault::MemVault;
 use pg_page::{Page, make_page, zero_page};
 use std::alloc::Global;
 use test_areas::{Change, NEW_WAL, SEGMENT, Wrong, main_fork, make_all};
-use vault::MemVault;
 use wal_record::Kind;
 use wal_writer::{Flushed, WalState};
 

@@ -8,6 +8,7 @@ ghost use Rattle.store_areas.specs.Begin.{IsStanding};
 
 use crate::commands::{Does, op_of};
 use lsn_core::NoMemory;
+use memory_vault::MemVault;
 use shared_store::{Pass, Store};
 use std::alloc::Global;
 use std::marker::Brand;
@@ -20,7 +21,7 @@ use store_ledgers::Blanks;
 use store_lifecycle::{Began, begin};
 use store_locks::OfCrew;
 use test_areas::{NEW_WAL, SEGMENT, SETTINGS, Wrong};
-use vault::{MemVault, Vault};
+use vault::Vault;
 
 /// A call of a pass.
 #[derive(Clone, Copy)]

@@ -58,8 +58,8 @@ pub record AreTaken (limit : ℕ) (old new gone : List Summary) : Type 0 where
   pub end : (low : ℕ) → end_behind low new ≡ end_behind low old
   pub order : (low : ℕ) → AreInOrder low old → AreInOrder low new
 
--- what an expiry answers that came to its end: just the expired ones are gone, with their files, and
--- so many they were
+-- what an expiry answers that came to its end: just the expired ones are gone, with their files,
+-- and so many they were
 pub record Expires {V : Type 0} (g : Ghosts V) (limit : ℕ) (before now : V)
     (old new : List Summary) (count : ℕ) : Type 0 where
   pub kept : new ≡ unexpired limit old
@@ -67,13 +67,13 @@ pub record Expires {V : Type 0} (g : Ghosts V) (limit : ℕ) (before now : V)
   pub counted : count ≡ length (expired limit old)
   pub still : count ≡ 0 → g.past now ≡ g.past before
 
--- the files behind an expiry: those of the summaries that it removed are gone, and that of the one at
--- fault, if there is one, may be
+-- the files behind an expiry: those of the summaries that it removed are gone, and that of the one
+-- at fault, if there is one, may be
 abbrev pub AreGone : List Summary → List Summary → Files → Files → Type 0
 AreGone gone at old new = (new ≡ without gone old) ⊎ (new ≡ without (gone ++ at) old)
 
--- what an expiry leaves, whatever it answers: those that it removed aren't kept, and the one at fault
--- isn't either; those that are kept still have their files
+-- what an expiry leaves, whatever it answers: those that it removed aren't kept, and the one at
+-- fault isn't either; those that are kept still have their files
 pub record MayExpire (limit : ℕ) (before now : Option Files) (old new : List Summary) : Type 0 where
   pub gone : List Summary
   pub at : List Summary

@@ -17,8 +17,8 @@ use summary_file::summary_name;
 use vault::Vault;
 use wal_summary::Summary;
 
-/// The moment, in seconds since 1970 UTC, before which a summary that was made then is older than so
-/// many days at a moment. With no days none is.
+/// The moment, in seconds since 1970 UTC, before which a summary that was made then is older than
+/// so many days at a moment. With no days none is.
 pub fn age_limit(days: u32, when: u64) -> u64
     ensures limit { result ≡ age_limit days when }
     ensures old { (made : ℕ) → (made < result) ↔ ((0 < days) × (made + 86400 * days ≤ when)) }
@@ -33,8 +33,8 @@ pub fn age_limit(days: u32, when: u64) -> u64
 
 /// Removes the files of the expired ones of the summaries that are kept of an area, the one of the
 /// least end first, and says how many: those that were made before a moment and end below the
-/// greatest kept end. After a fault those that it removed so far are gone, and the one at fault isn't
-/// kept. `Failed` comes only where the area's count of faults rose.
+/// greatest kept end. After a fault those that it removed so far are gone, and the one at fault
+/// isn't kept. `Failed` comes only where the area's count of faults rose.
 pub fn expire<V: Vault>(
     alloc: Global,
     area: &mut V,

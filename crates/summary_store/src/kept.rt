@@ -13,8 +13,8 @@ use std::marker::Model;
 use vault::Vault;
 use wal_summary::{CoverFault, Summary, covering};
 
-/// The summaries that are kept of an area, in order of their ranges, of which no two have a place in
-/// common, and the area. Contracts see a `Sums` of `specs/Kept.antt`.
+/// The summaries that are kept of an area, in order of their ranges, of which no two have a place
+/// in common, and the area. Contracts see a `Sums` of `specs/Kept.antt`.
 #[derive(Drop)]
 pub struct Kept<V: Vault> {
     area: V,
@@ -41,9 +41,9 @@ pub struct SumsFault<V: Vault> {
 }
 
 impl<V: Vault> Kept<V> {
-    /// Takes the files of an area in byte order of their names, and keeps the summary of each that is
-    /// a summary's file under the name of its range and starts at or past the end of the last one
-    /// kept (profile). Only files with a name of that form are read. Nothing is written.
+    /// Takes the files of an area in byte order of their names, and keeps the summary of each that
+    /// is a summary's file under the name of its range and starts at or past the end of the last
+    /// one kept (profile). Only files with a name of that form are read. Nothing is written.
     pub fn open(alloc: Global, area: V) -> Result<Kept<V>, SumsFault<V>>
         ensures kept { IfOk result (λ kept. IfSome (V.files area) (λ m. AreKept m kept.sums)) }
         ensures reads { IfOk result (λ kept. OnlyReads V.Vault area kept.area) }

@@ -13,7 +13,8 @@ use summary_file::{SummaryFault, decode_summary, is_name_of, range_in};
 use vault::{Vault, read_whole};
 use wal_summary::Summary;
 
-/// The summaries that are kept of the files of an area (`specs/Kept.antt`), in order of their ranges.
+/// The summaries that are kept of the files of an area (`specs/Kept.antt`), in order of their
+/// ranges.
 /// `Failed` comes only where the area's count of faults rose.
 pub fn kept_in<V: Vault>(alloc: Global, area: &mut V) -> Result<Vec<Summary>, AreaFault>
     ensures kept { IfOk result (λ sums. IfSome (V.files area.old) (λ m. AreKept m sums.items)) }

@@ -8,8 +8,9 @@ use lsn_core::{ForkId, ForkKind, NoMemory, Text};
 use std::alloc::Global;
 use wal_summary::ForkSummary;
 
-/// The lines of the forks of a summary, in their order: of each its limit, where it has one, and its
-/// blocks, a line for each run of consecutive ones (pg_walsummary's output, which has the same lines).
+/// The lines of the forks of a summary, in their order: of each its limit, where it has one, and
+/// its blocks, a line for each run of consecutive ones (pg_walsummary's output, which has the same
+/// lines).
 pub fn summary_text(alloc: Global, forks: &[ForkSummary]) -> Result<Text, NoMemory>
     ensures { IfOk result (λ text. text ≡ summary_text forks.now) }
 {

@@ -2,8 +2,9 @@
 //! tests make of them.
 
 use lsn_core::{AreaFault, ForkId, ForkKind, Rel};
+use memory_vault::MemVault;
 use std::alloc::Global;
-use vault::{MemVault, Vault};
+use vault::Vault;
 
 /// The name of the first segment file.
 pub const SEGMENT: &[u8] = b"000000010000000000000001";
@@ -12,8 +13,8 @@ pub const SEGMENT: &[u8] = b"000000010000000000000001";
 pub const SETTINGS: &[u8] = b"segment-mib 1\nblocks-per-segment 131072\n";
 
 /// Segment 1 of a WAL with segments of 16 MiB and system identifier 7: the head of its first page,
-/// at 0x28 a shutdown checkpoint of 50 bytes, at 0x60 the creation of the main fork of 5/16384 in 42
-/// bytes, and at 0x90 an image of its block 0 in 113 bytes. Its page begins at 0xc1, and has 65
+/// at 0x28 a shutdown checkpoint of 50 bytes, at 0x60 the creation of the main fork of 5/16384 in
+/// 42 bytes, and at 0x90 an image of its block 0 in 113 bytes. Its page begins at 0xc1, and has 65
 /// before and behind its hole from 32 to 8160. Zeros pad each entry.
 pub static ARCHIVE: [u8; 264] = [
     0x16, 0xd1, 0x02, 0x00, 0x01, 0x00, 0x00, 0x00, 0x00, 0x00, 0x00, 0x01, 0x00, 0x00, 0x00, 0x00,

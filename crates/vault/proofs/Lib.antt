@@ -1,5 +1,4 @@
 pub mod LentAreas
-pub mod MemoryFiles
 pub mod Printed
 pub mod Reading
 pub mod SetAreas
@@ -10,7 +9,5 @@ pub mod Torn
 pub mod Undone
 pub mod Through
 pub mod Giving
-pub mod Honest
-pub mod Picked
 pub mod Changed
 pub mod Moments

@@ -1,10 +1,6 @@
 pub mod Area
 pub mod Boxed
-pub mod Fails
 pub mod Lending
-pub mod Memory
-pub mod MemorySite
-pub mod MemoryStreams
 pub mod Shelf
 pub mod Site
 pub mod Stream
@@ -13,4 +9,3 @@ pub mod Whole
 pub mod Stops
 pub mod Record
 pub mod Frame
-pub mod Stopped

@@ -2,10 +2,10 @@
 
 use chain_view::{Asked, answer_of};
 use lsn_core::{AreaFault, Lsn};
+use memory_vault::MemVault;
 use std::alloc::Global;
 use std::test::Fail;
 use test_areas::{Change, make_all};
-use vault::MemVault;
 
 /// The manifests and labels of a full backup, one over it, one to which these two were combined, and
 /// one over that, as `pgbackup` wrote them; and a folder without a manifest.

@@ -4,8 +4,8 @@
 //! `encode_record` gives the written form of an entry with its sum, which `specs/Spelling.antt`
 //! says. `decode_record` is the reading of `specs/Decoding.antt`: the header's tests, then what the
 //! announced bytes say, or the first why they are refused (`specs/Content.antt`). `laws` says that
-//! this is just the grammar of `specs/Entry.antt`, that what is written is read again, that no entry
-//! begins another, and that what is read is sound (`specs/Sound.antt`).
+//! this is just the grammar of `specs/Entry.antt`, that what is written is read again, that no
+//! entry begins another, and that what is read is sound (`specs/Sound.antt`).
 //!
 //! Left to others: header and announcements as bytes (`wal_heads`), where entries stand
 //! (`wal_pages`), what a page is (`pg_page`), which entries an archive has (`wal_archive`) and what

@@ -32,8 +32,8 @@ act_patches fork block (Change items) = list_any (is_patch_at fork block) items
 act_patches fork block (Drop rels) = false
 act_patches fork block (Mark marking) = false
 
--- the act cuts the fork to a length that leaves out the block, or drops the fork. A creation cuts nothing, since
--- replay leaves a fork that is there as it is
+-- the act cuts the fork to a length that leaves out the block, or drops the fork. A creation cuts
+-- nothing, since replay leaves a fork that is there as it is
 abbrev pub act_cuts : ForkId → ℕ → Act → Bool
 act_cuts fork block (Create made) = false
 act_cuts fork block (Truncate rel count) = is_same_fork fork (main_fork rel) && nat_le count block

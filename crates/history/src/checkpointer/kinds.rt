@@ -53,8 +53,9 @@ pub fn creation_kind(fork: ForkId) -> Kind
     Kind::Create(fork)
 }
 
-/// The kind of entry that a truncation of a relation to so many blocks is written as. Its flags name
-/// all forks that one may name: main, free space map and visibility map. The store has the first.
+/// The kind of entry that a truncation of a relation to so many blocks is written as. Its flags
+/// name all forks that one may name: main, free space map and visibility map. The store has the
+/// first.
 pub fn truncation_kind(rel: Rel, count: u32) -> Kind
     requires { count < 2 ^ 32 - 1 }
     ensures kind { result ≡ kind.Truncate rel count 7 }

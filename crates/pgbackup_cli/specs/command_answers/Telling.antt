@@ -1,5 +1,5 @@
--- The lines of what the program comes to, and its status. A command joins by one row in each of these
--- definitions.
+-- The lines of what the program comes to, and its status. A command joins by one row in each of
+-- these definitions.
 use Rattle.std.specs.Prelude.{List, [], ℕ, Option, Some, Result, Ok, Err, codes}
 use Rattle.lsn_core.specs.declared.fault.AreaFault.{AreaFault}
 use Rattle.pgbackup_cli.specs.declared.command_answers.answer.Answer.{Answer}

@@ -27,8 +27,8 @@ pub record IsNext (names : Names) (areas : Areas) (name : List ℕ) : Type 0 whe
   pub split : names ≡ front ++ (name ∷ behind)
   pub clear : AreClear front areas
 
--- why areas can't be told to be empty: memory ran out; this one couldn't be looked at, or is the first
--- that holds a file
+-- why areas can't be told to be empty: memory ran out; this one couldn't be looked at, or is the
+-- first that holds a file
 abbrev pub AreUnclear : Names → Outside → Outside → Unclear → Type 0
 AreUnclear names old new unclear.NoMemory = Unit {0}
 AreUnclear names old new (unclear.Unread area why) =

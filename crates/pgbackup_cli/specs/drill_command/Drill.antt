@@ -1,5 +1,5 @@
--- `drill`: what a new store, a script that is drawn from a number, its backups and their restore come
--- to in one call.
+-- `drill`: what a new store, a script that is drawn from a number, its backups and their restore
+-- come to in one call.
 use Rattle.std.specs.Prelude.{◌≡◌, ◌≢◌, ℕ, ◌+◌, List, [], ◌∷◌, ◌++◌, None, Result, Ok, Err, IfSome, codes}
 use Rattle.std.specs.Result.{IsErr}
 use Rattle.lsn_core.specs.Segment.{StoreSettings}
@@ -96,9 +96,9 @@ pub record DrillDone (n when : ℕ) (old new : Outside) (report : DrillReport) :
 
 -- ---- why a step isn't done
 
--- why the drill of a number at a moment is refused: memory ran out; the areas aren't empty; the store
--- wasn't made; the run came to another end; its backups weren't restored; or what was restored
--- couldn't be read again
+-- why the drill of a number at a moment is refused: memory ran out; the areas aren't empty; the
+-- store wasn't made; the run came to another end; its backups weren't restored; or what was
+-- restored couldn't be read again
 abbrev pub DrillRefused : ℕ → ℕ → Outside → Outside → DrillFault → Type 0
 DrillRefused n when old new drill.NoMemory = Unit {0}
 DrillRefused n when old new (drill.Area why) =

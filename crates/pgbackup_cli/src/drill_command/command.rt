@@ -36,9 +36,9 @@ fn sum_restored<S: Site>(alloc: Global, site: &mut S) -> Result<Text, AreaFault>
     sum
 }
 
-/// `drill` of a number: makes a new store where the areas of a site that have to be empty are, runs the
-/// script of the number on it, restores the chain of its three backups, and sums up what was restored
-/// (profile). No input is read, and the clock is asked once.
+/// `drill` of a number: makes a new store where the areas of a site that have to be empty are, runs
+/// the script of the number on it, restores the chain of its three backups, and sums up what was
+/// restored (profile). No input is read, and the clock is asked once.
 pub fn drill<R: Threads + Wait + Sync, S: Site, C: Clock>(
     rt: &R,
     alloc: Global,

@@ -9,8 +9,8 @@ use lsn_core::{AreaFault, Lsn, NoMemory, Text};
 use run_answers::{RunFault, RunReport};
 use store_commands::{InitFault, ReplayReport};
 
-/// What was restored: how many forks and pages, and the SHA-256 of the pages in hexadecimal, bytes 0
-/// to 7 of each taken as zeros.
+/// What was restored: how many forks and pages, and the SHA-256 of the pages in hexadecimal, bytes
+/// 0 to 7 of each taken as zeros.
 #[derive(Debug, Drop)]
 pub struct DrillReport {
     pub forks: u64,

@@ -36,8 +36,8 @@ use Rattle.store_faults.specs.declared.advance_fault.AdvanceFault.TheVariants as
 abbrev pub from_place : ℕ → List Entry → List Entry
 from_place place history = filter (λ e. nat_le place e.start) history
 
--- a record is that of an entry: it starts and ends where that does, and says the same of the start of
--- a checkpoint, of blocks and of limits
+-- a record is that of an entry: it starts and ends where that does, and says the same of the start
+-- of a checkpoint, of blocks and of limits
 pub record IsRecordOf (r : Record) (e : Entry) : Type 0 where
   pub start : r.start.0 ≡ e.start
   pub end : r.end.0 ≡ e.end
@@ -84,8 +84,8 @@ abbrev pub HaveCounts : List Record → Type 0
 HaveCounts [] = Unit {0}
 HaveCounts (r ∷ rs) = HasCount r.kind × HaveCounts rs
 
--- what is read from a place on has all entries from another one on: that place is one where an entry
--- starts or ends, and none starts between the two
+-- what is read from a place on has all entries from another one on: that place is one where an
+-- entry starts or ends, and none starts between the two
 pub record CanStart (history : List Entry) (from at : ℕ) : Type 0 where
   pub place : IsPlaceOf history at
   pub between : window history from at ≡ []

@@ -38,8 +38,8 @@ PublishingKeepsTrue =
     → AdvancesPartly (Unit {0}) (found ++ own) made limit (Some old) (Some new) kept now
     → IsTrue found own new
 
--- what then covers a range up to a redo point of the run's own entries, whichever worker published it,
--- ends there, and is the summary from its start to there
+-- what then covers a range up to a redo point of the run's own entries, whichever worker published
+-- it, ends there, and is the summary from its start to there
 abbrev pub CrewSumsUp : Type 0
 CrewSumsUp =
     (found own : List Entry) (made limit : ℕ) (files : Files) (kept sums : List Summary)

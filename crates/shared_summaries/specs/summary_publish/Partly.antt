@@ -14,8 +14,9 @@ use Rattle.shared_summaries.specs.summary_publish.Published.{IsNext, AreNext, Is
 use Rattle.shared_summaries.specs.declared.summary_publish.known.Known.{Known}
 use Rattle.summary_store.specs.Expiry.{MayExpire}
 
--- a file was written anew, or not to its end: no other file changed; and where a summary's file stands
--- under the name now, it is the one that was to be written, or the one that stood there before
+-- a file was written anew, or not to its end: no other file changed; and where a summary's file
+-- stands under the name now, it is the one that was to be written, or the one that stood there
+-- before
 pub record MayWrite (name bytes : List ℕ) (old new : Files) : Type 0 where
   pub others : (q : List ℕ) → q ≢ name → get new q ≡ get old q
   pub missing : get new name ≡ None → get old name ≡ None
@@ -35,8 +36,8 @@ LeavesFiles told history made place sums old new =
     ⊎ ((sum : Summary) × CanFollow place sum × (told → IsNext history made place sum)
     × IsWhole sum × MayWriteSummary sum (with_files sums old) new)
 
--- of the summaries of the ranges behind those that are kept the first ones were published, which are
--- kept then, and maybe the next one, or a part of it
+-- of the summaries of the ranges behind those that are kept the first ones were published, which
+-- are kept then, and maybe the next one, or a part of it
 pub record LeavesFirst (told : Type 0) (history : List Entry) (made first : ℕ)
     (old new : Option Files) (kept now : List Summary) : Type 0 where
   pub sums : List Summary
@@ -47,8 +48,8 @@ pub record LeavesFirst (told : Type 0) (history : List Entry) (made first : ℕ)
   pub left : Related (LeavesFiles told history made (end_behind (end_behind first kept) sums) sums)
       old new
 
--- so it was, and of those that were kept then the first expired ones were removed, and maybe the next
--- one
+-- so it was, and of those that were kept then the first expired ones were removed, and maybe the
+-- next one
 pub record AdvancesPartly (told : Type 0) (history : List Entry) (made limit : ℕ)
     (old new : Option Files) (kept now : List Summary) : Type 0 where
   pub first : ℕ

@@ -70,8 +70,8 @@ pub record AreListed (files : Option Files) (kept : List Summary) : Type 0 where
   pub held : IfSome files (λ m. AreHeld m kept)
   pub order : AreInOrder 0 kept
 
--- where publishing goes on: the WAL is read from a place on; and these are kept of an area, where they
--- are known
+-- where publishing goes on: the WAL is read from a place on; and these are kept of an area, where
+-- they are known
 pub record GoesOnFrom (told : Type 0) (history : List Entry) (files : Option Files) (known : Known)
     : Type 0 where
   pub at : told → IsPlaceOf history known.place.0
@@ -89,8 +89,9 @@ AreKnown files known kept = AreThose files kept known.kept
 abbrev pub AreNow : Known → List Summary → Type 0
 AreNow known kept = option_map (λ v. v.items) known.kept ≡ Some kept
 
--- summaries to publish of a history behind those that are kept of an area's files: from the greatest
--- kept end on, or from the first entry's start where none is kept, up to the last redo point
+-- summaries to publish of a history behind those that are kept of an area's files: from the
+-- greatest kept end on, or from the first entry's start where none is kept, up to the last redo
+-- point
 pub record ArePublished (history : List Entry) (made : ℕ) (files : Files)
     (kept sums : List Summary) : Type 0 where
   pub held : AreHeld files kept

@@ -15,8 +15,8 @@ IsUnsplit own sum =
     (place : ℕ) → list_any (is_redo_start place) own ≡ true
     → sum.start.0 < place → sum.end.0 ≤ place
 
--- a summary is that of a history's entries in its range, from a redo point to another; and of a run's own
--- entries, which stand behind those that it found, no checkpoint starts within the range
+-- a summary is that of a history's entries in its range, from a redo point to another; and of a
+-- run's own entries, which stand behind those that it found, no checkpoint starts within the range
 pub record IsTrueSummary (found own : List Entry) (sum : Summary) : Type 0 where
   pub honest : IsHonestSummary (found ++ own) sum
   pub unsplit : IsUnsplit own sum

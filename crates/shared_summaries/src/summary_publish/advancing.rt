@@ -27,17 +27,17 @@ use vault::Vault;
 use wal_summary::{CoverFault, Summary, covering};
 
 /// Publishes, in order, one summary for each range between neighbouring redo points, from the
-/// greatest kept end of an area on, which is the first entry's start where none is kept, and says how
-/// many. Each is written to a file of its own in the area, made at `when` (seconds since 1970 UTC); a
-/// file that stood under its name is written anew, and others stay as they are. Then the files are
-/// removed of the kept summaries that were made before `limit`, but never of the one of the greatest
-/// end. The area is synced behind the last one, and behind the last removal. Entries are read from
-/// the known place on, where one starts or ends that the pass has seen, and from the first one on
-/// where the greatest kept end is below it; later calls need read no entry before the place that
-/// stands there then, and what is kept is read only where it isn't known. Of the records no more than
-/// 64 are in memory at a time (profile). Whatever is answered, no summary's file is left but those
-/// that stood there and those that were to be published. A fault of the area is left to book: it comes
-/// only where that area's count of faults rose.
+/// greatest kept end of an area on, which is the first entry's start where none is kept, and says
+/// how many. Each is written to a file of its own in the area, made at `when` (seconds since 1970
+/// UTC); a file that stood under its name is written anew, and others stay as they are. Then the
+/// files are removed of the kept summaries that were made before `limit`, but never of the one of
+/// the greatest end. The area is synced behind the last one, and behind the last removal. Entries
+/// are read from the known place on, where one starts or ends that the pass has seen, and from the
+/// first one on where the greatest kept end is below it; later calls need read no entry before the
+/// place that stands there then, and what is kept is read only where it isn't known. Of the records
+/// no more than 64 are in memory at a time (profile). Whatever is answered, no summary's file is
+/// left but those that stood there and those that were to be published. A fault of the area is left
+/// to book: it comes only where that area's count of faults rose.
 pub fn advance<J: OfCrew, V: Vault>(
     rt: &impl Wait,
     alloc: Global,

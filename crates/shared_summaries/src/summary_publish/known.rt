@@ -3,8 +3,8 @@
 use lsn_core::Lsn;
 use wal_summary::Summary;
 
-/// Where publishing goes on: a place from which on the WAL is read, where an entry starts or ends, and
-/// the summaries that are kept of the area, where they are known.
+/// Where publishing goes on: a place from which on the WAL is read, where an entry starts or ends,
+/// and the summaries that are kept of the area, where they are known.
 #[derive(Drop)]
 pub struct Known {
     /// A place (a byte of the WAL) where an entry starts or ends.

@@ -1,5 +1,5 @@
-//! Laws of areas in which several workers publish summaries: each is the contract of a function that
-//! does nothing.
+//! Laws of areas in which several workers publish summaries: each is the contract of a function
+//! that does nothing.
 
 ghost use Rattle.shared_summaries.specs.summary_publish.Laws.{RunsBeginTrue, TrueIsHonest, TrueStays};
 ghost use Rattle.shared_summaries.specs.summary_publish.Laws.{PublishingKeepsTrue, CrewSumsUp};

@@ -21,10 +21,10 @@ use summary_store::end_behind;
 use vault::Vault;
 use wal_summary::Summary;
 
-/// Publishes the summaries of the ranges between neighbouring redo points, in order, from the end of
-/// those that are kept on, or from a first place where there are none, up to the last redo point, adds
-/// them to those, and says how many. Entries are read from `known` on. The area is synced behind the
-/// last one.
+/// Publishes the summaries of the ranges between neighbouring redo points, in order, from the end
+/// of those that are kept on, or from a first place where there are none, up to the last redo
+/// point, adds them to those, and says how many. Entries are read from `known` on. The area is
+/// synced behind the last one.
 pub(crate) fn publish<J: OfCrew, V: Vault>(
     rt: &impl Wait,
     alloc: Global,

@@ -115,8 +115,8 @@ impl Reading {
     }
 }
 
-/// The summary of the entries from a place up to the next redo point. None exactly where there is no
-/// such redo point. Entries are read from `known` on, which moves on to the last place up to the
+/// The summary of the entries from a place up to the next redo point. None exactly where there is
+/// no such redo point. Entries are read from `known` on, which moves on to the last place up to the
 /// first one that a piece of them ends with.
 pub(crate) fn next_range<J: OfCrew, V: Vault>(
     rt: &impl Wait,

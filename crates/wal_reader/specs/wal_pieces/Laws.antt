@@ -12,8 +12,8 @@ use Rattle.wal_archive.specs.Rules.{lsn}
 use Rattle.wal_reader.specs.Wal.{ReadsOn}
 use Rattle.wal_reader.specs.wal_pieces.Piece.{IsPiece, HasDamagedPiece}
 
--- the first entries of a WAL: the older ones, one, and the later ones, the last of which ends with a
--- tip
+-- the first entries of a WAL: the older ones, one, and the later ones, the last of which ends with
+-- a tip
 abbrev pub AreKnown : StoreSettings → Files → List Record → Record → List Record → Tip → Type 0
 AreKnown s files older r later last =
     ReadsOn s files (first_tip s.segment) (older ++ (r ∷ later)) last

@@ -13,9 +13,9 @@ pub fn pieces_are_parts_of_the_wal()
 {}
 
 /// A piece that is read from where an entry may start behind the end of a known one, or from the
-/// start of one, up to where the known ones end, has those that start there or past it, in order; so
-/// a reading goes on from the end of the last entry of a piece. There are none from where the last
-/// known one ends.
+/// start of one, up to where the known ones end, has those that start there or past it, in order;
+/// so a reading goes on from the end of the last entry of a piece. There are none from where the
+/// last known one ends.
 pub fn pieces_go_on_where_an_entry_ends()
     ensures on { PiecesGoOn }
     ensures whole { PiecesGoOnWhole }

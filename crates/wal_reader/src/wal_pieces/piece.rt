@@ -46,11 +46,12 @@ fn add(entries: &mut Vec<Record>, entry: Record) -> Result<(), NoMemory>
 }
 
 /// The first entries of the WAL of these settings from a place on, so many of them, as a cursor
-/// gives them that is set there. Fewer exactly where the archive ends behind them, or where a target
-/// is given and the last of them ends at the target or past it: nothing is looked at from there on.
+/// gives them that is set there. Fewer exactly where the archive ends behind them, or where a
+/// target is given and the last of them ends at the target or past it: nothing is looked at from
+/// there on.
 /// `Damaged` exactly where the archive is damaged behind fewer of them, with the place and why, as
-/// the cursor has it; `SettingsDamaged`, `Timeline` and `NotInit` never come. It holds no more of the
-/// WAL than what it answers.
+/// the cursor has it; `SettingsDamaged`, `Timeline` and `NotInit` never come. It holds no more of
+/// the WAL than what it answers.
 pub fn read_piece<V: Vault>(
     alloc: Global,
     area: &mut V,

@@ -3,7 +3,8 @@ use Rattle.lsn_core.specs.byte_words.Told.{when_both_told}
 use Rattle.lsn_core.specs.Files.{Files}
 use Rattle.chain_check.specs.Refusals.{row_fault}
 use Rattle.chain_check.specs.Inside.{Answers}
-use Rattle.chain_check.specs.LaneSums.{IsSized, Knows}
+use Rattle.file_sums.specs.LaneSums.{Knows}
+use Rattle.chain_check.specs.Sizes.{IsSized}
 use Rattle.chain_check.proofs.Sized.{Left, left_more, left_refused}
 use Rattle.chain_check.proofs.rows.check_each.Goals as goal
 

@@ -4,7 +4,7 @@ use Rattle.lsn_core.specs.byte_words.Told.{when_both_told}
 use Rattle.lsn_core.specs.Files.{Files}
 use Rattle.chain_check.specs.Refusals.{rows_fault}
 use Rattle.chain_check.specs.Inside.{RowsAnswer}
-use Rattle.chain_check.specs.LaneSums.{IsSized, FirstAnswer, SizesAnswer}
+use Rattle.chain_check.specs.Sizes.{IsSized, FirstAnswer, SizesAnswer}
 use Rattle.chain_check.specs.declared.fault.ChainFault.{ChainFault}
 use Rattle.chain_check.proofs.ForkFiles.{told_all}
 use Rattle.chain_check.proofs.Sized.{size_refused, none_refused, handed_fault, handed_refusal}

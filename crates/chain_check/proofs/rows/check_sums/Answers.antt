@@ -3,7 +3,8 @@ use Rattle.std.specs.List.{AllByRecursion}
 use Rattle.lsn_core.specs.byte_words.Told.{when_both_told}
 use Rattle.lsn_core.specs.Files.{Files}
 use Rattle.chain_check.specs.Inside.{RowsAnswer}
-use Rattle.chain_check.specs.LaneSums.{IsSized, AreKnown}
+use Rattle.file_sums.specs.LaneSums.{AreKnown}
+use Rattle.chain_check.specs.Sizes.{IsSized}
 use Rattle.chain_check.proofs.rows.check_sums.Goals as goal
 
 pub returns-clause-answer : goal.returns-clause-answer

@@ -2,7 +2,7 @@ use Rattle.std.proofs.Common.{rules, ◌∙◌, sym, subst, take, Option, IfSome
 use Rattle.std.specs.List.{AllByRecursion}
 use Rattle.lsn_core.specs.byte_words.Told.{when_both_told}
 use Rattle.lsn_core.specs.Files.{Files}
-use Rattle.chain_check.specs.LaneSums.{IsSized, SizeAnswer}
+use Rattle.chain_check.specs.Sizes.{IsSized, SizeAnswer}
 use Rattle.chain_check.specs.declared.fault.ChainFault.{ChainFault}
 use Rattle.chain_check.proofs.Sized.{sized_next, left_next}
 use Rattle.chain_check.proofs.rows.sized_rows.Goals as goal

@@ -1,7 +1,7 @@
 use Rattle.std.proofs.Common.{◌≡◌, ◌+◌, length, take, drop, IfSome}
 use Rattle.std.specs.List.{AllByRecursion}
 use Rattle.vault.specs.Frame.{OnlyReads}
-use Rattle.chain_check.specs.LaneSums.{IsSized}
+use Rattle.chain_check.specs.Sizes.{IsSized}
 use Rattle.chain_check.proofs.rows.sized_rows.Given as goal
 
 -- each row so far has its size

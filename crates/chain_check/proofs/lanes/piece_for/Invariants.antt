@@ -1,8 +1,0 @@
-use Rattle.std.proofs.Common.{◌≡◌, ◌≤◌, ◌%◌}
-use Rattle.chain_check.proofs.lanes.piece_for.Given as goal
-
-abbrev pub invariant-loop-place : goal.invariant-loop-place
-invariant-loop-place l = record {
-  blocks : l.piece % 64 ≡ 0;
-  most : l.piece ≤ l.most;
-}

@@ -1,0 +1,5 @@
+pub mod Fails
+pub mod Memory
+pub mod MemorySite
+pub mod MemoryStreams
+pub mod Stopped

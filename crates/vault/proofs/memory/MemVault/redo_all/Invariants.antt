@@ -1,7 +1,0 @@
-use Rattle.std.proofs.Common.{take}
-use Rattle.vault.specs.Record.{changes_of}
-use Rattle.vault.specs.Stopped.{IsRedone}
-use Rattle.vault.proofs.memory.MemVault.redo_all.Given as goal
-
-abbrev pub invariant-loop-change : goal.invariant-loop-change
-invariant-loop-change l = IsRedone l.pick (changes_of (take l.change-index l.changes)) l.fn.self l.self
