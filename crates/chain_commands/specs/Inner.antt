@@ -251,7 +251,8 @@ JoinCause vaults join.Series places m areas out areas_now out_now why =
     MergeCause vaults places m areas out areas_now out_now why
 
 -- a manifest can list it
-abbrev pub ListsJoined : {V : Type 0} → Vaults V → Joining → List ℕ → Listing → List (Held V) → Type 0
+abbrev pub ListsJoined : {V : Type 0} → Vaults V → Joining → List ℕ → Listing → List (Held V)
+    → Type 0
 ListsJoined vaults joining places m areas = IsListable joining (chain_told vaults areas places) m
 
 -- why joining comes to its answer over the areas of the members and of the output

@@ -28,7 +28,8 @@ module _ {V : Type 0} (g : Ghosts V) where
 
   -- the count of faults of the area of a place
   abbrev pub faults_at : List (Held V) → ℕ → ℕ
-  faults_at areas place = unwrap_or (option_map (λ held. g.faults held.area) (slice_get areas place)) 0
+  faults_at areas place = unwrap_or (option_map (λ held. g.faults held.area)
+      (slice_get areas place)) 0
 
   -- a call on the area of a place failed, whose count rose; or memory ran out
   abbrev pub FailsAt : List (Held V) → List (Held V) → MemberFault → Type 0

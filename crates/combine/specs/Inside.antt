@@ -97,7 +97,8 @@ IsLast places place = (before : List ℕ) × (places ≡ before ++ (place ∷ []
 -- most as many as a segment file has, or what the newest member's file keeps
 pub record IsContentOf (chain : List Files) (target : Target) (bytes : List ℕ) : Type 0 where
   pub rebuilt : (f : IsIncrementalPath target.from)
-      → IfSome (chain_pages chain f.folder f.name) (λ pages. bytes ≡ pages_bytes (take 131072 pages))
+      → IfSome (chain_pages chain f.folder f.name)
+          (λ pages. bytes ≡ pages_bytes (take 131072 pages))
   pub kept : (IsIncrementalPath target.from → ⊥) → (newest : Files) → EndsWith chain newest
       → bytes ≡ kept_bytes newest target.from
 

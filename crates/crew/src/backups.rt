@@ -39,7 +39,8 @@ fn backup_into<J: OfRetention, V: Vault>(
     name: &Text,
 ) -> Answer
     requires when { when ≤ 253402207199 }
-    ensures runs { BackupRuns V.Vault (J.tells ≡ true) (basis_of J.settings when J.found J.sums J.limit)
+    ensures runs { BackupRuns V.Vault (J.tells ≡ true)
+        (basis_of J.settings when J.found J.sums J.limit)
         name.now pass.old pass.new area.old area.new result }
     ensures later { V.faults area.old ≤ V.faults area.new }
 {

@@ -272,7 +272,8 @@ pub fn run_worker<J: OfRetention, V: Vault>(
     requires none { answers.old.items ≡ [] }
     requires empty { vec_len answers.old ≡ 0 }
     requires room { length lines.now ≤ vec_capacity answers.old }
-    ensures run { RunsLines (J.tells ≡ true) (basis_of J.settings when J.found J.sums J.limit) lines.now
+    ensures run { RunsLines (J.tells ≡ true)
+        (basis_of J.settings when J.found J.sums J.limit) lines.now
         pass.old pass.new (areas_of V.Vault held.old) (areas_of V.Vault held.new)
         answers.new.items }
     ensures later { AreLater V.Vault held.old held.new }

@@ -64,7 +64,8 @@ IsJournal g wal history pages = IsTold wal.tail (g.files wal.area) history pages
 
 -- where no flush failed since the last one that succeeded, a stop leaves the area's files
 abbrev pub IsAtRest : {V : Type 0} → Ghosts V → WalState V → Type 0
-IsAtRest g wal = wal.tail.touched ≤ wal.tail.flushed → IsDurable (g.files wal.area) (g.past wal.area)
+IsAtRest g wal = wal.tail.touched ≤ wal.tail.flushed → IsDurable (g.files wal.area)
+    (g.past wal.area)
 
 -- a journal, as contracts see it
 pub record Written (V : Type 0) : Type 0 where

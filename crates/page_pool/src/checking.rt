@@ -70,7 +70,8 @@ fn check(
 ) -> Result<Ready, OpFault>
     requires items { HasItems op.now }
     requires room { HasFrames frames.old (blocks_of op.now) }
-    ensures found { IfOk result (λ ready. IsFound (own_pages frames.old) frames.new (room_in works.new)
+    ensures found { IfOk result (λ ready. IsFound (own_pages frames.old) frames.new
+        (room_in works.new)
         op.now redo.0 ready) }
     ensures refused { IfErr result (IsRefusedOp (own_pages frames.old) op.now) }
     ensures alike { ShowsAlike frames.old frames.new }
@@ -187,8 +188,10 @@ fn put_pages(frames: &mut Frames, pages: Vec<NewPage>, end: Lsn)
     requires places { ArePlaces frames.old.lengths pages.items }
     requires room { All (λ p. HasRoomAt frames.old p.at) pages.items }
     ensures pages { (behind : BlockId → List ℕ)
-        → pages_over behind frames.new ≡ pages_put end.0 pages.items (pages_over behind frames.old) }
-    ensures marks { marks_over frames.new ≡ pages_touched end.0 (marks_over frames.old) pages.items }
+        → pages_over behind frames.new ≡ pages_put end.0 pages.items
+            (pages_over behind frames.old) }
+    ensures marks { marks_over frames.new ≡ pages_touched end.0
+        (marks_over frames.old) pages.items }
 {
     for new in pages {
         put_page(frames, new, end);

@@ -113,7 +113,8 @@ fn patched_page(
     frags: &Frags,
 ) -> Result<Box<[u8; 8192]>, NoMemory>
     requires good { bad_frag frags.now ≡ None }
-    requires header { is_good (written_frags frags.now (page_at (own_pages frames.now) at.now)) ≡ true }
+    requires header { is_good (written_frags frags.now
+        (page_at (own_pages frames.now) at.now)) ≡ true }
     ensures page { IfOk result (λ copy. box_value copy
         ≡ hole_zeroed (written_frags frags.now (page_at (own_pages frames.now) at.now))) }
     ensures writable { IfOk result (λ copy. IsWritableBody (Image (box_value copy))) }

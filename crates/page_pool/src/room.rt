@@ -76,7 +76,8 @@ impl<V: Vault, const Q: u32> Partition<V, Q> {
         ensures none { room_end self.old.framed self.old.works (blocks_of op.now) ≡ None
             → IsQuiet self.old self.new }
         ensures bounds { SameBounds self.old self.new }
-        ensures moments { WritesFlushed (MayMakeRoom self.old (blocks_of op.now)) self.old self.new }
+        ensures moments { WritesFlushed (MayMakeRoom self.old
+            (blocks_of op.now)) self.old self.new }
         ensures area { ChangesForks self.old self.new }
         ensures cause { HasCause self.old.faults self.new.faults result }
     {

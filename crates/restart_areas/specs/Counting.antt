@@ -30,7 +30,8 @@ pub record IsSum (first second third fourth tally : Tally) : Type 0 where
   pub forks : tally.forks ≡ first.forks + second.forks + third.forks + fourth.forks
   pub pages : tally.pages ≡ first.pages + second.pages + third.pages + fourth.pages
 
-pub record SumsUp (first second third fourth : Result Tally AreaFault) (tally : Tally) : Type 0 where
+pub record SumsUp (first second third fourth : Result Tally AreaFault)
+    (tally : Tally) : Type 0 where
   pub one : Tally
   pub two : Tally
   pub three : Tally

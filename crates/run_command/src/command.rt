@@ -46,7 +46,8 @@ pub fn run_script<R: Threads + Wait + Sync, S: Site, G: Gate>(
     requires priors { NamePriors script }
     requires home { AllHome (S.areas site.old) }
     ensures site { Works (run_asks script) (of_site S.Site site.old) (of_site S.Site site.new) }
-    ensures answer { RunOfScript when (age_limit days when) script (of_site S.Site site.old) (of_site S.Site site.new)
+    ensures answer { RunOfScript when (age_limit days when) script (of_site S.Site site.old)
+        (of_site S.Site site.new)
         result }
 {
     let (work, backups) = work_of(alloc, script)?;

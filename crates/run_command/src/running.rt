@@ -53,7 +53,8 @@ fn run_work<R: Threads + Wait + Sync, J: OfRetention + Send + Sync, V: Vault, G:
     requires names { AreNamesFor work.seats.items (names_of held.old.items) }
     requires room { HasRoom crew (length work.seats.items) }
     requires passes { length work.seats.items ≤ length passes.old.items }
-    ensures ran { RunsCrew V.Vault (J.tells ≡ true) (basis_of J.settings when J.found J.sums J.limit)
+    ensures ran { RunsCrew V.Vault (J.tells ≡ true)
+        (basis_of J.settings when J.found J.sums J.limit)
         passes.old.items passes.new.items held.old.items held.new.items result }
     ensures script { tasks_told result ≡ tasks_of work.seats.items }
     ensures later { AreLater V.Vault held.old.items held.new.items }
@@ -91,7 +92,8 @@ fn run_shared<R: Threads + Wait + Sync, J: OfRetention + Send + Sync, V: Vault, 
     requires sums { (J.sums ≡ V.files (box_value sums))
         × (J.starts 5 ≡ V.faults (box_value sums)) }
     requires book { book.total ≡ 0 }
-    ensures ran { RunsShared V.Vault (J.tells ≡ true) (basis_of J.settings when J.found J.sums J.limit)
+    ensures ran { RunsShared V.Vault (J.tells ≡ true)
+        (basis_of J.settings when J.found J.sums J.limit)
         (J.starts 5) passes.new.items result.0 result.1.total held.old.items held.new.items
         result.2 }
     ensures script { tasks_told result.2 ≡ tasks_of work.seats.items }
@@ -128,7 +130,8 @@ fn run_begun<R: Threads + Wait + Sync, J: OfRetention + Send + Sync, V: Vault, G
         × (J.starts 5 ≡ V.faults (box_value sums)) }
     requires book { began.sums.total ≡ 0 }
     requires fresh { began.crew.items ≡ fresh_passes (passes_for work.seats.items) J.found }
-    ensures ran { HasRunOn V.Vault (J.tells ≡ true) (basis_of J.settings when J.found J.sums J.limit)
+    ensures ran { HasRunOn V.Vault (J.tells ≡ true)
+        (basis_of J.settings when J.found J.sums J.limit)
         J.wal J.starts result.0 result.1 held.old.items held.new.items result.2 result.3 }
     ensures script { tasks_told result.2 ≡ tasks_of work.seats.items }
     ensures later { AreLater V.Vault held.old.items held.new.items }
@@ -228,7 +231,8 @@ fn run_found<R: Threads + Wait + Sync, J: OfRetention + Send + Sync, V: Vault, G
         × (J.starts 5 ≡ V.faults (box_value sums)) }
     requires stands { IsStanding V.Vault found }
     requires told { J.tells ≡ true → IsSome (V.files found.wal) }
-    ensures runs { EndsRun V.Vault (J.tells ≡ true) (basis_of J.settings when J.found J.sums J.limit)
+    ensures runs { EndsRun V.Vault (J.tells ≡ true)
+        (basis_of J.settings when J.found J.sums J.limit)
         J.wal J.starts found (box_value sums) result.0 result.1 held.old.items held.new.items
         result.2 }
     ensures script { IfOk result.2
@@ -274,7 +278,8 @@ fn run_named<R: Threads + Wait + Sync, V: Vault, G: Gate>(
     requires stands { IsStanding V.Vault found }
     ensures runs { EndsRun V.Vault (tell_found V.Vault found ≡ true)
         (basis_found V.Vault found (box_value sums) when (age_limit days when))
-        (wal_start V.Vault found) (starts_of V.Vault found (box_value sums)) found (box_value sums) result.0 result.1
+        (wal_start V.Vault found) (starts_of V.Vault found (box_value sums)) found
+            (box_value sums) result.0 result.1
         held.old.items held.new.items result.2 }
     ensures script { IfOk result.2
         (λ report. tasks_told report.told ≡ tasks_of work.seats.items) }
@@ -300,7 +305,8 @@ fn run_store<R: Threads + Wait + Sync, V: Vault, G: Gate>(
     requires work { IsWork work }
     requires when { when ≤ 253402207199 }
     requires names { AreNamesFor work.seats.items (names_of held.old.items) }
-    ensures runs { RunsOn V.Vault when (age_limit days when) areas result.0 (box_value sums) result.1
+    ensures runs { RunsOn V.Vault when (age_limit days when) areas result.0
+        (box_value sums) result.1
         held.old.items held.new.items result.2 }
     ensures script { IfOk result.2
         (λ report. tasks_told report.told ≡ tasks_of work.seats.items) }

@@ -36,7 +36,8 @@ pub fn redo_storage<P: Pages>(target: &mut P, rec: &Record) -> Result<(), AreaFa
 
 /// Removes all forks of relations, in turn.
 fn drop_rels<P: Pages>(target: &mut P, rels: &[Rel]) -> Result<(), AreaFault>
-    ensures done { OnOk result (Turns P.shows target.old target.new (λ s. without_rels s rels.now)) }
+    ensures done { OnOk result (Turns P.shows target.old target.new
+        (λ s. without_rels s rels.now)) }
     ensures kept { P.keeps target.old target.new }
     ensures cause { HasCause (P.faults target.old) (P.faults target.new) result }
 {

@@ -437,7 +437,8 @@ impl<J: OfCrew, W: Vault> Desk<J, W> {
         own: &mut Knowing<J>,
     ) -> Result<Place, MarkFault>
         requires { own.old.list ≡ self.old }
-        ensures marked { IfOk result (HasMark own.old.worker (BackupEnd start.0) self.old self.new) }
+        ensures marked { IfOk result (HasMark own.old.worker
+            (BackupEnd start.0) self.old self.new) }
         ensures full { IfErr result
             (IsFullFor (Mark (BackupEnd start.0)) J.settings.segment self.old) }
         ensures same { OnErr result (self.new ≡ self.old) }

@@ -72,7 +72,8 @@ fn summary_in<V: Vault>(
     area: &mut V,
     name: &[u8],
 ) -> Result<Option<Summary>, AreaFault>
-    ensures found { IfOk result (λ found. IfSome (V.files area.old) (λ m. FoundIn m name.now found)) }
+    ensures found { IfOk result (λ found. IfSome (V.files area.old)
+        (λ m. FoundIn m name.now found)) }
     ensures range { IfOk result (λ found. IfSome found HasRange) }
     ensures reads { OnlyReads V.Vault area.old area.new }
     ensures cause { HasCause (V.faults area.old) (V.faults area.new) result }
