@@ -88,6 +88,7 @@ pub one_file : (f g a b : List ℕ) (i j : Bool) → IsRelationFile f a → IsRe
 one_file f g a b i j x y e =
     let cut = cut_once f g (file_prefix i ++ a) (file_prefix j ++ b) (prefix_flat i a x.flat) (prefix_flat j b y.flat) e in
     (cut.0, same_name i j a b x.even y.even cut.1)
+
 -- a plain path is no incremental one
 pub never_incremental : (path folder name : List ℕ) → IsRelationFile folder name → path ≡ file_path folder name false → IsIncrementalPath path → ⊥
 never_incremental path folder name placed spelled f =

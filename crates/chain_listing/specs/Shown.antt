@@ -71,7 +71,7 @@ abbrev pub Shows : Files → List ℕ → Result Backup FolderFault → Type 0
 Shows files folder (Err Name) = is_name folder ≡ false
 Shows files folder answer = (is_name folder ≡ true)
     × TextsTell folder (get files (manifest_path folder))
-        (bytes_of files (label_path folder)) answer
+    (bytes_of files (label_path folder)) answer
 
 -- ---- what each step answers, for the crate's own contracts
 

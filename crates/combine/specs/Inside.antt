@@ -98,7 +98,7 @@ IsLast places place = (before : List ℕ) × (places ≡ before ++ (place ∷ []
 pub record IsContentOf (chain : List Files) (target : Target) (bytes : List ℕ) : Type 0 where
   pub rebuilt : (f : IsIncrementalPath target.from)
       → IfSome (chain_pages chain f.folder f.name)
-          (λ pages. bytes ≡ pages_bytes (take 131072 pages))
+      (λ pages. bytes ≡ pages_bytes (take 131072 pages))
   pub kept : (IsIncrementalPath target.from → ⊥) → (newest : Files) → EndsWith chain newest
       → bytes ≡ kept_bytes newest target.from
 

@@ -13,7 +13,9 @@ ghost use Rattle.memory_vault.specs.Memory.{new_area, read_count, IsCall, IsQuie
 
 use crate::fails::FailList;
 use crate::fuse::Fuse;
-use crate::memory_files::{bytes_in, copy_from, count_in, count_read, cut_file, names_in, remove_file, size_in, write_file};
+use crate::memory_files::{
+    bytes_in, copy_from, count_in, count_read, cut_file, names_in, remove_file, size_in, write_file,
+};
 use crate::stopped::{Pick, durable_count};
 use lsn_core::{AreaFault, NoMemory, Text};
 use std::alloc::Global;

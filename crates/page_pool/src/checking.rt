@@ -189,7 +189,7 @@ fn put_pages(frames: &mut Frames, pages: Vec<NewPage>, end: Lsn)
     requires room { All (λ p. HasRoomAt frames.old p.at) pages.items }
     ensures pages { (behind : BlockId → List ℕ)
         → pages_over behind frames.new ≡ pages_put end.0 pages.items
-            (pages_over behind frames.old) }
+        (pages_over behind frames.old) }
     ensures marks { marks_over frames.new ≡ pages_touched end.0
         (marks_over frames.old) pages.items }
 {

@@ -22,7 +22,11 @@ mod turn;
 mod work;
 mod writing;
 
-pub use laws::{acts_are_entered, clean_partitions_lack_nothing, entries_are_followed, followers_cover, pages_are_shown, parts_count_alike, parts_judge_alike, unwritten_is_of_history, writes_are_followed, writes_leave_less};
+pub use laws::{
+    acts_are_entered, clean_partitions_lack_nothing, entries_are_followed, followers_cover,
+    pages_are_shown, parts_count_alike, parts_judge_alike, unwritten_is_of_history,
+    writes_are_followed, writes_leave_less,
+};
 pub use partition::{Partition, Unopened};
 pub use ready::Ready;
 pub use turn::{Cleaned, Turn, Wrote};

@@ -279,7 +279,7 @@ fn run_named<R: Threads + Wait + Sync, V: Vault, G: Gate>(
     ensures runs { EndsRun V.Vault (tell_found V.Vault found ≡ true)
         (basis_found V.Vault found (box_value sums) when (age_limit days when))
         (wal_start V.Vault found) (starts_of V.Vault found (box_value sums)) found
-            (box_value sums) result.0 result.1
+        (box_value sums) result.0 result.1
         held.old.items held.new.items result.2 }
     ensures script { IfOk result.2
         (λ report. tasks_told report.told ≡ tasks_of work.seats.items) }
