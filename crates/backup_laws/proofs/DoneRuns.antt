@@ -79,16 +79,16 @@ taken_or_refused : (bytes : List ℕ) (script : List Task) (line : ℕ) (why : W
 taken_or_refused bytes script line why is refused = (let never : None ≡ Some why = sym (is.taken line refused.least refused.most) ∙ refused.here in cc)
 
 pub scripts_run : ScriptsAreRun
-scripts_run old new bytes script wal end (Ok report) left few is told sound some does = ended (first_told report.told) report.closed
-scripts_run old new bytes script wal end (Err (run.Input why)) left few is told sound some does = area_fails why
-scripts_run old new bytes script wal end (Err (run.Script line why)) left few is told sound some does =
+scripts_run days old new bytes script wal end (Ok report) left few is told sound some does = ended (first_told report.told) report.closed
+scripts_run days old new bytes script wal end (Err (run.Input why)) left few is told sound some does = area_fails why
+scripts_run days old new bytes script wal end (Err (run.Script line why)) left few is told sound some does =
     let refused = does.6.1 in
     let read : refused.bytes ≡ bytes = at_told old.left bytes (λ whole. refused.bytes ≡ take (script_limit + 1) whole) left refused.input.bytes_are ∙ take_all (script_limit + 1) bytes (omega (arith, few)) in
     absurd (taken_or_refused bytes script line why is (subst (λ (b : List ℕ). IsRefusedAt run_workers b line why) read refused.refused))
-scripts_run old new bytes script wal end (Err run.NoMemory) left few is told sound some does = tt
-scripts_run old new bytes script wal end (Err (run.Site fault)) left few is told sound some does = area_fails fault.why
-scripts_run old new bytes script wal end (Err (run.Begin (begin.Wal why))) left few is told sound some does =
+scripts_run days old new bytes script wal end (Err run.NoMemory) left few is told sound some does = tt
+scripts_run days old new bytes script wal end (Err (run.Site fault)) left few is told sound some does = area_fails fault.why
+scripts_run days old new bytes script wal end (Err (run.Begin (begin.Wal why))) left few is told sound some does =
     begun_told end wal sound some (old.areas wal_name).files (old.areas wal_name).faults (new.areas wal_name).faults why told does.6.1.1.1
-scripts_run old new bytes script wal end (Err (run.Begin (begin.Replay why))) left few is told sound some does =
+scripts_run days old new bytes script wal end (Err (run.Begin (begin.Replay why))) left few is told sound some does =
     begun_told end wal sound some (old.areas wal_name).files (old.areas wal_name).faults (new.areas wal_name).faults why told does.6.1.1.1.1
-scripts_run old new bytes script wal end (Err (run.Begin (begin.Data why))) left few is told sound some does = store_fails why
+scripts_run days old new bytes script wal end (Err (run.Begin (begin.Data why))) left few is told sound some does = store_fails why

@@ -168,7 +168,7 @@ module _ (n when : ℕ) (old new : Outside) (report : DrillReport) (done : Drill
   left = done.before.ran
 
   abbrev run_done : RunDone when start.areas left.areas ran.run
-  run_done = ran.done.1
+  run_done = ran.done.1.0
 
   -- ---- the areas before the run
 
@@ -357,7 +357,7 @@ module _ (n when : ℕ) (old new : Outside) (report : DrillReport) (done : Drill
   settings_are : (s : StoreSettings) (wal : Files) → (left.areas wal_name).files ≡ Some wal → IsSettingsOf wal s → s ≡ drill_settings n
   settings_are s wal told is =
       let was = some_told (start.areas wal_name).files (store_tells wal_name (inl refl)) in
-      let on : GoesOnFrom was.0 wal = related_told GoesOnFrom (start.areas wal_name).files (left.areas wal_name).files was.0 wal was.1 told (scripts_go_on when (drilled n) start left (Ok ran.run) store_tells ran.done) in
+      let on : GoesOnFrom was.0 wal = related_told GoesOnFrom (start.areas wal_name).files (left.areas wal_name).files was.0 wal was.1 told (scripts_go_on when 0 (drilled n) start left (Ok ran.run) store_tells ran.done) in
       one_settings was.0 s (drill_settings n) (on s is).0 (at_told (start.areas wal_name).files was.0 (λ m. IsSettingsOf m (drill_settings n)) was.1 made.reads.settings)
 
   whole_drill : CompletedChainsAreReplays → IsWholeDrill n new report

@@ -152,5 +152,5 @@ answered_name before left told script name start end is script_is answered = by 
         (line_free taken.by.task.lines taken.number taken.line taken.behind (told_free told taken.worker taken.by free taken.there) taken.lines)
 
 pub names_are_lines : AnsweredNamesAreLines
-names_are_lines before left report name start end does answered =
+names_are_lines days before left report name start end does answered =
     answered_name before.left left.left report.told does.1 name start end does.6.1.0 does.6.0 answered

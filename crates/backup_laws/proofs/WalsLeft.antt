@@ -202,28 +202,28 @@ wal_of_areas : (old new : Areas) → new ≡ old → (new wal_name).files ≡ (o
 wal_of_areas old new same = ap (λ (areas : Areas). (areas wal_name).files) same
 
 pub scripts_go_on : RunsOfScriptsGoOn
-scripts_go_on when script before left (Ok report) told ran = done_on when before left report told ran.1
-scripts_go_on when script before left (Err (run.Input why)) told ran = absurd ran
-scripts_go_on when script before left (Err (run.Script line why)) told ran = absurd ran
-scripts_go_on when script before left (Err run.NoMemory) told ran = stayed _ _ (wal_of_areas before.areas left.areas ran.0)
-scripts_go_on when script before left (Err (run.Site fault)) told ran = stayed _ _ (wal_of_areas before.areas left.areas ran.0)
-scripts_go_on when script before left (Err (run.Begin (begin.Wal why))) told ran = stayed _ _ (ran.0 wal_name (one_back wal_name (others_asked script) store_asks (inl refl)))
-scripts_go_on when script before left (Err (run.Begin (begin.Replay why))) told ran = stayed _ _ ran.1.0
-scripts_go_on when script before left (Err (run.Begin (begin.Data why))) told ran = stayed _ _ ran.1
+scripts_go_on when limit script before left (Ok report) told ran = done_on when before left report told ran.1.0
+scripts_go_on when limit script before left (Err (run.Input why)) told ran = absurd ran
+scripts_go_on when limit script before left (Err (run.Script line why)) told ran = absurd ran
+scripts_go_on when limit script before left (Err run.NoMemory) told ran = stayed _ _ (wal_of_areas before.areas left.areas ran.0)
+scripts_go_on when limit script before left (Err (run.Site fault)) told ran = stayed _ _ (wal_of_areas before.areas left.areas ran.0)
+scripts_go_on when limit script before left (Err (run.Begin (begin.Wal why))) told ran = stayed _ _ (ran.0 wal_name (one_back wal_name (others_asked script) store_asks (inl refl)))
+scripts_go_on when limit script before left (Err (run.Begin (begin.Replay why))) told ran = stayed _ _ ran.1.0
+scripts_go_on when limit script before left (Err (run.Begin (begin.Data why))) told ran = stayed _ _ ran.1
 
-answer_on : (when : ℕ) (script : List Task) (before left : Outside) (came : RunResult) → AreTold before.areas → RunAnswer when script before left came → Related GoesOnFrom (before.areas wal_name).files (left.areas wal_name).files
-answer_on when script before left (Ok report) told answer = scripts_go_on when script before left (Ok report) told answer.1
-answer_on when script before left (Err (run.Input why)) told answer = stayed _ _ (wal_of_areas before.areas left.areas answer.0.0)
-answer_on when script before left (Err (run.Script line why)) told answer = stayed _ _ (wal_of_areas before.areas left.areas answer.0.0)
-answer_on when script before left (Err run.NoMemory) told answer = stayed _ _ (wal_of_areas before.areas left.areas answer.0)
-answer_on when script before left (Err (run.Site fault)) told answer = scripts_go_on when script before left (Err (run.Site fault)) told answer.1
-answer_on when script before left (Err (run.Begin why)) told answer = scripts_go_on when script before left (Err (run.Begin why)) told answer.1
+answer_on : (when limit : ℕ) (script : List Task) (before left : Outside) (came : RunResult) → AreTold before.areas → RunAnswer when limit script before left came → Related GoesOnFrom (before.areas wal_name).files (left.areas wal_name).files
+answer_on when limit script before left (Ok report) told answer = scripts_go_on when limit script before left (Ok report) told answer.1
+answer_on when limit script before left (Err (run.Input why)) told answer = stayed _ _ (wal_of_areas before.areas left.areas answer.0.0)
+answer_on when limit script before left (Err (run.Script line why)) told answer = stayed _ _ (wal_of_areas before.areas left.areas answer.0.0)
+answer_on when limit script before left (Err run.NoMemory) told answer = stayed _ _ (wal_of_areas before.areas left.areas answer.0)
+answer_on when limit script before left (Err (run.Site fault)) told answer = scripts_go_on when limit script before left (Err (run.Site fault)) told answer.1
+answer_on when limit script before left (Err (run.Begin why)) told answer = scripts_go_on when limit script before left (Err (run.Begin why)) told answer.1
 
 pub runs_go_on : RunsGoOn
-runs_go_on before left came told does = answer_on does.0 does.1 before left came told does.6
+runs_go_on days before left came told does = answer_on does.0 _ does.1 before left came told does.6
 
 -- ---- the script of an input
 
 pub inputs_run : RunsOfInputsAreRuns
-inputs_run before left report end told does closed =
-    record { told = told; when = does.0; done = does.6.1.1; closed = closed }
+inputs_run days before left report end told does closed =
+    record { told = told; when = does.0; done = does.6.1.1.0; closed = closed }

@@ -142,15 +142,15 @@ RunsLeaveWholeWals =
 -- store's areas told their files
 abbrev pub RunsGoOn : Type 0
 RunsGoOn =
-    (before left : Outside) (came : RunResult)
-    → AreTold before.areas → RunDoes before left came
+    (days : ℕ) (before left : Outside) (came : RunResult)
+    → AreTold before.areas → RunDoes days before left came
     → Related GoesOnFrom (before.areas wal_name).files (left.areas wal_name).files
 
 -- so does the WAL of a script that was made
 abbrev pub RunsOfScriptsGoOn : Type 0
 RunsOfScriptsGoOn =
-    (when : ℕ) (script : List Task) (before left : Outside) (came : RunResult)
-    → AreTold before.areas → RunOfScript when script before left came
+    (when limit : ℕ) (script : List Task) (before left : Outside) (came : RunResult)
+    → AreTold before.areas → RunOfScript when limit script before left came
     → Related GoesOnFrom (before.areas wal_name).files (left.areas wal_name).files
 
 -- what a run finds is this program's own, where the one before it found so and closed its store,

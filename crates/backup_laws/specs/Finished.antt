@@ -115,8 +115,8 @@ AnsweredBackupsAreListed =
 -- such is the name of each backup that `run` answered on the script of its input
 abbrev pub AnsweredNamesAreLines : Type 0
 AnsweredNamesAreLines =
-    (before left : Outside) (report : RunReport) (name : List ℕ) (start end : Lsn)
-    → RunDoes before left (Ok report)
+    (days : ℕ) (before left : Outside) (report : RunReport) (name : List ℕ) (start end : Lsn)
+    → RunDoes days before left (Ok report)
     → IsBackedUp report.told name start end ⊎ IsIncremented report.told name start end
     → HasNoLineEnd name
 

@@ -37,8 +37,8 @@ pub record HasRun (before left : Outside) (report : RunReport) (end : Lsn) : Typ
 -- where `run` ran the script of its input so, it was run so
 abbrev pub RunsOfInputsAreRuns : Type 0
 RunsOfInputsAreRuns =
-    (before left : Outside) (report : RunReport) (end : Lsn)
-    → AreTold before.areas → RunDoes before left (Ok report) → report.closed ≡ Ok end
+    (days : ℕ) (before left : Outside) (report : RunReport) (end : Lsn)
+    → AreTold before.areas → RunDoes days before left (Ok report) → report.closed ≡ Ok end
     → HasRun before left report end
 
 -- a run that was done so

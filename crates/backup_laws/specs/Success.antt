@@ -122,12 +122,12 @@ NewStoresAreMade =
 -- entry
 abbrev pub ScriptsAreRun : Type 0
 ScriptsAreRun =
-    (old new : Outside) (bytes : List ℕ) (script : List Task) (wal : Files) (end : Lsn)
+    (days : ℕ) (old new : Outside) (bytes : List ℕ) (script : List Task) (wal : Files) (end : Lsn)
     (r : RunResult)
     → old.left ≡ Some bytes → length bytes ≤ script_limit → IsScript run_workers bytes script
     → (old.areas wal_name).files ≡ Some wal
     → (sound : IsSoundWal end wal) → 0 < length sound.replayable.records
-    → RunDoes old new r → IsDoneOrFails (run_status r)
+    → RunDoes days old new r → IsDoneOrFails (run_status r)
 
 -- `replay` of a sound WAL goes up to each target that isn't past its end, to an output that holds
 -- no file
