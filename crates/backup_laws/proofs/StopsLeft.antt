@@ -29,7 +29,7 @@ use Rattle.run_command.proofs.OwnEntries.{AreOwn}
 use Rattle.restart_command.specs.Restart.{RestartDoes, RestartDone, store_at}
 use Rattle.store_commands.specs.declared.replaying.ReplayReport.{ReplayReport}
 use Rattle.backup_laws.specs.Restores.{GoesOnFrom}
-use Rattle.backup_laws.specs.Stops.{HadCome, HaveSurvived, LeavesSurvivors, KeepsOrPublishes, PastStop, ComesBehind, WasStopped, CameOnOwn, HoldsSurvivors, RestartsHoldSurvivors, StopsGoOn, StopsFindOwn, come_records, flushed_records}
+use Rattle.backup_laws.specs.Stops.{HadCome, LeavesSurvivors, KeepsOrPublishes, PastStop, ComesBehind, WasStopped, CameOnOwn, HoldsSurvivors, RestartsHoldSurvivors, StopsGoOn, StopsFindOwn, come_records, flushed_records}
 use Rattle.wal_reader.proofs.Reached.{first_reached}
 use Rattle.backup_restore.proofs.Rising.{reads_rise}
 use Rattle.backup_laws.proofs.Reading.{end_stops, read_once, records_rise}
@@ -39,6 +39,7 @@ use Rattle.backup_laws.proofs.SoundRuns.{own_entries}
 use Rattle.backup_laws.proofs.Survived.{kept_front, flushed_kept}
 use Rattle.backup_laws.proofs.WalsLeft.{on_from, related_is}
 use Rattle.backup_laws.proofs.SummariesLeft.{honest_left}
+use Rattle.comeback_laws.specs.Restorable.{AreFirst}
 use Rattle.backup_laws.proofs.OwnLeft.{IsOwnStore, finds_own, log_tidy}
 
 -- ---- the files of a WAL, before a stop, behind it, and behind the restart
@@ -53,7 +54,7 @@ record IsLeftSo (s : StoreSettings) (found history : List Record) (flushed : ℕ
   read : ReadsOn s left (first_tip s.segment) records tip
   stops : Stops (stands_behind s left tip)
   rise : RecordsRise 0 records
-  first : HaveSurvived history flushed records
+  first : AreFirst history flushed records
   more : List Record
   are : records ≡ found ++ more
   settings : (t : StoreSettings) → IsSettingsOf left t → t ≡ s

@@ -16,8 +16,8 @@ use Rattle.recovery.specs.Onward.{ending_by}
 use Rattle.backup_restore.proofs.Rising.{none_left}
 use Rattle.wal_summary.specs.declared.summary.Summary.{Summary}
 use Rattle.summary_store.specs.Honest.{IsHonestSummary}
+use Rattle.comeback_laws.specs.Restorable.{AreFirst}
 use Rattle.shared_summaries.proofs.summary_publish.Honest.{honest_on}
-use Rattle.backup_laws.specs.Stops.{HaveSurvived}
 
 -- ---- records that rise
 
@@ -70,7 +70,7 @@ none_late at (r ∷ lost) late =
     let past : nat_le r.end.0 at ≡ false = lt-leb r.end.0 at (late 0 r (omega arith)) in
     ap (λ (b : Bool). cond b (r ∷ ending_by at lost) (ending_by at lost)) past ∙ none_late at lost (λ k d within. late (suc k) d (omega (arith, within)))
 
-pub flushed_kept : (last flushed : ℕ) (history records : List Record) → RecordsRise last records → HaveSurvived history flushed records → (rest : List Record) × (records ≡ ending_by flushed history ++ rest)
+pub flushed_kept : (last flushed : ℕ) (history records : List Record) → RecordsRise last records → AreFirst history flushed records → (rest : List Record) × (records ≡ ending_by flushed history ++ rest)
 flushed_kept last flushed history records rise first =
     let is = flushed_front last flushed records rise in
     let same : ending_by flushed history ≡ ending_by flushed records =

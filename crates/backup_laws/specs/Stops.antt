@@ -36,6 +36,7 @@ use Rattle.store_commands.specs.Init.{InitDoes}
 use Rattle.store_commands.specs.declared.replaying.ReplayReport.{ReplayReport}
 use Rattle.chain_commands.specs.Chain.{backup_areas, files_told}
 use Rattle.backup_laws.specs.Restores.{PastRun, HasRun, HasRestored, GoesOnFrom, IsWholeTo, replay_end, IsWholeReplay}
+use Rattle.comeback_laws.specs.Restorable.{AreFirst}
 use Rattle.backup_laws.specs.ChainRestores.{RanInTurn, FoundOwn, EndedWell, AreAsLeft, Making, IsCompletedBackup}
 
 -- ---- what a run had come to
@@ -68,14 +69,6 @@ flushed_records come = ending_by come.flushed (come_records come)
 
 -- ---- what a stop left
 
--- records survived of a history: its first ones, with each that ends at a place or before it, up to
--- which the WAL was flushed
-pub record HaveSurvived (history : List Record) (flushed : ℕ) (records : List Record)
-    : Type 0 where
-  pub lost : List Record
-  pub parts : history ≡ records ++ lost
-  pub late : All (λ r. flushed < r.end.0) lost
-
 -- just such records are read of the files of a WAL, whatever stands behind them
 pub record LeavesSurvivors
     (s : StoreSettings) (history : List Record) (flushed : ℕ) (files : Files)
@@ -83,7 +76,7 @@ pub record LeavesSurvivors
   pub records : List Record
   pub tip : Tip
   pub survive : SurviveIn s files records tip
-  pub first : HaveSurvived history flushed records
+  pub first : AreFirst history flushed records
 
 -- each file of an area that is a summary's, under the name of its range, stood there before; or the
 -- summary is honest for a history, and ends where one of these records starts
@@ -145,7 +138,7 @@ pub record HoldsSurvivors
   pub records : List Record
   pub tip : Tip
   pub is_wal : IsWal s files records tip
-  pub first : HaveSurvived history flushed records
+  pub first : AreFirst history flushed records
 
 -- behind a restart the WAL is just the first records of the history that the run had come to, with
 -- all that were flushed
