@@ -10,7 +10,7 @@ use wal_pages::HeadFault;
 use wal_record::Why;
 
 const COPY: &[u8] =
-    b"bring the segment file back from a copy, or replay up to a target before that place";
+    b"pgbackup restart ends the WAL there, as behind a crash; else bring the segment file back from a copy, or replay up to a target before that place";
 
 fn head_text(why: HeadFault) -> &'static [u8] {
     match why {

@@ -88,7 +88,7 @@ pgbackup: hint: give a target at or before that end, or bring the later segment 
         "replay p",
         Refused::Damaged(0x100_0108),
         "pgbackup: error: the WAL is damaged at 0/1000108: the entry's checksum isn't that of its bytes
-pgbackup: hint: bring the segment file back from a copy, or replay up to a target before that place
+pgbackup: hint: pgbackup restart ends the WAL there, as behind a crash; else bring the segment file back from a copy, or replay up to a target before that place
 ",
     ),
     (
