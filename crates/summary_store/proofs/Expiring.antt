@@ -1,18 +1,17 @@
 -- Old summaries are removed one after the other.
-use Rattle.std.proofs.Common.{◌≡◌, ◌⊎◌, ⊎_elim, inl, inr, ℕ, zero, suc, ◌+◌, ◌<◌, ◌≤◌, Bool, true, false, cond, not, ◌&&◌, List, [], ◌∷◌, ◌++◌, length, take, drop, get_or, Option, Some, None, Result, Err, IfSome, option_map, unwrap_or, refl, sym, ap, subst, ◌∙◌, arith, append_assoc, append-nil, length-append, true≢false}
+use Rattle.std.proofs.Common.{Ok, OnOk, set, length-set, ◌≡◌, inl, inr, ℕ, zero, suc, ◌+◌, ◌<◌, ◌≤◌, Bool, true, false, cond, not, ◌&&◌, List, [], ◌∷◌, ◌++◌, length, take, drop, get_or, Option, Some, None, Result, Err, option_map, unwrap_or, refl, sym, ap, subst, ◌∙◌, arith, append_assoc, append-nil, length-append, true≢false}
 use Rattle.std.specs.Prelude.{nat_lt}
-use Rattle.std.specs.List.{position, position_or_len, filter, remove, AllByRecursion}
+use Rattle.std.specs.Option.{is_some}
+use Rattle.std.specs.Result.{result_err}
+use Rattle.std.specs.List.{filter, AllByRecursion, SwappedAt}
 use Rattle.std.specs.Cmp.Lexicographic.{slice_cmp, nat_list_cmp_total}
 use Rattle.std.specs.Ordering.{nat_cmp, eq_by_cmp}
 use Rattle.std.specs.FinMap.{get, get-remove}
-use Rattle.std.proofs.Math.Seq.{drop-cons}
-use Rattle.std.proofs.lemmas.Bool.{and_parts, ltb-true, cases_lt}
-use Rattle.std.proofs.lemmas.Grind.{common_steps}
-use Rattle.std.proofs.lemmas.List.{take-append-drop, take_all}
+use Rattle.std.proofs.lemmas.Bool.{and_parts, ltb-true}
+use Rattle.std.proofs.lemmas.List.{take_more, take-set-le, drop_more, drop-set-lt, drop_all, length-take-le}
 use Rattle.std.proofs.lemmas.List.Elements.{filter-append}
-use Rattle.std.proofs.lemmas.List.Quantifiers.{position-Some}
-use Rattle.std.proofs.lemmas.List.Sums.{fails_before_first}
 use Rattle.lsn_core.specs.Files.{Files}
+use Rattle.lsn_core.specs.Causes.{HasCause}
 use Rattle.lsn_core.proofs.StoreFiles.{same_name, names_tie}
 use Rattle.lsn_core.specs.declared.fault.AreaFault.{AreaFault}
 use Rattle.lsn_core.specs.declared.fault.AreaFault.TheVariants.{NoMemory}
@@ -29,48 +28,36 @@ use Rattle.summary_file.specs.Name.{summary_name_bytes}
 use Rattle.summary_file.proofs.Ranges.{one_range}
 use Rattle.summary_store.specs.Kept.{IsSummaryIn, end_behind}
 use Rattle.summary_store.specs.Expiry.{age_limit, is_old, is_expired, expired, unexpired, young, without, AreHeld, AreTaken, AreGone, IsSummaryName, Expires, MayExpire}
-use Rattle.summary_store.specs.Inside.{TakesOne, MayLose, IsExpiring}
+use Rattle.summary_store.specs.Inside.{TakesOne, MayLose, IsExpiring, HasExpired, ExpiresSoFar}
 
 -- what is made at the moment itself isn't old
 pub limit_below : (days when : ℕ) → age_limit days when ≤ when
 limit_below zero when = omega arith
 limit_below (suc n) when = omega arith
 
--- ---- where the first one stands
+-- ---- what stays moves to the front
 
 module _ {X : Type 0} where
-  none_before : (p : X → Bool) (xs : List X) (i : ℕ) (d : X) → ((k : ℕ) → k < i → p (get_or xs k d) ≡ false) → filter p (take i xs) ≡ []
-  none_before p [] zero d f = refl
-  none_before p [] (suc i) d f = refl
-  none_before p (x ∷ xs) zero d f = refl
-  none_before p (x ∷ xs) (suc i) d f =
-      ap (λ b. cond b (x ∷ filter p (take i xs)) (filter p (take i xs))) (f 0 (omega arith)) ∙ none_before p xs i d (λ k lt. f (suc k) (omega (arith, lt)))
+  swapped_long : (xs ys : List X) (left at : ℕ) (d : X) → SwappedAt xs ys left at → length ys ≡ length xs
+  swapped_long xs ys left at d s = ap length (s.3 d) ∙ length-set (set xs left (get_or xs at d)) at (get_or xs left d) ∙ length-set xs left (get_or xs at d)
 
-  parts_at : (xs : List X) (i : ℕ) (d : X) → i < length xs → xs ≡ take i xs ++ (get_or xs i d ∷ drop (suc i) xs)
-  parts_at xs i d lt = sym (take-append-drop i xs) ∙ ap (λ ys. take i xs ++ ys) (drop-cons xs i d lt)
+  pub stays_long : (xs ys : List X) (left at : ℕ) → SwappedAt xs ys left at → at < length xs → length ys ≡ length xs
+  stays_long [] ys left at s lt = absurd (omega (arith, lt))
+  stays_long (x ∷ xs) ys left at s lt = swapped_long (x ∷ xs) ys left at x s
 
-  none_there : (p : X → Bool) (xs : List X) (d : X) → position p xs ≡ None → filter p xs ≡ []
-  none_there p xs d e =
-      let le : length xs ≤ position_or_len p xs = grind (arith, common_steps) in
-      ap (filter p) (sym (take_all (length xs) xs (omega arith))) ∙ none_before p xs (length xs) d (λ k lt. fails_before_first p xs k d (omega (arith, lt, le)))
+  front_moved : (xs ys : List X) (left at : ℕ) (d : X) → SwappedAt xs ys left at → left ≤ at → at < length xs → take (left + 1) ys ≡ take left xs ++ (get_or xs at d ∷ [])
+  front_moved xs ys left at d s le lt =
+      let long = swapped_long xs ys left at d s in
+      let front : take left ys ≡ take left xs =
+      ap (take left) (s.3 d) ∙ take-set-le left (set xs left (get_or xs at d)) at (get_or xs left d) le ∙ take-set-le left xs left (get_or xs at d) (omega arith) in
+      take_more ys left d (omega (arith, le, lt, long)) ∙ ap (λ l. l ++ (get_or ys left d ∷ [])) front ∙ ap (λ x. take left xs ++ (x ∷ [])) (s.0 d)
 
-  nothing_there : (p : X → Bool) (xs : List X) → position p xs ≡ None → filter p xs ≡ []
-  nothing_there p [] e = refl
-  nothing_there p (x ∷ xs) e = none_there p (x ∷ xs) x e
+  back_stays : (xs ys : List X) (left at : ℕ) (d : X) → SwappedAt xs ys left at → left ≤ at → drop (at + 1) ys ≡ drop (at + 1) xs
+  back_stays xs ys left at d s le =
+      ap (drop (at + 1)) (s.3 d) ∙ drop-set-lt (at + 1) (set xs left (get_or xs at d)) at (get_or xs left d) (omega arith) ∙ drop-set-lt (at + 1) xs left (get_or xs at d) (omega (arith, le))
 
-pub takes_none : (limit : ℕ) (old : List Summary) → position (is_expired limit old) old ≡ None → TakesOne limit old old None
-takes_none limit old e = (refl, nothing_there (is_expired limit old) old e)
-
-pub takes_one : (limit : ℕ) (old new : List Summary) (i : ℕ) (sum : Summary) → position (is_expired limit old) old ≡ Some i → sum ≡ get_or old i sum → new ≡ remove old i → TakesOne limit old new (Some sum)
-takes_one limit old new i sum e is gone =
-    let at = position-Some (is_expired limit old) old i sum e in (
-      take i old,
-      drop (suc i) old,
-      parts_at old i sum at.0 ∙ ap (λ s. take i old ++ (s ∷ drop (suc i) old)) (sym is),
-      gone,
-      none_before (is_expired limit old) old i sum at.2,
-      ap (is_expired limit old) is ∙ at.1,
-    )
+  all_in_front : (xs : List X) (left at : ℕ) → length xs ≤ at → take left xs ≡ take left xs ++ drop at xs
+  all_in_front xs left at le = sym (append-nil (take left xs)) ∙ ap (λ l. take left xs ++ l) (sym (drop_all at xs le))
 
 -- ---- one is taken
 
@@ -128,20 +115,18 @@ taken_at limit front back sum none is =
       order = λ low o. order_past low front back sum o;
     }
 
-pub one_taken : (limit : ℕ) (old new : List Summary) (sum : Summary) → TakesOne limit old new (Some sum) → AreTaken limit old new (sum ∷ [])
+one_taken : (limit : ℕ) (old new : List Summary) (sum : Summary) → TakesOne limit old new sum → AreTaken limit old new (sum ∷ [])
 one_taken limit old new sum t =
-    let front = t.0 in
-    let back = t.1 in
-    subst (λ l. AreTaken limit old l (sum ∷ [])) (sym t.3)
-    (subst (λ l. AreTaken limit l (front ++ back) (sum ∷ [])) (sym t.2)
-    (taken_at limit front back sum (subst (λ l. filter (is_expired limit l) front ≡ []) t.2 t.4) (subst (λ l. is_expired limit l sum ≡ true) t.2 t.5)))
+    subst (λ l. AreTaken limit old l (sum ∷ [])) (sym t.now)
+    (subst (λ l. AreTaken limit l (t.front ++ t.back) (sum ∷ [])) (sym t.was)
+    (taken_at limit t.front t.back sum (subst (λ l. filter (is_expired limit l) t.front ≡ []) t.was t.first) (subst (λ l. is_expired limit l sum ≡ true) t.was t.old_one)))
 
 -- ---- one after the other
 
 pub none_taken : (limit : ℕ) (old : List Summary) → AreTaken limit old old []
 none_taken limit old = record { first = refl; others = refl; counted = omega arith; end = λ low. refl; order = λ low o. o }
 
-pub more_taken : (limit : ℕ) (old mid new gone more : List Summary) → AreTaken limit old mid gone → AreTaken limit mid new more → AreTaken limit old new (gone ++ more)
+more_taken : (limit : ℕ) (old mid new gone more : List Summary) → AreTaken limit old mid gone → AreTaken limit mid new more → AreTaken limit old new (gone ++ more)
 more_taken limit old mid new gone more a b =
     let m = a.counted in
     let n = b.counted in
@@ -160,7 +145,7 @@ pub without_more : (gone more : List Summary) (m : Files) → without (gone ++ m
 without_more [] more m = refl
 without_more (s ∷ ss) more m = without_more ss more (after_remove (summary_name_bytes s.start.0 s.end.0) m)
 
-pub map_more : (gone more : List Summary) (o : Option Files) → option_map (without more) (option_map (without gone) o) ≡ option_map (without (gone ++ more)) o
+map_more : (gone more : List Summary) (o : Option Files) → option_map (without more) (option_map (without gone) o) ≡ option_map (without (gone ++ more)) o
 map_more gone more None = refl
 map_more gone more (Some m) = ap (λ (x : Files). Some x) (sym (without_more gone more m))
 
@@ -226,11 +211,11 @@ all_past P [] back s all = all.1
 all_past P (f ∷ fs) back s all = (all.0, all_past P fs back s all.1)
 
 -- the others are held, whether its file is there or not
-pub held_on : (limit : ℕ) (old new : List Summary) (sum : Summary) (m n : Files) → TakesOne limit old new (Some sum) → MayLose sum m n → AreInOrder 0 old → AreHeld m old → AreHeld n new
+held_on : (limit : ℕ) (old new : List Summary) (sum : Summary) (m n : Files) → TakesOne limit old new sum → MayLose sum m n → AreInOrder 0 old → AreHeld m old → AreHeld n new
 held_on limit old new sum m n t (inl same) o held =
-    subst (λ x. AreHeld x new) (sym same) (subst (AreHeld m) (sym t.3) (all_past (λ s. IsSummaryIn m (summary_name_bytes s.start.0 s.end.0) s) t.0 t.1 sum (subst (AreHeld m) t.2 held)))
+    subst (λ x. AreHeld x new) (sym same) (subst (AreHeld m) (sym t.now) (all_past (λ s. IsSummaryIn m (summary_name_bytes s.start.0 s.end.0) s) t.front t.back sum (subst (AreHeld m) t.was held)))
 held_on limit old new sum m n t (inr lost) o held =
-    subst (λ x. AreHeld x new) (sym lost) (subst (AreHeld (without (sum ∷ []) m)) (sym t.3) (held_past m 0 t.0 t.1 sum (subst (AreInOrder 0) t.2 o) (subst (AreHeld m) t.2 held)))
+    subst (λ x. AreHeld x new) (sym lost) (subst (AreHeld (without (sum ∷ []) m)) (sym t.now) (held_past m 0 t.front t.back sum (subst (AreInOrder 0) t.was o) (subst (AreHeld m) t.was held)))
 
 -- ---- those that aren't old stay
 
@@ -312,11 +297,11 @@ no_length : (xs : List Summary) → length xs ≡ 0 → xs ≡ []
 no_length [] e = refl
 no_length (x ∷ xs) e = absurd (omega (arith, e))
 
-pub none_gone : (xs : List Summary) (s : Summary) → xs ++ (s ∷ []) ≡ [] → ⊥
+none_gone : (xs : List Summary) (s : Summary) → xs ++ (s ∷ []) ≡ [] → ⊥
 none_gone [] s e = no_cons s [] e
 none_gone (x ∷ xs) s e = no_cons x (xs ++ (s ∷ [])) e
 
-pub expiry_done : {V : Type 0} (g : Ghosts V) (limit : ℕ) (before now : V) (old new : List Summary) (count : ℕ) → IsExpiring g limit before now old new → expired limit new ≡ [] → count + length new ≡ length old → Expires g limit before now old new count
+expiry_done : {V : Type 0} (g : Ghosts V) (limit : ℕ) (before now : V) (old new : List Summary) (count : ℕ) → IsExpiring g limit before now old new → expired limit new ≡ [] → count + length new ≡ length old → Expires g limit before now old new count
 expiry_done g limit before now old new count e none counted =
     let all = done_gone limit old new e.gone e.taken none in
     let m = e.taken.counted in
@@ -333,7 +318,7 @@ related_by R f each None = tt
 related_by R f each (Some m) = each m
 
 -- so many were removed, and no call failed
-pub left_done : (limit : ℕ) (before now : Option Files) (old new gone : List Summary) → AreTaken limit old new gone → now ≡ option_map (without gone) before
+left_done : (limit : ℕ) (before now : Option Files) (old new gone : List Summary) → AreTaken limit old new gone → now ≡ option_map (without gone) before
     → Related (λ m n. AreInOrder 0 old → AreHeld m old → AreHeld n new) before now → MayExpire limit before now old new
 left_done limit before now old new gone a files held = record {
   gone = gone;
@@ -361,7 +346,7 @@ gone_at gone sum (Some m) (Some k) (Some n) files lost = gone_then gone sum m n 
     some_files a b e = cc
 
 -- the removal of one more failed
-pub left_failed : (limit : ℕ) (before mid now : Option Files) (old kept new gone : List Summary) (sum : Summary) → AreTaken limit old kept gone → mid ≡ option_map (without gone) before → TakesOne limit kept new (Some sum) → Related (MayLose sum) mid now
+left_failed : (limit : ℕ) (before mid now : Option Files) (old kept new gone : List Summary) (sum : Summary) → AreTaken limit old kept gone → mid ≡ option_map (without gone) before → TakesOne limit kept new sum → Related (MayLose sum) mid now
     → Related (λ m n. AreInOrder 0 old → AreHeld m old → AreHeld n new) before now → MayExpire limit before now old new
 left_failed limit before mid now old kept new gone sum a files t lost held =
     let all = more_taken limit old kept new gone (sum ∷ []) a (one_taken limit kept new sum t) in
@@ -376,7 +361,7 @@ left_failed limit before mid now old kept new gone sum a files t lost held =
     }
 
 -- what is held stays so, one step further
-pub held_more : (limit : ℕ) (before mid now : Option Files) (old kept new gone : List Summary) (sum : Summary) → AreTaken limit old kept gone → TakesOne limit kept new (Some sum) → Related (MayLose sum) mid now
+held_more : (limit : ℕ) (before mid now : Option Files) (old kept new gone : List Summary) (sum : Summary) → AreTaken limit old kept gone → TakesOne limit kept new sum → Related (MayLose sum) mid now
     → Related (λ m n. AreInOrder 0 old → AreHeld m old → AreHeld n kept) before mid → Related (λ m n. AreInOrder 0 old → AreHeld m old → AreHeld n new) before now
 held_more limit None None None old kept new gone sum a t lost held = tt
 held_more limit None None (Some n) old kept new gone sum a t lost held = absurd lost
@@ -404,3 +389,153 @@ remove_changes g name x y result is ok memory failed notes tries later = record 
   past = adds_by (IsAmong IsSummaryName) (removed name) (g.past x) (g.past y) result is notes tries;
   faults = later;
 }
+
+-- ---- one step
+
+-- the next of those that stand behind is the first one that is expired
+takes_next : {V : Type 0} (g : Ghosts V) (limit : ℕ) (before mid : V) (old front back : List Summary) (sum : Summary) → HasExpired g limit before mid old front (sum ∷ back) → is_expired limit old sum ≡ true
+    → TakesOne limit (front ++ (sum ∷ back)) (front ++ back) sum
+takes_next g limit before mid old front back sum so test =
+    let same = same_test limit old (front ++ (sum ∷ back)) (so.expiring.taken.end 0) in
+    record {
+      front = front;
+      back = back;
+      was = refl;
+      now = refl;
+      first = same_filter (is_expired limit (front ++ (sum ∷ back))) (is_expired limit old) same front ∙ so.clean;
+      old_one = same sum ∙ test;
+    }
+
+-- it was removed
+removes_next : {V : Type 0} (g : Ghosts V) (limit : ℕ) (before mid now : V) (old front back : List Summary) (sum : Summary) → HasExpired g limit before mid old front (sum ∷ back) → is_expired limit old sum ≡ true
+    → g.files now ≡ option_map (without (sum ∷ [])) (g.files mid) → Related (MayLose sum) (g.files mid) (g.files now) → HasExpired g limit before now old front back
+removes_next g limit before mid now old front back sum so test removed lost =
+    let t = takes_next g limit before mid old front back sum so test in
+    let e = so.expiring in
+    record {
+      expiring = record {
+        gone = e.gone ++ (sum ∷ []);
+        taken = more_taken limit old (front ++ (sum ∷ back)) (front ++ back) e.gone (sum ∷ []) e.taken (one_taken limit (front ++ (sum ∷ back)) (front ++ back) sum t);
+        files = removed ∙ ap (option_map (without (sum ∷ []))) e.files ∙ map_more e.gone (sum ∷ []) (g.files before);
+        still = λ none. absurd (none_gone e.gone sum none);
+      };
+      clean = so.clean;
+      held = held_more limit (g.files before) (g.files mid) (g.files now) old (front ++ (sum ∷ back)) (front ++ back) e.gone sum e.taken t lost so.held;
+    }
+
+-- its removal failed
+fails_next : {V : Type 0} (g : Ghosts V) (limit : ℕ) (before mid now : V) (old front back : List Summary) (sum : Summary) → HasExpired g limit before mid old front (sum ∷ back) → is_expired limit old sum ≡ true
+    → Related (MayLose sum) (g.files mid) (g.files now) → MayExpire limit (g.files before) (g.files now) old (front ++ back)
+fails_next g limit before mid now old front back sum so test lost =
+    let t = takes_next g limit before mid old front back sum so test in
+    let e = so.expiring in
+    left_failed limit (g.files before) (g.files mid) (g.files now) old (front ++ (sum ∷ back)) (front ++ back) e.gone sum e.taken e.files t lost
+    (held_more limit (g.files before) (g.files mid) (g.files now) old (front ++ (sum ∷ back)) (front ++ back) e.gone sum e.taken t lost so.held)
+
+pub none_by : (o : Option AreaFault) (b : Bool) → is_some o ≡ not b → b ≡ true → o ≡ None
+none_by None b is true_is = refl
+none_by (Some fault) b is true_is = absurd cc
+
+pub some_by : (o : Option AreaFault) (b : Bool) → is_some o ≡ not b → b ≡ false → o ≡ None → ⊥
+some_by None b is false_is none = absurd cc
+some_by (Some fault) b is false_is none = absurd cc
+
+pub test_by : (limit : ℕ) (old there : List Summary) (sum : Summary) (end : ℕ) (b c : Bool) → b ≡ is_old limit sum && nat_lt sum.end.0 end → end ≡ end_behind 0 there → there ≡ old → b ≡ c → is_expired limit old sum ≡ c
+test_by limit old there sum end b c is at same tested = sym (is ∙ ap (λ n. is_old limit sum && nat_lt sum.end.0 n) (at ∙ ap (end_behind 0) same)) ∙ tested
+
+any_default : (xs : List Summary) (i : ℕ) (a b : Summary) → i < length xs → get_or xs i a ≡ get_or xs i b
+any_default [] i a b lt = absurd (omega (arith, lt))
+any_default (x ∷ xs) zero a b lt = refl
+any_default (x ∷ xs) (suc i) a b lt = any_default xs i a b (omega (arith, lt))
+
+pub same_there : (xs : List Summary) (i : ℕ) (a b : Summary) → i < length xs → a ≡ get_or xs i a → b ≡ get_or xs i b → a ≡ b
+same_there xs i a b lt e f = e ∙ any_default xs i a b lt ∙ sym f
+
+pub so_by : {V : Type 0} (g : Ghosts V) (limit : ℕ) (before : V) (old : List Summary) (at : ℕ) (a b : V) (xs ys : List Summary) (m n : ℕ) (f h : Option AreaFault) → b ≡ a → ys ≡ xs → n ≡ m → h ≡ f
+    → ExpiresSoFar g limit before a old (take m xs) (drop at xs) f → ExpiresSoFar g limit before b old (take n ys) (drop at ys) h
+so_by g limit before old at a b xs ys m n f h area kept left fault so =
+    subst (λ v. ExpiresSoFar g limit before v old (take n ys) (drop at ys) h) (sym area)
+    (subst (λ l. ExpiresSoFar g limit before a old (take n l) (drop at l) h) (sym kept)
+    (subst (λ k. ExpiresSoFar g limit before a old (take k xs) (drop at xs) h) (sym left)
+    (subst (ExpiresSoFar g limit before a old (take m xs) (drop at xs)) (sym fault) so)))
+
+pub step_removed : {V : Type 0} (g : Ghosts V) (limit : ℕ) (before mid now : V) (old kept : List Summary) (left at : ℕ) (fault : Option AreaFault) (sum : Summary) (r : Result (Unit {0}) AreaFault)
+    → fault ≡ None → ExpiresSoFar g limit before mid old (take left kept) (drop at kept) fault → at < length kept → sum ≡ get_or kept at sum → is_expired limit old sum ≡ true
+    → OnOk r (g.files now ≡ option_map (without (sum ∷ [])) (g.files mid)) → Related (MayLose sum) (g.files mid) (g.files now) → HasCause (g.faults mid) (g.faults now) r → g.faults before ≤ g.faults mid
+    → ExpiresSoFar g limit before now old (take left kept) (drop (at + 1) kept) (result_err r)
+step_removed g limit before mid now old kept left at (Some fault) sum r none so lt is test removed lost cause later = absurd cc
+step_removed g limit before mid now old kept left at None sum r none so lt is test removed lost cause later = by r removed cause
+  where
+    next : drop at kept ≡ sum ∷ drop (at + 1) kept
+    next = drop_more kept at sum lt ∙ ap (λ x. x ∷ drop (at + 1) kept) (sym is)
+
+    here : HasExpired g limit before mid old (take left kept) (sum ∷ drop (at + 1) kept)
+    here = subst (HasExpired g limit before mid old (take left kept)) next so
+
+    by : (r : Result (Unit {0}) AreaFault) → OnOk r (g.files now ≡ option_map (without (sum ∷ [])) (g.files mid)) → HasCause (g.faults mid) (g.faults now) r
+        → ExpiresSoFar g limit before now old (take left kept) (drop (at + 1) kept) (result_err r)
+    by (Ok u) removed cause = removes_next g limit before mid now old (take left kept) (drop (at + 1) kept) sum here test removed lost
+    by (Err why) removed cause = (
+      fails_next g limit before mid now old (take left kept) (drop (at + 1) kept) sum here test lost,
+      λ failed. let rose = cause.failed (ap (λ (f : AreaFault). Err f) failed) in omega (arith, later, rose),
+    )
+
+-- one that isn't expired, or one behind a fault, stays
+pub step_kept : {V : Type 0} (g : Ghosts V) (limit : ℕ) (before now : V) (old kept new : List Summary) (left at : ℕ) (fault : Option AreaFault)
+    → ExpiresSoFar g limit before now old (take left kept) (drop at kept) fault → left ≤ at → at < length kept → SwappedAt kept new left at
+    → (fault ≡ None → (sum : Summary) × (sum ≡ get_or kept at sum) × (is_expired limit old sum ≡ false))
+    → ExpiresSoFar g limit before now old (take (left + 1) new) (drop (at + 1) new) fault
+step_kept g limit before now old [] new left at fault so le lt swapped stays = absurd (omega (arith, lt))
+step_kept g limit before now old (d ∷ ds) new left at fault so le lt swapped stays = by fault so stays
+  where
+    kept : List Summary
+    kept = d ∷ ds
+
+    here : Summary
+    here = get_or kept at d
+
+    front : take (left + 1) new ≡ take left kept ++ (here ∷ [])
+    front = front_moved kept new left at d swapped le lt
+
+    both : take left kept ++ drop at kept ≡ take (left + 1) new ++ drop (at + 1) new
+    both =
+        ap (λ l. take left kept ++ l) (drop_more kept at d lt) ∙ sym (append_assoc (take left kept) (here ∷ []) (drop (at + 1) kept))
+        ∙ ap (λ l. l ++ drop (at + 1) kept) (sym front) ∙ ap (λ l. take (left + 1) new ++ l) (sym (back_stays kept new left at d swapped le))
+
+    by : (fault : Option AreaFault) → ExpiresSoFar g limit before now old (take left kept) (drop at kept) fault → (fault ≡ None → (sum : Summary) × (sum ≡ get_or kept at sum) × (is_expired limit old sum ≡ false))
+        → ExpiresSoFar g limit before now old (take (left + 1) new) (drop (at + 1) new) fault
+    by None so stays =
+        let there = stays refl in
+        let test : is_expired limit old here ≡ false = ap (is_expired limit old) (any_default kept at d there.0 lt ∙ sym there.1) ∙ there.2 in
+        record {
+          expiring = subst (IsExpiring g limit before now old) both so.expiring;
+          clean = ap (filter (is_expired limit old)) front ∙ filter-append (is_expired limit old) (take left kept) (here ∷ [])
+              ∙ ap (λ l. l ++ cond (is_expired limit old here) (here ∷ []) []) so.clean ∙ ap (λ b. cond b (here ∷ []) []) test;
+          held = subst (λ l. Related (λ m n. AreInOrder 0 old → AreHeld m old → AreHeld n l) (g.files before) (g.files now)) both so.held;
+        }
+    by (Some why) so stays = (subst (MayExpire limit (g.files before) (g.files now) old) both so.0, so.1)
+
+-- ---- all were passed
+
+pub ends_well : {V : Type 0} (g : Ghosts V) (limit : ℕ) (before now : V) (old kept new : List Summary) (left at count : ℕ) (fault : Option AreaFault)
+    → fault ≡ None → ExpiresSoFar g limit before now old (take left kept) (drop at kept) fault → length kept ≤ at → new ≡ take left kept → left ≤ length kept → length kept ≡ length old → count + left ≡ length kept
+    → Expires g limit before now old new count
+ends_well g limit before now old kept new left at count (Some fault) none so all is le long counted = absurd cc
+ends_well g limit before now old kept new left at count None none so all is le long counted =
+    let here = is ∙ all_in_front kept left at all in
+    let e = subst (IsExpiring g limit before now old) (sym here) so.expiring in
+    let same = same_test limit old new (e.taken.end 0) in
+    let clean : expired limit new ≡ [] = same_filter (is_expired limit new) (is_expired limit old) same new ∙ ap (filter (is_expired limit old)) is ∙ so.clean in
+    let some = length-take-le left kept le in
+    let l = ap length is in
+    expiry_done g limit before now old new count e clean (omega (arith, some, l, long, counted))
+
+pub ends_so : {V : Type 0} (g : Ghosts V) (limit : ℕ) (before now : V) (old kept new : List Summary) (left at : ℕ) (fault : Option AreaFault)
+    → ExpiresSoFar g limit before now old (take left kept) (drop at kept) fault → length kept ≤ at → new ≡ take left kept
+    → MayExpire limit (g.files before) (g.files now) old new
+ends_so g limit before now old kept new left at fault so all is =
+    subst (MayExpire limit (g.files before) (g.files now) old) (sym (is ∙ all_in_front kept left at all)) (by fault so)
+  where
+    by : (fault : Option AreaFault) → ExpiresSoFar g limit before now old (take left kept) (drop at kept) fault → MayExpire limit (g.files before) (g.files now) old (take left kept ++ drop at kept)
+    by None so = left_done limit (g.files before) (g.files now) old (take left kept ++ drop at kept) so.expiring.gone so.expiring.taken so.expiring.files so.held
+    by (Some why) so = so.0

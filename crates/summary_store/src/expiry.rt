@@ -1,14 +1,12 @@
 //! Old summaries, removed.
 
-ghost use Rattle.std.specs.Prelude.{◌≡◌, ℕ, ◌<◌, ◌≤◌, ◌+◌, ◌*◌, ◌↔◌, ◌∷◌, [], IfOk, OnOk};
-ghost use Rattle.std.specs.List.{position};
+ghost use Rattle.std.specs.Prelude.{◌≡◌, ℕ, ◌<◌, ◌≤◌, ◌+◌, ◌*◌, ◌&&◌, ◌↔◌, nat_lt, ◌∷◌, [], IfOk, OnOk};
 ghost use Rattle.std.specs.Option.{option_map};
 ghost use Rattle.lsn_core.specs.Causes.{HasCause};
 ghost use Rattle.vault.specs.Area.{Related};
 ghost use Rattle.vault.specs.Frame.{ChangesOnly};
-ghost use Rattle.summary_store.specs.Kept.{end_behind};
-ghost use Rattle.summary_store.specs.Expiry.{age_limit, is_expired, without, IsSummaryName, Expires, MayExpire};
-ghost use Rattle.summary_store.specs.Inside.{TakesOne, MayLose};
+ghost use Rattle.summary_store.specs.Expiry.{age_limit, is_old, without, IsSummaryName, Expires, MayExpire};
+ghost use Rattle.summary_store.specs.Inside.{MayLose};
 
 use crate::opening::end_behind;
 use lsn_core::{AreaFault, Lsn};
@@ -48,28 +46,29 @@ pub fn expire<V: Vault>(
     ensures changes { ChangesOnly V.Vault IsSummaryName area.old area.new }
     ensures cause { HasCause (V.faults area.old) (V.faults area.new) result }
 {
-    let before = kept.len();
-    while let Some(sum) = take_expired(kept, limit) {
-        remove_summary(alloc, area, &sum)?;
-    }
-    Ok((before - kept.len()) as u64)
-}
-
-/// Takes the first of the summaries that are expired out of those that are kept.
-fn take_expired(kept: &mut Vec<Summary>, limit: u64) -> Option<Summary>
-    ensures { TakesOne limit kept.old.items kept.new.items result }
-{
-    let at = first_expired(kept, limit)?;
-    Some(kept.remove(at))
-}
-
-/// Where the first one is.
-fn first_expired(kept: &[Summary], limit: u64) -> Option<usize>
-    ensures { result ≡ position (is_expired limit kept.now) kept.now }
-{
     let end = end_behind(kept, Lsn(0));
-    kept.iter()
-        .position(|sum| sum.made < limit && sum.end.0 < end.0)
+    let (mut left, mut fault) = (0, None);
+    for at in 0..kept.len() {
+        if fault.is_none() && is_expired(&kept[at], limit, end) {
+            fault = remove_summary(alloc, area, &kept[at]).err();
+        } else {
+            kept.swap(left, at);
+            left += 1;
+        }
+    }
+    let gone = kept.len() - left;
+    kept.truncate(left);
+    match fault {
+        None => Ok(gone as u64),
+        Some(fault) => Err(fault),
+    }
+}
+
+/// Whether a summary was made before a moment and ends below the greatest kept end.
+fn is_expired(sum: &Summary, limit: u64, end: Lsn) -> bool
+    ensures { result ≡ is_old limit sum.now && nat_lt sum.now.end.0 end.0 }
+{
+    sum.made < limit && sum.end.0 < end.0
 }
 
 /// Removes the file of a summary.

@@ -1,4 +1,4 @@
-use Rattle.std.proofs.Common.{◌≡◌, ◌∙◌}
+use Rattle.std.proofs.Common.{◌∙◌}
 use Rattle.summary_store.proofs.Expiring.{remove_changes}
 use Rattle.summary_store.proofs.expiry.remove_summary.Goals as goal
 
