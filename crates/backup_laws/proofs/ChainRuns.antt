@@ -65,6 +65,7 @@ use Rattle.backup_laws.specs.Finished.{IsIncrBackup}
 use Rattle.backup_laws.specs.Runs.{IsBackedUp}
 use Rattle.backup_laws.specs.Chains.{IsIncremented, TellsThroughout, FindsOwn, IsSoundFull, IsSoundIncrement, FullBackupsOfRunsAreSound, IncrementsOfRunsExtendChains, RunsKeepChainsSound}
 use Rattle.backup_laws.proofs.Moments.{IsMoment, IsToldMoment, told_moment, asked_of_line}
+use Rattle.wal_summary.specs.declared.summary.Summary.{Summary}
 use Rattle.backup_laws.proofs.SoundRuns.{begins_at, taken_in, own_entries, found_alike, sound_logged}
 
 -- ---- histories

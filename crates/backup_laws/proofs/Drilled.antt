@@ -168,7 +168,7 @@ module _ (n when : ℕ) (old new : Outside) (report : DrillReport) (done : Drill
   left = done.before.ran
 
   abbrev run_done : RunDone when start.areas left.areas ran.run
-  run_done = ran.done.1.0
+  run_done = ran.done.1
 
   -- ---- the areas before the run
 

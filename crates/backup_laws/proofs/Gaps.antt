@@ -1,5 +1,5 @@
 -- Where a gap lies in what was kept and published.
-use Rattle.std.proofs.Common.{◌≡◌, ℕ, zero, suc, ◌-◌, ◌<◌, ◌≤◌, ◌==◌, Bool, true, false, cond, ◌&&◌, ◌||◌, inl, inr, List, [], ◌∷◌, ◌++◌, length, take, drop, Option, Some, None, option_map, Err, refl, sym, ap, subst, ◌∙◌, arith, true≢false}
+use Rattle.std.proofs.Common.{◌≡◌, ℕ, zero, suc, ◌-◌, ◌<◌, ◌≤◌, ◌==◌, Bool, true, false, cond, ◌&&◌, ◌||◌, inl, inr, List, [], ◌∷◌, ◌++◌, length, take, drop, Option, Some, None, Err, refl, sym, ap, subst, ◌∙◌, arith, true≢false}
 use Rattle.std.specs.Prelude.{nat_le, nat_lt, IsSome}
 use Rattle.std.specs.List.{list_any}
 use Rattle.std.specs.FinMap.{keys}
@@ -13,11 +13,11 @@ use Rattle.vault.specs.declared.area.Vault.{Ghosts}
 use Rattle.history.specs.Entry.{Entry}
 use Rattle.history.specs.Written.{is_redo}
 use Rattle.wal_summary.specs.declared.summary.Summary.{Summary}
-use Rattle.wal_summary.specs.Kept.{AreInOrder, IsGap, covers, is_covered}
+use Rattle.wal_summary.specs.Kept.{AreInOrder, covers, is_covered}
 use Rattle.summary_store.specs.Kept.{AreKept, end_behind}
 use Rattle.summary_store.specs.Honest.{is_redo_start}
 use Rattle.shared_summaries.specs.summary_publish.Entries.{first_start, next_redo}
-use Rattle.shared_summaries.specs.summary_publish.Published.{ArePublished, with_files}
+use Rattle.shared_summaries.specs.summary_publish.Published.{ArePublished}
 use Rattle.store_faults.specs.declared.advance_fault.AdvanceFault.TheVariants as advance
 use Rattle.shared_summaries.proofs.summary_publish.Adding.{end_append}
 use Rattle.shared_summaries.proofs.summary_publish.Fitting.{one_of}

@@ -202,7 +202,7 @@ wal_of_areas : (old new : Areas) → new ≡ old → (new wal_name).files ≡ (o
 wal_of_areas old new same = ap (λ (areas : Areas). (areas wal_name).files) same
 
 pub scripts_go_on : RunsOfScriptsGoOn
-scripts_go_on when limit script before left (Ok report) told ran = done_on when before left report told ran.1.0
+scripts_go_on when limit script before left (Ok report) told ran = done_on when before left report told ran.1
 scripts_go_on when limit script before left (Err (run.Input why)) told ran = absurd ran
 scripts_go_on when limit script before left (Err (run.Script line why)) told ran = absurd ran
 scripts_go_on when limit script before left (Err run.NoMemory) told ran = stayed _ _ (wal_of_areas before.areas left.areas ran.0)
@@ -226,4 +226,4 @@ runs_go_on days before left came told does = answer_on does.0 _ does.1 before le
 
 pub inputs_run : RunsOfInputsAreRuns
 inputs_run days before left report end told does closed =
-    record { told = told; when = does.0; done = does.6.1.1.0; closed = closed }
+    record { told = told; when = does.0; done = does.6.1.1; closed = closed }
