@@ -6,7 +6,7 @@ use crate::lines::note;
 use crate::script::script_note;
 use crate::sums::{gap_note, incr_gap_note};
 use crate::usage::usage_of;
-use crate::wal::{early_note, wal_note};
+use crate::wal::{COPY_THE_FIRST, GIVE_ANEW, damage_note, early_note, wal_note};
 use chain_commands::{CombineFault, MembersFault, RestoreFault, VerifyFault};
 use command_base::{backup_name, names_of, output_name};
 use command_line::{Command as Words, command_of};
@@ -289,7 +289,7 @@ fn restart_note(alloc: Global, fault: &RestartFault) -> Result<Text, NoMemory> {
         RestartFault::Site(fault) => take_note(alloc, fault),
         RestartFault::Settings(fault) => wal_note(alloc, *fault),
         RestartFault::Store(size, RestartWhy::Damaged(damage)) => {
-            wal_note(alloc, RecoveryFault::Damaged(*size, *damage))
+            damage_note(alloc, *size, *damage, COPY_THE_FIRST)
         }
         RestartFault::Store(_, RestartWhy::BadDelta(at)) => {
             wal_note(alloc, RecoveryFault::BadDelta(*at))
@@ -321,6 +321,9 @@ fn follow_note(alloc: Global, output: &[u8], fault: &FollowFault) -> Result<Text
         FollowFault::NotEmpty => not_empty_note(alloc, output_name(alloc, output)?.as_bytes()),
         FollowFault::Input(why) => area_note(alloc, b"standard input", *why),
         FollowFault::Long(most) => long_note(alloc, *most),
+        FollowFault::Wal(RecoveryFault::Damaged(size, damage)) => {
+            damage_note(alloc, *size, *damage, GIVE_ANEW)
+        }
         FollowFault::Wal(fault) => wal_note(alloc, *fault),
         FollowFault::Out(why) => area_note(alloc, output_name(alloc, output)?.as_bytes(), *why),
     }

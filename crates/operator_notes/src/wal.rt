@@ -9,8 +9,16 @@ use wal_archive::{Broken, Damage};
 use wal_pages::HeadFault;
 use wal_record::Why;
 
-const COPY: &[u8] =
+/// What helps where a store's WAL is damaged.
+const END_OR_COPY: &[u8] =
     b"pgbackup restart ends the WAL there, as behind a crash; else bring the segment file back from a copy, or replay up to a target before that place";
+
+/// What helps where no entry is before the damage.
+pub(crate) const COPY_THE_FIRST: &[u8] =
+    b"bring the segment file back from a copy: the WAL has no entry before that place";
+
+/// What helps where a stream is damaged.
+pub(crate) const GIVE_ANEW: &[u8] = b"give the WAL's bytes anew, or follow a copy of them";
 
 fn head_text(why: HeadFault) -> &'static [u8] {
     match why {
@@ -56,7 +64,7 @@ fn content_text(why: Why) -> &'static [u8] {
 }
 
 /// A segment of this number, of that size, is missing.
-fn missing_note(alloc: Global, size: SegSize, number: u64) -> Result<Text, NoMemory> {
+fn missing_note(alloc: Global, size: SegSize, number: u64, next: &[u8]) -> Result<Text, NoMemory> {
     if number > MOST_SEGMENTS {
         return Err(NoMemory);
     }
@@ -68,7 +76,7 @@ fn missing_note(alloc: Global, size: SegSize, number: u64) -> Result<Text, NoMem
             name.as_bytes(),
             b" is missing, and the WAL goes on behind it",
         ],
-        b"bring the file back from a copy, or replay up to a target before it",
+        next,
     )
 }
 
@@ -101,11 +109,17 @@ fn placed_note(
     note(alloc, &[refused, at.as_bytes(), b": ", why], next)
 }
 
-fn damage_note(alloc: Global, size: SegSize, damage: Damage) -> Result<Text, NoMemory> {
+/// The WAL is damaged, and what helps.
+pub(crate) fn damage_note(
+    alloc: Global,
+    size: SegSize,
+    damage: Damage,
+    next: &[u8],
+) -> Result<Text, NoMemory> {
     match damage {
-        Damage::Missing(number) => missing_note(alloc, size, number),
+        Damage::Missing(number) => missing_note(alloc, size, number, next),
         Damage::Broken(at, why) => {
-            placed_note(alloc, b"the WAL is damaged at ", at, broken_text(why), COPY)
+            placed_note(alloc, b"the WAL is damaged at ", at, broken_text(why), next)
         }
         Damage::Unsupported(at, manager, info) => unsupported_note(alloc, at, manager, info),
         Damage::Content(at, why) => placed_note(
@@ -153,7 +167,7 @@ pub fn early_note(alloc: Global, target: Lsn, end: Lsn) -> Result<Text, NoMemory
 /// The WAL can't be read, or not replayed.
 pub fn wal_note(alloc: Global, fault: RecoveryFault) -> Result<Text, NoMemory> {
     match fault {
-        RecoveryFault::Damaged(size, damage) => damage_note(alloc, size, damage),
+        RecoveryFault::Damaged(size, damage) => damage_note(alloc, size, damage, END_OR_COPY),
         RecoveryFault::Short(end, target) => short_note(alloc, end, target),
         RecoveryFault::BadDelta(at) => placed_note(
             alloc,
