@@ -8,8 +8,8 @@
 //! them back in any case.
 //!
 //! Left to others: the grammar of scripts (`scripts`), the run of a line (`crew`), an open store
-//! (`shared_store`), texts and statuses of faults (`command_base`), and where the input and the
-//! site come from (`pgbackup_cli`).
+//! (`store_lifecycle`, `shared_store`), texts and statuses of faults (`command_base`), and where
+//! the input and the site come from (`pgbackup_cli`).
 #![tactic(auto)]
 
 mod command;

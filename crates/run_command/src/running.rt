@@ -336,8 +336,8 @@ pub fn run_areas<R: Threads + Wait + Sync, V: Vault, G: Gate>(
     requires work { IsWork work }
     requires when { when ≤ 253402207199 }
     requires names { AreNamesFor work.seats.items (names_of held.items) }
-    ensures runs { RunsOn V.Vault when (age_limit days when) areas result.2 sums result.1 held.items result.0.items
-        result.3 }
+    ensures runs { RunsOn V.Vault when (age_limit days when) areas result.2 sums result.1
+        held.items result.0.items result.3 }
     ensures script { IfOk result.3
         (λ report. tasks_told report.told ≡ tasks_of work.seats.items) }
     ensures later { AreLater V.Vault held.items result.0.items }
