@@ -108,7 +108,8 @@ pub fn runs_and_restores_are_replays()
     full_backups_are_sound_chains();
 }
 
-/// So it is of every chain of completed backups that `restore` restores with status 0. A backup is
+/// So it is of every chain of completed backups that `restore` restores with status 0, where the
+/// areas tell their files, the runs closed their stores and the WAL is whole to an end. A backup is
 /// completed that a run answered, or that `combine` or `merge-incr` made, with status 0, of
 /// completed ones: `restore` leaves just the files of what the whole WAL makes up to the same
 /// place. It doesn't matter in which order they were taken, combined and merged, under which names
@@ -162,8 +163,8 @@ pub fn runs_of_inputs_are_runs()
 /// or failed, the WAL goes on from what it found. And what a run finds is this program's own where
 /// the WAL and `sums` are as `init` left them, or as a run did that found so itself and closed its
 /// store, whether a worker of it was stopped or not. So of all runs since `init`, where each closed
-/// its store, nothing more is asked than what an operator sees: that their areas tell before each
-/// and behind it, and that none of them took a backup's name twice.
+/// its store, no more is asked than that each found `wal` and `sums` as the one before left them,
+/// that their areas tell before each and behind it, and that no worker took a backup's name twice.
 pub fn runs_leave_their_own()
     ensures whole { RunsLeaveWholeWals }
     ensures on { RunsGoOn }
