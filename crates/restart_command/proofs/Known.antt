@@ -181,7 +181,7 @@ module _ {V : Type 0} (g : Vaults V) where
 
   survivor_in : (s : StoreSettings) (tip : Tip) (old : DataAreas V) (place : Lsn) (m : Files) → IsBadSurvivor g s tip old place m → IsBadSurvivor known s tip (data_in old) place m
   survivor_in s tip old place m (inl b) = inl b
-  survivor_in s tip old place m (inr b) = inr (b.0, bad_in s tip b.0 old place m b.1)
+  survivor_in s tip old place m (inr b) = inr (b.0, (b.1.0, (b.1.1.0, bad_in s tip b.0 old place m b.1.1.1)))
 
   cause_in : (s : StoreSettings) (told : Option Files) (wal now : V) (old new : DataAreas V) (why : RestartWhy) → Why g s told wal now old new why → Why known s told (state_in g wal) (state_in g now) (data_in old) (data_in new) why
   cause_in s told wal now old new (Damaged damage) cause = cause

@@ -1,6 +1,6 @@
 -- A store that is brought back: what the survivors tell, and what comes of both ways.
 use Rattle.std.proofs.Common.{◌≡◌, ℕ, ◌≤◌, length, Result, Ok, Err, Bool, true, false, true≢false, cond, inl, inr, List, Option, Some, None, IfSome, IsSome, is_some, refl, sym, ap, subst, ◌∙◌, arith}
-use Rattle.std.specs.Prelude.{◌≢◌, ◌⊎◌, IfOk, IfErr}
+use Rattle.std.specs.Prelude.{◌≢◌, ◌⊎◌, IfOk, IfErr, OnOk}
 use Rattle.std.specs.FinMap.{get}
 use Rattle.std.specs.Option.{option_map}
 use Rattle.lsn_core.specs.Causes.{Rose}
@@ -13,8 +13,10 @@ use Rattle.lsn_core.specs.Tip.{Tip}
 use Rattle.lsn_core.specs.declared.lsn.Lsn.{Lsn}
 use Rattle.vault.specs.declared.area.Vault.{Ghosts}
 use Rattle.vault.specs.Area.{Related, IsSizeIn}
-use Rattle.vault.specs.Frame.{Has, OnlyReads}
+use Rattle.vault.specs.Stops.{noted, synced}
+use Rattle.vault.specs.Frame.{Has, IsDurable, OnlyReads}
 use Rattle.vault.proofs.Changed.{changes_on}
+use Rattle.vault.proofs.Through.{durable_behind}
 use Rattle.wal_record.specs.declared.record.Record.{Record}
 use Rattle.wal_archive.specs.declared.fault.Damage.{Damage}
 use Rattle.wal_reader.specs.declared.fault.WalFault.{WalFault}
@@ -153,9 +155,10 @@ pub bad_entry : {V : Type 0} (g : Ghosts V) (s : StoreSettings) (tip : Tip) (pla
 bad_entry g s tip place None old bad = tt
 bad_entry g s tip place (Some m) old bad = inl bad
 
-pub bad_redo : {V : Type 0} (g : Ghosts V) (s : StoreSettings) (tip : Tip) (from place : Lsn) (told : Option Files) (old : DataAreas V) (read : V) → OnlyReads g old.data0 read → IfSome told (IsBadBehind g s tip from (record old { data0 = read }) place) → IfSome told (IsBadSurvivor g s tip old place)
-bad_redo g s tip from place None old read reads bad = tt
-bad_redo g s tip from place (Some m) old read reads bad = inr (from, record { mid = bad.mid; neat = bad.neat; keeps = keep_before g s.relseg old bad.mid read reads bad.keeps; bad = bad.bad })
+pub bad_redo : {V : Type 0} (g : Ghosts V) (s : StoreSettings) (tip : Tip) (from place : Lsn) (told : Option Files) (old : DataAreas V) (read : V) → OnlyReads g old.data0 read → IfSome told (BeginsAt s tip (Some from)) → IsUnmarked g old
+    → IfSome told (IsBadBehind g s tip from (record old { data0 = read }) place) → IfSome told (IsBadSurvivor g s tip old place)
+bad_redo g s tip from place None old read reads begins unmarked bad = tt
+bad_redo g s tip from place (Some m) old read reads begins unmarked bad = inr (from, (begins, (unmarked, record { mid = bad.mid; neat = bad.neat; keeps = keep_before g s.relseg old bad.mid read reads bad.keeps; bad = bad.bad })))
 
 -- ---- the WAL
 
@@ -284,10 +287,16 @@ rebuild_cause g s tip told damaged wal now areas new read (Err why) reads cause 
     cause_since g damaged bad wal wal now areas (record areas { data0 = read }) new why (omega arith) (read_grows g areas read reads)
     (cause_with g damaged (λ place. IfSome told (IsBadEntry s tip place)) bad wal now (record areas { data0 = read }) new why (λ place at. bad_entry g s tip place told areas at) cause)
 
-pub redo_cause : {V : Type 0} (g : Ghosts V) (s : StoreSettings) (tip : Tip) (from : Lsn) (told : Option Files) (damaged : Damage → Type 0) (wal now : V) (areas new : DataAreas V) (read : V) (result : Result Tally RestartWhy) → OnlyReads g areas.data0 read
+pub redo_cause : {V : Type 0} (g : Ghosts V) (s : StoreSettings) (tip : Tip) (from : Lsn) (told : Option Files) (damaged : Damage → Type 0) (wal now : V) (areas new : DataAreas V) (read : V) (result : Result Tally RestartWhy) → OnlyReads g areas.data0 read → IfSome told (BeginsAt s tip (Some from)) → IsUnmarked g areas
     → IfErr result (RestartCause g damaged (λ place. IfSome told (IsBadBehind g s tip from (record areas { data0 = read }) place)) wal now (record areas { data0 = read }) new) → IfErr result (RestartCause g damaged (λ place. IfSome told (IsBadSurvivor g s tip areas place)) wal now areas new)
-redo_cause g s tip from told damaged wal now areas new read (Ok tally) reads cause = tt
-redo_cause g s tip from told damaged wal now areas new read (Err why) reads cause =
+redo_cause g s tip from told damaged wal now areas new read (Ok tally) reads begins unmarked cause = tt
+redo_cause g s tip from told damaged wal now areas new read (Err why) reads begins unmarked cause =
     let bad : Lsn → Type 0 = λ place. IfSome told (IsBadSurvivor g s tip areas place) in
     cause_since g damaged bad wal wal now areas (record areas { data0 = read }) new why (omega arith) (read_grows g areas read reads)
-    (cause_with g damaged (λ place. IfSome told (IsBadBehind g s tip from (record areas { data0 = read }) place)) bad wal now (record areas { data0 = read }) new why (λ place at. bad_redo g s tip from place told areas read reads at) cause)
+    (cause_with g damaged (λ place. IfSome told (IsBadBehind g s tip from (record areas { data0 = read }) place)) bad wal now (record areas { data0 = read }) new why (λ place at. bad_redo g s tip from place told areas read reads begins unmarked at) cause)
+
+-- ---- a WAL that is synced, and then read
+
+pub durable_find : {V : Type 0} (g : Ghosts V) (old mid new : V) (result : Result (Unit {0}) AreaFault) (done : Unit {0}) → result ≡ Ok done → g.files mid ≡ g.files old → OnOk result (g.past mid ≡ noted (synced (g.files old)) (g.past old)) → OnlyReads g mid new → IsDurable (g.files old) (g.past new)
+durable_find g old mid new result done ok same noted_is reads =
+    durable_behind (g.files old) (g.past old) (g.past new) (reads.past ∙ subst (λ (r : Result (Unit {0}) AreaFault). OnOk r (g.past mid ≡ noted (synced (g.files old)) (g.past old))) ok noted_is)

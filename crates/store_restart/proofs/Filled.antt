@@ -146,6 +146,12 @@ module _ {V : Type 0} (g : Ghosts V) (relseg : ℕ) (a b : DataAreas V) (x y : S
   pub others_stayed : OthersStay g a b
   others_stayed = record { data0 = went 0 (omega arith); data1 = went 1 (omega arith); data2 = went 2 (omega arith); data3 = went 3 (omega arith) }
 
+  forks_went : (q : ℕ) → q < 4 → ChangesOnly g IsForkPath (area_of a q) (area_of b q)
+  forks_went q below = changed g relseg a b (seen x) (seen y) were kept are q below
+
+  pub forks_changed : ForksChange g a b
+  forks_changed = record { data0 = forks_went 0 (omega arith); data1 = forks_went 1 (omega arith); data2 = forks_went 2 (omega arith); data3 = forks_went 3 (omega arith) }
+
   pub held : (store : Store) → ShowsPages g y store → HoldParts g relseg b store
   held store shows q below = held_part g relseg a b (seen x) (seen y) were kept are store shows q below
 

@@ -10,3 +10,6 @@ pub mod Settled
 pub mod Redone
 pub mod Back
 pub mod Ends
+pub mod LeftBy
+pub mod Remade
+pub mod Moments

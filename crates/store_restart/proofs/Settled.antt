@@ -51,7 +51,7 @@ some_files a b e = cc
 none_files : (a : Files) → ◌≡◌ {A = Option Files} None (Some a) → ⊥
 none_files a e = cc
 
-but_mark : (relseg : ℕ) (part : Store) (u v : Option Files) → Related (AgreeBut IsMark) u v → HoldsPages relseg u part → HoldsPages relseg v part
+pub but_mark : (relseg : ℕ) (part : Store) (u v : Option Files) → Related (AgreeBut IsMark) u v → HoldsPages relseg u part → HoldsPages relseg v part
 but_mark relseg part (Some a) (Some b) agree holds = record {
   files = record {
     files = b;

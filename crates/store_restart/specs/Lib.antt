@@ -6,3 +6,4 @@ pub mod Causes
 pub mod Restart
 pub mod Restarted
 pub mod Steps
+pub mod Moments

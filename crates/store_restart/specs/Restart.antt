@@ -137,8 +137,10 @@ BringsBack g s tip old new tally files =
     × (IsUnmarked g old × (BringsOn g s tip from old new files
     × CountsAll g s.relseg new tally))))
 
--- an entry of the survivors is the first that can't be applied, or redone from the redo point on
+-- an entry of the survivors is the first that can't be applied, or, where the first area isn't
+-- marked, redone from the redo point on
 abbrev pub IsBadSurvivor : {V : Type 0} → Ghosts V → StoreSettings → Tip → DataAreas V → Lsn
     → Files → Type 0
 IsBadSurvivor g s tip old place files =
-    IsBadEntry s tip place files ⊎ ((from : Lsn) × IsBadBehind g s tip from old place files)
+    IsBadEntry s tip place files ⊎ ((from : Lsn) × (BeginsAt s tip (Some from) files
+    × (IsUnmarked g old × IsBadBehind g s tip from old place files)))

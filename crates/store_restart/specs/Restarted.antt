@@ -1,5 +1,5 @@
 -- A store that was brought back after a stop, or why it isn't.
-use Rattle.std.specs.Prelude.{◌≡◌, ◌⊎◌, List, IfSome, IsSome, box_value}
+use Rattle.std.specs.Prelude.{◌≡◌, ◌⊎◌, List, IfSome, IsSome, Result, Ok, Err, box_value}
 use Rattle.lsn_core.specs.Causes.{Rose}
 use Rattle.lsn_core.specs.Files.{Files}
 use Rattle.lsn_core.specs.Segment.{StoreSettings}
@@ -34,6 +34,11 @@ areas_of wal pages = record {
   data2 = pages.data2;
   data3 = pages.data3;
 }
+
+-- the areas behind a restart, whatever it answers
+abbrev pub areas_in : {V : Type 0} → Result (Restarted V) (RestartFault V) → StoreAreas V
+areas_in (Ok back) = back.areas
+areas_in (Err fault) = fault.areas
 
 -- why the survivors of a WAL aren't read
 abbrev pub IsUnread : {V : Type 0} → Ghosts V → StoreSettings → V → V → RestartWhy → Type 0

@@ -1,16 +1,19 @@
 //! Data areas made anew from the survivors of a WAL.
 
-ghost use Rattle.std.specs.Prelude.{◌≡◌, ℕ, IfOk, IfErr, IfSome, OnOk};
+ghost use Rattle.std.specs.Prelude.{◌≡◌, ℕ, IfOk, IfErr, IfSome, OnOk, OnErr};
 ghost use Rattle.lsn_core.specs.Store.{Store};
 ghost use Rattle.vault.specs.Boxed.{on_heap};
 ghost use Rattle.vault.specs.Frame.{OnlyReads};
 ghost use Rattle.data_areas.specs.Areas.{DataCause};
-ghost use Rattle.restart_areas.specs.Areas.{AreClear};
+ghost use Rattle.data_areas.specs.Clearing.{ClearedSoFar};
+ghost use Rattle.data_areas.specs.Phases.{HaveMarkSince};
+ghost use Rattle.restart_areas.specs.Areas.{AreClear, ForksChange};
 ghost use Rattle.restart_areas.specs.Pages.{HoldParts};
 ghost use Rattle.store_restart.specs.Causes.{RestartCause, replayed_to_tally};
 ghost use Rattle.store_restart.specs.Restart.{OthersStay, AreDurable, IsUnmarked, EndWith};
 ghost use Rattle.store_restart.specs.Restart.{HoldWhole, IsBadEntry};
-ghost use Rattle.store_restart.specs.Steps.{IsSettled, IsUnsettled};
+ghost use Rattle.store_restart.specs.Moments.{RemakesSafely};
+ghost use Rattle.store_restart.specs.Steps.{IsSettled, IsUnsettled, SettlesSafely, SettlesFilled};
 
 use crate::fault::{RestartWhy, of_recovery, of_store};
 use data_areas::{DataAreas, mark_rebuilding, unmark_rebuilding};
@@ -24,6 +27,8 @@ use vault::{BoxedArea, Vault};
 /// all forks of the four.
 fn clear_marked<V: Vault>(alloc: Global, areas: &mut DataAreas<V>) -> Result<(), StoreFault>
     ensures cleared { OnOk result (AreClear V.Vault areas.new) }
+    ensures begun { OnOk result (HaveMarkSince V.Vault areas.old areas.new) }
+    ensures so_far { OnErr result (ClearedSoFar V.Vault areas.old areas.new) }
     ensures changes { OthersStay V.Vault areas.old areas.new }
     ensures cause { IfErr result (DataCause V.Vault areas.old areas.new) }
 {
@@ -39,6 +44,7 @@ fn settle_marked<V: Vault>(areas: &mut DataAreas<V>) -> Result<(), StoreFault>
         → HoldParts V.Vault relseg areas.old store → HoldParts V.Vault relseg areas.new store) }
     ensures durable { OnOk result (AreDurable V.Vault areas.new) }
     ensures unmarked { OnOk result (IsUnmarked V.Vault areas.new) }
+    ensures moments { SettlesSafely V.Vault areas.old areas.new }
     ensures changes { OthersStay V.Vault areas.old areas.new }
     ensures cause { IfErr result (DataCause V.Vault areas.old areas.new) }
 {
@@ -82,6 +88,7 @@ fn fill<V: Vault>(
         IfSome ((on_heap V.Vault).files wal.old)
         (HoldWhole (on_heap V.Vault) settings.now tip result.0 tally)) }
     ensures reads { OnlyReads (on_heap V.Vault) wal.old wal.new }
+    ensures forks { ForksChange (on_heap V.Vault) areas result.0 }
     ensures changes { OthersStay (on_heap V.Vault) areas result.0 }
     ensures cause { IfErr result.1 (RestartCause (on_heap V.Vault)
         (λ damage. IfSome ((on_heap V.Vault).files wal.old) (λ m. ⊥))
@@ -103,6 +110,7 @@ fn settle<V: Vault>(
 ) -> (DataAreas<V>, Result<Tally, RestartWhy>)
     ensures settled { IfOk result.1 (IsSettled V.Vault areas result.0 done) }
     ensures cause { IfErr result.1 (IsUnsettled V.Vault areas result.0 done) }
+    ensures moments { SettlesFilled V.Vault areas result.0 done }
     ensures changes { OthersStay V.Vault areas result.0 }
 {
     let mut areas = areas;
@@ -132,6 +140,8 @@ pub(crate) fn rebuild<V: Vault>(
         (HoldWhole (on_heap V.Vault) settings.now tip result.0 tally)) }
     ensures durable { IfOk result.1 (λ tally. AreDurable (on_heap V.Vault) result.0) }
     ensures unmarked { IfOk result.1 (λ tally. IsUnmarked (on_heap V.Vault) result.0) }
+    ensures moments { IfSome ((on_heap V.Vault).files wal.old)
+        (RemakesSafely (on_heap V.Vault) settings.now tip areas result.0) }
     ensures reads { OnlyReads (on_heap V.Vault) wal.old wal.new }
     ensures changes { OthersStay (on_heap V.Vault) areas result.0 }
     ensures cause { IfErr result.1 (RestartCause (on_heap V.Vault)

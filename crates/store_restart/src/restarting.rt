@@ -5,12 +5,13 @@ ghost use Rattle.std.specs.Option.{is_some};
 ghost use Rattle.std.specs.FinMap.{get};
 ghost use Rattle.lsn_core.specs.Causes.{HasCause};
 ghost use Rattle.vault.specs.Boxed.{on_heap};
-ghost use Rattle.vault.specs.Frame.{ChangesOnly, OnlyReads};
+ghost use Rattle.vault.specs.Frame.{ChangesOnly, IsDurable, OnlyReads};
 ghost use Rattle.data_areas.specs.Marking.{rebuilding_name};
 ghost use Rattle.store_restart.specs.Survivors.{AreRead};
 ghost use Rattle.store_restart.specs.Causes.{RestartCause};
 ghost use Rattle.store_restart.specs.Restart.{OthersStay, AreDurable, BringsBack, IsBadSurvivor};
-ghost use Rattle.store_restart.specs.Restarted.{areas_of, IsUnread, IsBack, IsRefused};
+ghost use Rattle.store_restart.specs.Moments.{BringsSafely, RestartsFrom, RestartsSafely};
+ghost use Rattle.store_restart.specs.Restarted.{areas_in, areas_of, IsUnread, IsBack, IsRefused};
 ghost use Rattle.store_restart.specs.Restarted.{IsBackFrom, IsRefusedFrom, plain_back, plain_fault};
 
 use crate::boxing::{boxed, unboxed};
@@ -42,6 +43,7 @@ fn find<V: Vault>(alloc: Global, wal: &mut V, settings: &Settings) -> Result<Sur
     ensures found { IfOk result (AreRead settings.now (V.files wal.old)) }
     ensures cause { IfErr result (IsUnread V.Vault settings.now wal.old wal.new) }
     ensures same { ChangesOnly V.Vault (λ name. ⊥) wal.old wal.new }
+    ensures durable { IfOk result (λ found. IsDurable (V.files wal.old) (V.past wal.new)) }
 {
     if let Err(why) = wal.sync() {
         return Err(of_wal(why));
@@ -86,6 +88,8 @@ fn bring_on<V: Vault>(
     ensures brings { IfOk result.1 (λ tally. IfSome ((on_heap V.Vault).files wal.old)
         (BringsBack (on_heap V.Vault) settings.now found.tip areas result.0 tally)) }
     ensures durable { IfOk result.1 (λ tally. AreDurable (on_heap V.Vault) result.0) }
+    ensures moments { IfSome ((on_heap V.Vault).files wal.old)
+        (BringsSafely (on_heap V.Vault) settings.now found.tip areas result.0) }
     ensures reads { OnlyReads (on_heap V.Vault) wal.old wal.new }
     ensures changes { OthersStay (on_heap V.Vault) areas result.0 }
     ensures cause { IfErr result.1 (RestartCause (on_heap V.Vault)
@@ -114,6 +118,7 @@ fn restart_on_heap<V: Vault>(
 ) -> Result<Restarted<BoxedArea<V>>, RestartFault<BoxedArea<V>>>
     ensures back { IfOk result (IsBack (on_heap V.Vault) settings.now areas) }
     ensures refused { IfErr result (IsRefused (on_heap V.Vault) settings.now areas) }
+    ensures moments { RestartsFrom (on_heap V.Vault) settings.now areas (areas_in result) }
 {
     let StoreAreas {
         wal,
@@ -180,7 +185,8 @@ fn refused<V: Vault>(wal: V, pages: DataAreas<V>, why: RestartWhy) -> RestartFau
 /// anew where the first area has the file `rebuilding` or where no survivor starts at the redo
 /// point that the last checkpoint among them names, and else brought on from that point. Damage in
 /// the place of the WAL's first entry, and an entry that is whole and isn't taken, are refused
-/// before anything is written. Files of other names stay.
+/// before anything is written. Files of other names stay. The WAL is synced before anything happens
+/// to a data area, and cut once these are brought back, durably.
 pub fn restart<V: Vault>(
     alloc: Global,
     areas: StoreAreas<V>,
@@ -188,6 +194,7 @@ pub fn restart<V: Vault>(
 ) -> Result<Restarted<V>, RestartFault<V>>
     ensures back { IfOk result (IsBackFrom V.Vault settings.now areas) }
     ensures refused { IfErr result (IsRefusedFrom V.Vault settings.now areas) }
+    ensures moments { RestartsSafely V.Vault settings.now areas (areas_in result) }
 {
     let areas = match boxed(alloc, areas) {
         Ok(areas) => areas,

@@ -13,7 +13,7 @@ use Rattle.restart_areas.specs.Pages.{ShowsPages, seen}
 use Rattle.store_restart.specs.declared.fault.RestartWhy.{RestartWhy}
 use Rattle.store_restart.specs.Causes.{RestartCause}
 use Rattle.store_restart.specs.Restart.{HoldWhole, IsBadEntry}
-use Rattle.store_restart.proofs.Filled.{clear_holds, filled, refused, others_stayed}
+use Rattle.store_restart.proofs.Filled.{clear_holds, filled, refused, forks_changed, others_stayed}
 use Rattle.store_restart.proofs.rebuilding.fill.Goals as goal
 
 pub returns-clause-whole : goal.returns-clause-whole
@@ -44,3 +44,8 @@ returns-clause-cause g c =
     subst (λ (r : Result Tally RestartWhy). IfErr r (RestartCause v (λ damage. IfSome (v.files c.args.wal.now) (λ m. ⊥)) (λ place. IfSome (v.files c.args.wal.now) (IsBadEntry s c.args.tip place)) c.args.wal.now c.replay-answer.new.wal c.args.areas c.into_areas.result)) (sym c.came_to-done.ensures)
     (refused v s c.args.wal.now c.replay-answer.new.wal c.tip.inside.end c.args.tip c.args.areas c.into_areas.result c.new-pages.result c.replay-answer.new.target size (ap (λ (t : Tip). t.end) c.tip.view_is) c.requires.end were c.replay-answer.ensures.kept c.into_areas.ensures
     c.replay-answer.result c.new-pages.ensures.none fresh c.replay-answer.ensures.answer)
+
+pub returns-clause-forks : goal.returns-clause-forks
+returns-clause-forks g c =
+    let were = subst (λ (n : ℕ). AreForksOf n c.args.areas (seen c.new-pages.result)) c.relseg.ensures.value c.new-pages.ensures.areas in
+    forks_changed (on_heap g.V.Vault) c.args.settings.now.relseg c.args.areas c.into_areas.result c.new-pages.result c.replay-answer.new.target were c.replay-answer.ensures.kept c.into_areas.ensures

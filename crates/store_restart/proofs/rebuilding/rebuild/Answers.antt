@@ -1,7 +1,7 @@
 -- Areas are cleared under the mark, filled and settled.
 use Rattle.vault.specs.Boxed.{on_heap}
-use Rattle.std.proofs.Common.{sym, subst}
-use Rattle.std.specs.Prelude.{IfSome}
+use Rattle.std.proofs.Common.{sym, subst, ◌∙◌}
+use Rattle.std.specs.Prelude.{IfSome, box_value}
 use Rattle.wal_archive.specs.declared.fault.Damage.{Damage}
 use Rattle.lsn_core.specs.declared.lsn.Lsn.{Lsn}
 use Rattle.data_areas.proofs.Turned.{on_answer}
@@ -10,6 +10,7 @@ use Rattle.store_restart.specs.Restart.{AreDurable, IsForkOrMark, IsUnmarked, Is
 use Rattle.store_restart.specs.Steps.{IsSettled}
 use Rattle.store_restart.proofs.Filled.{data_why, each_on}
 use Rattle.store_restart.proofs.Settled.{settled_whole, unsettled_cause}
+use Rattle.store_restart.proofs.Remade.{cleared_safely, rebuilt_safely}
 use Rattle.store_restart.proofs.rebuilding.rebuild.Goals as goal
 
 pub returns-in-Err-clause-cause : goal.returns-in-Err-clause-cause
@@ -42,3 +43,16 @@ returns-clause-cause g c =
     unsettled_cause v (λ damage. IfSome (v.files c.args.wal.now) (λ m. ⊥)) (λ place. IfSome (v.files c.args.wal.now) (IsBadEntry c.args.settings.now c.args.tip place)) c.args.wal.now c.fill-areas.new.wal
     c.args.areas c.clear_marked.new.areas c.fill-areas.result.0 c.settle.result.0 c.fill-areas.result.1 c.in_default.ensures.changes c.fill-areas.ensures.changes c.settle.ensures.changes c.fill-areas.ensures.cause
     c.settle.result.1 c.settle.ensures.cause
+
+pub returns-in-Err-clause-moments : goal.returns-in-Err-clause-moments
+returns-in-Err-clause-moments g c =
+    let v = (on_heap g.V.Vault) in
+    let laws = g.met.V.Vault g.world.𝓛 g.world.𝓜 g.world.𝓡 ((λ s x. x), (λ x. x), (λ x. x), λ x. x) in
+    cleared_safely v c.args.settings.now c.args.tip (v.files c.args.wal.now) c.args.areas c.clear_marked.new.areas (λ told. laws.tells_alike (box_value c.args.areas.data0.area) (box_value c.args.wal.now.area) ∙ told) c.in-Err.ensures.so_far c.in-Err.ensures.changes
+
+pub returns-clause-moments : goal.returns-clause-moments
+returns-clause-moments g c =
+    let v = (on_heap g.V.Vault) in
+    let laws = g.met.V.Vault g.world.𝓛 g.world.𝓜 g.world.𝓡 ((λ s x. x), (λ x. x), (λ x. x), λ x. x) in
+    rebuilt_safely v c.args.settings.now c.args.tip c.args.areas c.clear_marked.new.areas c.fill-areas.result.0 c.settle.result.0 c.fill-areas.result.1
+    c.in_default.ensures.begun c.in_default.ensures.changes c.fill-areas.ensures.forks c.settle.ensures.moments (v.files c.args.wal.now) (λ told. laws.tells_alike (box_value c.args.areas.data0.area) (box_value c.args.wal.now.area) ∙ told) c.fill-areas.ensures.whole

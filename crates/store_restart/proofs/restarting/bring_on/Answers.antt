@@ -5,6 +5,7 @@ use Rattle.std.specs.Prelude.{IfSome}
 use Rattle.restart_areas.specs.Counting.{CountsAll}
 use Rattle.store_restart.specs.Restart.{BringsBack, BringsOn, HoldWhole, IsForkOrMark, IsUnmarked}
 use Rattle.store_restart.proofs.Back.{both_ok, begins_anew, begins_from, first_read, others_before, rebuild_cause, rebuilt_back, redo_cause, redone_back, unmarked_from}
+use Rattle.store_restart.proofs.Moments.{unread_safely, remade_safely, redone_safely}
 use Rattle.store_restart.proofs.restarting.bring_on.Goals as goal
 
 pub returns-in-Err-clause-changes : goal.returns-in-Err-clause-changes
@@ -29,7 +30,11 @@ returns-in-Some-clause-changes g c = others_before (on_heap g.V.Vault) c.args.ar
 pub returns-in-Some-clause-cause : goal.returns-in-Some-clause-cause
 returns-in-Some-clause-cause g c =
     let v = (on_heap g.V.Vault) in
-    redo_cause v c.args.settings.now c.args.found.tip c.in-Some.from (v.files c.args.wal.now) (λ damage. IfSome (v.files c.args.wal.now) (λ m. ⊥)) c.args.wal.now c.redo.new.wal c.args.areas c.redo.result.0 c.is_marked.new.area c.redo.result.1 c.in-Ok.ensures.reads c.redo.ensures.cause
+    let from = c.in-Some.from in
+    let told = v.files c.args.wal.now in
+    let start = sym c.start_of.ensures ∙ c.in-Some.is in
+    redo_cause v c.args.settings.now c.args.found.tip from told (λ damage. IfSome told (λ m. ⊥)) c.args.wal.now c.redo.new.wal c.args.areas c.redo.result.0 c.is_marked.new.area c.redo.result.1 c.in-Ok.ensures.reads
+    (begins_from c.args.settings.now told c.args.found c.in-Ok.marked from c.requires.read start) (unmarked_from (v.files c.args.areas.data0) c.in-Ok.marked c.args.found.redo from c.in-Ok.ensures.told start) c.redo.ensures.cause
 
 pub returns-in-None-clause-brings : goal.returns-in-None-clause-brings
 returns-in-None-clause-brings g c =
@@ -49,3 +54,24 @@ pub returns-in-None-clause-cause : goal.returns-in-None-clause-cause
 returns-in-None-clause-cause g c =
     let v = (on_heap g.V.Vault) in
     rebuild_cause v c.args.settings.now c.args.found.tip (v.files c.args.wal.now) (λ damage. IfSome (v.files c.args.wal.now) (λ m. ⊥)) c.args.wal.now c.rebuild.new.wal c.args.areas c.rebuild.result.0 c.is_marked.new.area c.rebuild.result.1 c.in-Ok.ensures.reads c.rebuild.ensures.cause
+
+pub returns-in-Err-clause-moments : goal.returns-in-Err-clause-moments
+returns-in-Err-clause-moments g c =
+    let v = (on_heap g.V.Vault) in
+    unread_safely v c.args.settings.now c.args.found.tip c.args.areas c.is_marked.new.area c.in-Err.ensures.reads (v.files c.args.wal.now)
+
+pub returns-in-Some-clause-moments : goal.returns-in-Some-clause-moments
+returns-in-Some-clause-moments g c =
+    let v = (on_heap g.V.Vault) in
+    let s = c.args.settings.now in
+    let from = c.in-Some.from in
+    let told = v.files c.args.wal.now in
+    let start = sym c.start_of.ensures ∙ c.in-Some.is in
+    redone_safely v s c.args.found.tip c.args.areas c.is_marked.new.area c.in-Ok.ensures.reads told from c.redo.result.0 (begins_from s told c.args.found c.in-Ok.marked from c.requires.read start)
+    (unmarked_from (v.files c.args.areas.data0) c.in-Ok.marked c.args.found.redo from c.in-Ok.ensures.told start)
+    (others_before v c.args.areas c.redo.result.0 c.is_marked.new.area c.in-Ok.ensures.reads c.redo.ensures.changes)
+
+pub returns-in-None-clause-moments : goal.returns-in-None-clause-moments
+returns-in-None-clause-moments g c =
+    let v = (on_heap g.V.Vault) in
+    remade_safely v c.args.settings.now c.args.found.tip c.args.areas c.is_marked.new.area c.in-Ok.ensures.reads (v.files c.args.wal.now) c.rebuild.result.0 c.rebuild.ensures.moments

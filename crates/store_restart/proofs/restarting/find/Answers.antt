@@ -7,7 +7,7 @@ use Rattle.rel_files.proofs.ForkFrames.{reads_change}
 use Rattle.data_areas.proofs.Marks.{sync_changes}
 use Rattle.store_restart.specs.Restarted.{IsUnread}
 use Rattle.store_restart.specs.Survivors.{AreRead}
-use Rattle.store_restart.proofs.Back.{unread_sync, unread_by}
+use Rattle.store_restart.proofs.Back.{durable_find, unread_sync, unread_by}
 use Rattle.store_restart.proofs.restarting.find.Goals as goal
 
 pub returns-in-Err-clause-cause : goal.returns-in-Err-clause-cause
@@ -43,3 +43,8 @@ returns-in-Err-read_survivors-clause-same g c =
     let e = c.sync.ensures in
     changes_on v (λ name. ⊥) c.args.wal.now c.sync.new.self c.read_survivors.new.wal (sync_changes v (λ name. ⊥) c.args.wal.now c.sync.new.self c.sync.result e.same e.noted e.tried e.cause.later)
     (reads_change v (λ name. ⊥) c.sync.new.self c.read_survivors.new.wal c.read_survivors.ensures.reads)
+
+pub returns-in-Ok-clause-durable : goal.returns-in-Ok-clause-durable
+returns-in-Ok-clause-durable g c =
+    let e = c.sync.ensures in
+    durable_find g.V.Vault c.args.wal.now c.sync.new.self c.read_survivors.new.wal c.sync.result c.in_default.field-0 c.in_default.is e.same e.noted c.read_survivors.ensures.reads

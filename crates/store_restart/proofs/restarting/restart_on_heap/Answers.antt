@@ -16,6 +16,7 @@ use Rattle.store_restart.specs.Restarted.{IsBack}
 use Rattle.store_restart.specs.Survivors.{AreRead}
 use Rattle.store_restart.proofs.Neatened.{same_files}
 use Rattle.store_restart.proofs.Ends.{refused_with, refused_first, refused_later, refused_last, back_whole}
+use Rattle.store_restart.proofs.Moments.{brought_moments, trimmed_moments, unfound_moments}
 use Rattle.store_restart.proofs.restarting.restart_on_heap.Goals as goal
 
 pub returns-in-Err-clause-refused : goal.returns-in-Err-clause-refused
@@ -57,3 +58,39 @@ returns-clause-back g c =
 pub bring_on-brought-requires-clause-read : goal.bring_on-brought-requires-clause-read
 bring_on-brought-requires-clause-read g c κs within =
     subst (λ (o : Option Files). AreRead c.args.settings.now o c.in-Ok.found) (sym (same_files (on_heap g.V.Vault) c.args.areas.wal c.find.new.wal c.in-Ok.ensures.same)) c.in-Ok.ensures.found
+
+pub returns-in-Err-clause-moments : goal.returns-in-Err-clause-moments
+returns-in-Err-clause-moments g c =
+    unfound_moments (on_heap g.V.Vault) c.args.settings.now c.args.areas c.find.new.wal c.in-Err.ensures.same c.refused.result.areas c.refused.ensures.areas
+
+pub returns-in-Err-done-clause-moments : goal.returns-in-Err-done-clause-moments
+returns-in-Err-done-clause-moments g c =
+    let b = c.bring_on-brought in
+    brought_moments (on_heap g.V.Vault) c.args.settings.now c.args.areas c.find.new.wal c.in-Ok.ensures.same c.in-Ok.found c.in-Ok.ensures.found c.in-Ok.ensures.durable b.new.wal b.ensures.reads b.result.0 b.ensures.moments
+    c.refused-in-Err-done.result.areas c.refused-in-Err-done.ensures.areas
+
+pub returns-in-Err-trim-clause-moments : goal.returns-in-Err-trim-clause-moments
+returns-in-Err-trim-clause-moments g c =
+    let v = (on_heap g.V.Vault) in
+    let s = c.args.settings.now in
+    let b = c.bring_on-brought in
+    let found = c.in-Ok.found in
+    let tally = c.in-Ok-done.tally in
+    let brings = subst (λ (r : Result Tally RestartWhy). IfOk r (λ t. IfSome (v.files c.find.new.wal) (BringsBack v s found.tip (data_of c.args.areas) b.result.0 t))) c.in-Ok-done.is b.ensures.brings in
+    let durable = subst (λ (r : Result Tally RestartWhy). IfOk r (λ t. AreDurable v b.result.0)) c.in-Ok-done.is b.ensures.durable in
+    trimmed_moments v s c.args.areas c.find.new.wal c.in-Ok.ensures.same found c.in-Ok.ensures.found c.in-Ok.ensures.durable b.new.wal b.ensures.reads b.result.0 b.ensures.moments
+    tally brings durable c.trim.new.wal c.segment.result c.tip.inside.end.0 c.segment.ensures.value (ap (λ (t : Tip). t.end) c.tip.view_is) c.trim.ensures.changes c.trim.ensures.keeps
+    c.refused-in-Err-trim.result.areas c.refused-in-Err-trim.ensures.areas
+
+pub returns-clause-moments : goal.returns-clause-moments
+returns-clause-moments g c =
+    let v = (on_heap g.V.Vault) in
+    let s = c.args.settings.now in
+    let b = c.bring_on-brought in
+    let found = c.in-Ok.found in
+    let tally = c.in-Ok-done.tally in
+    let brings = subst (λ (r : Result Tally RestartWhy). IfOk r (λ t. IfSome (v.files c.find.new.wal) (BringsBack v s found.tip (data_of c.args.areas) b.result.0 t))) c.in-Ok-done.is b.ensures.brings in
+    let durable = subst (λ (r : Result Tally RestartWhy). IfOk r (λ t. AreDurable v b.result.0)) c.in-Ok-done.is b.ensures.durable in
+    trimmed_moments v s c.args.areas c.find.new.wal c.in-Ok.ensures.same found c.in-Ok.ensures.found c.in-Ok.ensures.durable b.new.wal b.ensures.reads b.result.0 b.ensures.moments
+    tally brings durable c.trim.new.wal c.segment.result c.tip.inside.end.0 c.segment.ensures.value (ap (λ (t : Tip). t.end) c.tip.view_is) c.trim.ensures.changes c.trim.ensures.keeps
+    c.joined.result c.joined.ensures
