@@ -96,7 +96,7 @@ module _ {V : Type 0} (g : Ghosts V) (s : StoreSettings) (records : List Record)
     each_covers (suc (suc (suc (suc q)))) less = absurd (omega (arith, less))
 
     -- so replay from there on makes the whole of what they hold together
-    replayed : (history lost : List Record) (tip : Tip) (wal : Files) → AreSettings s → DeltasFollowRedo history → history ≡ records ++ lost → SurviveIn s wal records tip → replay_start records ≡ Some from
+    pub replayed : (history lost : List Record) (tip : Tip) (wal : Files) → AreSettings s → DeltasFollowRedo history → history ≡ records ++ lost → SurviveIn s wal records tip → replay_start records ≡ Some from
         → recovered_records copy records from.0 tip.end ≡ whole records tip.end
     replayed history lost tip wal settings deltas parted survive start =
         let there = starts_there records from start in

@@ -47,13 +47,13 @@ none_from from last (r ∷ rs) rise le =
     ap (λ (b : Bool). cond b (entry_of r ∷ entries_before (map entry_of rs) from) (entries_before (map entry_of rs) from)) (le-ltb r.start.0 from (omega (arith, rise.0, le)))
     ∙ none_from from r.end.0 rs rise.3 (omega (arith, rise.0, rise.1, le))
 
-record Front (from : ℕ) (rs : List Record) : Type 0 where
-  first : List Record
-  rest : List Record
-  parts : rs ≡ first ++ rest
-  is : entries_before (map entry_of rs) from ≡ map entry_of first
+pub record Front (from : ℕ) (rs : List Record) : Type 0 where
+  pub first : List Record
+  pub rest : List Record
+  pub parts : rs ≡ first ++ rest
+  pub is : entries_before (map entry_of rs) from ≡ map entry_of first
 
-front_of : (from last : ℕ) (rs : List Record) → RecordsRise last rs → Front from rs
+pub front_of : (from last : ℕ) (rs : List Record) → RecordsRise last rs → Front from rs
 front_of from last [] rise = record { first = []; rest = []; parts = refl; is = refl }
 front_of from last (r ∷ rs) rise =
     by_test (nat_lt r.start.0 from)

@@ -10,3 +10,12 @@ pub mod Fitting
 pub mod Deltas
 pub mod Runs
 pub mod Open
+pub mod StoreMoments
+pub mod HeldWhole
+pub mod Chance
+pub mod Restarted
+pub mod KeptSurvivors
+pub mod Begun
+pub mod StoppedNow
+pub mod TornBytes
+pub mod ComeBack

@@ -258,7 +258,7 @@ module _ (relseg q : ℕ) (now frames : Store) (files : Files) (some : 0 < relse
     forks = λ fork mine unsettled. ap (λ (o : Option ForkPages). is_some o) (others_missing fork unsettled) ∙ sym (missing_in fork);
   }
 
-  own_now : HasOwnFiles relseg q files
+  pub own_now : HasOwnFiles relseg q files
   own_now = left_own relseg q files some (held_left relseg (own_base q) frames files some holds whole has)
 
 all_by : (P : List ℕ → Type 0) (pages : ForkPages) → ((block : ℕ) (page : List ℕ) → slice_get pages block ≡ Some page → P page) → All P pages

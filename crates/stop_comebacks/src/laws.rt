@@ -6,6 +6,11 @@ ghost use Rattle.stop_comebacks.specs.Laws.{StopsLeaveWals, OpenStoresAreStopped
 ghost use Rattle.stop_comebacks.specs.Laws.{StopsLeaveRestorableAreas};
 ghost use Rattle.stop_comebacks.specs.Laws.{WrittenRecordsFit, NewLogsFollow, FirstRecordsFollow};
 ghost use Rattle.stop_comebacks.specs.Laws.{RunsKeepDeltasFollowing, StoppedStoresComeBack};
+ghost use Rattle.stop_comebacks.specs.Restarts.{StoppedAreasAreRestorable};
+ghost use Rattle.stop_comebacks.specs.Restarts.{RebuildingRestartsLeaveRestorableAreas};
+ghost use Rattle.stop_comebacks.specs.Restarts.{RestartsKeepSurvivors};
+ghost use Rattle.stop_comebacks.specs.Restarts.{BeginningsLeaveRestorableAreas};
+ghost use Rattle.stop_comebacks.specs.Restarts.{RestorableAreasComeBack};
 
 use vault::Vault;
 
@@ -70,4 +75,34 @@ pub fn runs_keep_deltas_following()
 /// what these make from nothing.
 pub fn stopped_stores_come_back<V: Vault>()
     ensures { StoppedStoresComeBack V.Vault }
+{}
+
+/// A store can be brought back from what a stop left of it, and from what the next stop leaves of
+/// that.
+pub fn stopped_areas_are_restorable<V: Vault>()
+    ensures { StoppedAreasAreRestorable V.Vault }
+{}
+
+/// A stop at any moment of a restart that makes the data areas anew leaves areas from which the
+/// store can be brought back.
+pub fn rebuilding_restarts_leave_restorable_areas<V: Vault>()
+    ensures { RebuildingRestartsLeaveRestorableAreas V.Vault }
+{}
+
+/// A stop at any moment of a restart leaves no fewer survivors, where nothing of the WAL was
+/// unsynced.
+pub fn restarts_keep_survivors<V: Vault>()
+    ensures { RestartsKeepSurvivors V.Vault }
+{}
+
+/// A stop at any moment of the rebuilding of data areas, when a store is begun, leaves areas from
+/// which it can be brought back.
+pub fn beginnings_leave_restorable_areas<V: Vault>()
+    ensures { BeginningsLeaveRestorableAreas V.Vault }
+{}
+
+/// A restart of restorable areas whose first entry was flushed answers Ok, unless an area fails or
+/// memory runs out.
+pub fn restorable_areas_come_back<V: Vault>()
+    ensures { RestorableAreasComeBack V.Vault }
 {}

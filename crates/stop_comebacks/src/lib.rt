@@ -15,8 +15,10 @@
 mod laws;
 
 pub use laws::{
-    calls_keep_own_files, clean_partitions_have_own_files, earlier_places_are_left,
-    first_records_follow, new_logs_follow, open_stores_are_stopped, runs_keep_deltas_following,
+    beginnings_leave_restorable_areas, calls_keep_own_files, clean_partitions_have_own_files,
+    earlier_places_are_left, first_records_follow, new_logs_follow, open_stores_are_stopped,
+    rebuilding_restarts_leave_restorable_areas, restarts_keep_survivors,
+    restorable_areas_come_back, runs_keep_deltas_following, stopped_areas_are_restorable,
     stopped_stores_come_back, stops_leave_parts, stops_leave_restorable_areas, stops_leave_wals,
     written_records_fit,
 };
