@@ -32,6 +32,7 @@ conformance: build
 	python3 conformance/faults.py bin/pgbackup
 	python3 conformance/calls.py bin/pgbackup 1
 	python3 conformance/frames.py bin/pgbackup
+	python3 conformance/expiries.py bin/pgbackup
 	python3 conformance/memory.py bin/pgbackup
 	python3 conformance/stderr.py bin/pgbackup
 	python3 conformance/crews.py bin/pgbackup 100
@@ -45,6 +46,7 @@ conformance: build
 	python3 conformance/chains.py bin/pgbackup 60
 	python3 conformance/combines.py bin/pgbackup 60
 	python3 conformance/merges.py bin/pgbackup 60
+	python3 conformance/series.py bin/pgbackup 3
 	python3 conformance/restarts.py bin/pgbackup 200
 	python3 conformance/manifests.py bin/pgbackup 1
 	python3 conformance/views.py bin/pgbackup bin/pgbackup-chains 60

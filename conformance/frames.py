@@ -33,11 +33,11 @@ def area_of(path):
     return AREAS if path == "." else [it for it in AREAS if (path + "/").startswith(it + "/") or it.startswith(path + "/")]
 
 
-def called(path, folder, library, at):
-    """(status, lines, what the fault's log tells) of one run of which a call fails."""
+def called(path, folder, library, at, words=("run", "--frames", "4"), script=SCRIPT, kind="write"):
+    """(status, lines, what the fault's log tells) of one run of which a call of a kind fails."""
     log = folder + ".log"
-    room = {**os.environ, "LD_PRELOAD": library, "FAULT_AT": str(at), "FAULT_KIND": "write", "FAULT_LOG": log}
-    ran = subprocess.run([path, "run", "--frames", "4"], input=SCRIPT, cwd=folder, env=room, capture_output=True,
+    room = {**os.environ, "LD_PRELOAD": library, "FAULT_AT": str(at), "FAULT_KIND": kind, "FAULT_LOG": log}
+    ran = subprocess.run([path, *words], input=script, cwd=folder, env=room, capture_output=True,
                          text=True, check=False, timeout=SECONDS)
     with open(log, encoding="utf-8") as told:
         return ran.returncode, ran.stdout.splitlines(), told.read().rstrip("\n")

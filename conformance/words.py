@@ -12,14 +12,14 @@ import os
 
 from common import compare, oracle, program
 
-OPTIONS = {"init": ["segment-mib", "relseg", "system-id"], "run": ["frames"], "verify": [], "combine": [],
-           "restore": ["target"], "replay": ["target"], "walsummary": [], "drill": [],
-           "follow": ["segment-mib", "relseg"]}
-PLACES = {"init": 0, "run": 0, "verify": 1, "combine": 2, "restore": 2, "replay": 1, "walsummary": 2, "drill": 1,
-          "follow": 1}
-VALUES = ["0", "1", "2", "3", "01", "4", "64", "1024", "1025", "131072", "131073", "4294967295", "4294967296",
-          "18446744073709551615", "18446744073709551616", "+1", "-1", "", " 1", "1 ", "0x1", "x", "0/0", "0/100060",
-          "0/1006A0", "FFFFFFFF/FFFFFFFF", "100000000/0", "0/", "/0", "0/1/2", "g/0"]
+OPTIONS = {"init": ["segment-mib", "relseg", "system-id"], "run": ["frames", "keep-days"], "verify": [], "combine": [],
+           "merge-incr": [], "restore": ["target"], "replay": ["target"], "walsummary": [], "drill": [],
+           "follow": ["segment-mib", "relseg"], "restart": []}
+PLACES = {"init": 0, "run": 0, "verify": 1, "combine": 2, "merge-incr": 3, "restore": 2, "replay": 1, "walsummary": 2,
+          "drill": 1, "follow": 1, "restart": 0}
+VALUES = ["0", "1", "2", "3", "01", "4", "64", "1024", "1025", "131072", "131073", "36500", "36501", "4294967295",
+          "4294967296", "18446744073709551615", "18446744073709551616", "+1", "-1", "", " 1", "1 ", "0x1", "x", "0/0",
+          "0/100060", "0/1006A0", "FFFFFFFF/FFFFFFFF", "100000000/0", "0/", "/0", "0/1/2", "g/0"]
 WORDS = ["f1", "i1", "p", "q", "P", "a-b", "a" * 32, "a" * 33, "_", "", "-", "0/100060", "0/100090", "0/1006A0", "0/g",
          "7", "07", "x y", "b/f1"]
 FIRST = list(OPTIONS) * 6 + ["", "Init", "--help", "--version", "-h", "help", "init ", "vacuum", "--", "-"]
@@ -28,7 +28,8 @@ FIRST = list(OPTIONS) * 6 + ["", "Init", "--help", "--version", "-h", "help", "i
 def option(rnd, command):
     """One option, mostly of this command, in one of its forms, as words."""
     own = OPTIONS.get(command, [])
-    name = rnd.choice(own) if own and rnd.random() < 0.8 else rnd.choice(["target", "relseg", "frames", "force", ""])
+    others = ["target", "relseg", "frames", "keep-days", "force", ""]
+    name = rnd.choice(own) if own and rnd.random() < 0.8 else rnd.choice(others)
     value, form = rnd.choice(VALUES), rnd.random()
     if form < 0.5:
         return ["--" + name, value]
