@@ -176,8 +176,10 @@ def a_store(path, rnd):
 
 
 def first_version(path):
-    """Makes a manifest one of version 1, which has no system identifier."""
-    if not os.path.exists(path):
+    """Makes a manifest one of version 1, which has no system identifier, unless it is damaged."""
+    try:
+        manifest_of(path)
+    except Fault:
         return
     with open(path, "rb") as f:
         text = f.read()
@@ -198,7 +200,9 @@ def change(rnd, names):
     elif what == 1:
         shutil.copytree(name, "b/" + rnd.choice(["copy", "Copy", "a.copy", "copy copy", "x" * 33]), dirs_exist_ok=True)
     elif what == 2:
-        os.remove(name + "/" + rnd.choice(["backup_label", "backup_manifest"]))
+        path = name + "/" + rnd.choice(["backup_label", "backup_manifest"])
+        if os.path.exists(path):
+            os.remove(path)
     elif what == 3:
         os.rename(name, name + "_old")
     elif what == 4:
